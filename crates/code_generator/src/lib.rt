@@ -1,0 +1,4 @@
+//! Code for core forms: each body's instructions, and the theorem that they do what the forms mean.
+//!
+//! Call: [`generate`].
+#![tactic(auto)]

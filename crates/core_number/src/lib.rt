@@ -1,0 +1,4 @@
+//! The core methods of Integer.
+//!
+//! Types: [`Outcome`]. Call: [`call`].
+#![tactic(auto)]

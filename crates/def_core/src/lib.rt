@@ -1,0 +1,2 @@
+//! Definitions of the core methods: what each gives, raises or writes. There is no code here.
+#![tactic(auto)]

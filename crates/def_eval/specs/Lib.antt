@@ -1,0 +1,5 @@
+pub mod Seen
+pub mod Steps
+pub mod Configuration
+pub mod Transition
+pub mod Measure

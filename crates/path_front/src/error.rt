@@ -1,0 +1,27 @@
+use std::alloc::{AllocError, AllocFailed};
+
+ghost use Rattle.std.specs.Prelude.{◌≡◌};
+ghost use Rattle.path_front.specs.declared.error.FrontError.TheVariants.{NoMemory};
+
+/// Why a text has no core: it isn't in the language, as a place at most its length says, or memory ran out.
+#[derive(Clone, Copy, Debug, PartialEq, Eq)]
+pub enum FrontError {
+    Syntax { at: u32 },
+    NoMemory,
+}
+
+impl From<AllocError> for FrontError {
+    ghost from_gives = { λ _ e. e ≡ NoMemory };
+
+    fn from(_refused: AllocError) -> FrontError {
+        FrontError::NoMemory
+    }
+}
+
+impl<T: Drop> From<AllocFailed<T>> for FrontError {
+    ghost from_gives = { λ _ e. e ≡ NoMemory };
+
+    fn from(_refused: AllocFailed<T>) -> FrontError {
+        FrontError::NoMemory
+    }
+}

@@ -1,0 +1,24 @@
+-- How a run comes out.
+use Rattle.std.specs.Prelude.{◌≡◌, ℕ, ◌≤◌, List, Option, take}
+use Rattle.rb_base.specs.Outside.{with_more}
+use Rattle.rb_value.specs.declared.failure.Failure.{Failure}
+use Rattle.rite_code.specs.declared.code.Code.{Code}
+use Rattle.def_eval.specs.Steps.{times}
+use Rattle.def_eval.specs.Seen.{End, Ended, Uncaught, Seen, Going, Over, output_of}
+use Rattle.def_machine.specs.State.{start, shown}
+use Rattle.def_machine.specs.Turn.{turn}
+use Rattle.path_machine.specs.declared.ran.Ran.{Ran}
+use Rattle.path_machine.specs.declared.ran.Ran.TheVariants as rans
+
+-- what is seen after n turns
+unfoldable pub seen_after : Code → ℕ → List ℕ → Seen
+seen_after c n input = shown (times n (turn c) (start c input))
+
+abbrev pub IsRan : Ran → Seen → Type 0
+IsRan rans.Spent s = (out : List ℕ) × (s ≡ Going out)
+IsRan (rans.Ended n) s = (out : List ℕ) × (s ≡ Over (Ended out n))
+IsRan (rans.Uncaught f) s = (out : List ℕ) × (s ≡ Over (Uncaught out f))
+
+-- what was taken is a front of what the turns write
+abbrev pub StoppedWithin : Code → ℕ → List ℕ → Option (List ℕ) → Option (List ℕ) → Type 0
+StoppedWithin c n input old new = (k : ℕ) × (new ≡ with_more old (take k (output_of (seen_after c n input))))

@@ -1,0 +1,12 @@
+//! Instructions, the bodies that they stand in, and how bytes spell them (docs/formats.md).
+//!
+//! Types: [`Instr`] over [`Operation`], [`Irep`], [`CatchEntry`], [`PoolItem`], [`Code`], [`Cause`].
+#![tactic(auto)]
+
+pub mod cause;
+pub mod code;
+pub mod instr;
+
+pub use cause::Cause;
+pub use code::{CatchEntry, Code, Irep, PoolItem};
+pub use instr::{Instr, Operation};
