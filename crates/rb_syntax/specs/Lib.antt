@@ -3,3 +3,5 @@ pub mod Form
 pub mod View
 pub mod Names
 pub mod Limits
+pub mod Outside
+pub mod Count

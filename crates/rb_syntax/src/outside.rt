@@ -1,3 +1,5 @@
+ghost use Rattle.std.specs.Prelude.{◌≡◌};
+
 /// A construct of Ruby that has a spelling here and is refused.
 #[derive(Clone, Copy, Debug, PartialEq, Eq)]
 pub enum Outside {
@@ -29,4 +31,44 @@ pub enum Outside {
     FlipFlop,
     SplatClause,
     PatternMatch,
+}
+
+impl Outside {
+    ghost use Rattle.rb_syntax.specs.Outside.{name_of};
+
+    /// The name, as it prints.
+    pub fn name(self) -> &'static [u8]
+        ensures { result.now ≡ name_of self }
+    {
+        match self {
+            Outside::Float => b"Float",
+            Outside::Rational => b"Rational",
+            Outside::Imaginary => b"Imaginary",
+            Outside::WideInteger => b"WideInteger",
+            Outside::Regexp => b"Regexp",
+            Outside::Backquote => b"Backquote",
+            Outside::PercentLiteral => b"PercentLiteral",
+            Outside::Ambiguous => b"Ambiguous",
+            Outside::QuotedLabel => b"QuotedLabel",
+            Outside::NonAsciiName => b"NonAsciiName",
+            Outside::SquigglyHeredoc => b"SquigglyHeredoc",
+            Outside::ClassVariable => b"ClassVariable",
+            Outside::SpecialGlobal => b"SpecialGlobal",
+            Outside::MatchOperator => b"MatchOperator",
+            Outside::SafeNavigation => b"SafeNavigation",
+            Outside::DoubleSplat => b"DoubleSplat",
+            Outside::Redo => b"Redo",
+            Outside::FileKeyword => b"FileKeyword",
+            Outside::LineKeyword => b"LineKeyword",
+            Outside::EncodingKeyword => b"EncodingKeyword",
+            Outside::BeginBlock => b"BeginBlock",
+            Outside::EndBlock => b"EndBlock",
+            Outside::KeywordParameter => b"KeywordParameter",
+            Outside::EndlessMethod => b"EndlessMethod",
+            Outside::GlobalAlias => b"GlobalAlias",
+            Outside::FlipFlop => b"FlipFlop",
+            Outside::SplatClause => b"SplatClause",
+            Outside::PatternMatch => b"PatternMatch",
+        }
+    }
 }

@@ -1,3 +1,4 @@
 pub mod Instruction
 pub mod Shape
 pub mod Spelling
+pub mod Cause

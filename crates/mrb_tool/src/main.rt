@@ -1,0 +1,7 @@
+//! The program `rite`.
+#![tactic(auto)]
+
+mod refusal;
+mod rite;
+
+fn main() {}

@@ -1,0 +1,53 @@
+//! The words of the program, and what each does.
+ghost use Rattle.std.specs.Prelude.{◌≡◌, map, string_bytes};
+ghost use Rattle.mrb_tool.specs.Words.{command_of};
+ghost use Rattle.mrb_tool.specs.Told.{Told};
+ghost use Rattle.mrb_tool.specs.Answer.{Answers};
+
+use crate::refusal::Refusal;
+use rb_base::{Files, Sink, Source};
+use std::alloc::Global;
+
+/// How a call of the program comes out.
+#[derive(Clone, Copy, Debug, PartialEq, Eq)]
+pub enum End {
+    /// It ended with this status.
+    Ended(u8),
+    /// An exception wasn't caught; its class and message went to the error stream.
+    Uncaught,
+    /// The words are no command.
+    Usage,
+    Refused(Refusal),
+    /// The turns that were allowed are made, and the program goes on.
+    Spent,
+    NoMemory,
+    /// A call on the source of input failed.
+    InputFault,
+    /// A call on the output or the error stream failed.
+    OutputFault,
+    /// A load or a store of a file failed.
+    FileFault,
+}
+
+/// Does what the words say, over these files and streams.
+pub fn rite<F: Files, S: Source, O: Sink, E: Sink>(
+    alloc: Global,
+    words: &Vec<String>,
+    files: &mut F,
+    input: &mut S,
+    out: &mut O,
+    err: &mut E,
+) -> End
+    // What came out has its cause, and files and streams then hold what it says.
+    ensures answer { Answers
+        (command_of (map string_bytes words.now.items))
+        (record { tells = F.tells files.old; file = F.file files.old; load_faults = F.load_faults files.old; store_faults = F.store_faults files.old;
+            out = O.taken out.old; out_faults = O.faults out.old; err = E.taken err.old; err_faults = E.faults err.old })
+        (record { tells = F.tells files.new; file = F.file files.new; load_faults = F.load_faults files.new; store_faults = F.store_faults files.new;
+            out = O.taken out.new; out_faults = O.faults out.new; err = E.taken err.new; err_faults = E.faults err.new })
+        result }
+    // The input is not touched.
+    ensures input { input.new ≡ input.old }
+{
+    End::NoMemory
+}
