@@ -1,0 +1,5 @@
+x = 1
+while true
+  puts x
+  x = x * 1000
+end
