@@ -9,12 +9,14 @@
 mod calls;
 pub mod list;
 pub mod memory;
+pub mod memory_files;
 pub mod outside;
 pub mod steps;
 pub mod writing;
 
 pub use list::{Bytes, List};
 pub use memory::{MemorySink, MemorySource};
+pub use memory_files::MemoryFiles;
 pub use outside::{Failed, FileError, Files, Sink, Source};
 pub use steps::Steps;
 pub use writing::write_all;
