@@ -12,6 +12,7 @@ pub mod memory;
 pub mod memory_files;
 pub mod outside;
 pub mod steps;
+pub mod streams;
 pub mod writing;
 
 pub use list::{Bytes, List};
@@ -19,4 +20,5 @@ pub use memory::{MemorySink, MemorySource};
 pub use memory_files::MemoryFiles;
 pub use outside::{Failed, FileError, Files, Sink, Source};
 pub use steps::Steps;
+pub use streams::{StdSink, StdSource};
 pub use writing::write_all;
