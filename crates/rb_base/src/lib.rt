@@ -7,6 +7,7 @@
 #![tactic(auto)]
 
 mod calls;
+pub mod disk_files;
 pub mod list;
 pub mod memory;
 pub mod memory_files;
@@ -15,6 +16,7 @@ pub mod steps;
 pub mod streams;
 pub mod writing;
 
+pub use disk_files::DiskFiles;
 pub use list::{Bytes, List};
 pub use memory::{MemorySink, MemorySource};
 pub use memory_files::MemoryFiles;

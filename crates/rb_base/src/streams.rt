@@ -71,7 +71,7 @@ impl<R: Read + Drop> Source for StdSource<R> {
 }
 
 /// One read, tried again where a signal interrupts it. `None` where it failed.
-fn read_once<R: Read>(reader: &mut R, buf: &mut [u8]) -> Option<usize>
+pub(crate) fn read_once<R: Read>(reader: &mut R, buf: &mut [u8]) -> Option<usize>
     ensures { IfSome result (λ count. count ≤ length buf.new) }
 {
     'tries: for _ in 0..u64::MAX {
