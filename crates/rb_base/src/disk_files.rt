@@ -5,10 +5,9 @@ ghost use Rattle.std.specs.Prelude.{◌≡◌, ◌≤◌, None, false, vec_len, 
 use crate::outside::{Failed, FileError, Files};
 use crate::streams::{read_once, write_once};
 use std::alloc::Global;
-use std::fs;
 use std::io::{Read, Write};
 use std::marker::Model;
-use std::rt;
+use std::{fs, rt};
 
 /// How many bytes one call reads at most.
 const CHUNK: usize = 4096;
@@ -52,8 +51,7 @@ impl<'a, R: rt::Files> Files for DiskFiles<'a, R> {
 
     ghost file = { λ _ _. None };
 
-    fn load(&mut self, alloc: Global, name: &str, limit: usize) -> Result<Vec<u8>, FileError>
-    {
+    fn load(&mut self, alloc: Global, name: &str, limit: usize) -> Result<Vec<u8>, FileError> {
         let loaded = load_file(self.runtime, alloc, name, limit);
         if let Err(FileError::Failed) = loaded {
             self.load_faults = self.load_faults.saturating_add(1);
@@ -61,8 +59,7 @@ impl<'a, R: rt::Files> Files for DiskFiles<'a, R> {
         loaded
     }
 
-    fn store(&mut self, name: &str, bytes: &[u8]) -> Result<(), Failed>
-    {
+    fn store(&mut self, name: &str, bytes: &[u8]) -> Result<(), Failed> {
         let stored = store_file(self.runtime, name, bytes);
         if stored.is_err() {
             self.store_faults = self.store_faults.saturating_add(1);

@@ -2,7 +2,8 @@
 //! counts of faults, their implementations in memory and over the real streams and files, the lists and texts
 //! that public types hold, and a counter of steps.
 //!
-//! Types: [`Source`], [`Sink`], [`Files`], [`Failed`], [`FileError`], [`Bytes`], [`List`].
+//! Types: [`Source`], [`Sink`], [`Files`], [`Failed`], [`FileError`]; in memory [`MemorySource`], [`MemorySink`],
+//! [`MemoryFiles`]; of the system [`StdSource`], [`StdSink`], [`DiskFiles`]; [`Bytes`], [`List`], [`Steps`].
 //! Calls: [`write_all`], and those of the types.
 #![tactic(auto)]
 
@@ -24,3 +25,6 @@ pub use outside::{Failed, FileError, Files, Sink, Source};
 pub use steps::Steps;
 pub use streams::{StdSink, StdSource};
 pub use writing::write_all;
+
+#[cfg(test)]
+mod tests;
