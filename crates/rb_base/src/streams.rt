@@ -1,6 +1,7 @@
 //! A source over a reader and a sink over a writer. What a system gives and takes is known to no clause, so
 //! they tell nothing of contents, and count the calls that failed.
 ghost use Rattle.std.specs.Prelude.{◌≡◌, ℕ, ◌<◌, ◌≤◌, None, true, false, length, take, IfOk, OnOk, OnErr, IfSome, IsTrue};
+ghost use Rattle.std.specs.Io.KnownBytes.{Appends, Consumes, IsAtEnd};
 ghost use Rattle.rb_base.specs.Outside.{Rose, Reads, with_more};
 ghost use Rattle.rb_base.specs.Steps.{one_more};
 
@@ -72,7 +73,9 @@ impl<R: Read + Drop> Source for StdSource<R> {
 
 /// One read, tried again where a signal interrupts it. `None` where it failed.
 pub(crate) fn read_once<R: Read>(reader: &mut R, buf: &mut [u8]) -> Option<usize>
-    ensures { IfSome result (λ count. count ≤ length buf.new) }
+    ensures bound { IfSome result (λ count. count ≤ length buf.new) }
+    ensures bytes { IfSome result (λ count. Consumes (R.remaining reader.old) (R.remaining reader.new) (take count buf.new)) }
+    ensures end { IfSome result (λ count. count ≡ 0 → 0 < length buf.old → IsAtEnd (R.remaining reader.new)) }
 {
     'tries: for _ in 0..u64::MAX {
         match reader.read(buf) {
@@ -133,7 +136,8 @@ impl<W: Write + Drop> Sink for StdSink<W> {
 /// One write that is really out, tried again where a signal interrupts it. `None` where it failed or took
 /// nothing.
 pub(crate) fn write_once<W: Write>(writer: &mut W, piece: &[u8]) -> Option<usize>
-    ensures { IfSome result (λ count. (0 < count) × (count ≤ length piece.now)) }
+    ensures some { IfSome result (λ count. (0 < count) × (count ≤ length piece.now)) }
+    ensures bytes { IfSome result (λ count. Appends (W.contents writer.old) (W.contents writer.new) (take count piece.now)) }
 {
     'tries: for _ in 0..u64::MAX {
         match writer.write(piece) {
