@@ -1,6 +1,7 @@
 //! Files of the system. What a disk holds is known to no clause, so they tell nothing of contents, and count
 //! the calls that failed, of all names together.
-ghost use Rattle.std.specs.Prelude.{◌≡◌, ◌≤◌, None, false, vec_len, IfOk};
+ghost use Rattle.std.specs.Prelude.{◌≡◌, ◌≤◌, None, false, take, vec_len, IfOk, OnOk, IfSome};
+ghost use Rattle.std.specs.Io.KnownBytes.{Appends};
 
 use crate::outside::{Failed, FileError, Files};
 use crate::streams::{read_once, write_once};
@@ -85,7 +86,8 @@ fn load_file<R: rt::Files>(
 
 /// Reads `limit` bytes, or all where there are fewer.
 fn read_front<R: Read>(reader: &mut R, alloc: Global, limit: usize) -> Result<Vec<u8>, FileError>
-    ensures { IfOk result (λ bytes. vec_len bytes ≤ limit) }
+    ensures short { IfOk result (λ bytes. vec_len bytes ≤ limit) }
+    ensures front { IfOk result (λ bytes. IfSome (R.remaining reader.old) (λ all. bytes.items ≡ take limit all)) }
 {
     let mut bytes = Vec::new(alloc);
     let mut chunk = [0; CHUNK];
@@ -111,7 +113,9 @@ fn store_file<R: rt::Files>(runtime: &R, name: &str, bytes: &[u8]) -> Result<(),
 }
 
 /// Writes all the bytes.
-fn write_whole<W: Write>(writer: &mut W, bytes: &[u8]) -> Result<(), Failed> {
+fn write_whole<W: Write>(writer: &mut W, bytes: &[u8]) -> Result<(), Failed>
+    ensures { OnOk result (Appends (W.contents writer.old) (W.contents writer.new) bytes.now) }
+{
     let mut at = 0;
     'pieces: while at < bytes.len() {
         match write_once(writer, &bytes[at..]) {
