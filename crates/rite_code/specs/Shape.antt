@@ -1,5 +1,5 @@
 -- Which operands an instruction has, and how many bytes each takes.
-use Rattle.std.specs.Prelude.{ℕ, ◌+◌, ◌^◌, ℤ, pos, negsuc, Bool, true, false, ◌&&◌, nat_lt}
+use Rattle.std.specs.Prelude.{ℕ, ℤ, pos, negsuc, Bool, true, false, ◌&&◌, nat_lt}
 use Rattle.rite_code.specs.declared.instr.Operation.{Operation}
 use Rattle.rite_code.specs.declared.instr.Operation.TheVariants.{Move, LoadI, LoadI16, LoadI32, LoadNil, LoadT, Jmp, JmpIf, JmpNot, SSend, Add, Sub, Mul, Eq, Lt, Le, Gt, Ge, Stop}
 use Rattle.rite_code.specs.Instruction.{Instruction}
