@@ -9,9 +9,14 @@ use Rattle.std.proofs.lemmas.List.{drop_at}
 use mir.Val.{SFits}
 use Rattle.rite_code.specs.declared.instr.Operation.{Operation}
 use Rattle.rite_code.specs.declared.instr.Operation.TheVariants.{Move, LoadI, LoadI16, LoadI32, LoadNil, LoadT, Jmp, JmpIf, JmpNot, SSend, Add, Sub, Mul, Eq, Lt, Le, Gt, Ge, Stop}
+use Rattle.rite_code.specs.declared.opcode.Opcode.{Opcode}
+use Rattle.rite_code.specs.declared.opcode.Opcode.TheVariants as opcode
+use Rattle.rite_code.specs.declared.opcode.Shape.{Shape}
+use Rattle.rite_code.specs.declared.opcode.Shape.TheVariants.{Z, B, BB, BBB, S, BS, BSS}
+use Rattle.rite_code.specs.declared.opcode.Operands.{Operands}
 use Rattle.rite_code.specs.Instruction.{Instruction, narrow}
-use Rattle.rite_code.specs.Shape.{Shape, Z, B, BB, BBB, S, BS, BSS, size_of, fits, fits_as, is_byte, is_short, is_two_bytes, is_long}
-use Rattle.rite_code.specs.Spelling.{Operands, operands, operand_size, operation_of, shape_of, body_of, encoding, front, placed, decode_wide_at}
+use Rattle.rite_code.specs.Shape.{size_of, fits, fits_as, is_byte, is_short, is_two_bytes, is_long}
+use Rattle.rite_code.specs.Spelling.{operands, operand_size, operation_of, opcode_of, shape_of, body_of, encoding, front, wide_front, narrow_front, placed, decode_wide_at}
 
 -- two bytes of a number, and a signed number of two and of four bytes
 pub two : (n : ℕ) → IsTrue (is_two_bytes n) → from_be_bytes w16 (to_be_bytes w16 n) ≡ n
@@ -39,102 +44,101 @@ short z h = ap (cast_signed w16) (from_be_bytes-to_be_bytes_2 (cast_unsigned w16
 pub long : (z : ℤ) → IsTrue (is_long z) → cast_signed w32 (from_be_bytes w32 (to_be_bytes w32 (cast_unsigned w32 z))) ≡ z
 long z h = ap (cast_signed w32) (from_be_bytes-to_be_bytes_4 (cast_unsigned w32 z) (long_bits z h)) ∙ to_z-of_z w32 z (long_fits z h)
 
--- the body of an instruction of a shape whose operands are all there
-body_is : (w : Bool) (prefix n : ℕ) (s : Shape) (bytes : List ℕ) (o : Operands) → operand_size w s ≤ length bytes → operands w s bytes ≡ o → body_of w prefix (Some s) n bytes ≡ Some (record { wide = w; operation = operation_of n o }, prefix + 1 + operand_size w s)
-body_is w prefix n s bytes o enough e = rw (le-ltb (length bytes) (operand_size w s) enough) (rw e refl)
-
--- for a number n and operands of each shape
-abbrev decoded : Bool → ℕ → Operands → ℕ → Option (Instruction × ℕ)
-decoded w n o size = Some (record { wide = w; operation = operation_of n o }, size)
-
+-- the operands of an instruction that are all there
 abbrev operands_of : ℕ → ℕ → ℕ → ℤ → Operands
 operands_of a b c by = record { a = a; b = b; c = c; by = by }
+
+abbrev decoded : Bool → Opcode → Operands → ℕ → Option (Instruction × ℕ)
+decoded w op o size = Some (record { wide = w; operation = operation_of op o }, size)
+
+body_is : (w : Bool) (prefix : ℕ) (op : Opcode) (s : Shape) (bytes : List ℕ) (o : Operands) → shape_of op ≡ s → operand_size w s ≤ length bytes → operands w s bytes ≡ o → body_of w prefix op bytes ≡ decoded w op o (prefix + 1 + operand_size w s)
+body_is w prefix op s bytes o e enough read = rw (e, le-ltb (length bytes) (operand_size w s) enough, read) refl
 
 same : {a a' b b' c c' : ℕ} {by by' : ℤ} → a ≡ a' → b ≡ b' → c ≡ c' → by ≡ by' → operands_of a b c by ≡ operands_of a' b' c' by'
 same p q r s = cc
 
-z_narrow : (n : ℕ) (rest : List ℕ) → body_of false 0 (Some Z) n ([] ++ rest) ≡ decoded false n (operands_of 0 0 0 (pos 0)) 1
-z_narrow n rest = body_is false 0 n Z ([] ++ rest) (operands_of 0 0 0 (pos 0)) (omega arith) (same refl refl refl refl)
+z_narrow : (op : Opcode) (rest : List ℕ) → shape_of op ≡ Z → body_of false 0 op ([] ++ rest) ≡ decoded false op (operands_of 0 0 0 (pos 0)) 1
+z_narrow op rest e = body_is false 0 op Z ([] ++ rest) (operands_of 0 0 0 (pos 0)) e (omega arith) (same refl refl refl refl)
 
-b_narrow : (n : ℕ) (a : ℕ) (rest : List ℕ) → IsTrue (is_byte a) → body_of false 0 (Some B) n ((a ∷ []) ++ rest) ≡ decoded false n (operands_of a 0 0 (pos 0)) 2
-b_narrow n a rest h0 = body_is false 0 n B ((a ∷ []) ++ rest) (operands_of a 0 0 (pos 0)) (omega arith) (same refl refl refl refl)
+b_narrow : (op : Opcode) (a : ℕ) (rest : List ℕ) → shape_of op ≡ B → IsTrue (is_byte a) → body_of false 0 op ((a ∷ []) ++ rest) ≡ decoded false op (operands_of a 0 0 (pos 0)) 2
+b_narrow op a rest e h0 = body_is false 0 op B ((a ∷ []) ++ rest) (operands_of a 0 0 (pos 0)) e (omega arith) (same refl refl refl refl)
 
-bb_narrow : (n : ℕ) (a : ℕ) (b : ℕ) (rest : List ℕ) → IsTrue (is_byte a) → IsTrue (is_byte b) → body_of false 0 (Some BB) n ((a ∷ []) ++ (b ∷ []) ++ rest) ≡ decoded false n (operands_of a b 0 (pos 0)) 3
-bb_narrow n a b rest h0 h1 = body_is false 0 n BB ((a ∷ []) ++ (b ∷ []) ++ rest) (operands_of a b 0 (pos 0)) (omega arith) (same refl refl refl refl)
+bb_narrow : (op : Opcode) (a : ℕ) (b : ℕ) (rest : List ℕ) → shape_of op ≡ BB → IsTrue (is_byte a) → IsTrue (is_byte b) → body_of false 0 op ((a ∷ []) ++ (b ∷ []) ++ rest) ≡ decoded false op (operands_of a b 0 (pos 0)) 3
+bb_narrow op a b rest e h0 h1 = body_is false 0 op BB ((a ∷ []) ++ (b ∷ []) ++ rest) (operands_of a b 0 (pos 0)) e (omega arith) (same refl refl refl refl)
 
-bbb_narrow : (n : ℕ) (a : ℕ) (b : ℕ) (c : ℕ) (rest : List ℕ) → IsTrue (is_byte a) → IsTrue (is_byte b) → IsTrue (is_byte c) → body_of false 0 (Some BBB) n ((a ∷ []) ++ (b ∷ []) ++ (c ∷ []) ++ rest) ≡ decoded false n (operands_of a b c (pos 0)) 4
-bbb_narrow n a b c rest h0 h1 h2 = body_is false 0 n BBB ((a ∷ []) ++ (b ∷ []) ++ (c ∷ []) ++ rest) (operands_of a b c (pos 0)) (omega arith) (same refl refl refl refl)
+bbb_narrow : (op : Opcode) (a : ℕ) (b : ℕ) (c : ℕ) (rest : List ℕ) → shape_of op ≡ BBB → IsTrue (is_byte a) → IsTrue (is_byte b) → IsTrue (is_byte c) → body_of false 0 op ((a ∷ []) ++ (b ∷ []) ++ (c ∷ []) ++ rest) ≡ decoded false op (operands_of a b c (pos 0)) 4
+bbb_narrow op a b c rest e h0 h1 h2 = body_is false 0 op BBB ((a ∷ []) ++ (b ∷ []) ++ (c ∷ []) ++ rest) (operands_of a b c (pos 0)) e (omega arith) (same refl refl refl refl)
 
-s_narrow : (n : ℕ) (by : ℤ) (rest : List ℕ) → IsTrue (is_short by) → body_of false 0 (Some S) n (to_be_bytes w16 (cast_unsigned w16 by) ++ rest) ≡ decoded false n (operands_of 0 0 0 by) 3
-s_narrow n by rest h0 = body_is false 0 n S (to_be_bytes w16 (cast_unsigned w16 by) ++ rest) (operands_of 0 0 0 by) (omega arith) (same refl refl refl (short by h0))
+s_narrow : (op : Opcode) (by : ℤ) (rest : List ℕ) → shape_of op ≡ S → IsTrue (is_short by) → body_of false 0 op (to_be_bytes w16 (cast_unsigned w16 by) ++ rest) ≡ decoded false op (operands_of 0 0 0 by) 3
+s_narrow op by rest e h0 = body_is false 0 op S (to_be_bytes w16 (cast_unsigned w16 by) ++ rest) (operands_of 0 0 0 by) e (omega arith) (same refl refl refl (short by h0))
 
-bs_narrow : (n : ℕ) (a : ℕ) (by : ℤ) (rest : List ℕ) → IsTrue (is_byte a) → IsTrue (is_short by) → body_of false 0 (Some BS) n ((a ∷ []) ++ to_be_bytes w16 (cast_unsigned w16 by) ++ rest) ≡ decoded false n (operands_of a 0 0 by) 4
-bs_narrow n a by rest h0 h1 = body_is false 0 n BS ((a ∷ []) ++ to_be_bytes w16 (cast_unsigned w16 by) ++ rest) (operands_of a 0 0 by) (omega arith) (same refl refl refl (short by h1))
+bs_narrow : (op : Opcode) (a : ℕ) (by : ℤ) (rest : List ℕ) → shape_of op ≡ BS → IsTrue (is_byte a) → IsTrue (is_short by) → body_of false 0 op ((a ∷ []) ++ to_be_bytes w16 (cast_unsigned w16 by) ++ rest) ≡ decoded false op (operands_of a 0 0 by) 4
+bs_narrow op a by rest e h0 h1 = body_is false 0 op BS ((a ∷ []) ++ to_be_bytes w16 (cast_unsigned w16 by) ++ rest) (operands_of a 0 0 by) e (omega arith) (same refl refl refl (short by h1))
 
-bss_narrow : (n : ℕ) (a : ℕ) (by : ℤ) (rest : List ℕ) → IsTrue (is_byte a) → IsTrue (is_long by) → body_of false 0 (Some BSS) n ((a ∷ []) ++ to_be_bytes w32 (cast_unsigned w32 by) ++ rest) ≡ decoded false n (operands_of a 0 0 by) 6
-bss_narrow n a by rest h0 h1 = body_is false 0 n BSS ((a ∷ []) ++ to_be_bytes w32 (cast_unsigned w32 by) ++ rest) (operands_of a 0 0 by) (omega arith) (same refl refl refl (long by h1))
+bss_narrow : (op : Opcode) (a : ℕ) (by : ℤ) (rest : List ℕ) → shape_of op ≡ BSS → IsTrue (is_byte a) → IsTrue (is_long by) → body_of false 0 op ((a ∷ []) ++ to_be_bytes w32 (cast_unsigned w32 by) ++ rest) ≡ decoded false op (operands_of a 0 0 by) 6
+bss_narrow op a by rest e h0 h1 = body_is false 0 op BSS ((a ∷ []) ++ to_be_bytes w32 (cast_unsigned w32 by) ++ rest) (operands_of a 0 0 by) e (omega arith) (same refl refl refl (long by h1))
 
-b_wide : (n : ℕ) (a : ℕ) (rest : List ℕ) → IsTrue (is_two_bytes a) → body_of true 1 (Some B) n (to_be_bytes w16 a ++ rest) ≡ decoded true n (operands_of a 0 0 (pos 0)) 4
-b_wide n a rest h0 = body_is true 1 n B (to_be_bytes w16 a ++ rest) (operands_of a 0 0 (pos 0)) (omega arith) (same (two a h0) refl refl refl)
+b_wide : (op : Opcode) (a : ℕ) (rest : List ℕ) → shape_of op ≡ B → IsTrue (is_two_bytes a) → body_of true 1 op (to_be_bytes w16 a ++ rest) ≡ decoded true op (operands_of a 0 0 (pos 0)) 4
+b_wide op a rest e h0 = body_is true 1 op B (to_be_bytes w16 a ++ rest) (operands_of a 0 0 (pos 0)) e (omega arith) (same (two a h0) refl refl refl)
 
-bb_wide : (n : ℕ) (a : ℕ) (b : ℕ) (rest : List ℕ) → IsTrue (is_two_bytes a) → IsTrue (is_two_bytes b) → body_of true 1 (Some BB) n (to_be_bytes w16 a ++ to_be_bytes w16 b ++ rest) ≡ decoded true n (operands_of a b 0 (pos 0)) 6
-bb_wide n a b rest h0 h1 = body_is true 1 n BB (to_be_bytes w16 a ++ to_be_bytes w16 b ++ rest) (operands_of a b 0 (pos 0)) (omega arith) (same (two a h0) (two b h1) refl refl)
+bb_wide : (op : Opcode) (a : ℕ) (b : ℕ) (rest : List ℕ) → shape_of op ≡ BB → IsTrue (is_two_bytes a) → IsTrue (is_two_bytes b) → body_of true 1 op (to_be_bytes w16 a ++ to_be_bytes w16 b ++ rest) ≡ decoded true op (operands_of a b 0 (pos 0)) 6
+bb_wide op a b rest e h0 h1 = body_is true 1 op BB (to_be_bytes w16 a ++ to_be_bytes w16 b ++ rest) (operands_of a b 0 (pos 0)) e (omega arith) (same (two a h0) (two b h1) refl refl)
 
-bbb_wide : (n : ℕ) (a : ℕ) (b : ℕ) (c : ℕ) (rest : List ℕ) → IsTrue (is_two_bytes a) → IsTrue (is_two_bytes b) → IsTrue (is_two_bytes c) → body_of true 1 (Some BBB) n (to_be_bytes w16 a ++ to_be_bytes w16 b ++ to_be_bytes w16 c ++ rest) ≡ decoded true n (operands_of a b c (pos 0)) 8
-bbb_wide n a b c rest h0 h1 h2 = body_is true 1 n BBB (to_be_bytes w16 a ++ to_be_bytes w16 b ++ to_be_bytes w16 c ++ rest) (operands_of a b c (pos 0)) (omega arith) (same (two a h0) (two b h1) (two c h2) refl)
+bbb_wide : (op : Opcode) (a : ℕ) (b : ℕ) (c : ℕ) (rest : List ℕ) → shape_of op ≡ BBB → IsTrue (is_two_bytes a) → IsTrue (is_two_bytes b) → IsTrue (is_two_bytes c) → body_of true 1 op (to_be_bytes w16 a ++ to_be_bytes w16 b ++ to_be_bytes w16 c ++ rest) ≡ decoded true op (operands_of a b c (pos 0)) 8
+bbb_wide op a b c rest e h0 h1 h2 = body_is true 1 op BBB (to_be_bytes w16 a ++ to_be_bytes w16 b ++ to_be_bytes w16 c ++ rest) (operands_of a b c (pos 0)) e (omega arith) (same (two a h0) (two b h1) (two c h2) refl)
 
-s_wide : (n : ℕ) (by : ℤ) (rest : List ℕ) → IsTrue (is_long by) → body_of true 1 (Some S) n (to_be_bytes w32 (cast_unsigned w32 by) ++ rest) ≡ decoded true n (operands_of 0 0 0 by) 6
-s_wide n by rest h0 = body_is true 1 n S (to_be_bytes w32 (cast_unsigned w32 by) ++ rest) (operands_of 0 0 0 by) (omega arith) (same refl refl refl (long by h0))
+s_wide : (op : Opcode) (by : ℤ) (rest : List ℕ) → shape_of op ≡ S → IsTrue (is_long by) → body_of true 1 op (to_be_bytes w32 (cast_unsigned w32 by) ++ rest) ≡ decoded true op (operands_of 0 0 0 by) 6
+s_wide op by rest e h0 = body_is true 1 op S (to_be_bytes w32 (cast_unsigned w32 by) ++ rest) (operands_of 0 0 0 by) e (omega arith) (same refl refl refl (long by h0))
 
-bs_wide : (n : ℕ) (a : ℕ) (by : ℤ) (rest : List ℕ) → IsTrue (is_two_bytes a) → IsTrue (is_long by) → body_of true 1 (Some BS) n (to_be_bytes w16 a ++ to_be_bytes w32 (cast_unsigned w32 by) ++ rest) ≡ decoded true n (operands_of a 0 0 by) 8
-bs_wide n a by rest h0 h1 = body_is true 1 n BS (to_be_bytes w16 a ++ to_be_bytes w32 (cast_unsigned w32 by) ++ rest) (operands_of a 0 0 by) (omega arith) (same (two a h0) refl refl (long by h1))
+bs_wide : (op : Opcode) (a : ℕ) (by : ℤ) (rest : List ℕ) → shape_of op ≡ BS → IsTrue (is_two_bytes a) → IsTrue (is_long by) → body_of true 1 op (to_be_bytes w16 a ++ to_be_bytes w32 (cast_unsigned w32 by) ++ rest) ≡ decoded true op (operands_of a 0 0 by) 8
+bs_wide op a by rest e h0 h1 = body_is true 1 op BS (to_be_bytes w16 a ++ to_be_bytes w32 (cast_unsigned w32 by) ++ rest) (operands_of a 0 0 by) e (omega arith) (same (two a h0) refl refl (long by h1))
 
-bss_wide : (n : ℕ) (a : ℕ) (by : ℤ) (rest : List ℕ) → IsTrue (is_two_bytes a) → IsTrue (is_long by) → body_of true 1 (Some BSS) n (to_be_bytes w16 a ++ to_be_bytes w32 (cast_unsigned w32 by) ++ rest) ≡ decoded true n (operands_of a 0 0 by) 8
-bss_wide n a by rest h0 h1 = body_is true 1 n BSS (to_be_bytes w16 a ++ to_be_bytes w32 (cast_unsigned w32 by) ++ rest) (operands_of a 0 0 by) (omega arith) (same (two a h0) refl refl (long by h1))
+bss_wide : (op : Opcode) (a : ℕ) (by : ℤ) (rest : List ℕ) → shape_of op ≡ BSS → IsTrue (is_two_bytes a) → IsTrue (is_long by) → body_of true 1 op (to_be_bytes w16 a ++ to_be_bytes w32 (cast_unsigned w32 by) ++ rest) ≡ decoded true op (operands_of a 0 0 by) 8
+bss_wide op a by rest e h0 h1 = body_is true 1 op BSS (to_be_bytes w16 a ++ to_be_bytes w32 (cast_unsigned w32 by) ++ rest) (operands_of a 0 0 by) e (omega arith) (same (two a h0) refl refl (long by h1))
 
 front_narrow : (o : Operation) (rest : List ℕ) → IsTrue (fits_as false o) → front (encoding (record { wide = false; operation = o }) ++ rest) ≡ Some (record { wide = false; operation = o }, length (encoding (record { wide = false; operation = o })))
-unfolding encoding shape_of operation_of
-front_narrow (Move a b) rest h = bb_narrow 1 a b rest (and_parts (is_byte a) (is_byte b) h).0 (and_parts (is_byte a) (is_byte b) h).1
-front_narrow (LoadI a b) rest h = bb_narrow 3 a b rest (and_parts (is_byte a) (is_byte b) h).0 (and_parts (is_byte a) (is_byte b) h).1
-front_narrow (LoadI16 a by) rest h = bs_narrow 4 a by rest (and_parts (is_byte a) (is_short by) h).0 (and_parts (is_byte a) (is_short by) h).1
-front_narrow (LoadI32 a by) rest h = bss_narrow 5 a by rest (and_parts (is_byte a) (is_long by) h).0 (and_parts (is_byte a) (is_long by) h).1
-front_narrow (LoadNil a) rest h = b_narrow 7 a rest h
-front_narrow (LoadT a) rest h = b_narrow 9 a rest h
-front_narrow (Jmp by) rest h = s_narrow 21 by rest h
-front_narrow (JmpIf a by) rest h = bs_narrow 22 a by rest (and_parts (is_byte a) (is_short by) h).0 (and_parts (is_byte a) (is_short by) h).1
-front_narrow (JmpNot a by) rest h = bs_narrow 23 a by rest (and_parts (is_byte a) (is_short by) h).0 (and_parts (is_byte a) (is_short by) h).1
-front_narrow (SSend a b c) rest h = bbb_narrow 28 a b c rest (and_parts (is_byte a) (is_byte b) (and_parts (is_byte a && is_byte b) (is_byte c) h).0).0 (and_parts (is_byte a) (is_byte b) (and_parts (is_byte a && is_byte b) (is_byte c) h).0).1 (and_parts (is_byte a && is_byte b) (is_byte c) h).1
-front_narrow (Add a) rest h = b_narrow 39 a rest h
-front_narrow (Sub a) rest h = b_narrow 40 a rest h
-front_narrow (Mul a) rest h = b_narrow 41 a rest h
-front_narrow (Eq a) rest h = b_narrow 43 a rest h
-front_narrow (Lt a) rest h = b_narrow 44 a rest h
-front_narrow (Le a) rest h = b_narrow 45 a rest h
-front_narrow (Gt a) rest h = b_narrow 46 a rest h
-front_narrow (Ge a) rest h = b_narrow 47 a rest h
-front_narrow Stop rest h = z_narrow 72 rest
+unfolding encoding front wide_front narrow_front opcode_of
+front_narrow (Move a b) rest h = bb_narrow opcode.Move a b rest refl (and_parts (is_byte a) (is_byte b) h).0 (and_parts (is_byte a) (is_byte b) h).1
+front_narrow (LoadI a b) rest h = bb_narrow opcode.LoadI a b rest refl (and_parts (is_byte a) (is_byte b) h).0 (and_parts (is_byte a) (is_byte b) h).1
+front_narrow (LoadI16 a by) rest h = bs_narrow opcode.LoadI16 a by rest refl (and_parts (is_byte a) (is_short by) h).0 (and_parts (is_byte a) (is_short by) h).1
+front_narrow (LoadI32 a by) rest h = bss_narrow opcode.LoadI32 a by rest refl (and_parts (is_byte a) (is_long by) h).0 (and_parts (is_byte a) (is_long by) h).1
+front_narrow (LoadNil a) rest h = b_narrow opcode.LoadNil a rest refl h
+front_narrow (LoadT a) rest h = b_narrow opcode.LoadT a rest refl h
+front_narrow (Jmp by) rest h = s_narrow opcode.Jmp by rest refl h
+front_narrow (JmpIf a by) rest h = bs_narrow opcode.JmpIf a by rest refl (and_parts (is_byte a) (is_short by) h).0 (and_parts (is_byte a) (is_short by) h).1
+front_narrow (JmpNot a by) rest h = bs_narrow opcode.JmpNot a by rest refl (and_parts (is_byte a) (is_short by) h).0 (and_parts (is_byte a) (is_short by) h).1
+front_narrow (SSend a b c) rest h = bbb_narrow opcode.SSend a b c rest refl (and_parts (is_byte a) (is_byte b) (and_parts (is_byte a && is_byte b) (is_byte c) h).0).0 (and_parts (is_byte a) (is_byte b) (and_parts (is_byte a && is_byte b) (is_byte c) h).0).1 (and_parts (is_byte a && is_byte b) (is_byte c) h).1
+front_narrow (Add a) rest h = b_narrow opcode.Add a rest refl h
+front_narrow (Sub a) rest h = b_narrow opcode.Sub a rest refl h
+front_narrow (Mul a) rest h = b_narrow opcode.Mul a rest refl h
+front_narrow (Eq a) rest h = b_narrow opcode.Eq a rest refl h
+front_narrow (Lt a) rest h = b_narrow opcode.Lt a rest refl h
+front_narrow (Le a) rest h = b_narrow opcode.Le a rest refl h
+front_narrow (Gt a) rest h = b_narrow opcode.Gt a rest refl h
+front_narrow (Ge a) rest h = b_narrow opcode.Ge a rest refl h
+front_narrow Stop rest h = z_narrow opcode.Stop rest refl
 
 front_wide : (o : Operation) (rest : List ℕ) → IsTrue (fits_as true o) → front (encoding (record { wide = true; operation = o }) ++ rest) ≡ Some (record { wide = true; operation = o }, length (encoding (record { wide = true; operation = o })))
-unfolding encoding shape_of operation_of
-front_wide (Move a b) rest h = bb_wide 1 a b rest (and_parts (is_two_bytes a) (is_two_bytes b) h).0 (and_parts (is_two_bytes a) (is_two_bytes b) h).1
-front_wide (LoadI a b) rest h = bb_wide 3 a b rest (and_parts (is_two_bytes a) (is_two_bytes b) h).0 (and_parts (is_two_bytes a) (is_two_bytes b) h).1
-front_wide (LoadI16 a by) rest h = bs_wide 4 a by rest (and_parts (is_two_bytes a) (is_long by) h).0 (and_parts (is_two_bytes a) (is_long by) h).1
-front_wide (LoadI32 a by) rest h = bss_wide 5 a by rest (and_parts (is_two_bytes a) (is_long by) h).0 (and_parts (is_two_bytes a) (is_long by) h).1
-front_wide (LoadNil a) rest h = b_wide 7 a rest h
-front_wide (LoadT a) rest h = b_wide 9 a rest h
-front_wide (Jmp by) rest h = s_wide 21 by rest h
-front_wide (JmpIf a by) rest h = bs_wide 22 a by rest (and_parts (is_two_bytes a) (is_long by) h).0 (and_parts (is_two_bytes a) (is_long by) h).1
-front_wide (JmpNot a by) rest h = bs_wide 23 a by rest (and_parts (is_two_bytes a) (is_long by) h).0 (and_parts (is_two_bytes a) (is_long by) h).1
-front_wide (SSend a b c) rest h = bbb_wide 28 a b c rest (and_parts (is_two_bytes a) (is_two_bytes b) (and_parts (is_two_bytes a && is_two_bytes b) (is_two_bytes c) h).0).0 (and_parts (is_two_bytes a) (is_two_bytes b) (and_parts (is_two_bytes a && is_two_bytes b) (is_two_bytes c) h).0).1 (and_parts (is_two_bytes a && is_two_bytes b) (is_two_bytes c) h).1
-front_wide (Add a) rest h = b_wide 39 a rest h
-front_wide (Sub a) rest h = b_wide 40 a rest h
-front_wide (Mul a) rest h = b_wide 41 a rest h
-front_wide (Eq a) rest h = b_wide 43 a rest h
-front_wide (Lt a) rest h = b_wide 44 a rest h
-front_wide (Le a) rest h = b_wide 45 a rest h
-front_wide (Gt a) rest h = b_wide 46 a rest h
-front_wide (Ge a) rest h = b_wide 47 a rest h
-front_wide Stop rest h = cc
+unfolding encoding front wide_front narrow_front opcode_of
+front_wide (Move a b) rest h = bb_wide opcode.Move a b rest refl (and_parts (is_two_bytes a) (is_two_bytes b) h).0 (and_parts (is_two_bytes a) (is_two_bytes b) h).1
+front_wide (LoadI a b) rest h = bb_wide opcode.LoadI a b rest refl (and_parts (is_two_bytes a) (is_two_bytes b) h).0 (and_parts (is_two_bytes a) (is_two_bytes b) h).1
+front_wide (LoadI16 a by) rest h = bs_wide opcode.LoadI16 a by rest refl (and_parts (is_two_bytes a) (is_long by) h).0 (and_parts (is_two_bytes a) (is_long by) h).1
+front_wide (LoadI32 a by) rest h = bss_wide opcode.LoadI32 a by rest refl (and_parts (is_two_bytes a) (is_long by) h).0 (and_parts (is_two_bytes a) (is_long by) h).1
+front_wide (LoadNil a) rest h = b_wide opcode.LoadNil a rest refl h
+front_wide (LoadT a) rest h = b_wide opcode.LoadT a rest refl h
+front_wide (Jmp by) rest h = s_wide opcode.Jmp by rest refl h
+front_wide (JmpIf a by) rest h = bs_wide opcode.JmpIf a by rest refl (and_parts (is_two_bytes a) (is_long by) h).0 (and_parts (is_two_bytes a) (is_long by) h).1
+front_wide (JmpNot a by) rest h = bs_wide opcode.JmpNot a by rest refl (and_parts (is_two_bytes a) (is_long by) h).0 (and_parts (is_two_bytes a) (is_long by) h).1
+front_wide (SSend a b c) rest h = bbb_wide opcode.SSend a b c rest refl (and_parts (is_two_bytes a) (is_two_bytes b) (and_parts (is_two_bytes a && is_two_bytes b) (is_two_bytes c) h).0).0 (and_parts (is_two_bytes a) (is_two_bytes b) (and_parts (is_two_bytes a && is_two_bytes b) (is_two_bytes c) h).0).1 (and_parts (is_two_bytes a && is_two_bytes b) (is_two_bytes c) h).1
+front_wide (Add a) rest h = b_wide opcode.Add a rest refl h
+front_wide (Sub a) rest h = b_wide opcode.Sub a rest refl h
+front_wide (Mul a) rest h = b_wide opcode.Mul a rest refl h
+front_wide (Eq a) rest h = b_wide opcode.Eq a rest refl h
+front_wide (Lt a) rest h = b_wide opcode.Lt a rest refl h
+front_wide (Le a) rest h = b_wide opcode.Le a rest refl h
+front_wide (Gt a) rest h = b_wide opcode.Gt a rest refl h
+front_wide (Ge a) rest h = b_wide opcode.Ge a rest refl h
+front_wide Stop rest h = absurd cc
 
 front_as : (w : Bool) (o : Operation) (rest : List ℕ) → IsTrue (fits_as w o) → front (encoding (record { wide = w; operation = o }) ++ rest) ≡ Some (record { wide = w; operation = o }, length (encoding (record { wide = w; operation = o })))
 front_as false o rest h = front_narrow o rest h

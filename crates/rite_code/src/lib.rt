@@ -8,6 +8,7 @@ pub mod cause;
 pub mod code;
 pub mod decode;
 pub mod instr;
+mod opcode;
 
 pub use cause::Cause;
 pub use code::{CatchEntry, Code, Irep, PoolItem};
