@@ -125,7 +125,8 @@ impl Instr {
     /// What it does, with its operands.
     #[inline(always)]
     pub fn operation(&self) -> Operation
-        ensures { result ≡ self.now.operation }
+        ensures value { result ≡ self.now.operation }
+        ensures fits { IsTrue (shape.fits self.now) }
     {
         self.operation
     }
