@@ -98,7 +98,6 @@ fn fits(wide: bool, operation: Operation) -> bool
 
 impl Instr {
     ghost use Rattle.rite_code.specs.Instruction.{instruction};
-
     ghost use Rattle.rite_code.specs.Shape.{fits_as};
 
     /// The instruction, where its operands fit. None where they don't.

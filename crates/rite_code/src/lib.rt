@@ -16,3 +16,6 @@ pub use code::{CatchEntry, Code, Irep, PoolItem};
 pub use decoding::{decode_at, decode_wide_at, decoding_undoes_encoding};
 pub use encoding::encode;
 pub use instr::{Instr, Operation};
+
+#[cfg(test)]
+mod tests;
