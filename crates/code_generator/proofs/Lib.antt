@@ -5,3 +5,10 @@ pub mod Keeping
 pub mod Matching
 pub mod cases
 pub mod Whole
+pub mod Bounds
+pub mod Jumps
+pub mod Pieces
+pub mod Scoping
+pub mod Fitting
+pub mod Generated
+pub mod Compiled

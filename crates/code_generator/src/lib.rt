@@ -2,3 +2,5 @@
 //!
 //! Call: [`generate`].
 #![tactic(auto)]
+
+pub mod law;

@@ -79,7 +79,7 @@ acted p call_puts (u ∷ []) r next f fs m count named held =
     ap (λ (s : List ℕ). machine.call_self (machine.is_puts s 1) r next f fs m) (named refl) ∙ ap (λ (x : Value). machine.after (writes (line_of x)) r next f fs m) (ap read held.0)
 acted p call_puts (u ∷ (v ∷ vs)) r next f fs m count named held = absurd (omega arith)
 
-size_is : (a : Action) (r : ℕ) → size_of (action_of a r) ≡ action_size a
+pub size_is : (a : Action) (r : ℕ) → size_of (action_of a r) ≡ action_size a
 size_is give_nil r = refl
 size_is give_true r = refl
 size_is (give_int (pos n)) r = by (nat_lt n 256) (nat_lt n 32768)
