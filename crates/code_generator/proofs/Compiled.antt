@@ -25,13 +25,13 @@ use Rattle.code_generator.proofs.Scoping.{Within, Assigned, AllAssigned, assigne
 use Rattle.code_generator.proofs.Fitting.{AllFit, AllFit-append, gen_fits}
 use Rattle.code_generator.proofs.Whole.{IsCodeOf, implements}
 
-abbrev bytes_of : List Operation → List ℕ
+abbrev pub bytes_of : List Operation → List ℕ
 bytes_of is = encodings (map narrow is)
 
 bytes_append : (a b : List Operation) → bytes_of (a ++ b) ≡ bytes_of a ++ bytes_of b
 bytes_append a b = ap encodings (map-append narrow a b) ∙ flat_map-append encoding (map narrow a) (map narrow b)
 
-length_bytes : (is : List Operation) → length (bytes_of is) ≡ total is
+pub length_bytes : (is : List Operation) → length (bytes_of is) ≡ total is
 length_bytes [] = refl
 length_bytes (i ∷ is) = length-append (encoding (narrow i)) (bytes_of is) ∙ let e = length-encoding_narrow i in let h = length_bytes is in omega (arith, e, h)
 
