@@ -6,8 +6,8 @@ use Rattle.rb_syntax.specs.declared.operator.Operator.{Operator}
 use Rattle.rb_syntax.specs.declared.operator.Operator.TheVariants.{Plus, Minus, Times, Equal, Less, LessEqual, Greater, GreaterEqual}
 use Rattle.rite_code.specs.declared.code.Code.{Code}
 use Rattle.rite_code.specs.declared.instr.Operation.{Operation}
-use Rattle.rite_code.specs.declared.instr.Operation.TheVariants.{Move, LoadI, LoadI16, LoadI32, LoadNil, LoadT, Jmp, JmpIf, JmpNot, SSend, Add, Sub, Mul, Eq, Lt, Le, Gt, Ge, Stop}
-use Rattle.rite_code.specs.Instruction.{Instruction, narrow}
+use Rattle.rite_code.specs.declared.instr.Operation.TheVariants.{Move, LoadI, LoadI16, LoadI32, LoadNil, LoadT, Jmp, JmpNot, SSend, Add, Sub, Mul, Eq, Lt, Le, Gt, Ge, Stop}
+use Rattle.rite_code.specs.Instruction.{narrow}
 use Rattle.rite_code.specs.Spelling.{encodings}
 
 -- the distance of a jump, from the place behind it
@@ -158,14 +158,14 @@ operations_of f = gen (names_of f) f (first_free f) 0 ++ Stop ∷ []
 -- the code of a main program
 abbrev pub code_of : Form → Code
 code_of f = record {
-    version = 2;
-    bodies = record {
-        locals = first_free f;
-        registers = first_free f + width f;
-        code = encodings (map narrow (operations_of f));
-        catches = [];
-        pool = [];
-        symbols = symbols_of f;
-        children = [];
-    } ∷ [];
-  }
+  version = 2;
+  bodies = record {
+    locals = first_free f;
+    registers = first_free f + width f;
+    code = encodings (map narrow (operations_of f));
+    catches = [];
+    pool = [];
+    symbols = symbols_of f;
+    children = [];
+  } ∷ [];
+}

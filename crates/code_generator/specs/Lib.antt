@@ -1,2 +1,3 @@
 pub mod Gen
 pub mod Implements
+pub mod Witness

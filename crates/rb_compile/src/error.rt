@@ -1,4 +1,10 @@
+use path_front::FrontError;
 use rb_syntax::{Count, Outside};
+use std::alloc::AllocError;
+
+ghost use Rattle.std.specs.Prelude.{◌≡◌};
+ghost use Rattle.rb_compile.specs.declared.error.CompileError.TheVariants.{NoMemory};
+ghost use Rattle.rb_compile.specs.Front.{front_error};
 
 /// Why a text isn't compiled. `at` is the place of the first byte that the refusal speaks of.
 #[derive(Clone, Copy, Debug, PartialEq, Eq)]
@@ -8,4 +14,23 @@ pub enum CompileError {
     TooDeep,
     Outside { what: Outside, at: u32 },
     NoMemory,
+}
+
+impl From<FrontError> for CompileError {
+    ghost from_gives = { λ e c. c ≡ front_error e };
+
+    fn from(error: FrontError) -> CompileError {
+        match error {
+            FrontError::Syntax { at } => CompileError::Syntax { at },
+            FrontError::NoMemory => CompileError::NoMemory,
+        }
+    }
+}
+
+impl From<AllocError> for CompileError {
+    ghost from_gives = { λ _ c. c ≡ NoMemory };
+
+    fn from(_refused: AllocError) -> CompileError {
+        CompileError::NoMemory
+    }
 }

@@ -18,10 +18,13 @@ use std::alloc::Global;
 
 /// Code that implements the source. `Syntax` comes exactly where the text isn't in the language, and the
 /// language has nothing that is refused for another cause.
+#[tactic(auto, using(crate::proofs::Compiled::compiled_laws))]
 pub fn compile(alloc: Global, text: &[u8]) -> Result<Code, CompileError>
     ensures implements { IfOk result (λ code. MatchOption (program_of text.now) ⊥ (Implements code)) }
     ensures plain { IfOk result IsPlain }
     ensures refused { IfErr result (Refuses text.now) }
 {
-    Err(CompileError::NoMemory)
+    let core = path_front::read(alloc, text)?;
+    let code = code_generator::generate(alloc, &core)?;
+    Ok(code)
 }

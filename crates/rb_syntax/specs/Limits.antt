@@ -113,13 +113,22 @@ abbrev mutual
   parts (strict a es) = 1 + all_parts es
   parts (local x) = 1
   parts (set_local x e) = 2 + parts e
-  parts (seq es) = all_parts es
+  parts (seq es) = line_parts es
   parts (cond t a b) = 3 + parts t + parts a + parts b
   parts (while_form t b) = 3 + parts t + parts b
 
   pub all_parts : Forms → ℕ
   all_parts none = 0
   all_parts (more e es) = parts e + all_parts es
+
+  -- a line behind another has a separator before it
+  pub line_parts : Forms → ℕ
+  line_parts none = 0
+  line_parts (more e es) = parts e + further_parts es
+
+  pub further_parts : Forms → ℕ
+  further_parts none = 0
+  further_parts (more e es) = 1 + parts e + further_parts es
 
 -- what the generator asks of a form
 pub record IsWithin (f : Form) : Type 0 where

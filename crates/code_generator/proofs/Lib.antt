@@ -1,0 +1,14 @@
+pub mod Stands
+pub mod Relation
+pub mod Registers
+pub mod Keeping
+pub mod Matching
+pub mod cases
+pub mod Whole
+pub mod Bounds
+pub mod Jumps
+pub mod Pieces
+pub mod Scoping
+pub mod Fitting
+pub mod Generated
+pub mod Compiled

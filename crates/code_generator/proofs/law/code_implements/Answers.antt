@@ -1,0 +1,5 @@
+use Rattle.code_generator.proofs.Compiled.{compiled}
+use Rattle.code_generator.proofs.law.code_implements.Goals as goal
+
+pub returns : goal.returns
+returns c = compiled
