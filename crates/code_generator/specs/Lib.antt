@@ -1,2 +1,3 @@
+pub mod Emission
 pub mod Gen
 pub mod Implements

@@ -2,3 +2,9 @@
 //!
 //! Call: [`generate`].
 #![tactic(auto)]
+
+mod from_core;
+mod measure;
+mod node;
+mod names;
+mod tree;
