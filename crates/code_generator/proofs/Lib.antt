@@ -1,2 +1,5 @@
 pub mod Bounds
 pub mod Widths
+pub mod Lists
+pub mod Narrow
+pub mod Numbers

@@ -1,11 +1,10 @@
 -- What the generator's own types mean.
-use Rattle.std.specs.Prelude.{List, [], ◌∷◌, map, Option, Some, None, bytes_eq, codes, if◌then◌else◌}
-use Rattle.rb_syntax.specs.Form.{Name, Form, Forms, none, more, forms, one, two, give_nil, give_true, give_int, call_operator, call_puts, strict, local, set_local, seq, cond, while_form}
+use Rattle.std.specs.Prelude.{List, [], ◌∷◌, map, Option, Some, None, bytes_eq, codes, if◌then◌else◌, IsTrue}
+use Rattle.rb_syntax.specs.Form.{Name, Action, Form, Forms, none, more, forms, one, two, give_nil, give_true, give_int, call_operator, call_puts, strict, local, set_local, seq, cond, while_form}
+use Rattle.rb_syntax.specs.Limits.{is_number}
 use Rattle.rb_syntax.specs.View.{form_of, operator_named, ◌>>=◌}
 use Rattle.rb_syntax.specs.declared.core_form.Core.{Core}
 use Rattle.rb_syntax.specs.declared.core_form.Branch.{Branch}
-use Rattle.rb_syntax.specs.declared.core_form.Item.{Item}
-use Rattle.rb_syntax.specs.declared.core_form.Item.TheVariants.{Plain, Splat}
 use Rattle.code_generator.specs.declared.tree.Tree.{Tree, fold-Tree}
 use Rattle.code_generator.specs.declared.tree.Tree.TheOpen.{Tree-F}
 
@@ -58,10 +57,27 @@ cond_form test body other = test >>= (λ t. body >>= (λ e. other >>= (λ o. Som
 abbrev pub loop_form : Option Form → Option Form → Option Form
 loop_form t b = t >>= (λ test. b >>= (λ body. Some (while_form test body)))
 
--- a branch and an item with the forms of their parts
+-- a branch with the forms of its parts
 abbrev pub branch_forms : Branch Core → Branch (Option Form)
 branch_forms b = record { test = form_of b.test; body = form_of b.body }
 
-abbrev pub item_forms : Item Core → Item (Option Form)
-item_forms (Plain e) = Plain (form_of e)
-item_forms (Splat e) = Splat (form_of e)
+-- the numbers of a form have 32 bits
+abbrev pub IsNumbered : Action → Type 0
+IsNumbered give_nil = Unit {0}
+IsNumbered give_true = Unit {0}
+IsNumbered (give_int z) = IsTrue (is_number z)
+IsNumbered (call_operator o) = Unit {0}
+IsNumbered call_puts = Unit {0}
+
+abbrev mutual
+  pub HasNumbers : Form → Type 0
+  HasNumbers (strict a es) = IsNumbered a × HaveNumbers es
+  HasNumbers (local x) = Unit {0}
+  HasNumbers (set_local x e) = HasNumbers e
+  HasNumbers (seq es) = HaveNumbers es
+  HasNumbers (cond t a b) = HasNumbers t × HasNumbers a × HasNumbers b
+  HasNumbers (while_form t b) = HasNumbers t × HasNumbers b
+
+  pub HaveNumbers : Forms → Type 0
+  HaveNumbers none = Unit {0}
+  HaveNumbers (more e es) = HasNumbers e × HaveNumbers es

@@ -1,3 +1,4 @@
 pub mod Emission
 pub mod Gen
 pub mod Implements
+pub mod Narrow

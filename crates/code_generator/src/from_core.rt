@@ -1,27 +1,13 @@
 //! From core forms to trees.
-ghost use Rattle.std.specs.Prelude.{◌≡◌, ℕ, List, Option, IsNone, IfOk, IfSome, MatchOption, map, Some, None, [], ◌∷◌};
-ghost use Rattle.rb_syntax.specs.View.{form_of, all_of, cond_of, operator_call, puts_call};
-ghost use Rattle.rb_syntax.specs.Form.{Form};
-ghost use Rattle.rb_syntax.specs.declared.core_form.Item.TheVariants as item;
-ghost use Rattle.code_generator.specs.Emission.{form, form_in, all_forms, branch_forms, item_forms};
+ghost use Rattle.std.specs.Prelude.{◌≡◌, IfOk, MatchOption, map, Some, None};
+ghost use Rattle.rb_syntax.specs.View.{form_of, all_of, cond_of};
+ghost use Rattle.code_generator.specs.Emission.{form, form_in, all_forms, branch_forms};
 
 use crate::node;
 use crate::tree::Tree;
 use rb_base::Bytes;
 use rb_syntax::{Branch, Core, Item, Receiver};
 use std::alloc::{AllocError, Global};
-
-/// The item of a list that is plain and has no other beside it.
-fn only(items: &[Item<Core>]) -> Option<&Core>
-    ensures some { IfSome result (λ e. items.now ≡ item.Plain e.now ∷ []) }
-    ensures no_operator { IsNone result → (a : Option Form) (name : List ℕ) → operator_call a name (map item_forms items.now) ≡ None }
-    ensures no_puts { IsNone result → (name : List ℕ) → puts_call name (map item_forms items.now) ≡ None }
-{
-    match items.split_first() {
-        Some((Item::Plain(e), rest)) if rest.is_empty() => Some(e),
-        _ => None,
-    }
-}
 
 /// The tree of a core form, where it is a form of the language.
 #[cycle(trees)]
@@ -50,19 +36,27 @@ pub fn tree_of(alloc: Global, core: &Core) -> Result<Option<Tree>, AllocError>
             let body = tree_of(alloc, body)?;
             node::while_loop(alloc, test, body)
         }
-        Core::Call { receiver: Receiver::To(a), name, items, block: None } => match only(items) {
-            Some(b) => {
-                let a = tree_of(alloc, a)?;
-                let b = tree_of(alloc, b)?;
-                node::operate(alloc, a, name.as_slice(), b)
-            }
+        Core::Call { receiver: Receiver::To(a), name, items, block: None } => match items.split_first() {
+            Some((Item::Plain(b), others)) => match others.split_first() {
+                None => {
+                    let a = tree_of(alloc, a)?;
+                    let b = tree_of(alloc, b)?;
+                    node::operate(alloc, a, name.as_slice(), b)
+                }
+                Some(_) => Ok(None),
+            },
+            Some((Item::Splat(_), _)) => Ok(None),
             None => Ok(None),
         },
-        Core::Call { receiver: Receiver::Absent, name, items, block: None } => match only(items) {
-            Some(e) => {
-                let e = tree_of(alloc, e)?;
-                node::puts(alloc, name.as_slice(), e)
-            }
+        Core::Call { receiver: Receiver::Absent, name, items, block: None } => match items.split_first() {
+            Some((Item::Plain(e), others)) => match others.split_first() {
+                None => {
+                    let e = tree_of(alloc, e)?;
+                    node::puts(alloc, name.as_slice(), e)
+                }
+                Some(_) => Ok(None),
+            },
+            Some((Item::Splat(_), _)) => Ok(None),
             None => Ok(None),
         },
         _ => Ok(None),

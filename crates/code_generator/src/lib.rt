@@ -3,8 +3,16 @@
 //! Call: [`generate`].
 #![tactic(auto)]
 
+mod assembly;
+mod emit;
 mod from_core;
 mod measure;
-mod node;
 mod names;
+mod node;
+mod program;
 mod tree;
+
+pub use program::generate;
+
+#[cfg(test)]
+mod tests;

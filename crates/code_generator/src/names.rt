@@ -1,5 +1,5 @@
 //! The local names of a form, each with its register.
-ghost use Rattle.std.specs.Prelude.{◌≡◌, OnOk, map};
+ghost use Rattle.std.specs.Prelude.{◌≡◌, ◌≤◌, length, OnOk, map};
 ghost use Rattle.rb_syntax.specs.Names.{place_of, is_among, with_name, add_names, add_all};
 ghost use Rattle.code_generator.specs.Emission.{form, all_forms};
 
@@ -9,7 +9,8 @@ use std::alloc::{AllocError, Global};
 
 /// The place of a name in a list, or the length of the list where it isn't there.
 pub fn place(name: &[u8], names: &[Bytes]) -> usize
-    ensures { result ≡ place_of name.now names.now }
+    ensures value { result ≡ place_of name.now names.now }
+    ensures within { result ≤ length names.now }
 {
     for (i, known) in names.iter().enumerate() {
         if name == known.as_slice() {
