@@ -4,7 +4,7 @@ ghost use Rattle.rite_code.specs.Instruction.{narrow};
 ghost use Rattle.rite_code.specs.Shape.{fits_as};
 ghost use Rattle.rite_code.specs.Spelling.{encodings};
 
-use rite_code::{encode, Instr, Operation};
+use rite_code::{Instr, Operation, encode};
 use std::alloc::{AllocError, Global};
 use std::marker::Model;
 
@@ -16,9 +16,7 @@ pub struct Assembly {
 
 impl Model for Assembly {
     ghost use Rattle.std.specs.Prelude as prelude;
-
     ghost use Rattle.rite_code.specs.declared.instr.Operation.{Operation};
-
     ghost use Rattle.code_generator.specs.Narrow.{operations_in, AreNarrow};
 
     ghost Value = { prelude.List Operation };
@@ -44,7 +42,8 @@ impl Assembly {
         requires { IsTrue (fits_as false operation) }
         ensures { OnOk result (self.new ≡ self.old ++ operation ∷ []) }
     {
-        self.instructions.push(Instr::from_fitting(false, operation))?;
+        self.instructions
+            .push(Instr::from_fitting(false, operation))?;
         Ok(())
     }
 

@@ -39,7 +39,9 @@ fn put_jump(code: &mut Assembly, from: usize, to: usize) -> Result<(), AllocErro
     requires end { to < 32768 }
     ensures { OnOk result (code.new ≡ code.old ++ Jmp (distance from to) ∷ []) }
 {
-    code.put(Operation::Jmp { by: between(from, to) })
+    code.put(Operation::Jmp {
+        by: between(from, to),
+    })
 }
 
 /// Puts a jump at the end that is taken where `r` holds nil or false.
@@ -49,7 +51,10 @@ fn put_jump_not(code: &mut Assembly, r: u16, from: usize, to: usize) -> Result<(
     requires end { to < 32768 }
     ensures { OnOk result (code.new ≡ code.old ++ JmpNot r (distance from to) ∷ []) }
 {
-    code.put(Operation::JmpNot { a: r, by: between(from, to) })
+    code.put(Operation::JmpNot {
+        a: r,
+        by: between(from, to),
+    })
 }
 
 /// The shortest instruction that loads a number.
@@ -97,7 +102,13 @@ fn register(name: &Bytes, names: &[Bytes]) -> u16
 
 /// Puts the code of a form at the byte `at`, with its value in `r`.
 #[cycle(emission)]
-pub fn emit(code: &mut Assembly, names: &[Bytes], tree: &Tree, r: u16, at: usize) -> Result<(), AllocError>
+pub fn emit(
+    code: &mut Assembly,
+    names: &[Bytes],
+    tree: &Tree,
+    r: u16,
+    at: usize,
+) -> Result<(), AllocError>
     requires locals { length names.now < 255 }
     requires register { r < 256 }
     requires numbers { HasNumbers (form tree.now) }
@@ -154,7 +165,13 @@ pub fn emit(code: &mut Assembly, names: &[Bytes], tree: &Tree, r: u16, at: usize
 
 /// Puts the code of forms, one behind the other.
 #[cycle(emission)]
-fn emit_all(code: &mut Assembly, names: &[Bytes], list: &[Tree], r: u16, at: usize) -> Result<(), AllocError>
+fn emit_all(
+    code: &mut Assembly,
+    names: &[Bytes],
+    list: &[Tree],
+    r: u16,
+    at: usize,
+) -> Result<(), AllocError>
     requires locals { length names.now < 255 }
     requires register { r < 256 }
     requires numbers { HaveNumbers (all_forms list.now) }

@@ -31,12 +31,21 @@ pub fn tree_of(alloc: Global, core: &Core) -> Result<Option<Tree>, AllocError>
             let other = tree_of(alloc, other)?;
             cond_of_branches(alloc, branches, other)
         }
-        Core::While { body_first: false, test, body } => {
+        Core::While {
+            body_first: false,
+            test,
+            body,
+        } => {
             let test = tree_of(alloc, test)?;
             let body = tree_of(alloc, body)?;
             node::while_loop(alloc, test, body)
         }
-        Core::Call { receiver: Receiver::To(a), name, items, block: None } => match items.split_first() {
+        Core::Call {
+            receiver: Receiver::To(a),
+            name,
+            items,
+            block: None,
+        } => match items.split_first() {
             Some((Item::Plain(b), others)) => match others.split_first() {
                 None => {
                     let a = tree_of(alloc, a)?;
@@ -48,7 +57,12 @@ pub fn tree_of(alloc: Global, core: &Core) -> Result<Option<Tree>, AllocError>
             Some((Item::Splat(_), _)) => Ok(None),
             None => Ok(None),
         },
-        Core::Call { receiver: Receiver::Absent, name, items, block: None } => match items.split_first() {
+        Core::Call {
+            receiver: Receiver::Absent,
+            name,
+            items,
+            block: None,
+        } => match items.split_first() {
             Some((Item::Plain(e), others)) => match others.split_first() {
                 None => {
                     let e = tree_of(alloc, e)?;
@@ -80,7 +94,11 @@ fn trees_of(alloc: Global, list: &[Core]) -> Result<Option<Vec<Tree>>, AllocErro
 
 /// The tree of branches, from the last to the first, with the form that is done where none is taken.
 #[cycle(trees)]
-fn cond_of_branches(alloc: Global, branches: &[Branch<Core>], other: Option<Tree>) -> Result<Option<Tree>, AllocError>
+fn cond_of_branches(
+    alloc: Global,
+    branches: &[Branch<Core>],
+    other: Option<Tree>,
+) -> Result<Option<Tree>, AllocError>
     ensures { IfOk result (λ tree. cond_of (map branch_forms branches.now) (form_in other) ≡ form_in tree) }
 {
     let mut tree = other;

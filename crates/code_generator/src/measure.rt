@@ -42,7 +42,7 @@ pub fn length(tree: &Tree) -> usize
 }
 
 #[cycle(lengths)]
-pub fn length_all(list: &[Tree]) -> usize
+fn length_all(list: &[Tree]) -> usize
     requires { len_rest (all_forms list.now) < 2 ^ 32 }
     ensures { result ≡ len_rest (all_forms list.now) }
 {

@@ -35,7 +35,12 @@ fn operator_of(name: &[u8]) -> Option<Operator>
 }
 
 /// The call of an operator by its name.
-pub fn operate(alloc: Global, a: Option<Tree>, name: &[u8], b: Option<Tree>) -> Result<Option<Tree>, AllocError>
+pub fn operate(
+    alloc: Global,
+    a: Option<Tree>,
+    name: &[u8],
+    b: Option<Tree>,
+) -> Result<Option<Tree>, AllocError>
     ensures { IfOk result (λ tree. form_in tree ≡ operation_form (form_in a) name.now (form_in b)) }
 {
     match (a, b, operator_of(name)) {
@@ -59,7 +64,11 @@ pub fn puts(alloc: Global, name: &[u8], e: Option<Tree>) -> Result<Option<Tree>,
 }
 
 /// The assignment of a value to a name.
-pub fn set_local(alloc: Global, name: &Bytes, value: Option<Tree>) -> Result<Option<Tree>, AllocError>
+pub fn set_local(
+    alloc: Global,
+    name: &Bytes,
+    value: Option<Tree>,
+) -> Result<Option<Tree>, AllocError>
     ensures { IfOk result (λ tree. form_in tree ≡ set_form name.now (form_in value)) }
 {
     match value {
@@ -72,7 +81,12 @@ pub fn set_local(alloc: Global, name: &Bytes, value: Option<Tree>) -> Result<Opt
 }
 
 /// The choice by a test.
-pub fn cond(alloc: Global, test: Option<Tree>, body: Option<Tree>, other: Option<Tree>) -> Result<Option<Tree>, AllocError>
+pub fn cond(
+    alloc: Global,
+    test: Option<Tree>,
+    body: Option<Tree>,
+    other: Option<Tree>,
+) -> Result<Option<Tree>, AllocError>
     ensures { IfOk result (λ tree. form_in tree ≡ cond_form (form_in test) (form_in body) (form_in other)) }
 {
     match (test, body, other) {
@@ -87,7 +101,11 @@ pub fn cond(alloc: Global, test: Option<Tree>, body: Option<Tree>, other: Option
 }
 
 /// The loop while a test holds.
-pub fn while_loop(alloc: Global, test: Option<Tree>, body: Option<Tree>) -> Result<Option<Tree>, AllocError>
+pub fn while_loop(
+    alloc: Global,
+    test: Option<Tree>,
+    body: Option<Tree>,
+) -> Result<Option<Tree>, AllocError>
     ensures { IfOk result (λ tree. form_in tree ≡ loop_form (form_in test) (form_in body)) }
 {
     match (test, body) {

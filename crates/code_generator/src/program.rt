@@ -91,4 +91,3 @@ pub fn generate(alloc: Global, core: &Core) -> Result<Code, AllocError>
         None => unreachable!(),
     }
 }
-
