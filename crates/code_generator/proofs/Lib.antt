@@ -12,3 +12,7 @@ pub mod Scoping
 pub mod Fitting
 pub mod Generated
 pub mod Compiled
+pub mod Widths
+pub mod Lists
+pub mod Narrow
+pub mod Numbers

@@ -1,3 +1,5 @@
+pub mod Emission
 pub mod Gen
 pub mod Implements
 pub mod Witness
+pub mod Narrow

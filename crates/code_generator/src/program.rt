@@ -1,0 +1,93 @@
+//! The code of a main program.
+ghost use Rattle.std.specs.Prelude.{◌≡◌, IfOk, MatchOption};
+ghost use Rattle.rb_syntax.specs.Limits.{IsWithin};
+ghost use Rattle.rb_syntax.specs.View.{form_of};
+ghost use Rattle.code_generator.specs.Gen.{any_calls_puts, code_of, symbols_of};
+ghost use Rattle.code_generator.specs.Gen as gen;
+ghost use Rattle.code_generator.specs.Emission.{form, all_forms};
+
+use crate::assembly::Assembly;
+use crate::emit::emit;
+use crate::from_core::tree_of;
+use crate::measure::width_of;
+use crate::names::collect;
+use crate::tree::Tree;
+use rb_base::{Bytes, List};
+use rb_syntax::Core;
+use rite_code::{Code, Irep, Operation};
+use std::alloc::{AllocError, Global};
+
+/// Whether a form calls puts.
+#[cycle(calls)]
+fn calls_puts(tree: &Tree) -> bool
+    ensures { result ≡ gen.calls_puts (form tree.now) }
+{
+    match tree {
+        Tree::Nil | Tree::True | Tree::Int(_) | Tree::Local(_) => false,
+        Tree::Puts(_) => true,
+        Tree::SetLocal(_, e) => calls_puts(e),
+        Tree::Seq(list) => one_calls_puts(list),
+        Tree::Operate(_, a, b) | Tree::While(a, b) => calls_puts(a) || calls_puts(b),
+        Tree::Cond(t, a, b) => calls_puts(t) || calls_puts(a) || calls_puts(b),
+    }
+}
+
+#[cycle(calls)]
+fn one_calls_puts(list: &[Tree]) -> bool
+    ensures { result ≡ any_calls_puts (all_forms list.now) }
+{
+    for tree in list {
+        if calls_puts(tree) {
+            return true;
+        }
+    }
+    false
+}
+
+/// The symbols of the calls of a form.
+fn symbols(alloc: Global, tree: &Tree) -> Result<List<Bytes>, AllocError>
+    ensures { IfOk result (λ names. names ≡ symbols_of (form tree.now)) }
+{
+    let mut symbols = List::new(alloc);
+    if calls_puts(tree) {
+        symbols.push(Bytes::from_slice(alloc, b"puts".as_slice())?)?;
+    }
+    Ok(symbols)
+}
+
+/// The code of a main program.
+#[tactic(auto, using(crate::proofs::Bounds::within_registers, crate::proofs::Bounds::within_code, crate::proofs::Numbers::within_numbers))]
+fn main_program(alloc: Global, tree: &Tree) -> Result<Code, AllocError>
+    requires { IsWithin (form tree.now) }
+    ensures { IfOk result (λ code. code ≡ code_of (form tree.now)) }
+{
+    let mut names = Vec::new(alloc);
+    collect(alloc, &mut names, tree)?;
+    let locals = names.len() + 1;
+    let mut code = Assembly::new(alloc);
+    emit(&mut code, &names, tree, locals as u16, 0)?;
+    code.put(Operation::Stop)?;
+    let body = Irep {
+        locals: locals as u16,
+        registers: (locals + width_of(tree)) as u16,
+        code: Bytes::from_vec(code.encode(alloc)?),
+        catches: List::new(alloc),
+        pool: List::new(alloc),
+        symbols: symbols(alloc, tree)?,
+        children: List::new(alloc),
+    };
+    let mut bodies = List::new(alloc);
+    bodies.push(body)?;
+    Ok(Code { version: 2, bodies })
+}
+
+/// The code of a core form that stands for a form within the limits. The error is that memory ran out.
+pub fn generate(alloc: Global, core: &Core) -> Result<Code, AllocError>
+    requires { MatchOption (form_of core.now) ⊥ IsWithin }
+    ensures { IfOk result (λ code. MatchOption (form_of core.now) ⊥ (λ form. code ≡ code_of form)) }
+{
+    match tree_of(alloc, core)? {
+        Some(tree) => main_program(alloc, &tree),
+        None => unreachable!(),
+    }
+}
