@@ -8,6 +8,8 @@
 
 pub mod list;
 pub mod outside;
+pub mod writing;
 
 pub use list::{Bytes, List};
 pub use outside::{Failed, FileError, Files, Sink, Source};
+pub use writing::write_all;
