@@ -8,6 +8,7 @@ ghost use Rattle.rb_base.specs.Outside.{Rose, with_more};
 ghost use Rattle.def_eval.specs.Seen.{output_of};
 ghost use Rattle.path_machine.specs.Run.{seen_after, IsRan, StoppedWithin};
 
+pub mod machine;
 pub mod ran;
 
 pub use ran::{Ran, RunFault};
