@@ -6,5 +6,8 @@ pub record Instruction : Type 0 where
   pub wide : Bool
   pub operation : Operation
 
+abbrev pub instruction : Bool → Operation → Instruction
+instruction w o = record { wide = w; operation = o }
+
 abbrev pub narrow : Operation → Instruction
 narrow o = record { wide = false; operation = o }

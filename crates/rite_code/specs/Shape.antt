@@ -1,19 +1,8 @@
--- Which operands an instruction has, and how many bytes each takes.
-use Rattle.std.specs.Prelude.{ℕ, ◌+◌, ◌^◌, ℤ, pos, negsuc, Bool, true, false, ◌&&◌, nat_lt}
+-- How many bytes an instruction takes, and which operands fit them.
+use Rattle.std.specs.Prelude.{ℕ, ℤ, pos, negsuc, Bool, true, false, ◌&&◌, not, nat_lt}
 use Rattle.rite_code.specs.declared.instr.Operation.{Operation}
 use Rattle.rite_code.specs.declared.instr.Operation.TheVariants.{Move, LoadI, LoadI16, LoadI32, LoadNil, LoadT, Jmp, JmpIf, JmpNot, SSend, Add, Sub, Mul, Eq, Lt, Le, Gt, Ge, Stop}
 use Rattle.rite_code.specs.Instruction.{Instruction}
-
--- none; one, two or three of a byte (two bytes where wide); a distance of two bytes (four), alone or behind
--- a byte; a byte (two) and a number of four bytes
-pub data Shape : Type 0 where
-  Z : Shape
-  B : Shape
-  BB : Shape
-  BBB : Shape
-  S : Shape
-  BS : Shape
-  BSS : Shape
 
 -- the bytes of an instruction without EXT
 abbrev pub size_of : Operation → ℕ
@@ -52,52 +41,36 @@ abbrev pub is_long : ℤ → Bool
 is_long (pos n) = nat_lt n 2147483648
 is_long (negsuc n) = nat_lt n 2147483648
 
-abbrev pub fits_narrow : Operation → Bool
-fits_narrow (Move a b) = is_byte a && is_byte b
-fits_narrow (LoadI a b) = is_byte a && is_byte b
-fits_narrow (LoadI16 a b) = is_byte a && is_short b
-fits_narrow (LoadI32 a b) = is_byte a && is_long b
-fits_narrow (LoadNil a) = is_byte a
-fits_narrow (LoadT a) = is_byte a
-fits_narrow (Jmp by) = is_short by
-fits_narrow (JmpIf a by) = is_byte a && is_short by
-fits_narrow (JmpNot a by) = is_byte a && is_short by
-fits_narrow (SSend a b c) = is_byte a && is_byte b && is_byte c
-fits_narrow (Add a) = is_byte a
-fits_narrow (Sub a) = is_byte a
-fits_narrow (Mul a) = is_byte a
-fits_narrow (Eq a) = is_byte a
-fits_narrow (Lt a) = is_byte a
-fits_narrow (Le a) = is_byte a
-fits_narrow (Gt a) = is_byte a
-fits_narrow (Ge a) = is_byte a
-fits_narrow Stop = true
+-- an operand of an instruction that is wide or not
+abbrev pub is_index : Bool → ℕ → Bool
+is_index false n = is_byte n
+is_index true n = is_two_bytes n
 
--- wide operands fit their types, but Stop has none that grows
-abbrev pub fits_wide : Operation → Bool
-fits_wide (Move a b) = is_two_bytes a && is_two_bytes b
-fits_wide (LoadI a b) = is_two_bytes a && is_two_bytes b
-fits_wide (LoadI16 a b) = is_two_bytes a && is_long b
-fits_wide (LoadI32 a b) = is_two_bytes a && is_long b
-fits_wide (LoadNil a) = is_two_bytes a
-fits_wide (LoadT a) = is_two_bytes a
-fits_wide (Jmp by) = is_long by
-fits_wide (JmpIf a by) = is_two_bytes a && is_long by
-fits_wide (JmpNot a by) = is_two_bytes a && is_long by
-fits_wide (SSend a b c) = is_two_bytes a && is_two_bytes b && is_two_bytes c
-fits_wide (Add a) = is_two_bytes a
-fits_wide (Sub a) = is_two_bytes a
-fits_wide (Mul a) = is_two_bytes a
-fits_wide (Eq a) = is_two_bytes a
-fits_wide (Lt a) = is_two_bytes a
-fits_wide (Le a) = is_two_bytes a
-fits_wide (Gt a) = is_two_bytes a
-fits_wide (Ge a) = is_two_bytes a
-fits_wide Stop = false
+abbrev pub is_distance : Bool → ℤ → Bool
+is_distance false z = is_short z
+is_distance true z = is_long z
 
+-- Stop has no operand that grows
 abbrev pub fits_as : Bool → Operation → Bool
-fits_as true o = fits_wide o
-fits_as false o = fits_narrow o
+fits_as w (Move a b) = is_index w a && is_index w b
+fits_as w (LoadI a b) = is_index w a && is_index w b
+fits_as w (LoadI16 a b) = is_index w a && is_distance w b
+fits_as w (LoadI32 a b) = is_index w a && is_long b
+fits_as w (LoadNil a) = is_index w a
+fits_as w (LoadT a) = is_index w a
+fits_as w (Jmp by) = is_distance w by
+fits_as w (JmpIf a by) = is_index w a && is_distance w by
+fits_as w (JmpNot a by) = is_index w a && is_distance w by
+fits_as w (SSend a b c) = is_index w a && is_index w b && is_index w c
+fits_as w (Add a) = is_index w a
+fits_as w (Sub a) = is_index w a
+fits_as w (Mul a) = is_index w a
+fits_as w (Eq a) = is_index w a
+fits_as w (Lt a) = is_index w a
+fits_as w (Le a) = is_index w a
+fits_as w (Gt a) = is_index w a
+fits_as w (Ge a) = is_index w a
+fits_as w Stop = not w
 
 abbrev pub fits : Instruction → Bool
 fits i = fits_as i.wide i.operation

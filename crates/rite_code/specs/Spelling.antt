@@ -1,10 +1,14 @@
 -- How bytes spell instructions.
-use Rattle.std.specs.Prelude.{ℕ, ◌+◌, ◌-◌, ℤ, pos, negsuc, Bool, true, false, List, [], ◌∷◌, ◌++◌, Option, Some, None, length, drop, take, slice_index, nat_lt, nat_le, nat_eq, if◌then◌else◌, flat_map}
+use Rattle.std.specs.Prelude.{ℕ, ◌+◌, ℤ, pos, Bool, true, false, List, [], ◌∷◌, ◌++◌, Option, Some, None, length, drop, take, slice_index, nat_lt, nat_eq, if◌then◌else◌, flat_map}
 use Rattle.std.specs.Int.{to_be_bytes, from_be_bytes, cast_unsigned, cast_signed, w16, w32}
 use Rattle.rite_code.specs.declared.instr.Operation.{Operation}
 use Rattle.rite_code.specs.declared.instr.Operation.TheVariants.{Move, LoadI, LoadI16, LoadI32, LoadNil, LoadT, Jmp, JmpIf, JmpNot, SSend, Add, Sub, Mul, Eq, Lt, Le, Gt, Ge, Stop}
 use Rattle.rite_code.specs.Instruction.{Instruction}
-use Rattle.rite_code.specs.Shape.{Shape, Z, B, BB, BBB, S, BS, BSS}
+use Rattle.rite_code.specs.declared.opcode.Opcode.{Opcode}
+use Rattle.rite_code.specs.declared.opcode.Opcode.TheVariants as opcode
+use Rattle.rite_code.specs.declared.opcode.Shape.{Shape}
+use Rattle.rite_code.specs.declared.opcode.Shape.TheVariants.{Z, B, BB, BBB, S, BS, BSS}
+use Rattle.rite_code.specs.declared.opcode.Operands.{Operands}
 
 -- the number of EXT, the prefix of a wide instruction
 abbrev pub ext : ℕ
@@ -32,29 +36,51 @@ number_of (Gt a) = 46
 number_of (Ge a) = 47
 number_of Stop = 72
 
--- the shape that goes with a number, where the number is one of an instruction
-unfoldable pub shape_of : ℕ → Option Shape
-shape_of n =
-    if nat_eq n 1 then Some BB
-    else if nat_eq n 3 then Some BB
-    else if nat_eq n 4 then Some BS
-    else if nat_eq n 5 then Some BSS
-    else if nat_eq n 7 then Some B
-    else if nat_eq n 9 then Some B
-    else if nat_eq n 21 then Some S
-    else if nat_eq n 22 then Some BS
-    else if nat_eq n 23 then Some BS
-    else if nat_eq n 28 then Some BBB
-    else if nat_eq n 39 then Some B
-    else if nat_eq n 40 then Some B
-    else if nat_eq n 41 then Some B
-    else if nat_eq n 43 then Some B
-    else if nat_eq n 44 then Some B
-    else if nat_eq n 45 then Some B
-    else if nat_eq n 46 then Some B
-    else if nat_eq n 47 then Some B
-    else if nat_eq n 72 then Some Z
+-- the instruction of a number, where there is one
+unfoldable pub opcode_of : ℕ → Option Opcode
+opcode_of n =
+    if nat_eq n 1 then Some opcode.Move
+    else if nat_eq n 3 then Some opcode.LoadI
+    else if nat_eq n 4 then Some opcode.LoadI16
+    else if nat_eq n 5 then Some opcode.LoadI32
+    else if nat_eq n 7 then Some opcode.LoadNil
+    else if nat_eq n 9 then Some opcode.LoadT
+    else if nat_eq n 21 then Some opcode.Jmp
+    else if nat_eq n 22 then Some opcode.JmpIf
+    else if nat_eq n 23 then Some opcode.JmpNot
+    else if nat_eq n 28 then Some opcode.SSend
+    else if nat_eq n 39 then Some opcode.Add
+    else if nat_eq n 40 then Some opcode.Sub
+    else if nat_eq n 41 then Some opcode.Mul
+    else if nat_eq n 43 then Some opcode.Eq
+    else if nat_eq n 44 then Some opcode.Lt
+    else if nat_eq n 45 then Some opcode.Le
+    else if nat_eq n 46 then Some opcode.Gt
+    else if nat_eq n 47 then Some opcode.Ge
+    else if nat_eq n 72 then Some opcode.Stop
     else None
+
+-- its operands
+abbrev pub shape_of : Opcode → Shape
+shape_of opcode.Move = BB
+shape_of opcode.LoadI = BB
+shape_of opcode.LoadI16 = BS
+shape_of opcode.LoadI32 = BSS
+shape_of opcode.LoadNil = B
+shape_of opcode.LoadT = B
+shape_of opcode.Jmp = S
+shape_of opcode.JmpIf = BS
+shape_of opcode.JmpNot = BS
+shape_of opcode.SSend = BBB
+shape_of opcode.Add = B
+shape_of opcode.Sub = B
+shape_of opcode.Mul = B
+shape_of opcode.Eq = B
+shape_of opcode.Lt = B
+shape_of opcode.Le = B
+shape_of opcode.Gt = B
+shape_of opcode.Ge = B
+shape_of opcode.Stop = Z
 
 -- the bytes of a narrow operand and a wide one, big-endian
 abbrev pub index_bytes : Bool → ℕ → List ℕ
@@ -96,13 +122,7 @@ encoding i = (if i.wide then ext ∷ [] else []) ++ (number_of i.operation ∷ o
 abbrev pub encodings : List Instruction → List ℕ
 encodings is = flat_map encoding is
 
--- The operands behind a number, read by its shape; None where they aren't all there.
-pub record Operands : Type 0 where
-  pub a : ℕ
-  pub b : ℕ
-  pub c : ℕ
-  pub by : ℤ
-
+-- how many bytes an operand takes, and what it is
 abbrev pub index_size : Bool → ℕ
 index_size false = 1
 index_size true = 2
@@ -113,11 +133,17 @@ distance_size true = 4
 
 abbrev pub index_at : Bool → List ℕ → ℕ → ℕ
 index_at false bytes i = slice_index bytes i
-index_at true bytes i = from_be_bytes w16 (take 2 (drop i bytes))
+index_at true bytes i = from_be_bytes w16 (slice_index bytes i ∷ slice_index bytes (i + 1) ∷ [])
+
+abbrev pub short_at : List ℕ → ℕ → ℤ
+short_at bytes i = cast_signed w16 (from_be_bytes w16 (slice_index bytes i ∷ slice_index bytes (i + 1) ∷ []))
+
+abbrev pub long_at : List ℕ → ℕ → ℤ
+long_at bytes i = cast_signed w32 (from_be_bytes w32 (slice_index bytes i ∷ slice_index bytes (i + 1) ∷ slice_index bytes (i + 2) ∷ slice_index bytes (i + 3) ∷ []))
 
 abbrev pub distance_at : Bool → List ℕ → ℕ → ℤ
-distance_at false bytes i = cast_signed w16 (from_be_bytes w16 (take 2 (drop i bytes)))
-distance_at true bytes i = cast_signed w32 (from_be_bytes w32 (take 4 (drop i bytes)))
+distance_at false bytes i = short_at bytes i
+distance_at true bytes i = long_at bytes i
 
 -- how many bytes the operands take
 abbrev pub operand_size : Bool → Shape → ℕ
@@ -136,58 +162,65 @@ operands w BB bytes = record { a = index_at w bytes 0; b = index_at w bytes (ind
 operands w BBB bytes = record { a = index_at w bytes 0; b = index_at w bytes (index_size w); c = index_at w bytes (index_size w + index_size w); by = pos 0 }
 operands w S bytes = record { a = 0; b = 0; c = 0; by = distance_at w bytes 0 }
 operands w BS bytes = record { a = index_at w bytes 0; b = 0; c = 0; by = distance_at w bytes (index_size w) }
-operands w BSS bytes = record { a = index_at w bytes 0; b = 0; c = 0; by = distance_at true bytes (index_size w) }
+operands w BSS bytes = record { a = index_at w bytes 0; b = 0; c = 0; by = long_at bytes (index_size w) }
 
--- the operation of a number with these operands; Stop for every number that is none of an instruction
-unfoldable pub operation_of : ℕ → Operands → Operation
-operation_of n o =
-    if nat_eq n 1 then Move o.a o.b
-    else if nat_eq n 3 then LoadI o.a o.b
-    else if nat_eq n 4 then LoadI16 o.a o.by
-    else if nat_eq n 5 then LoadI32 o.a o.by
-    else if nat_eq n 7 then LoadNil o.a
-    else if nat_eq n 9 then LoadT o.a
-    else if nat_eq n 21 then Jmp o.by
-    else if nat_eq n 22 then JmpIf o.a o.by
-    else if nat_eq n 23 then JmpNot o.a o.by
-    else if nat_eq n 28 then SSend o.a o.b o.c
-    else if nat_eq n 39 then Add o.a
-    else if nat_eq n 40 then Sub o.a
-    else if nat_eq n 41 then Mul o.a
-    else if nat_eq n 43 then Eq o.a
-    else if nat_eq n 44 then Lt o.a
-    else if nat_eq n 45 then Le o.a
-    else if nat_eq n 46 then Gt o.a
-    else if nat_eq n 47 then Ge o.a
-    else Stop
+-- the operation of an instruction with these operands
+abbrev pub operation_of : Opcode → Operands → Operation
+operation_of opcode.Move o = Move o.a o.b
+operation_of opcode.LoadI o = LoadI o.a o.b
+operation_of opcode.LoadI16 o = LoadI16 o.a o.by
+operation_of opcode.LoadI32 o = LoadI32 o.a o.by
+operation_of opcode.LoadNil o = LoadNil o.a
+operation_of opcode.LoadT o = LoadT o.a
+operation_of opcode.Jmp o = Jmp o.by
+operation_of opcode.JmpIf o = JmpIf o.a o.by
+operation_of opcode.JmpNot o = JmpNot o.a o.by
+operation_of opcode.SSend o = SSend o.a o.b o.c
+operation_of opcode.Add o = Add o.a
+operation_of opcode.Sub o = Sub o.a
+operation_of opcode.Mul o = Mul o.a
+operation_of opcode.Eq o = Eq o.a
+operation_of opcode.Lt o = Lt o.a
+operation_of opcode.Le o = Le o.a
+operation_of opcode.Gt o = Gt o.a
+operation_of opcode.Ge o = Ge o.a
+operation_of opcode.Stop o = Stop
 
--- the instruction at the front of the bytes behind a prefix of this size, and how many bytes it takes in all
-abbrev pub body_of : Bool → ℕ → Option Shape → ℕ → List ℕ → Option (Instruction × ℕ)
-body_of w prefix None n rest = None
-body_of w prefix (Some s) n rest =
-    if nat_lt (length rest) (operand_size w s) then None
-    else Some (record { wide = w; operation = operation_of n (operands w s rest) }, prefix + 1 + operand_size w s)
+-- the instruction with the operands at the front of the bytes behind a prefix of this size, and how many bytes
+-- it takes in all
+abbrev pub body_of : Bool → ℕ → Opcode → List ℕ → Option (Instruction × ℕ)
+body_of w prefix o rest =
+    if nat_lt (length rest) (operand_size w (shape_of o)) then None
+    else Some (record { wide = w; operation = operation_of o (operands w (shape_of o) rest) }, prefix + 1 + operand_size w (shape_of o))
 
--- a wide instruction has a shape with operands that grow
-abbrev pub grows : Option Shape → Option Shape
-grows None = None
-grows (Some Z) = None
-grows (Some B) = Some B
-grows (Some BB) = Some BB
-grows (Some BBB) = Some BBB
-grows (Some S) = Some S
-grows (Some BS) = Some BS
-grows (Some BSS) = Some BSS
+abbrev pub narrow_body : Option Opcode → List ℕ → Option (Instruction × ℕ)
+narrow_body None rest = None
+narrow_body (Some o) rest = body_of false 0 o rest
 
-abbrev pub wide_front : List ℕ → Option (Instruction × ℕ)
+-- a wide instruction has operands
+abbrev pub has_operands : Shape → Bool
+has_operands Z = false
+has_operands B = true
+has_operands BB = true
+has_operands BBB = true
+has_operands S = true
+has_operands BS = true
+has_operands BSS = true
+
+abbrev pub wide_body : Option Opcode → List ℕ → Option (Instruction × ℕ)
+wide_body None rest = None
+wide_body (Some o) rest = if has_operands (shape_of o) then body_of true 1 o rest else None
+
+-- the instruction at the front of the bytes, behind EXT, without EXT, and either way
+unfoldable pub wide_front : List ℕ → Option (Instruction × ℕ)
 wide_front [] = None
-wide_front (n ∷ rest) = body_of true 1 (grows (shape_of n)) n rest
+wide_front (n ∷ rest) = wide_body (opcode_of n) rest
 
-abbrev pub narrow_front : List ℕ → Option (Instruction × ℕ)
+unfoldable pub narrow_front : List ℕ → Option (Instruction × ℕ)
 narrow_front [] = None
-narrow_front (n ∷ rest) = body_of false 0 (shape_of n) n rest
+narrow_front (n ∷ rest) = narrow_body (opcode_of n) rest
 
-abbrev pub front : List ℕ → Option (Instruction × ℕ)
+unfoldable pub front : List ℕ → Option (Instruction × ℕ)
 front [] = None
 front (n ∷ rest) = if nat_eq n ext then wide_front rest else narrow_front (n ∷ rest)
 

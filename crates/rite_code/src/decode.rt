@@ -1,0 +1,229 @@
+//! From bytes to instructions.
+ghost use Rattle.std.specs.Prelude.{◌≡◌, ◌≤◌, ℕ, ◌+◌, List, ◌++◌, Some, length, IsTrue, IfSome};
+ghost use Rattle.rite_code.specs.declared.instr.Operation.{Operation as OperationValue};
+ghost use Rattle.rite_code.specs.Instruction.{Instruction, narrow};
+ghost use Rattle.rite_code.specs.Shape.{fits};
+ghost use Rattle.rite_code.specs.Shape as shape;
+ghost use Rattle.rite_code.specs.Spelling.{encoding};
+ghost use Rattle.rite_code.specs.Spelling as spelling;
+
+use crate::instr::Instr;
+use crate::opcode::{Opcode, Operands, Shape};
+
+/// The number of EXT, the prefix of a wide instruction.
+pub const EXT: u8 = 73;
+
+#[inline(always)]
+fn index_size(wide: bool) -> usize
+    ensures { result ≡ spelling.index_size wide }
+{
+    if wide { 2 } else { 1 }
+}
+
+#[inline(always)]
+fn distance_size(wide: bool) -> usize
+    ensures { result ≡ spelling.distance_size wide }
+{
+    if wide { 4 } else { 2 }
+}
+
+/// How many bytes the operands take.
+#[inline(always)]
+fn operand_size(wide: bool, shape: Shape) -> usize
+    ensures value { result ≡ spelling.operand_size wide shape }
+    ensures small { result ≤ 6 }
+{
+    match shape {
+        Shape::Z => 0,
+        Shape::B => index_size(wide),
+        Shape::BB => 2 * index_size(wide),
+        Shape::BBB => 3 * index_size(wide),
+        Shape::S => distance_size(wide),
+        Shape::BS => index_size(wide) + distance_size(wide),
+        Shape::BSS => index_size(wide) + 4,
+    }
+}
+
+#[inline(always)]
+fn index_at(wide: bool, bytes: &[u8], at: usize) -> u16
+    requires { at + spelling.index_size wide ≤ length bytes.now }
+    ensures { result ≡ spelling.index_at wide bytes.now at }
+{
+    if wide {
+        u16::from_be_bytes([bytes[at], bytes[at + 1]])
+    } else {
+        u16::from(bytes[at])
+    }
+}
+
+#[inline(always)]
+fn long_at(bytes: &[u8], at: usize) -> i32
+    requires { at + 4 ≤ length bytes.now }
+    ensures { result ≡ spelling.long_at bytes.now at }
+{
+    i32::from_be_bytes([bytes[at], bytes[at + 1], bytes[at + 2], bytes[at + 3]])
+}
+
+#[inline(always)]
+fn short_at(bytes: &[u8], at: usize) -> i16
+    requires { at + 2 ≤ length bytes.now }
+    ensures { result ≡ spelling.short_at bytes.now at }
+{
+    i16::from_be_bytes([bytes[at], bytes[at + 1]])
+}
+
+#[inline(always)]
+fn distance_at(wide: bool, bytes: &[u8], at: usize) -> i32
+    requires { at + spelling.distance_size wide ≤ length bytes.now }
+    ensures { result ≡ spelling.distance_at wide bytes.now at }
+{
+    if wide {
+        long_at(bytes, at)
+    } else {
+        i32::from(short_at(bytes, at))
+    }
+}
+
+/// The operands of a shape at the front of the bytes.
+#[inline(always)]
+fn operands(wide: bool, shape: Shape, bytes: &[u8]) -> Operands
+    requires { spelling.operand_size wide shape ≤ length bytes.now }
+    ensures { result ≡ spelling.operands wide shape bytes.now }
+{
+    let mut found = Operands {
+        a: 0,
+        b: 0,
+        c: 0,
+        by: 0,
+    };
+    let size = index_size(wide);
+    match shape {
+        Shape::Z => {}
+        Shape::B => found.a = index_at(wide, bytes, 0),
+        Shape::BB => {
+            found.a = index_at(wide, bytes, 0);
+            found.b = index_at(wide, bytes, size);
+        }
+        Shape::BBB => {
+            found.a = index_at(wide, bytes, 0);
+            found.b = index_at(wide, bytes, size);
+            found.c = index_at(wide, bytes, size + size);
+        }
+        Shape::S => found.by = distance_at(wide, bytes, 0),
+        Shape::BS => {
+            found.a = index_at(wide, bytes, 0);
+            found.by = distance_at(wide, bytes, size);
+        }
+        Shape::BSS => {
+            found.a = index_at(wide, bytes, 0);
+            found.by = long_at(bytes, size);
+        }
+    }
+    found
+}
+
+/// The instruction with the operands at the front of the bytes, behind a prefix of this size.
+#[inline(always)]
+fn body_of(wide: bool, prefix: usize, opcode: Opcode, rest: &[u8]) -> Option<(Instr, usize)>
+    requires small { prefix ≤ 1 }
+    requires grows { IsTrue wide → IsTrue (spelling.has_operands (spelling.shape_of opcode)) }
+    ensures value { result ≡ spelling.body_of wide prefix opcode rest.now }
+    ensures within { IfSome result (λ found. found.1 ≤ prefix + 1 + length rest.now) }
+{
+    let shape = opcode.shape();
+    let size = operand_size(wide, shape);
+    if rest.len() < size {
+        return None;
+    }
+    let operation = opcode.operation(operands(wide, shape, rest));
+    Some((Instr::from_fitting(wide, operation), prefix + 1 + size))
+}
+
+/// The instruction without EXT at the front of the bytes, and how many bytes it takes.
+#[inline(always)]
+#[tactic(auto, unfolding(crate::specs::Spelling::narrow_front))]
+fn narrow_front(bytes: &[u8]) -> Option<(Instr, usize)>
+    ensures value { result ≡ spelling.narrow_front bytes.now }
+    ensures within { IfSome result (λ found. found.1 ≤ length bytes.now) }
+{
+    let [number, rest @ ..] = bytes else {
+        return None;
+    };
+    match Opcode::from_number(*number) {
+        None => None,
+        Some(opcode) => body_of(false, 0, opcode, rest),
+    }
+}
+
+#[inline(always)]
+fn has_operands(shape: Shape) -> bool
+    ensures { result ≡ spelling.has_operands shape }
+{
+    !matches!(shape, Shape::Z)
+}
+
+/// The instruction at the front of the bytes behind EXT, and how many bytes both take.
+#[tactic(auto, unfolding(crate::specs::Spelling::wide_front))]
+fn wide_front(bytes: &[u8]) -> Option<(Instr, usize)>
+    ensures value { result ≡ spelling.wide_front bytes.now }
+    ensures within { IfSome result (λ found. found.1 ≤ 1 + length bytes.now) }
+{
+    let [number, rest @ ..] = bytes else {
+        return None;
+    };
+    match Opcode::from_number(*number) {
+        None => None,
+        Some(opcode) => {
+            if has_operands(opcode.shape()) {
+                body_of(true, 1, opcode, rest)
+            } else {
+                None
+            }
+        }
+    }
+}
+
+/// The instruction at the front of the bytes, with EXT or without, and how many bytes it takes.
+#[inline(always)]
+#[tactic(auto, unfolding(crate::specs::Spelling::front))]
+fn front(bytes: &[u8]) -> Option<(Instr, usize)>
+    ensures value { result ≡ spelling.front bytes.now }
+    ensures within { IfSome result (λ found. found.1 ≤ length bytes.now) }
+{
+    match bytes {
+        [] => None,
+        [EXT, rest @ ..] => wide_front(rest),
+        _ => narrow_front(bytes),
+    }
+}
+
+/// The instruction without EXT that stands whole at a place, with the place behind it. There is none past the
+/// end, where the number is that of no instruction, or where the code ends within the operands.
+#[inline(always)]
+#[tactic(auto, unfolding(crate::specs::Spelling::decode_at, crate::specs::Spelling::narrow_front))]
+pub fn decode_at(code: &[u8], at: usize) -> Option<(Instr, usize)>
+    ensures { result ≡ spelling.decode_at code.now at }
+{
+    let rest = code.get(at..)?;
+    let (instr, size) = narrow_front(rest)?;
+    Some((instr, at + size))
+}
+
+/// The instruction with EXT or without that stands whole at a place, with the place behind it.
+#[inline(always)]
+#[tactic(auto, unfolding(crate::specs::Spelling::decode_wide_at, crate::specs::Spelling::front))]
+pub fn decode_wide_at(code: &[u8], at: usize) -> Option<(Instr, usize)>
+    ensures { result ≡ spelling.decode_wide_at code.now at }
+{
+    let rest = code.get(at..)?;
+    let (instr, size) = front(rest)?;
+    Some((instr, at + size))
+}
+
+/// What is spelled is decoded again, with the place behind it, wherever it stands; and a narrow instruction
+/// is spelled in the bytes of its size.
+pub fn decoding_undoes_encoding()
+    ensures decoded { (pre rest : List ℕ) (i : Instruction) → IsTrue (fits i) → spelling.decode_wide_at (pre ++ (encoding i ++ rest)) (length pre) ≡ Some (i, length pre + length (encoding i)) }
+    ensures sizes { (o : OperationValue) → length (encoding (narrow o)) ≡ shape.size_of o }
+{
+}
