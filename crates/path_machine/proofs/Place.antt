@@ -3,8 +3,8 @@ use Rattle.std.proofs.Common.{◌≡◌, ℕ, ◌+◌, suc, ◌-◌, ◌≤◌, 
 use Rattle.std.specs.Prelude.{IfSome}
 use Rattle.std.proofs.lemmas.Bool.Decides.{nat_tests}
 use Rattle.rite_code.specs.Instruction.{Instruction}
-use Rattle.rite_code.specs.Shape.{Shape, Z, B, BB, BBB, S, BS, BSS}
-use Rattle.rite_code.specs.Spelling.{shape_of, grows, operation_of, operands, operand_size, body_of, wide_front, narrow_front, front, placed, decode_wide_at, ext}
+use Rattle.rite_code.specs.declared.opcode.Opcode.{Opcode}
+use Rattle.rite_code.specs.Spelling.{shape_of, opcode_of, operation_of, operands, operand_size, has_operands, body_of, narrow_body, wide_body, wide_front, narrow_front, front, placed, decode_wide_at, ext}
 
 -- what stands at the front takes no more than is there
 abbrev IsWithin : ℕ → Option (Instruction × ℕ) → Type 0
@@ -15,29 +15,33 @@ within_if : (b : Bool) (size : ℕ) (p : Instruction × ℕ) → (b ≡ false �
 within_if true size p h = tt
 within_if false size p h = h refl
 
-body_within : (w : Bool) (prefix size : ℕ) (s : Option Shape) (n : ℕ) (rest : List ℕ) → prefix + 1 + length rest ≡ size → IsWithin size (body_of w prefix s n rest)
-body_within w prefix size None n rest h = tt
-body_within w prefix size (Some s) n rest h = within_if (nat_lt (length rest) (operand_size w s)) size (record { wide = w; operation = operation_of n (operands w s rest) }, prefix + 1 + operand_size w s) (λ e. grind (arith, nat_tests))
-
-wide_within : (rest : List ℕ) → IsWithin (suc (length rest)) (wide_front rest)
-wide_within [] = tt
-wide_within (n ∷ rest) = body_within true 1 (suc (length (n ∷ rest))) (grows (shape_of n)) n rest (omega arith)
-
-narrow_within : (bytes : List ℕ) → IsWithin (length bytes) (narrow_front bytes)
-narrow_within [] = tt
-narrow_within (n ∷ rest) = body_within false 0 (length (n ∷ rest)) (shape_of n) n rest (omega arith)
-
-
 either_within : (b : Bool) (size : ℕ) (x y : Option (Instruction × ℕ)) → IsWithin size x → IsWithin size y → IsWithin size (if b then x else y)
 either_within true size x y h k = h
 either_within false size x y h k = k
 
--- one more byte in front
-longer : (size : ℕ) (x : Option (Instruction × ℕ)) → IsWithin size x → IsWithin (suc size) x
-longer size None h = tt
-longer size (Some p) h = (h.0, omega arith)
+body_within : (w : Bool) (prefix size : ℕ) (o : Opcode) (rest : List ℕ) → prefix + 1 + length rest ≡ size → IsWithin size (body_of w prefix o rest)
+body_within w prefix size o rest h = within_if (nat_lt (length rest) (operand_size w (shape_of o))) size (record { wide = w; operation = operation_of o (operands w (shape_of o) rest) }, prefix + 1 + operand_size w (shape_of o)) (λ e. grind (arith, nat_tests))
+
+narrow_body_within : (o : Option Opcode) (rest : List ℕ) → IsWithin (suc (length rest)) (narrow_body o rest)
+narrow_body_within None rest = tt
+narrow_body_within (Some o) rest = body_within false 0 (suc (length rest)) o rest (omega arith)
+
+wide_body_within : (o : Option Opcode) (rest : List ℕ) → IsWithin (suc (suc (length rest))) (wide_body o rest)
+wide_body_within None rest = tt
+wide_body_within (Some o) rest = either_within (has_operands (shape_of o)) (suc (suc (length rest))) (body_of true 1 o rest) None (body_within true 1 (suc (suc (length rest))) o rest (omega arith)) tt
+
+wide_within : (rest : List ℕ) → IsWithin (suc (length rest)) (wide_front rest)
+unfolding wide_front
+wide_within [] = tt
+wide_within (n ∷ rest) = wide_body_within (opcode_of n) rest
+
+narrow_within : (bytes : List ℕ) → IsWithin (length bytes) (narrow_front bytes)
+unfolding narrow_front
+narrow_within [] = tt
+narrow_within (n ∷ rest) = narrow_body_within (opcode_of n) rest
 
 front_within : (bytes : List ℕ) → IsWithin (length bytes) (front bytes)
+unfolding front
 front_within [] = tt
 front_within (n ∷ rest) = either_within (nat_eq n ext) (length (n ∷ rest)) (wide_front rest) (narrow_front (n ∷ rest)) (wide_within rest) (narrow_within (n ∷ rest))
 

@@ -7,7 +7,8 @@ use core_number::{Outcome, call};
 use rb_base::Bytes;
 use rb_syntax::Operator;
 use rb_value::{Failure, Value};
-use rite_code::{Irep, Instr, Operation};
+use rite_code::decode::decode_wide_at;
+use rite_code::{Instr, Irep, Operation};
 ghost use Rattle.rite_code.specs.Spelling as spelling;
 
 /// What a turn leads to.
@@ -164,22 +165,8 @@ pub fn step(body: &Irep, place: usize, registers: &mut [Value]) -> Next
 {
     match fetch(body.code.as_slice(), place) {
         Some((instruction, next)) => {
-            execute(body.symbols.as_slice(), operation_of(&instruction), next, registers)
+            execute(body.symbols.as_slice(), instruction.operation(), next, registers)
         }
         None => Next::Ended(0),
     }
-}
-
-// TEMPORARY
-fn decode_wide_at(code: &[u8], at: usize) -> Option<(Instr, usize)>
-    ensures { result ≡ spelling.decode_wide_at code.now at }
-{
-    None
-}
-
-// TEMPORARY
-fn operation_of(instr: &Instr) -> Operation
-    ensures { result ≡ instr.now.operation }
-{
-    Operation::Stop
 }
