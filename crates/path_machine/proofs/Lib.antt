@@ -1,2 +1,4 @@
 pub mod Place
+pub mod Writes
 pub mod Turns
+pub mod Runs
