@@ -2,3 +2,4 @@ pub mod Place
 pub mod Writes
 pub mod Turns
 pub mod Runs
+pub mod Loop
