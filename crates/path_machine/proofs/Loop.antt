@@ -37,7 +37,7 @@ pub record Reached (whole rest : Course) (old new : Option (List ℕ)) : Type 0 
   pub taken : new ≡ with_more old out
   pub course : whole ≡ behind out rest
 
-with_none : (told : Option (List ℕ)) → told ≡ with_more told []
+pub with_none : (told : Option (List ℕ)) → told ≡ with_more told []
 with_none None = refl
 with_none (Some bytes) = ap Some (sym (append-nil bytes))
 
