@@ -65,9 +65,9 @@ pub reached_to :
     → Reached whole (course b n place rs) old new → 0 < n → (rs', nexts.To next) ≡ stepped b place rs
     → Reached whole (course b (n - 1) next rs') old new
 reached_to b whole old new n place next rs rs' r h e = record {
-    out = r.out;
-    taken = r.taken;
-    course = r.course ∙ ap (behind r.out) (course_by b n place rs (rs', nexts.To next) h e);
+  out = r.out;
+  taken = r.taken;
+  course = r.course ∙ ap (behind r.out) (course_by b n place rs (rs', nexts.To next) h e);
 }
 
 pub reached_puts :
@@ -76,9 +76,9 @@ pub reached_puts :
     → new' ≡ with_more new (line_of v)
     → Reached whole (course b (n - 1) next rs') old new'
 reached_puts b whole old new new' n place next v rs rs' r h e t = record {
-    out = r.out ++ line_of v;
-    taken = t ∙ (ap (λ (o : Option (List ℕ)). with_more o (line_of v)) r.taken ∙ with_two old r.out (line_of v));
-    course = r.course ∙ (ap (behind r.out) (course_by b n place rs (rs', nexts.Puts next v) h e) ∙ behind_two r.out (line_of v) (course b (n - 1) next rs'));
+  out = r.out ++ line_of v;
+  taken = t ∙ (ap (λ (o : Option (List ℕ)). with_more o (line_of v)) r.taken ∙ with_two old r.out (line_of v));
+  course = r.course ∙ (ap (behind r.out) (course_by b n place rs (rs', nexts.Puts next v) h e) ∙ behind_two r.out (line_of v) (course b (n - 1) next rs'));
 }
 
 -- how a course comes out, and all that it writes
@@ -116,7 +116,7 @@ front_behind : (front line rest : List ℕ) (k : ℕ) (old : Option (List ℕ)) 
 front_behind front line rest k old =
     let bounded : min k (length line) ≤ length line = omega arith in
     let start : take (length front + min k (length line)) (front ++ (line ++ rest)) ≡ front ++ take k line =
-        take-append-add front (line ++ rest) (min k (length line)) ∙ ap (λ (w : List ℕ). front ++ w) (take-append-le (min k (length line)) line rest bounded ∙ take_min k line) in
+    take-append-add front (line ++ rest) (min k (length line)) ∙ ap (λ (w : List ℕ). front ++ w) (take-append-le (min k (length line)) line rest bounded ∙ take_min k line) in
     with_two old front (take k line) ∙ ap (with_more old) (sym start)
 
 pub stopped_puts :

@@ -71,4 +71,3 @@ output_as (rans.Uncaught f) out = refl
 
 pub written_as : (c : Code) (n : ℕ) (input : List ℕ) → output_of (seen_after c n input) ≡ (whole_course (body_at c 0) n).written
 written_as c n input = ap output_of (seen_is c n input) ∙ output_as (whole_course (body_at c 0) n).ran (whole_course (body_at c 0) n).written
-

@@ -8,12 +8,11 @@ ghost use Rattle.rb_base.specs.Outside.{Rose, with_more};
 ghost use Rattle.def_eval.specs.Seen.{output_of};
 ghost use Rattle.path_machine.specs.Run.{seen_after, IsRan, StoppedWithin};
 
-pub mod machine;
+mod machine;
 pub mod ran;
 mod running;
 
 pub use ran::{Ran, RunFault};
-
 use rb_base::Sink;
 use rite_code::Code;
 use std::alloc::Global;
@@ -32,3 +31,6 @@ pub fn run<O: Sink>(alloc: Global, code: &Code, budget: u64, out: &mut O) -> Res
         None => Ok(running::ended(budget)),
     }
 }
+
+#[cfg(test)]
+mod tests;

@@ -2,6 +2,7 @@
 ghost use Rattle.std.specs.Prelude.{◌≡◌, ◌<◌, ◌^◌, List, [], get_or, set, IfSome};
 ghost use Rattle.def_machine.specs.Turn as turns;
 ghost use Rattle.path_machine.specs.Course.{value_of, gets, operated, sent, executed, stepped};
+ghost use Rattle.rite_code.specs.Spelling as spelling;
 
 use core_number::{Outcome, call};
 use rb_base::Bytes;
@@ -9,7 +10,6 @@ use rb_syntax::Operator;
 use rb_value::{Failure, Value};
 use rite_code::decode::decode_wide_at;
 use rite_code::{Instr, Irep, Operation};
-ghost use Rattle.rite_code.specs.Spelling as spelling;
 
 /// What a turn leads to.
 #[derive(Clone, Copy, Debug, PartialEq, Eq)]
@@ -165,7 +165,12 @@ pub fn step(body: &Irep, place: usize, registers: &mut [Value]) -> Next
 {
     match fetch(body.code.as_slice(), place) {
         Some((instruction, next)) => {
-            execute(body.symbols.as_slice(), instruction.operation(), next, registers)
+            execute(
+                body.symbols.as_slice(),
+                instruction.operation(),
+                next,
+                registers,
+            )
         }
         None => Next::Ended(0),
     }

@@ -19,7 +19,11 @@ use std::alloc::Global;
 pub fn ended(budget: u64) -> Ran
     ensures { record { written = []; ran = result } ≡ whole_course no_body budget }
 {
-    if budget == 0 { Ran::Spent } else { Ran::Ended(0) }
+    if budget == 0 {
+        Ran::Spent
+    } else {
+        Ran::Ended(0)
+    }
 }
 
 /// Writes the line of a value.
@@ -34,7 +38,12 @@ fn put<O: Sink>(out: &mut O, value: Value) -> Result<(), Failed>
 }
 
 /// At most `budget` turns from the start of a body, over its registers.
-fn turns<O: Sink>(body: &Irep, registers: &mut [Value], budget: u64, out: &mut O) -> Result<Ran, Failed>
+fn turns<O: Sink>(
+    body: &Irep,
+    registers: &mut [Value],
+    budget: u64,
+    out: &mut O,
+) -> Result<Ran, Failed>
     ensures ran { IfOk result (λ ran. ran ≡ (course body.now budget 0 registers.old).ran) }
     ensures written { OnOk result (O.taken out.new ≡ with_more (O.taken out.old) (course body.now budget 0 registers.old).written) }
     ensures counted { OnOk result (O.faults out.new ≡ O.faults out.old) }
@@ -59,7 +68,12 @@ fn turns<O: Sink>(body: &Irep, registers: &mut [Value], budget: u64, out: &mut O
 }
 
 /// At most `budget` turns from the start of a body.
-pub fn run_body<O: Sink>(alloc: Global, body: &Irep, budget: u64, out: &mut O) -> Result<Ran, RunFault>
+pub fn run_body<O: Sink>(
+    alloc: Global,
+    body: &Irep,
+    budget: u64,
+    out: &mut O,
+) -> Result<Ran, RunFault>
     ensures ran { IfOk result (λ ran. ran ≡ (whole_course body.now budget).ran) }
     ensures written { OnOk result (O.taken out.new ≡ with_more (O.taken out.old) (whole_course body.now budget).written) }
     ensures counted { result ≢ Err RunFault.OutputFault → O.faults out.new ≡ O.faults out.old }

@@ -6,14 +6,16 @@ use Rattle.path_machine.proofs.Loop.{IsOver, reached_to, reached_puts, over_spen
 use Rattle.path_machine.proofs.running.turns.Goals as goal
 
 pub turns-preserved-in-To : goal.turns-preserved-in-To
-turns-preserved-in-To g c =
-    (reached_to c.args.body.now _ _ _ c.turns.left c.turns.place c.in-To.next c.turns.registers c.step.new.registers c.turns.invariant.0 c.turns-test.true c.in-To.ensures,
-    c.turns.invariant.1)
+turns-preserved-in-To g c = (
+  reached_to c.args.body.now _ _ _ c.turns.left c.turns.place c.in-To.next c.turns.registers c.step.new.registers c.turns.invariant.0 c.turns-test.true c.in-To.ensures,
+  c.turns.invariant.1,
+)
 
 pub turns-preserved : goal.turns-preserved
-turns-preserved g c =
-    (reached_puts c.args.body.now _ _ _ _ c.turns.left c.turns.place c.in-Puts.next c.in-Puts.value c.turns.registers c.step.new.registers c.turns.invariant.0 c.turns-test.true c.in-Puts.ensures c.in_ok-put-in-Puts.ensures.took,
-    c.in_ok-put-in-Puts.ensures.counted ∙ c.turns.invariant.1)
+turns-preserved g c = (
+  reached_puts c.args.body.now _ _ _ _ c.turns.left c.turns.place c.in-Puts.next c.in-Puts.value c.turns.registers c.step.new.registers c.turns.invariant.0 c.turns-test.true c.in-Puts.ensures c.in_ok-put-in-Puts.ensures.took,
+  c.in_ok-put-in-Puts.ensures.counted ∙ c.turns.invariant.1,
+)
 
 pub returns-in_err-put-in-Puts-clause-front : goal.returns-in_err-put-in-Puts-clause-front
 returns-in_err-put-in-Puts-clause-front g c =
