@@ -1,18 +1,16 @@
 -- What many turns show is what the course of the body says.
-use Rattle.std.proofs.Common.{◌≡◌, ℕ, zero, suc, List, [], ◌∷◌, ◌++◌, map, replicate, take, length, refl, ap, sym, ◌∙◌, append_assoc, Option, Some, None}
+use Rattle.std.proofs.Common.{◌≡◌, ℕ, zero, suc, List, [], ◌∷◌, ◌++◌, map, replicate, refl, ap, sym, ◌∙◌, append_assoc}
 use Rattle.std.proofs.lemmas.List.{append-nil}
-use Rattle.rb_base.specs.Outside.{with_more, TookFront}
 use Rattle.rb_value.specs.declared.value.Value.{Value}
 use Rattle.rb_value.specs.declared.value.Value.TheVariants.{Nil}
 use Rattle.rite_code.specs.declared.code.Code.{Code}
-use Rattle.rite_code.specs.declared.code.Irep.{Irep}
 use Rattle.def_core.specs.Rows.{line_of}
 use Rattle.def_eval.specs.Steps.{times}
 use Rattle.def_eval.specs.Seen.{End, Ended, Uncaught, Seen, Going, Over, output_of}
-use Rattle.def_machine.specs.State.{Slot, value, State, On, Off, shown, start, body_at}
+use Rattle.def_machine.specs.State.{Slot, value, State, On, Off, shown, body_at}
 use Rattle.def_machine.specs.Turn.{turn}
-use Rattle.path_machine.specs.Run.{seen_after, IsRan, StoppedWithin}
-use Rattle.path_machine.specs.Course.{Values, Course, behind, follows, course, stepped}
+use Rattle.path_machine.specs.Run.{seen_after, IsRan}
+use Rattle.path_machine.specs.Course.{Values, Course, follows, course, stepped}
 use Rattle.path_machine.specs.Standing.{standing, frame_at, led_to, seen_of, whole_course}
 use Rattle.path_machine.specs.declared.machine.Next.{Next}
 use Rattle.path_machine.specs.declared.machine.Next.TheVariants as nexts

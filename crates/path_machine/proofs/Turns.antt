@@ -1,5 +1,5 @@
 -- A turn over a list of values is a turn of the machine.
-use Rattle.std.proofs.Common.{◌≡◌, ℕ, ◌+◌, ℤ, pos, List, [], ◌∷◌, ◌++◌, Option, Some, None, Bool, true, false, if◌then◌else◌, get_or, set, map, refl, ap, sym, ◌∙◌}
+use Rattle.std.proofs.Common.{◌≡◌, ℕ, ◌+◌, pos, List, [], ◌∷◌, ◌++◌, Option, Some, None, Bool, true, false, if◌then◌else◌, get_or, set, refl, ap, sym, ◌∙◌}
 use Rattle.std.proofs.Math.ListN.{get_or-map}
 use Rattle.std.proofs.lemmas.List.{map-set}
 use Rattle.rb_syntax.specs.declared.operator.Operator.{Operator}
@@ -13,9 +13,9 @@ use Rattle.rite_code.specs.declared.instr.Operation.TheVariants.{Move, LoadI, Lo
 use Rattle.rite_code.specs.Instruction.{Instruction}
 use Rattle.rite_code.specs.Spelling.{decode_wide_at}
 use Rattle.def_core.specs.Rows.{Outcome, gives, raises, writes, call, line_of}
-use Rattle.def_machine.specs.State.{Slot, value, exit, read, Registers, State, slot_at, value_at, put, body_at, Frame, Memory, On, Off}
+use Rattle.def_machine.specs.State.{Slot, value, read, Registers, State, slot_at, value_at, put, body_at, On}
 use Rattle.def_machine.specs.Turn.{fetch, target, is_puts, after, operate, call_self, act, turn_by, turn}
-use Rattle.path_machine.specs.Course.{Values, value_of, gets, gets_outcome, operated, sent, executed, stepped_by, stepped}
+use Rattle.path_machine.specs.Course.{Values, value_of, gets_outcome, operated, sent, executed, stepped_by, stepped}
 use Rattle.path_machine.specs.Standing.{lists_of, frame_at, memory_of, standing, led_to}
 use Rattle.path_machine.proofs.Writes.{IsQuiet, quiet_call}
 

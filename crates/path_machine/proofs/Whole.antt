@@ -1,5 +1,5 @@
 -- What is seen of the code is the course of its first body.
-use Rattle.std.proofs.Common.{◌≡◌, ℕ, List, [], ◌∷◌, get_or, take, ap, sym, refl, ◌∙◌, Option, Some, None, Ok, Err}
+use Rattle.std.proofs.Common.{◌≡◌, ℕ, List, [], ◌∷◌, get_or, take, ap, sym, ◌∙◌, Option, Some, None, Ok, Err}
 use Rattle.std.specs.Prelude.{Result, IfOk, OnOk, OnErr}
 use Rattle.std.specs.List.{slice_get}
 use Rattle.rb_base.specs.Outside.{with_more, TookFront}

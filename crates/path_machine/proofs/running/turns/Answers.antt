@@ -1,8 +1,6 @@
 -- Each arm of a turn, by the course.
 use Rattle.std.proofs.Common.{◌∙◌, arith}
-use Rattle.path_machine.specs.Course.{course}
-use Rattle.path_machine.specs.declared.ran.Ran.TheVariants as rans
-use Rattle.path_machine.proofs.Loop.{IsOver, reached_to, reached_puts, over_spent, over_ended, over_uncaught, stopped_puts, on_err}
+use Rattle.path_machine.proofs.Loop.{reached_to, reached_puts, over_spent, over_ended, over_uncaught, stopped_puts, on_err}
 use Rattle.path_machine.proofs.running.turns.Goals as goal
 
 pub turns-preserved-in-To : goal.turns-preserved-in-To
