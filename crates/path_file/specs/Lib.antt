@@ -1,2 +1,4 @@
 pub mod File
+pub mod Frame
 pub mod Loaded
+pub mod Reading

@@ -1,11 +1,11 @@
 -- What is decoded fits.
-use Rattle.std.proofs.Common.{ℕ, ◌+◌, ◌<◌, ◌≤◌, ◌≡◌, List, [], ◌∷◌, get_or, arith, refl, Bool, true, false, suc, ◌-◌, inl, inr}
-use Rattle.std.specs.Prelude.{not, ℤ, pos, negsuc, IsTrue}
+use Rattle.std.proofs.Common.{ℕ, ◌+◌, ◌<◌, List, [], ◌∷◌, get_or, arith, refl, Bool, true, false, suc, ◌-◌, inl, inr}
+use Rattle.std.specs.Prelude.{not, IsTrue}
 use Rattle.std.specs.Int.{from_be_bytes, cast_signed, w16, w32}
 use Rattle.std.proofs.lemmas.Bool.{lt-ltb, le-ltb, and_from, cases_lt}
 use Rattle.rite_code.specs.declared.opcode.Opcode.{Opcode}
 use Rattle.rite_code.specs.declared.opcode.Opcode.TheVariants as opcode
-use Rattle.rite_code.specs.Shape.{fits_as, is_index, is_distance, is_short, is_long, is_byte, is_two_bytes}
+use Rattle.rite_code.specs.Shape.{fits_as, is_index, is_distance, is_short, is_long}
 use Rattle.rite_code.specs.Spelling.{operands, operation_of, shape_of, has_operands, index_size, index_at, distance_at, long_at, short_at}
 
 -- a list of bytes

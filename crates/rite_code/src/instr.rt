@@ -98,7 +98,6 @@ fn fits(wide: bool, operation: Operation) -> bool
 
 impl Instr {
     ghost use Rattle.rite_code.specs.Instruction.{instruction};
-
     ghost use Rattle.rite_code.specs.Shape.{fits_as};
 
     /// The instruction, where its operands fit. None where they don't.
@@ -125,7 +124,8 @@ impl Instr {
     /// What it does, with its operands.
     #[inline(always)]
     pub fn operation(&self) -> Operation
-        ensures { result ≡ self.now.operation }
+        ensures value { result ≡ self.now.operation }
+        ensures fits { IsTrue (shape.fits self.now) }
     {
         self.operation
     }

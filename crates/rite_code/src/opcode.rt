@@ -88,7 +88,16 @@ impl Opcode {
     {
         match self {
             Opcode::Stop => Shape::Z,
-            Opcode::LoadNil | Opcode::LoadT | Opcode::Add | Opcode::Sub | Opcode::Mul | Opcode::Eq | Opcode::Lt | Opcode::Le | Opcode::Gt | Opcode::Ge => Shape::B,
+            Opcode::LoadNil
+            | Opcode::LoadT
+            | Opcode::Add
+            | Opcode::Sub
+            | Opcode::Mul
+            | Opcode::Eq
+            | Opcode::Lt
+            | Opcode::Le
+            | Opcode::Gt
+            | Opcode::Ge => Shape::B,
             Opcode::Move | Opcode::LoadI => Shape::BB,
             Opcode::SSend => Shape::BBB,
             Opcode::Jmp => Shape::S,

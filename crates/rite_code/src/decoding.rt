@@ -225,5 +225,4 @@ pub fn decode_wide_at(code: &[u8], at: usize) -> Option<(Instr, usize)>
 pub fn decoding_undoes_encoding()
     ensures decoded { (pre rest : List ℕ) (i : Instruction) → IsTrue (fits i) → spelling.decode_wide_at (pre ++ (encoding i ++ rest)) (length pre) ≡ Some (i, length pre + length (encoding i)) }
     ensures sizes { (o : OperationValue) → length (encoding (narrow o)) ≡ shape.size_of o }
-{
-}
+{}
