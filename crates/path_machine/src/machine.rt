@@ -8,8 +8,7 @@ use core_number::{Outcome, call};
 use rb_base::Bytes;
 use rb_syntax::Operator;
 use rb_value::{Failure, Value};
-use rite_code::decode::decode_wide_at;
-use rite_code::{Instr, Irep, Operation};
+use rite_code::{Instr, Irep, Operation, decode_wide_at};
 
 /// What a turn leads to.
 #[derive(Clone, Copy, Debug, PartialEq, Eq)]
