@@ -1,4 +1,10 @@
 //! The core methods of Integer.
 //!
-//! Types: [`Outcome`]. Call: [`call`].
+//! Types: [`Outcome`], [`Line`]. Call: [`call`].
 #![tactic(auto)]
+
+pub mod line;
+pub mod outcome;
+
+pub use line::Line;
+pub use outcome::{Outcome, call};

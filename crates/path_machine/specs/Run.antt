@@ -1,10 +1,9 @@
 -- How a run comes out.
-use Rattle.std.specs.Prelude.{◌≡◌, ℕ, ◌≤◌, List, Option, take}
+use Rattle.std.specs.Prelude.{◌≡◌, ℕ, List, Option, take}
 use Rattle.rb_base.specs.Outside.{with_more}
-use Rattle.rb_value.specs.declared.failure.Failure.{Failure}
 use Rattle.rite_code.specs.declared.code.Code.{Code}
 use Rattle.def_eval.specs.Steps.{times}
-use Rattle.def_eval.specs.Seen.{End, Ended, Uncaught, Seen, Going, Over, output_of}
+use Rattle.def_eval.specs.Seen.{Ended, Uncaught, Seen, Going, Over, output_of}
 use Rattle.def_machine.specs.State.{start, shown}
 use Rattle.def_machine.specs.Turn.{turn}
 use Rattle.path_machine.specs.declared.ran.Ran.{Ran}

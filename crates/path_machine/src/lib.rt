@@ -8,10 +8,11 @@ ghost use Rattle.rb_base.specs.Outside.{Rose, with_more};
 ghost use Rattle.def_eval.specs.Seen.{output_of};
 ghost use Rattle.path_machine.specs.Run.{seen_after, IsRan, StoppedWithin};
 
+mod machine;
 pub mod ran;
+mod running;
 
 pub use ran::{Ran, RunFault};
-
 use rb_base::Sink;
 use rite_code::Code;
 use std::alloc::Global;
@@ -25,5 +26,11 @@ pub fn run<O: Sink>(alloc: Global, code: &Code, budget: u64, out: &mut O) -> Res
     ensures fault { IsErrOf result RunFault.OutputFault → Rose (O.faults out.old) (O.faults out.new) }
     ensures stopped { OnErr result ((input : List ℕ) → StoppedWithin code.now budget input (O.taken out.old) (O.taken out.new)) }
 {
-    Err(RunFault::NoMemory)
+    match code.bodies.as_slice().first() {
+        Some(body) => running::run_body(alloc, body, budget, out),
+        None => Ok(running::ended(budget)),
+    }
 }
+
+#[cfg(test)]
+mod tests;

@@ -1,4 +1,8 @@
+ghost use Rattle.std.specs.Prelude.{◌≡◌};
+
+use rb_base::Failed;
 use rb_value::Failure;
+use std::alloc::AllocError;
 
 /// How a run of at most so many turns came out: it goes on, ended with a status, or an exception wasn't caught.
 #[derive(Clone, Copy, Debug, PartialEq, Eq)]
@@ -13,4 +17,24 @@ pub enum Ran {
 pub enum RunFault {
     NoMemory,
     OutputFault,
+}
+
+impl From<AllocError> for RunFault {
+    ghost use Rattle.path_machine.specs.declared.ran.RunFault.TheVariants.{NoMemory};
+
+    ghost from_gives = { λ _ e. e ≡ NoMemory };
+
+    fn from(_: AllocError) -> RunFault {
+        RunFault::NoMemory
+    }
+}
+
+impl From<Failed> for RunFault {
+    ghost use Rattle.path_machine.specs.declared.ran.RunFault.TheVariants.{OutputFault};
+
+    ghost from_gives = { λ _ e. e ≡ OutputFault };
+
+    fn from(_: Failed) -> RunFault {
+        RunFault::OutputFault
+    }
 }

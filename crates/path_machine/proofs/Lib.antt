@@ -1,0 +1,6 @@
+pub mod Place
+pub mod Writes
+pub mod Turns
+pub mod Runs
+pub mod Loop
+pub mod Whole
