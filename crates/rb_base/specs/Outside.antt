@@ -1,5 +1,5 @@
 -- What the calls on the outside do.
-use Rattle.std.specs.Prelude.{◌≡◌, ◌⊎◌, ℕ, ◌+◌, ◌<◌, ◌≤◌, List, [], ◌∷◌, ◌++◌, Option, Some, None, length, take, drop}
+use Rattle.std.specs.Prelude.{◌≡◌, ◌⊎◌, ℕ, ◌<◌, ◌≤◌, List, [], ◌++◌, Option, Some, None, length, take, drop}
 
 -- a count of faults rose; one that stands at 2^64 - 1 counts as risen
 abbrev pub Rose : ℕ → ℕ → Type 0
@@ -31,3 +31,7 @@ SameCounts old new = (name : List ℕ) → new name ≡ old name
 
 abbrev pub NoCountFell : (List ℕ → ℕ) → (List ℕ → ℕ) → Type 0
 NoCountFell old new = (name : List ℕ) → old name ≤ new name
+
+-- what was told, with some front of the bytes behind it
+abbrev pub TookFront : Option (List ℕ) → Option (List ℕ) → List ℕ → Type 0
+TookFront old new bytes = (k : ℕ) × (new ≡ with_more old (take k bytes))

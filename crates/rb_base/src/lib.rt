@@ -6,8 +6,13 @@
 //! Calls: [`write_all`], and those of the types.
 #![tactic(auto)]
 
+mod calls;
 pub mod list;
 pub mod outside;
+pub mod steps;
+pub mod writing;
 
 pub use list::{Bytes, List};
 pub use outside::{Failed, FileError, Files, Sink, Source};
+pub use steps::Steps;
+pub use writing::write_all;
