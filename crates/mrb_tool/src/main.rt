@@ -3,5 +3,7 @@
 
 mod refusal;
 mod rite;
+mod texts;
+mod words;
 
 fn main() {}
