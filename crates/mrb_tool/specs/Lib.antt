@@ -4,4 +4,5 @@ pub mod Told
 pub mod Texts
 pub mod Writing
 pub mod Answer
+pub mod Running
 pub mod RefusalText

@@ -2,6 +2,7 @@
 #![tactic(auto)]
 
 mod refusal;
+mod report;
 mod rite;
 mod texts;
 mod words;

@@ -1,0 +1,62 @@
+//! What a command did, before it is told.
+ghost use Rattle.std.specs.Prelude.{◌≡◌};
+
+use crate::refusal::Refusal;
+use crate::rite::End;
+use crate::texts;
+use rb_base::{Failed, FileError, Sink};
+use rb_compile::CompileError;
+use rb_value::Failure;
+use std::alloc::AllocError;
+
+/// What a command did.
+#[derive(Clone, Copy, Debug)]
+pub enum Report {
+    Ended(u8),
+    Uncaught(Failure),
+    /// So many turns were made, and the program goes on.
+    Spent(u64),
+    Refused(Refusal),
+    Usage,
+    FileFault,
+    OutputFault,
+    NoMemory,
+}
+
+impl Report {
+    ghost use Rattle.mrb_tool.specs.Running.{end_of, text_of};
+    ghost use Rattle.mrb_tool.specs.Writing.{Says};
+
+    /// The answer that is given for it.
+    pub fn end(self) -> End
+        ensures { result ≡ end_of self }
+    {
+        match self {
+            Report::Ended(status) => End::Ended(status),
+            Report::Uncaught(_) => End::Uncaught,
+            Report::Spent(_) => End::Spent,
+            Report::Refused(refusal) => End::Refused(refusal),
+            Report::Usage => End::Usage,
+            Report::FileFault => End::FileFault,
+            Report::OutputFault => End::OutputFault,
+            Report::NoMemory => End::NoMemory,
+        }
+    }
+
+    /// Writes its line, if it has one.
+    pub fn tell<E: Sink>(self, err: &mut E) -> Result<(), Failed>
+        ensures { Says (text_of self)
+            (record { taken = E.taken err.old; faults = E.faults err.old })
+            (record { taken = E.taken err.new; faults = E.faults err.new }) result }
+    {
+        match self {
+            Report::Ended(_) | Report::OutputFault => Ok(()),
+            Report::Uncaught(failure) => texts::tell_uncaught(err, failure),
+            Report::Spent(steps) => texts::tell_spent(err, steps),
+            Report::Refused(refusal) => texts::tell_refused(err, refusal),
+            Report::Usage => texts::tell_usage(err),
+            Report::FileFault => texts::tell_file_fault(err),
+            Report::NoMemory => texts::tell_no_memory(err),
+        }
+    }
+}
