@@ -1,5 +1,6 @@
 -- What the steps of exec do, and what they report.
-use Rattle.std.specs.Prelude.{◌≡◌, ℕ, ◌≤◌, List, [], Option, None, Bool, Result, Ok, Err, length, take}
+use Rattle.std.specs.Prelude.{◌≡◌, ℕ, ◌≤◌, List, [], Option, Some, None, Bool, Result, Ok, Err, Vec, length, take}
+use Rattle.std.specs.declared.alloc.Global.{Global}
 use Rattle.rb_base.specs.Outside.{Rose, with_more, TookFront}
 use Rattle.rb_value.specs.declared.failure.Failure.{Failure}
 use Rattle.rb_syntax.specs.Form.{Form}
@@ -13,6 +14,10 @@ use Rattle.mrb_tool.specs.Told.{Told}
 use Rattle.mrb_tool.specs.Texts as texts
 use Rattle.mrb_tool.specs.Answer.{Built, IsRefused, Untouched, FileFailed}
 use Rattle.mrb_tool.specs.Writing.{Stream}
+use Rattle.rb_base.specs.declared.outside.FileError.{FileError}
+use Rattle.rb_base.specs.declared.outside.FileError.TheVariants as file_errors
+use Rattle.rb_compile.specs.declared.error.CompileError.{CompileError}
+use Rattle.rb_compile.specs.declared.error.CompileError.TheVariants as compile_errors
 use Rattle.mrb_tool.specs.declared.refusal.Refusal.{Refusal}
 use Rattle.mrb_tool.specs.declared.refusal.Refusal.TheVariants as refusals
 use Rattle.mrb_tool.specs.declared.rite.End.{End}
@@ -70,11 +75,46 @@ pub record Encodes (text : List ℕ) (code : Code) (bytes : List ℕ) : Type 0 w
   pub implements : Implements code form
   pub bytes_are : bytes ≡ canonical code
 
+-- why a text is refused: it isn't in the language, and there is no other cause
+abbrev pub RefusesText : List ℕ → Refusal → Type 0
+RefusesText text (refusals.Syntax at) = (program_of text ≡ None) × (at ≤ length text)
+RefusesText text refusals.TooDeep = ⊥
+RefusesText text (refusals.Outside what at) = ⊥
+RefusesText text (refusals.TooLarge what count) = ⊥
+RefusesText text refusals.NotRite = ⊥
+RefusesText text (refusals.Foreign name) = ⊥
+RefusesText text (refusals.Truncated at) = ⊥
+RefusesText text (refusals.BadSection at) = ⊥
+RefusesText text (refusals.BadRecord at) = ⊥
+RefusesText text (refusals.Bad irep at cause) = ⊥
+
 -- why a text has no code
 abbrev pub NotEncoded : List ℕ → Report → Type 0
-NotEncoded text (reports.Refused (refusals.Syntax at)) = (program_of text ≡ None) × (at ≤ length text)
+NotEncoded text (reports.Refused r) = RefusesText text r
 NotEncoded text reports.NoMemory = Unit {0}
-NotEncoded text _ = ⊥
+NotEncoded text (reports.Ended k) = ⊥
+NotEncoded text (reports.Uncaught f) = ⊥
+NotEncoded text (reports.Spent n) = ⊥
+NotEncoded text reports.Usage = ⊥
+NotEncoded text reports.FileFault = ⊥
+NotEncoded text reports.OutputFault = ⊥
+
+abbrev pub EncodesAs : List ℕ → Result (Code × Vec ℕ Global) Report → Type 0
+EncodesAs text (Ok pair) = Encodes text pair.0 pair.1.items
+EncodesAs text (Err report) = NotEncoded text report
+
+-- the report of a text that isn't compiled
+abbrev pub of_compile_error : CompileError → Report
+of_compile_error (compile_errors.TooLarge what count) = reports.Refused (refusals.TooLarge what count)
+of_compile_error (compile_errors.Syntax at) = reports.Refused (refusals.Syntax at)
+of_compile_error compile_errors.TooDeep = reports.Refused refusals.TooDeep
+of_compile_error (compile_errors.Outside what at) = reports.Refused (refusals.Outside what at)
+of_compile_error compile_errors.NoMemory = reports.NoMemory
+
+-- the report of a file that isn't loaded
+abbrev pub of_file_error : FileError → Report
+of_file_error file_errors.Failed = reports.FileFault
+of_file_error file_errors.NoMemory = reports.NoMemory
 
 -- every input shows this after n turns, and the output went out whole
 pub record RanWhole (code : Code) (n : ℕ) (before after : Stream) (seen : Seen) : Type 0 where

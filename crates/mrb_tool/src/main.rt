@@ -1,6 +1,7 @@
 //! The program `rite`.
 #![tactic(auto)]
 
+mod exec;
 mod refusal;
 mod report;
 mod rite;

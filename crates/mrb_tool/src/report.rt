@@ -60,3 +60,44 @@ impl Report {
         }
     }
 }
+
+impl From<CompileError> for Report {
+    ghost use Rattle.mrb_tool.specs.Running.{of_compile_error};
+
+    ghost from_gives = { λ error r. r ≡ of_compile_error error };
+
+    fn from(error: CompileError) -> Report {
+        match error {
+            CompileError::TooLarge { what, count } => {
+                Report::Refused(Refusal::TooLarge { what, count })
+            }
+            CompileError::Syntax { at } => Report::Refused(Refusal::Syntax { at }),
+            CompileError::TooDeep => Report::Refused(Refusal::TooDeep),
+            CompileError::Outside { what, at } => Report::Refused(Refusal::Outside { what, at }),
+            CompileError::NoMemory => Report::NoMemory,
+        }
+    }
+}
+
+impl From<FileError> for Report {
+    ghost use Rattle.mrb_tool.specs.Running.{of_file_error};
+
+    ghost from_gives = { λ error r. r ≡ of_file_error error };
+
+    fn from(error: FileError) -> Report {
+        match error {
+            FileError::Failed => Report::FileFault,
+            FileError::NoMemory => Report::NoMemory,
+        }
+    }
+}
+
+impl From<AllocError> for Report {
+    ghost use Rattle.mrb_tool.specs.declared.report.Report.TheVariants as reports;
+
+    ghost from_gives = { λ _ r. r ≡ reports.NoMemory };
+
+    fn from(_refused: AllocError) -> Report {
+        Report::NoMemory
+    }
+}
