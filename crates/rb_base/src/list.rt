@@ -56,6 +56,13 @@ impl<T> List<T> {
         self.items.is_empty()
     }
 
+    /// The values as a vector. It takes no memory.
+    pub fn into_vec(self) -> Vec<T>
+        ensures { result.items ≡ self }
+    {
+        self.items
+    }
+
     /// Puts a value at the end. Where memory runs out the list is as before.
     pub fn push(&mut self, value: T) -> Result<(), AllocError>
     where
@@ -127,5 +134,12 @@ impl Bytes {
         ensures { result ≡ (length self.now == 0) }
     {
         self.items.is_empty()
+    }
+
+    /// The bytes as a vector. It takes no memory.
+    pub fn into_vec(self) -> Vec<u8>
+        ensures { result.items ≡ self }
+    {
+        self.items
     }
 }

@@ -2,7 +2,7 @@
 ghost use Rattle.std.specs.Prelude.{◌≡◌, ◌≢◌, ℕ, ◌<◌, ◌≤◌, List, Option, Bool, length, take, IfOk, OnOk, OnErr, IsTrue, IsErrOf};
 ghost use Rattle.rb_base.specs.Outside.{Rose, Reads, with_more, IsLoaded, SameCounts, NoCountFell};
 
-use std::alloc::Global;
+use std::alloc::{AllocError, AllocFailed, Global};
 
 /// A call on the outside failed.
 #[derive(Clone, Copy, Debug, PartialEq, Eq)]
@@ -13,6 +13,28 @@ pub struct Failed;
 pub enum FileError {
     Failed,
     NoMemory,
+}
+
+impl From<AllocError> for FileError {
+    ghost use Rattle.std.specs.Prelude.{◌≡◌};
+    ghost use Rattle.rb_base.specs.declared.outside.FileError.TheVariants.{NoMemory};
+
+    ghost from_gives = { λ _ e. e ≡ NoMemory };
+
+    fn from(_error: AllocError) -> FileError {
+        FileError::NoMemory
+    }
+}
+
+impl<T: Drop> From<AllocFailed<T>> for FileError {
+    ghost use Rattle.std.specs.Prelude.{◌≡◌};
+    ghost use Rattle.rb_base.specs.declared.outside.FileError.TheVariants.{NoMemory};
+
+    ghost from_gives = { λ _ e. e ≡ NoMemory };
+
+    fn from(_error: AllocFailed<T>) -> FileError {
+        FileError::NoMemory
+    }
 }
 
 /// Where bytes come from, as standard input.

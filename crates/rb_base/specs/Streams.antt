@@ -1,0 +1,12 @@
+-- The implementations of the outside over real streams and files, which tell nothing of contents.
+use Rattle.std.specs.Prelude.{ℕ, Bool}
+
+-- a source over a reader: how many calls failed, and whether the end of the input was met
+pub record ReaderState : Type 0 where
+  pub faults : ℕ
+  pub ended : Bool
+
+-- files on a disk: how many loads failed, and how many stores, of all names
+pub record DiskState : Type 0 where
+  pub load_faults : ℕ
+  pub store_faults : ℕ
