@@ -5,7 +5,7 @@ use Rattle.def_eval.specs.Seen.{Seen}
 use Rattle.mrb_tool.specs.Words.{Command, exec}
 use Rattle.mrb_tool.specs.Told.{Told}
 use Rattle.mrb_tool.specs.Answer.{Built, Shows, IsRefused, ExecReports, UsageReports, Reports, Answered, Unanswered, Answers}
-use Rattle.mrb_tool.specs.Writing.{Stream}
+use Rattle.mrb_tool.specs.Writing.{Stream, IsAnswer}
 use Rattle.mrb_tool.specs.Running.{end_of, text_of}
 use Rattle.mrb_tool.specs.declared.refusal.Refusal.{Refusal}
 use Rattle.mrb_tool.specs.declared.refusal.Refusal.TheVariants as refusals
@@ -68,15 +68,12 @@ reports : (command : Option Command) (before after : Told) (x y : Stream) (end :
 reports None before after x y end text h = usage_reports before after x y end text h
 reports (Some (exec n source file)) before after x y end text h = exec_reports before after x y n source file end text h
 
--- the text of the report was written
-pub answered : (told command : Option Command) (before after : Told) (x y : Stream) (report : Report) (end : End) → told ≡ command → end ≡ end_of report → Reports told before after (end_of report) (text_of report) → (y.taken ≡ with_more x.taken (text_of report)) × (y.faults ≡ x.faults) → Answers command (with_err before x) (with_err after y) end
-answered told command before after x y report end same is h said =
+-- the report was told, or couldn't be
+pub answers : (told command : Option Command) (before after : Told) (x y : Stream) (report : Report) (end : End) → told ≡ command → Reports told before after (end_of report) (text_of report) → IsAnswer (text_of report) (end_of report) x y end → Answers command (with_err before x) (with_err after y) end
+answers told command before after x y report end same h (inl (is, taken, faults)) =
     let there : Reports command before after (end_of report) (text_of report) = subst (λ o. Reports o before after (end_of report) (text_of report)) same h in
     let here : Reports command before after end (text_of report) = subst (λ e. Reports command before after e (text_of report)) (sym is) there in
-    inl (record { text = text_of report; reports = reports command before after x y end (text_of report) here; written = said.0; no_fault = said.1 })
-
--- it couldn't be written
-pub unanswered : (told command : Option Command) (before after : Told) (x y : Stream) (report : Report) → told ≡ command → Reports told before after (end_of report) (text_of report) → TookFront x.taken y.taken (text_of report) × Rose x.faults y.faults → Answers command (with_err before x) (with_err after y) ends.OutputFault
-unanswered told command before after x y report same h said =
+    inl (record { text = text_of report; reports = reports command before after x y end (text_of report) here; written = taken; no_fault = faults })
+answers told command before after x y report end same h (inr (is, front, rose)) =
     let there : Reports command before after (end_of report) (text_of report) = subst (λ o. Reports o before after (end_of report) (text_of report)) same h in
-    inr (refl, record { meant = end_of report; text = text_of report; reports = reports command before after x y (end_of report) (text_of report) there; rose = said.1; front = said.0 })
+    inr (is, record { meant = end_of report; text = text_of report; reports = reports command before after x y (end_of report) (text_of report) there; rose = rose; front = front })

@@ -6,3 +6,4 @@ pub mod Writing
 pub mod Answer
 pub mod Running
 pub mod RefusalText
+pub mod Status

@@ -25,7 +25,19 @@ pub enum Report {
 
 impl Report {
     ghost use Rattle.mrb_tool.specs.Running.{end_of, text_of};
-    ghost use Rattle.mrb_tool.specs.Writing.{Says};
+    ghost use Rattle.mrb_tool.specs.Writing.{Says, IsAnswer};
+
+    /// Tells it, and gives the answer: `OutputFault` where its line couldn't be written.
+    pub fn answer<E: Sink>(self, err: &mut E) -> End
+        ensures { IsAnswer (text_of self) (end_of self)
+            (record { taken = E.taken err.old; faults = E.faults err.old })
+            (record { taken = E.taken err.new; faults = E.faults err.new }) result }
+    {
+        match self.tell(err) {
+            Ok(()) => self.end(),
+            Err(Failed) => End::OutputFault,
+        }
+    }
 
     /// The answer that is given for it.
     pub fn end(self) -> End

@@ -9,7 +9,7 @@ use crate::exec::exec;
 use crate::refusal::Refusal;
 use crate::report::Report;
 use crate::words::{Command, read_words};
-use rb_base::{Failed, Files, Sink, Source};
+use rb_base::{Files, Sink, Source};
 use std::alloc::Global;
 
 /// How a call of the program comes out.
@@ -53,10 +53,27 @@ pub fn rite<F: Files, S: Source, O: Sink, E: Sink>(
     // The input is not touched.
     ensures input { input.new ≡ input.old }
 {
-    let report = perform(alloc, words, files, out);
-    match report.tell(err) {
-        Ok(()) => report.end(),
-        Err(Failed) => End::OutputFault,
+    perform(alloc, words, files, out).answer(err)
+}
+
+impl End {
+    ghost use Rattle.mrb_tool.specs.Status.{status_of};
+
+    /// The status that the process ends with.
+    pub fn status(self) -> u8
+        ensures { result ≡ status_of self }
+    {
+        match self {
+            End::Ended(status) => status,
+            End::Uncaught => 1,
+            End::Usage => 120,
+            End::Refused(_) => 121,
+            End::Spent => 122,
+            End::NoMemory => 123,
+            End::InputFault => 124,
+            End::OutputFault => 125,
+            End::FileFault => 126,
+        }
     }
 }
 
