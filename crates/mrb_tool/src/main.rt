@@ -1,7 +1,43 @@
 //! The program `rite`.
 #![tactic(auto)]
 
+mod exec;
 mod refusal;
+mod report;
 mod rite;
+mod texts;
+mod words;
 
-fn main() {}
+use report::Report;
+use rb_base::{DiskFiles, StdSink, StdSource};
+use rite::{End, rite};
+use std::env;
+use std::io::{self, ErrorKind};
+use std::process::ExitCode;
+
+fn main(rt: HostRuntime) -> ExitCode {
+    let mut err = StdSink::new(rt.stderr());
+    let end = match given_words(&rt) {
+        Ok(words) => rite(
+            rt.alloc(),
+            &words,
+            &mut DiskFiles::new(&rt),
+            &mut StdSource::new(rt.stdin()),
+            &mut StdSink::new(rt.stdout()),
+            &mut err,
+        ),
+        Err(report) => report.answer(&mut err),
+    };
+    ExitCode::from(end.status())
+}
+
+// The words after the program's name. Words that are no text are no command.
+fn given_words(rt: &HostRuntime) -> Result<Vec<String>, Report> {
+    let mut args = match env::args(rt) {
+        Ok(args) => args,
+        Err(error) if error.kind() == ErrorKind::OutOfMemory => return Err(Report::NoMemory),
+        Err(_) => return Err(Report::Usage),
+    };
+    let _program = args.next();
+    Ok(args.collect(rt.alloc())?)
+}

@@ -2,9 +2,13 @@
 ghost use Rattle.std.specs.Prelude.{◌≡◌, map, string_bytes};
 ghost use Rattle.mrb_tool.specs.Words.{command_of};
 ghost use Rattle.mrb_tool.specs.Told.{Told};
-ghost use Rattle.mrb_tool.specs.Answer.{Answers};
+ghost use Rattle.mrb_tool.specs.Answer.{Answers, Reports};
+ghost use Rattle.mrb_tool.specs.Running.{end_of, text_of};
 
+use crate::exec::exec;
 use crate::refusal::Refusal;
+use crate::report::Report;
+use crate::words::{Command, read_words};
 use rb_base::{Files, Sink, Source};
 use std::alloc::Global;
 
@@ -49,5 +53,51 @@ pub fn rite<F: Files, S: Source, O: Sink, E: Sink>(
     // The input is not touched.
     ensures input { input.new ≡ input.old }
 {
-    End::NoMemory
+    perform(alloc, words, files, out).answer(err)
+}
+
+impl End {
+    ghost use Rattle.mrb_tool.specs.Status.{status_of};
+
+    /// The status that the process ends with.
+    pub fn status(self) -> u8
+        ensures { result ≡ status_of self }
+    {
+        match self {
+            End::Ended(status) => status,
+            End::Uncaught => 1,
+            End::Usage => 120,
+            End::Refused(_) => 121,
+            End::Spent => 122,
+            End::NoMemory => 123,
+            End::InputFault => 124,
+            End::OutputFault => 125,
+            End::FileFault => 126,
+        }
+    }
+}
+
+// Does what the words say, and tells nothing of it.
+fn perform<F: Files, O: Sink>(
+    alloc: Global,
+    words: &[String],
+    files: &mut F,
+    out: &mut O,
+) -> Report
+    ensures { Reports
+        (command_of (map string_bytes words.now))
+        (record { tells = F.tells files.old; file = F.file files.old; load_faults = F.load_faults files.old; store_faults = F.store_faults files.old;
+            out = O.taken out.old; out_faults = O.faults out.old; err = None; err_faults = 0 })
+        (record { tells = F.tells files.new; file = F.file files.new; load_faults = F.load_faults files.new; store_faults = F.store_faults files.new;
+            out = O.taken out.new; out_faults = O.faults out.new; err = None; err_faults = 0 })
+        (end_of result) (text_of result) }
+{
+    match read_words(words) {
+        Some(Command::Exec {
+            steps,
+            source,
+            file,
+        }) => exec(alloc, files, out, steps, source, file),
+        None => Report::Usage,
+    }
 }

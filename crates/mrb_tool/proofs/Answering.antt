@@ -1,0 +1,79 @@
+-- An answer and its text.
+use Rattle.std.proofs.Common.{◌≡◌, ℕ, List, Option, Some, None, refl, sym, subst, inl, inr}
+use Rattle.rb_base.specs.Outside.{Rose, TookFront, with_more}
+use Rattle.def_eval.specs.Seen.{Seen}
+use Rattle.mrb_tool.specs.Words.{Command, exec}
+use Rattle.mrb_tool.specs.Told.{Told}
+use Rattle.mrb_tool.specs.Answer.{Built, Shows, IsRefused, ExecReports, UsageReports, Reports, Answered, Unanswered, Answers}
+use Rattle.mrb_tool.specs.Writing.{Stream, IsAnswer}
+use Rattle.mrb_tool.specs.Running.{end_of, text_of}
+use Rattle.mrb_tool.specs.declared.refusal.Refusal.{Refusal}
+use Rattle.mrb_tool.specs.declared.refusal.Refusal.TheVariants as refusals
+use Rattle.mrb_tool.specs.declared.rite.End.{End}
+use Rattle.mrb_tool.specs.declared.rite.End.TheVariants as ends
+use Rattle.mrb_tool.specs.declared.report.Report.{Report}
+
+-- what was told, with what the error stream tells
+abbrev pub with_err : Told → Stream → Told
+with_err t s = record { tells = t.tells; file = t.file; load_faults = t.load_faults; store_faults = t.store_faults; out = t.out; out_faults = t.out_faults; err = s.taken; err_faults = s.faults }
+
+shows : (before after : Told) (x y : Stream) (n : ℕ) (source file : List ℕ) (seen : Seen) → Shows before after n source file seen → Shows (with_err before x) (with_err after y) n source file seen
+shows before after x y n source file seen s =
+    let b = s.built in
+    record {
+        code = s.code;
+        built = record {
+            text = b.text; is_source = b.is_source; form = b.form; program = b.program; implements = b.implements;
+            stored = b.stored; others = b.others; no_fault = b.no_fault;
+        };
+        seen_is = s.seen_is;
+    }
+
+refused : (before after : Told) (x y : Stream) (source : List ℕ) (r : Refusal) → IsRefused before after source r → IsRefused (with_err before x) (with_err after y) source r
+refused before after x y source (refusals.Syntax at) h = h
+refused before after x y source refusals.TooDeep h = absurd h
+refused before after x y source (refusals.Outside what at) h = absurd h
+refused before after x y source (refusals.TooLarge what count) h = absurd h
+refused before after x y source refusals.NotRite h = absurd h
+refused before after x y source (refusals.Foreign name) h = absurd h
+refused before after x y source (refusals.Truncated at) h = absurd h
+refused before after x y source (refusals.BadSection at) h = absurd h
+refused before after x y source (refusals.BadRecord at) h = absurd h
+refused before after x y source (refusals.Bad irep at cause) h = absurd h
+
+exec_reports : (before after : Told) (x y : Stream) (n : ℕ) (source file : List ℕ) (end : End) (text : List ℕ) → ExecReports before after n source file end text → ExecReports (with_err before x) (with_err after y) n source file end text
+exec_reports before after x y n source file (ends.Ended k) text (out, s, w, e) = (out, shows before after x y n source file _ s, w, e)
+exec_reports before after x y n source file ends.Uncaught text (out, f, s, w, e) = (out, f, shows before after x y n source file _ s, w, e)
+exec_reports before after x y n source file ends.Spent text (out, s, w, e) = (out, shows before after x y n source file _ s, w, e)
+exec_reports before after x y n source file (ends.Refused r) text h = (refused before after x y source r h.0, h.1)
+exec_reports before after x y n source file ends.FileFault text h = h
+exec_reports before after x y n source file ends.OutputFault text (seen, s, w, rose, e) = (seen, shows before after x y n source file _ s, w, rose, e)
+exec_reports before after x y n source file ends.NoMemory text (inl same, e) = (inl same, e)
+exec_reports before after x y n source file ends.NoMemory text (inr (seen, s, w, f), e) = (inr (seen, shows before after x y n source file _ s, w, f), e)
+exec_reports before after x y n source file ends.Usage text h = absurd h
+exec_reports before after x y n source file ends.InputFault text h = absurd h
+
+usage_reports : (before after : Told) (x y : Stream) (end : End) (text : List ℕ) → UsageReports before after end text → UsageReports (with_err before x) (with_err after y) end text
+usage_reports before after x y ends.Usage text h = h
+usage_reports before after x y ends.NoMemory text h = h
+usage_reports before after x y (ends.Ended k) text h = absurd h
+usage_reports before after x y ends.Uncaught text h = absurd h
+usage_reports before after x y ends.Spent text h = absurd h
+usage_reports before after x y (ends.Refused r) text h = absurd h
+usage_reports before after x y ends.FileFault text h = absurd h
+usage_reports before after x y ends.OutputFault text h = absurd h
+usage_reports before after x y ends.InputFault text h = absurd h
+
+reports : (command : Option Command) (before after : Told) (x y : Stream) (end : End) (text : List ℕ) → Reports command before after end text → Reports command (with_err before x) (with_err after y) end text
+reports None before after x y end text h = usage_reports before after x y end text h
+reports (Some (exec n source file)) before after x y end text h = exec_reports before after x y n source file end text h
+
+-- the report was told, or couldn't be
+pub answers : (told command : Option Command) (before after : Told) (x y : Stream) (report : Report) (end : End) → told ≡ command → Reports told before after (end_of report) (text_of report) → IsAnswer (text_of report) (end_of report) x y end → Answers command (with_err before x) (with_err after y) end
+answers told command before after x y report end same h (inl (is, taken, faults)) =
+    let there : Reports command before after (end_of report) (text_of report) = subst (λ o. Reports o before after (end_of report) (text_of report)) same h in
+    let here : Reports command before after end (text_of report) = subst (λ e. Reports command before after e (text_of report)) (sym is) there in
+    inl (record { text = text_of report; reports = reports command before after x y end (text_of report) here; written = taken; no_fault = faults })
+answers told command before after x y report end same h (inr (is, front, rose)) =
+    let there : Reports command before after (end_of report) (text_of report) = subst (λ o. Reports o before after (end_of report) (text_of report)) same h in
+    inr (is, record { meant = end_of report; text = text_of report; reports = reports command before after x y (end_of report) (text_of report) there; rose = rose; front = front })

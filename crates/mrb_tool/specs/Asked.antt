@@ -1,0 +1,12 @@
+-- The command that a value of the program stands for.
+use Rattle.std.specs.Prelude.{List, ℕ, Option, Some, None}
+use Rattle.mrb_tool.specs.declared.words.Command.{Command}
+use Rattle.mrb_tool.specs.declared.words.Command.TheVariants as commands
+use Rattle.mrb_tool.specs.Words as words
+
+abbrev pub command_meant : Command → words.Command
+command_meant (commands.Exec steps source file) = words.exec steps source.now file.now
+
+abbrev pub asked : Option Command → Option words.Command
+asked None = None
+asked (Some c) = Some (command_meant c)

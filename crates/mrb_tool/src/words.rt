@@ -1,0 +1,107 @@
+//! What the words after the program's name mean.
+ghost use Rattle.std.specs.Prelude.{◌≡◌, true, nat_le, if◌then◌else◌, map, string_bytes};
+ghost use Rattle.mrb_tool.specs.Words.{is_digit, are_digits, is_numeral, value_after, most_turns, number_of, is_name, exec_files, exec_of, command_of};
+ghost use Rattle.mrb_tool.specs.Asked.{asked};
+
+/// What the words ask for.
+#[derive(Clone, Copy, Debug)]
+pub enum Command<'a> {
+    /// At most `steps` turns of the source in the first file, whose code goes into the second.
+    Exec {
+        steps: u64,
+        source: &'a str,
+        file: &'a str,
+    },
+}
+
+/// The command that the words are, if they are one.
+pub fn read_words(words: &[String]) -> Option<Command<'_>>
+    ensures { asked result ≡ command_of (map string_bytes words.now) }
+{
+    match words {
+        [word, rest @ ..] if word.as_bytes() == b"exec".as_slice() => exec(rest),
+        _ => None,
+    }
+}
+
+// The command behind the word exec.
+fn exec(words: &[String]) -> Option<Command<'_>>
+    ensures { asked result ≡ exec_of (map string_bytes words.now) }
+{
+    match words {
+        [word, next, rest @ ..] if word.as_bytes() == b"--steps".as_slice() => {
+            exec_files(number(next.as_bytes())?, rest)
+        }
+        _ => exec_files(u64::MAX, words),
+    }
+}
+
+fn exec_files(steps: u64, words: &[String]) -> Option<Command<'_>>
+    ensures { asked result ≡ exec_files steps (map string_bytes words.now) }
+{
+    match words {
+        [source, file] if is_name(source.as_bytes()) && is_name(file.as_bytes()) => {
+            Some(Command::Exec {
+                steps,
+                source: source.as_str(),
+                file: file.as_str(),
+            })
+        }
+        _ => None,
+    }
+}
+
+// Whether the word may name a file.
+fn is_name(word: &[u8]) -> bool
+    ensures { result ≡ is_name word.now }
+{
+    match word {
+        [] => false,
+        [b'-', b'-', ..] => false,
+        _ => true,
+    }
+}
+
+// The number that the word spells.
+#[tactic(auto, unfolding(crate::specs::Words::number_of), using(crate::proofs::Digits::numeral_digits))]
+fn number(word: &[u8]) -> Option<u64>
+    ensures { result ≡ number_of word.now }
+{
+    if is_numeral(word) { value(word) } else { None }
+}
+
+// The value of digits, where it has 64 bits.
+#[tactic(auto, using(crate::proofs::Digits::digit_steps))]
+fn value(digits: &[u8]) -> Option<u64>
+    requires { are_digits digits.now ≡ true }
+    ensures { result ≡ (if nat_le (value_after 0 digits.now) most_turns then Some (value_after 0 digits.now) else None) }
+{
+    let mut value: u64 = 0;
+    'digits: for digit in digits {
+        value = value.checked_mul(10)?;
+        value = value.checked_add(u64::from(*digit - b'0'))?;
+    }
+    Some(value)
+}
+
+fn is_numeral(word: &[u8]) -> bool
+    ensures { result ≡ is_numeral word.now }
+{
+    match word {
+        [] => false,
+        [only] => only.is_ascii_digit(),
+        [first, rest @ ..] => first.is_ascii_digit() && *first != b'0' && are_digits(rest),
+    }
+}
+
+#[tactic(auto, using(crate::proofs::Digits::digit_steps))]
+fn are_digits(word: &[u8]) -> bool
+    ensures { result ≡ are_digits word.now }
+{
+    'bytes: for byte in word {
+        if !byte.is_ascii_digit() {
+            return false;
+        }
+    }
+    true
+}
