@@ -1,2 +1,6 @@
+pub mod Parts
+pub mod Tree
+pub mod Grammar
+pub mod Reads
 pub mod Language
 pub mod Refusal

@@ -11,9 +11,13 @@ ghost use Rattle.path_front.specs.Language.{program_of};
 ghost use Rattle.path_front.specs.Refusal.{Refuses};
 
 pub mod error;
+mod lexer;
+mod parse_error;
+mod parser;
+pub mod token;
+mod tree;
 
 pub use error::FrontError;
-
 use rb_syntax::Core;
 use std::alloc::Global;
 
