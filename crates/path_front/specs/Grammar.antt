@@ -113,6 +113,10 @@ test_at _ ts = whole_sum ts >>= (λ r. comparison r.0 (operator_in is_comparing 
 unfoldable pub test : Text → Read Form
 test ts = test_at (first ts) ts
 
+-- test sep, behind "if" or "while"
+unfoldable pub heading : Text → Read Form
+heading ts = test ts >>= (λ t. expect is_separator t.1 >>= (λ body. Some (t.0, body)))
+
 -- at most n separators
 unfoldable pub separators_from : ℕ → Text → Text
 separators_from zero ts = ts
@@ -145,14 +149,12 @@ module _ (inner : Text → Read (List Form)) where
   -- test sep text ["else" text] "end", behind "if"
   unfoldable pub branch : Text → Read Form
   branch ts =
-      test ts >>= (λ t. expect is_separator t.1 >>= (λ body. inner body >>= (λ yes. otherwise yes.1 >>= (λ no.
-      Some (cond t.0 (block yes.0) (block no.0), no.1)))))
+      heading ts >>= (λ t. inner t.1 >>= (λ yes. otherwise yes.1 >>= (λ no. Some (cond t.0 (block yes.0) (block no.0), no.1))))
 
   -- test sep text "end", behind "while"
   unfoldable pub repeat : Text → Read Form
   repeat ts =
-      test ts >>= (λ t. expect is_separator t.1 >>= (λ body. inner body >>= (λ r. expect is_end r.1 >>= (λ rest.
-      Some (while_form t.0 (block r.0), rest)))))
+      heading ts >>= (λ t. inner t.1 >>= (λ r. expect is_end r.1 >>= (λ rest. Some (while_form t.0 (block r.0), rest))))
 
   -- line = "puts" sum | name "=" sum | "if" .. | "while" ..
   abbrev pub line_at : Token → Text → Read Form

@@ -203,3 +203,153 @@ fn test(alloc: Global, text: &[u8]) -> Result<(Test, &[u8]), ParseError>
         None => Err(syntax(rest)),
     }
 }
+
+/// A test and the separator behind it.
+#[tactic(auto, unfolding(crate::specs::Grammar::heading))]
+fn heading(alloc: Global, text: &[u8]) -> Result<(Test, &[u8]), ParseError>
+    ensures value { Reads test_form result (grammar.heading text.now) }
+    ensures shorter { Shortens text.now result }
+{
+    let (test, rest) = test(alloc, text)?;
+    Ok((test, expect_separator(rest)?))
+}
+
+fn is_separator(token: Token) -> bool
+    ensures { result ≡ grammar.is_separator token }
+{
+    matches!(token, Token::Separator)
+}
+
+fn ends_lines(token: Token) -> bool
+    ensures { result ≡ grammar.ends_lines token }
+{
+    matches!(token, Token::Finish | Token::Else | Token::End)
+}
+
+fn ends_line(token: Token) -> bool
+    ensures { result ≡ grammar.ends_line token }
+{
+    ends_lines(token) || is_separator(token)
+}
+
+/// What is behind newlines and semicolons.
+#[tactic(auto, using(crate::proofs::Turns::separator_turns))]
+fn skip_separators(text: &[u8]) -> &[u8]
+    ensures value { result.now ≡ grammar.skip_separators text.now }
+    ensures within { length result.now ≤ length text.now }
+{
+    let mut rest = text;
+    'separators: while is_separator(first(rest)) {
+        rest = skip(rest);
+    }
+    rest
+}
+
+/// What follows the lines of a branch, to behind its `end`.
+#[cycle(lines)]
+#[tactic(auto, unfolding(crate::specs::Grammar::otherwise))]
+fn otherwise(alloc: Global, text: &[u8], depth: u32) -> Result<(Vec<Line>, &[u8]), ParseError>
+    ensures value { Reads line_forms result (grammar.otherwise (grammar.inner_lines depth) text.now) }
+    ensures shorter { Shortens text.now result }
+{
+    match first(text) {
+        Token::Else => {
+            let (other, rest) = inner_lines(alloc, skip(text), depth)?;
+            Ok((other, expect_end(rest)?))
+        }
+        Token::End => Ok((Vec::new(alloc), skip(text))),
+        _ => Err(syntax(text)),
+    }
+}
+
+/// What follows `if`, to behind its `end`.
+#[cycle(lines)]
+#[tactic(auto, unfolding(crate::specs::Grammar::branch))]
+fn branch(alloc: Global, text: &[u8], depth: u32) -> Result<(Line, &[u8]), ParseError>
+    ensures value { Reads line_form result (grammar.branch (grammar.inner_lines depth) text.now) }
+    ensures shorter { Shortens text.now result }
+{
+    let (test, rest) = heading(alloc, text)?;
+    let (yes, rest) = inner_lines(alloc, rest, depth)?;
+    let (no, rest) = otherwise(alloc, rest, depth)?;
+    Ok((Line::Branch(test, yes, no), rest))
+}
+
+/// What follows `while`, to behind its `end`.
+#[cycle(lines)]
+#[tactic(auto, unfolding(crate::specs::Grammar::repeat))]
+fn repeat(alloc: Global, text: &[u8], depth: u32) -> Result<(Line, &[u8]), ParseError>
+    ensures value { Reads line_form result (grammar.repeat (grammar.inner_lines depth) text.now) }
+    ensures shorter { Shortens text.now result }
+{
+    let (test, rest) = heading(alloc, text)?;
+    let (body, rest) = inner_lines(alloc, rest, depth)?;
+    Ok((Line::Loop(test, body), expect_end(rest)?))
+}
+
+/// A line.
+#[cycle(lines)]
+#[tactic(auto, unfolding(crate::specs::Grammar::line))]
+fn line(alloc: Global, text: &[u8], depth: u32) -> Result<(Line, &[u8]), ParseError>
+    ensures value { Reads line_form result (grammar.line (grammar.inner_lines depth) text.now) }
+    ensures shorter { Shortens text.now result }
+{
+    match first(text) {
+        Token::Puts => {
+            let (sum, rest) = whole_sum(alloc, skip(text))?;
+            Ok((Line::Puts(sum), rest))
+        }
+        Token::Name => {
+            let name = Bytes::from_slice(alloc, name_at(text))?;
+            let (sum, rest) = whole_sum(alloc, expect_assign(skip(text))?)?;
+            Ok((Line::Assign(name, sum), rest))
+        }
+        Token::If => branch(alloc, skip(text), depth),
+        Token::While => repeat(alloc, skip(text), depth),
+        _ => Err(syntax(text)),
+    }
+}
+
+/// Lines with separators between them, up to what ends them.
+#[cycle(lines)]
+#[tactic(auto, using(crate::proofs::Turns::line_turns), unfolding(crate::specs::Grammar::lines))]
+fn lines(alloc: Global, text: &[u8], depth: u32) -> Result<(Vec<Line>, &[u8]), ParseError>
+    ensures value { Reads line_forms result (grammar.lines (grammar.inner_lines depth) text.now) }
+    ensures within { IfOk result (λ p. length p.1.now ≤ length text.now) }
+{
+    let mut list = Vec::new(alloc);
+    let mut rest = skip_separators(text);
+    'lines: while !ends_lines(first(rest)) {
+        let (line, after) = line(alloc, rest, depth)?;
+        list.push(line)?;
+        if !ends_line(first(after)) {
+            return Err(syntax(after));
+        }
+        rest = skip_separators(after);
+    }
+    Ok((list, rest))
+}
+
+/// The lines of a branch or a loop.
+#[cycle(lines)]
+fn inner_lines(alloc: Global, text: &[u8], depth: u32) -> Result<(Vec<Line>, &[u8]), ParseError>
+    ensures value { Reads line_forms result (grammar.inner_lines depth text.now) }
+    ensures within { IfOk result (λ p. length p.1.now ≤ length text.now) }
+{
+    match depth.checked_sub(1) {
+        Some(depth) => lines(alloc, text, depth),
+        None => Err(syntax(text)),
+    }
+}
+
+/// The lines of a whole text.
+#[tactic(auto, unfolding(crate::specs::Grammar::whole_text))]
+pub fn whole_text(alloc: Global, text: &[u8]) -> Result<Vec<Line>, ParseError>
+    ensures { Gives (λ list. block (line_forms list)) result (grammar.whole_text text.now) }
+{
+    let (list, rest) = lines(alloc, text, 10)?;
+    match first(rest) {
+        Token::Finish => Ok(list),
+        _ => Err(syntax(rest)),
+    }
+}
