@@ -1,7 +1,7 @@
-use std::alloc::{AllocError, AllocFailed};
-
 ghost use Rattle.std.specs.Prelude.{◌≡◌};
 ghost use Rattle.path_front.specs.declared.error.FrontError.TheVariants.{NoMemory};
+
+use std::alloc::{AllocError, AllocFailed};
 
 /// Why a text has no core: it isn't in the language, as a place at most its length says, or memory ran out.
 #[derive(Clone, Copy, Debug, PartialEq, Eq)]

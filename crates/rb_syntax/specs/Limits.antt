@@ -107,10 +107,18 @@ abbrev mutual
   have_short_sums none = true
   have_short_sums (more e es) = has_short_sums e && have_short_sums es
 
--- a number that the parts of a form's text exceed
+-- nothing need stand in a text for a nil
+abbrev pub action_parts : Action → ℕ
+action_parts give_nil = 0
+action_parts give_true = 1
+action_parts (give_int z) = 1
+action_parts (call_operator o) = 1
+action_parts call_puts = 1
+
+-- how many parts a form's text has at least
 abbrev mutual
   pub parts : Form → ℕ
-  parts (strict a es) = 1 + all_parts es
+  parts (strict a es) = action_parts a + all_parts es
   parts (local x) = 1
   parts (set_local x e) = 2 + parts e
   parts (seq es) = line_parts es
