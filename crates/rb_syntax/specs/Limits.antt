@@ -107,36 +107,19 @@ abbrev mutual
   have_short_sums none = true
   have_short_sums (more e es) = has_short_sums e && have_short_sums es
 
--- nothing need stand in a text for a nil
-abbrev pub action_parts : Action → ℕ
-action_parts give_nil = 0
-action_parts give_true = 1
-action_parts (give_int z) = 1
-action_parts (call_operator o) = 1
-action_parts call_puts = 1
-
--- how many parts a form's text has at least
+-- how many forms stand in a form, itself among them; a loop counts twice
 abbrev mutual
   pub parts : Form → ℕ
-  parts (strict a es) = action_parts a + all_parts es
+  parts (strict a es) = 1 + all_parts es
   parts (local x) = 1
-  parts (set_local x e) = 2 + parts e
-  parts (seq es) = line_parts es
-  parts (cond t a b) = 3 + parts t + parts a + parts b
-  parts (while_form t b) = 3 + parts t + parts b
+  parts (set_local x e) = 1 + parts e
+  parts (seq es) = 1 + all_parts es
+  parts (cond t a b) = 1 + parts t + parts a + parts b
+  parts (while_form t b) = 2 + parts t + parts b
 
   pub all_parts : Forms → ℕ
   all_parts none = 0
   all_parts (more e es) = parts e + all_parts es
-
-  -- a line behind another has a separator before it
-  pub line_parts : Forms → ℕ
-  line_parts none = 0
-  line_parts (more e es) = parts e + further_parts es
-
-  pub further_parts : Forms → ℕ
-  further_parts none = 0
-  further_parts (more e es) = 1 + parts e + further_parts es
 
 -- what the generator asks of a form
 pub record IsWithin (f : Form) : Type 0 where
@@ -144,4 +127,4 @@ pub record IsWithin (f : Form) : Type 0 where
   pub scoped : is_scoped [] f ≡ true
   pub short : has_short_sums f ≡ true
   pub few_names : length (names_of f) ≤ 50
-  pub few_parts : parts f ≤ 4000
+  pub few_parts : parts f ≤ 4001
