@@ -8,3 +8,6 @@ pub mod outcome;
 
 pub use line::Line;
 pub use outcome::{Outcome, call};
+
+#[cfg(test)]
+mod tests;
