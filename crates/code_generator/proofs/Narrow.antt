@@ -1,5 +1,5 @@
 -- The narrow instructions of operations.
-use Rattle.std.proofs.Common.{◌≡◌, List, [], ◌∷◌, ◌++◌, map, false, refl, sym, ap, ◌∙◌}
+use Rattle.std.proofs.Common.{◌≡◌, List, [], ◌∷◌, ◌++◌, map, false, refl, ap, ◌∙◌}
 use Rattle.rite_code.specs.Instruction.{Instruction, narrow}
 use Rattle.code_generator.specs.Narrow.{operations_in, AreNarrow}
 
