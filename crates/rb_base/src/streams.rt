@@ -20,14 +20,15 @@ pub struct StdSource<R> {
 impl<R> Model for StdSource<R> {
     ghost use Rattle.rb_base.specs.Streams.{ReaderState};
 
-    ghost Value = { ReaderState };
+    ghost Value = { ReaderState R };
 
-    ghost view = { λ s. record { faults = s.faults; ended = s.ended } };
+    ghost view = { λ s. record { reader = s.reader; faults = s.faults; ended = s.ended } };
 }
 
 impl<R: Read + Drop> StdSource<R> {
     /// The source of what the reader gives.
     pub fn new(reader: R) -> StdSource<R>
+        ensures reader { result.reader ≡ reader }
         ensures faults { result.faults ≡ 0 }
         ensures ended { result.ended ≡ false }
     {
@@ -50,7 +51,8 @@ impl<R: Read + Drop> Source for StdSource<R> {
         ensures counted { OnOk result (self.new.faults ≡ self.old.faults) }
         ensures failed { OnErr result (Rose self.old.faults self.new.faults) }
 
-        // Once the input has ended no call gives a byte.
+        // The bytes come from the reader. Once the input has ended no call gives a byte.
+        ensures bytes { IfOk result (λ n. Consumes (R.remaining self.old.reader) (R.remaining self.new.reader) (take n buf.new)) }
         ensures ends { result ≡ Ok 0 → IsTrue self.new.ended }
         ensures ended { IsTrue self.old.ended → (result ≡ Ok 0) × (self.new ≡ self.old) }
         ensures fault { OnErr result (self.new.faults ≡ one_more self.old.faults) }
@@ -95,33 +97,37 @@ pub struct StdSink<W> {
 }
 
 impl<W> Model for StdSink<W> {
-    ghost use Rattle.std.specs.Prelude.{ℕ};
+    ghost use Rattle.rb_base.specs.Streams.{WriterState};
 
-    ghost Value = { ℕ };
+    ghost Value = { WriterState W };
 
-    ghost view = { λ s. s.faults };
+    ghost view = { λ s. record { writer = s.writer; faults = s.faults } };
 }
 
 impl<W: Write + Drop> StdSink<W> {
     /// The sink into the writer.
     pub fn new(writer: W) -> StdSink<W>
-        ensures { result ≡ 0 }
+        ensures writer { result.writer ≡ writer }
+        ensures faults { result.faults ≡ 0 }
     {
         StdSink { writer, faults: 0 }
     }
 }
 
 impl<W: Write + Drop> Sink for StdSink<W> {
-    ghost faults = { λ s. s };
+    ghost faults = { λ s. s.faults };
 
     ghost taken = { λ _. None };
 
     fn write(&mut self, piece: &[u8]) -> Result<usize, Failed>
         requires { 0 < length piece.now }
         ensures some { IfOk result (λ n. (0 < n) × (n ≤ length piece.now)) }
-        ensures counted { OnOk result (self.new ≡ self.old) }
-        ensures failed { OnErr result (Rose self.old self.new) }
-        ensures fault { OnErr result (self.new ≡ one_more self.old) }
+        ensures counted { OnOk result (self.new.faults ≡ self.old.faults) }
+        ensures failed { OnErr result (Rose self.old.faults self.new.faults) }
+
+        // The bytes go to the writer.
+        ensures bytes { IfOk result (λ n. Appends (W.contents self.old.writer) (W.contents self.new.writer) (take n piece.now)) }
+        ensures fault { OnErr result (self.new.faults ≡ one_more self.old.faults) }
     {
         match write_once(&mut self.writer, piece) {
             Some(count) => Ok(count),

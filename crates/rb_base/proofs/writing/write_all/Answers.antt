@@ -10,4 +10,5 @@ pieces-preserved g c =
       grind (arith, length-drop, rest, c.pieces.invariant.0, ensures.some),
       (rw rest at ensures.took) ∙ took_further _ _ _ _ _ c.pieces.invariant.1,
       ensures.counted ∙ c.pieces.invariant.2,
+      λ empty. absurd (omega (arith, c.pieces-test.true, empty)),
     )

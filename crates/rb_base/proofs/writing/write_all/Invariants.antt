@@ -7,6 +7,7 @@ invariant-pieces g l =
     (l.at ≤ length l.bytes)
     × (g.O.Sink.taken l.out ≡ with_more (g.O.Sink.taken l.fn.out) (take l.at l.bytes))
     × (g.O.Sink.faults l.out ≡ g.O.Sink.faults l.fn.out)
+    × (length l.bytes ≡ 0 → l.out ≡ l.fn.out)
 
 abbrev pub decreases-pieces : goal.decreases-pieces
 decreases-pieces g l = length l.bytes - l.at
