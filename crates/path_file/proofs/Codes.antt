@@ -1,10 +1,10 @@
 -- A code and its file.
-use Rattle.std.proofs.Common.{◌≡◌, ◌≢◌, ℕ, ◌+◌, ◌-◌, ◌^◌, ◌<◌, List, [], ◌∷◌, ◌++◌, length, get_or, append_assoc, take, drop, Option, Some, None, Result, Ok, Err, refl, sym, ap, subst, ◌∙◌, arith}
+use Rattle.std.proofs.Common.{◌≡◌, ◌≢◌, ℕ, ◌-◌, ◌^◌, ◌<◌, List, [], ◌∷◌, ◌++◌, length, get_or, append_assoc, drop, Option, Some, Result, Err, refl, sym, ap, subst, ◌∙◌, arith}
 use Rattle.rite_code.specs.declared.code.Code.{Code}
 use Rattle.rite_code.specs.declared.code.Irep.{Irep}
 use Rattle.path_file.specs.declared.error.LoadError.{LoadError}
 use Rattle.path_file.specs.declared.error.LoadError.TheVariants.{Refused, NoMemory}
-use Rattle.path_file.specs.File.{fields, file_of, file_of_bodies, canonical, IsPlainBody, IsOnePlain, IsPlain}
+use Rattle.path_file.specs.File.{fields, canonical, IsPlainBody, IsOnePlain, IsPlain}
 use Rattle.path_file.specs.Frame.{front, end, frame}
 use Rattle.path_file.specs.Reading.{Fails, fields_at}
 use Rattle.path_file.proofs.Fields.{IsBytes, IsBytes-drop, IsBytes-take, some_is}
@@ -50,13 +50,15 @@ pub record IsFileOf (bytes : List ℕ) (code : Code) (b : Irep) : Type 0 where
 pub file_known : (bytes : List ℕ) (code : Code) → IsPlain code → bytes ≡ canonical code → (b : Irep) × IsFileOf bytes code b
 file_known bytes code plain e =
     let body = body_of_plain code plain in
-    let framed : bytes ≡ frame (fields body.0) = e ∙ ap canonical body.1.same ∙ canonical_frame body.0 in
-    (body.0, record {
-      same = body.1.same;
-      small = omega (arith, body.1.plain.size, file_length body.0, ap length framed, frame_length (fields body.0));
-      framed = framed;
-      again = fields_again body.0 body.1.plain;
-    })
+    let framed : bytes ≡ frame (fields body.0) = e ∙ ap canonical body.1.same ∙ canonical_frame body.0 in (
+      body.0,
+      record {
+        same = body.1.same;
+        small = omega (arith, body.1.plain.size, file_length body.0, ap length framed, frame_length (fields body.0));
+        framed = framed;
+        again = fields_again body.0 body.1.plain;
+      },
+    )
 
 -- what stands in one frame is one
 pub frame_once : (bytes xs ys : List ℕ) → bytes ≡ frame xs → bytes ≡ frame ys → xs ≡ ys

@@ -2,7 +2,7 @@
 use Rattle.std.proofs.Common.{◌≡◌, ℕ, zero, suc, ◌+◌, ◌^◌, ◌<◌, ◌≤◌, Bool, true, false, cond, ltb, eqb, List, [], ◌∷◌, ◌++◌, length, get_or, take, drop, Option, Some, None, refl, sym, ap, subst, ◌∙◌, append_assoc, arith, inl, inr}
 use Rattle.std.specs.List.{flat_map, AllByRecursion}
 use Rattle.std.specs.Int.{Width, w16, w32, byte_len, from_be_bytes, to_be_bytes}
-use Rattle.std.proofs.lemmas.Bool.{cases_lt, ltb-false, le-ltb, eqb-true, eq-eqb}
+use Rattle.std.proofs.lemmas.Bool.{cases_lt, ltb-false, le-ltb, eqb-true}
 use Rattle.std.proofs.lemmas.List.{take_at, drop_at, take-append-drop, length-append, length-take, get_or-drop, get_or-take, get_or_past}
 use Rattle.std.proofs.lemmas.List.Concat.{flat_map-cons}
 use Rattle.std.proofs.lemmas.Nat.{be_bytes_2, be_bytes_4, from_be_bytes-to_be_bytes_2, from_be_bytes-to_be_bytes_4}
@@ -66,14 +66,14 @@ Both P Q x = P x.0 × Q x.1
 pub both_spells : {A B : Type 0} (f : A → List ℕ) (g : B → List ℕ) (P : A → Type 0) (Q : B → Type 0) (r : Reader A) (s : Reader B) → Spells f P r → Spells g Q s → Spells (Pair f g) (Both P Q) (both r s)
 both_spells {A} {B} f g P Q r s first second = record {
   takes = λ bytes x fits e.
-    let a = bind_some (r bytes) (λ y. s y.1 >>= λ z. Some ((y.0, z.0), z.1)) x e in
-    let b = bind_some (s a.0.1) (λ z. Some ((a.0.0, z.0), z.1)) x a.2 in
-    let t = first.takes bytes a.0 fits a.1 in
-    let u = second.takes a.0.1 b.0 t.0.rest_fits b.1 in
-    let made : (A × B) × List ℕ = ((a.0.0, b.0.0), b.0.1) in
-    subst (λ (y : (A × B) × List ℕ). Takes bytes (f y.0.0 ++ g y.0.1) y.1 × (P y.0.0 × Q y.0.1)) (some_is made x b.2) (Takes-then bytes (f a.0.0) a.0.1 (g b.0.0) b.0.1 t.0 u.0, (t.1, u.1));
+      let a = bind_some (r bytes) (λ y. s y.1 >>= λ z. Some ((y.0, z.0), z.1)) x e in
+      let b = bind_some (s a.0.1) (λ z. Some ((a.0.0, z.0), z.1)) x a.2 in
+      let t = first.takes bytes a.0 fits a.1 in
+      let u = second.takes a.0.1 b.0 t.0.rest_fits b.1 in
+      let made : (A × B) × List ℕ = ((a.0.0, b.0.0), b.0.1) in
+      subst (λ (y : (A × B) × List ℕ). Takes bytes (f y.0.0 ++ g y.0.1) y.1 × (P y.0.0 × Q y.0.1)) (some_is made x b.2) (Takes-then bytes (f a.0.0) a.0.1 (g b.0.0) b.0.1 t.0 u.0, (t.1, u.1));
   again = λ x rest fits.
-    ap (both r s) (append_assoc (f x.0) (g x.1) rest) ∙ rw (first.again x.0 (g x.1 ++ rest) fits.0, second.again x.1 rest fits.1) refl;
+      ap (both r s) (append_assoc (f x.0) (g x.1) rest) ∙ rw (first.again x.0 (g x.1 ++ rest) fits.0, second.again x.1 rest fits.1) refl;
 }
 
 -- ---- numbers

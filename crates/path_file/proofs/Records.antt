@@ -1,5 +1,5 @@
 -- The fields of a record: what is read is spelled so, and what is spelled so is read.
-use Rattle.std.proofs.Common.{◌≡◌, ℕ, ◌+◌, ◌^◌, ◌<◌, ◌≤◌, cond, eqb, List, [], ◌∷◌, ◌++◌, length, Option, Some, None, Result, Ok, Err, refl, sym, ap, subst, ◌∙◌, append_assoc, arith}
+use Rattle.std.proofs.Common.{◌≡◌, ℕ, ◌+◌, ◌^◌, ◌<◌, cond, eqb, List, [], ◌∷◌, ◌++◌, length, Some, None, refl, sym, ap, subst, ◌∙◌, append_assoc, arith}
 use Rattle.std.specs.List.{flat_map, AllByRecursion}
 use Rattle.std.specs.Int.{w16, w32, to_be_bytes}
 use Rattle.std.proofs.lemmas.Bool.{eqb-true}
@@ -9,10 +9,9 @@ use Rattle.rite_code.specs.declared.code.Irep.{Irep}
 use Rattle.rite_code.specs.declared.code.CatchEntry.{CatchEntry}
 use Rattle.rite_code.specs.declared.code.PoolItem.{PoolItem}
 use Rattle.path_file.specs.File.{text, fields, file_of, IsPlainBody}
-use Rattle.path_file.specs.Frame.{frame}
-use Rattle.path_file.specs.Reading.{◌>>=◌, both, number_at, zero_at, text_at, symbols_at, Fields, read_at, body_of, fields_at}
+use Rattle.path_file.specs.Reading.{both, number_at, zero_at, text_at, symbols_at, Fields, read_at, body_of, fields_at}
 use Rattle.path_file.proofs.Framing.{file_of-frame, frame_length}
-use Rattle.path_file.proofs.Fields.{IsBytes, bind_some, guard_passed, Takes, Spells, Pair, Both, both_spells, wide16, number_spells, zero_spells, text_spells, symbols_spell, IsShort, AreShort, counted}
+use Rattle.path_file.proofs.Fields.{IsBytes, bind_some, guard_passed, Spells, Pair, Both, both_spells, wide16, number_spells, zero_spells, text_spells, symbols_spell, IsShort, AreShort, counted}
 
 abbrev number : ℕ → List ℕ
 number n = to_be_bytes w16 n

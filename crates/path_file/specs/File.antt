@@ -1,6 +1,5 @@
 -- The file of a program of one body. All numbers are big-endian.
-use Rattle.std.specs.Prelude.{◌≡◌, ℕ, ◌+◌, ◌^◌, ◌<◌, ◌≤◌, List, [], ◌∷◌, ◌++◌, length, map, flat_map, sum_by, codes}
-use Rattle.std.specs.List.{AllByRecursion}
+use Rattle.std.specs.Prelude.{◌≡◌, ℕ, ◌+◌, ◌^◌, ◌<◌, List, [], ◌∷◌, ◌++◌, length, flat_map, codes}
 use Rattle.std.specs.Int.{to_be_bytes, w16, w32}
 use Rattle.rite_code.specs.declared.code.Code.{Code}
 use Rattle.rite_code.specs.declared.code.Irep.{Irep}

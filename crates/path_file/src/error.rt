@@ -1,7 +1,7 @@
-use std::alloc::{AllocError, AllocFailed};
-
 ghost use Rattle.std.specs.Prelude.{◌≡◌};
 ghost use Rattle.path_file.specs.declared.error.LoadError.TheVariants.{NoMemory};
+
+use std::alloc::{AllocError, AllocFailed};
 
 /// Why bytes aren't loaded: they are no file of a program of one body, or memory ran out.
 #[derive(Clone, Copy, Debug, PartialEq, Eq)]

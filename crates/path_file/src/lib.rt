@@ -11,10 +11,9 @@ pub mod error;
 mod reading;
 mod writing;
 
-pub use error::LoadError;
-
 use crate::reading::{body_of, unframed};
 use crate::writing::{END, put_fields, put_front};
+pub use error::LoadError;
 use rb_base::List;
 use rite_code::Code;
 use std::alloc::{AllocError, Global};
@@ -47,3 +46,6 @@ pub fn load(alloc: Global, bytes: &[u8]) -> Result<Code, LoadError>
     bodies.push(body)?;
     Ok(Code { version: 2, bodies })
 }
+
+#[cfg(test)]
+mod tests;

@@ -1,6 +1,5 @@
-use Rattle.std.proofs.Common.{◌≡◌, ◌∙◌, [], ◌∷◌, ap, sym, subst, arith}
+use Rattle.std.proofs.Common.{◌≡◌, ◌∙◌, [], ◌∷◌, ap, sym, arith}
 use Rattle.std.proofs.lemmas.Result.{err_from_is_err_and}
-use Rattle.path_file.specs.File.{IsPlain, canonical}
 use Rattle.path_file.proofs.Codes.{code_of, file_known, body_read, loaded, not_refused, not_failed, same_body}
 use Rattle.path_file.specs.Reading.{fields_at}
 use Rattle.path_file.specs.File.{fields}

@@ -1,4 +1,4 @@
-use Rattle.std.proofs.Common.{arith, ◌≡◌, ◌+◌, ◌-◌, ◌∙◌, sym, ap, length, take, drop, false, true}
+use Rattle.std.proofs.Common.{arith, ◌≡◌, ◌+◌, ◌-◌, ◌∙◌, sym, ap, length, take, drop}
 use Rattle.std.proofs.lemmas.Bool.{both_ways}
 use Rattle.path_file.specs.Frame.{front, end, frame}
 use Rattle.path_file.proofs.Framing.{frame_known, is_frame}
