@@ -1,10 +1,9 @@
 -- An answer and its text.
-use Rattle.std.proofs.Common.{◌≡◌, ℕ, List, Option, Some, None, refl, sym, subst, inl, inr}
-use Rattle.rb_base.specs.Outside.{Rose, TookFront, with_more}
+use Rattle.std.proofs.Common.{◌≡◌, ℕ, List, Option, Some, None, sym, subst, inl, inr}
 use Rattle.def_eval.specs.Seen.{Seen}
 use Rattle.mrb_tool.specs.Words.{Command, exec}
 use Rattle.mrb_tool.specs.Told.{Told}
-use Rattle.mrb_tool.specs.Answer.{Built, Shows, IsRefused, ExecReports, UsageReports, Reports, Answered, Unanswered, Answers}
+use Rattle.mrb_tool.specs.Answer.{Shows, IsRefused, ExecReports, UsageReports, Reports, Answers}
 use Rattle.mrb_tool.specs.Writing.{Stream, IsAnswer}
 use Rattle.mrb_tool.specs.Running.{end_of, text_of}
 use Rattle.mrb_tool.specs.declared.refusal.Refusal.{Refusal}
@@ -21,12 +20,18 @@ shows : (before after : Told) (x y : Stream) (n : ℕ) (source file : List ℕ) 
 shows before after x y n source file seen s =
     let b = s.built in
     record {
-        code = s.code;
-        built = record {
-            text = b.text; is_source = b.is_source; form = b.form; program = b.program; implements = b.implements;
-            stored = b.stored; others = b.others; no_fault = b.no_fault;
-        };
-        seen_is = s.seen_is;
+      code = s.code;
+      built = record {
+        text = b.text;
+        is_source = b.is_source;
+        form = b.form;
+        program = b.program;
+        implements = b.implements;
+        stored = b.stored;
+        others = b.others;
+        no_fault = b.no_fault;
+      };
+      seen_is = s.seen_is;
     }
 
 refused : (before after : Told) (x y : Stream) (source : List ℕ) (r : Refusal) → IsRefused before after source r → IsRefused (with_err before x) (with_err after y) source r

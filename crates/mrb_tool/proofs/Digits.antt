@@ -1,6 +1,6 @@
 -- Digits one by one.
-use Rattle.std.proofs.Common.{◌≡◌, ℕ, ◌+◌, ◌*◌, ◌-◌, ◌<◌, ◌≤◌, Bool, true, false, ◌&&◌, List, [], ◌∷◌, length, get_or, drop, refl, ap, sym, add-one, drop-cons, arith}
-use Rattle.std.proofs.Common.{Option, Some, None, nat_le, if◌then◌else◌}
+use Rattle.std.proofs.Common.{◌≡◌, ℕ, ◌+◌, ◌*◌, ◌-◌, ◌<◌, ◌≤◌, true, ◌&&◌, List, [], ◌∷◌, length, get_or, drop, add-one, drop-cons, arith}
+use Rattle.std.proofs.Common.{Some, None, nat_le, if◌then◌else◌}
 use Rattle.std.proofs.lemmas.Bool.Decides.{nat_tests}
 use Rattle.std.proofs.lemmas.List.{drop_all}
 use Rattle.mrb_tool.specs.Words.{is_digit, are_digits, is_numeral, value_after, most_turns}

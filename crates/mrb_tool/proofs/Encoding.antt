@@ -15,8 +15,8 @@ pub encodes : (text : List ℕ) (written code : Code) (bytes : List ℕ) → Mat
 encodes text written code bytes implements is same =
     let found = there_is (program_of text) (Implements written) implements in
     record {
-        form = found.0;
-        program = found.1;
-        implements = subst (λ c. Implements c found.0) (sym same) found.2;
-        bytes_are = is ∙ ap canonical (sym same);
+      form = found.0;
+      program = found.1;
+      implements = subst (λ c. Implements c found.0) (sym same) found.2;
+      bytes_are = is ∙ ap canonical (sym same);
     }

@@ -1,5 +1,5 @@
 -- What a run reports.
-use Rattle.std.proofs.Common.{◌≡◌, ℕ, List, [], sym, ◌∙◌, subst}
+use Rattle.std.proofs.Common.{◌≡◌, ℕ, List, [], ◌∙◌, subst}
 use Rattle.rb_base.specs.Outside.{with_more}
 use Rattle.rb_value.specs.declared.failure.Failure.{Failure}
 use Rattle.rite_code.specs.declared.code.Code.{Code}
@@ -16,10 +16,10 @@ Writes code n before after = (input : List ℕ) → after.taken ≡ with_more be
 
 whole : (code : Code) (n : ℕ) (before after : Stream) (seen : Seen) → seen_after code n [] ≡ seen → Writes code n before after → after.faults ≡ before.faults → RanWhole code n before after seen
 whole code n before after seen is writes same = record {
-    seen_is = λ input. seen-input code n input [] ∙ is;
-    taken = subst (λ s. after.taken ≡ with_more before.taken (output_of s)) is (writes []);
-    faults = same;
-  }
+  seen_is = λ input. seen-input code n input [] ∙ is;
+  taken = subst (λ s. after.taken ≡ with_more before.taken (output_of s)) is (writes []);
+  faults = same;
+}
 
 pub ran_ended : (code : Code) (n : ℕ) (before after : Stream) (ran : Ran) (k : ℕ) → ran ≡ rans.Ended k → ((input : List ℕ) → IsRan ran (seen_after code n input)) → Writes code n before after → after.faults ≡ before.faults → (out : List ℕ) × RanWhole code n before after (Over (Ended out k))
 ran_ended code n before after ran k is h writes same =

@@ -1,6 +1,6 @@
 -- Each answer of the program with its cause, and what files and streams then hold.
-use Rattle.std.specs.Prelude.{◌≡◌, ◌⊎◌, ℕ, ◌≤◌, List, [], ◌++◌, Option, Some, None, IsTrue, length, take}
-use Rattle.rb_base.specs.Outside.{Rose, with_more, IsLoaded, SameCounts}
+use Rattle.std.specs.Prelude.{◌≡◌, ◌⊎◌, ℕ, ◌≤◌, List, [], Option, Some, None, IsTrue, length, take}
+use Rattle.rb_base.specs.Outside.{Rose, with_more, IsLoaded}
 use Rattle.rb_syntax.specs.Form.{Form}
 use Rattle.rb_value.specs.declared.failure.Failure.{Failure}
 use Rattle.rite_code.specs.declared.code.Code.{Code}
@@ -68,7 +68,7 @@ IsRefused before after source (refusals.Bad irep at cause) = ⊥
 abbrev pub FileFailed : Told → Told → List ℕ → List ℕ → Type 0
 FileFailed before after source file =
     ((Rose (before.load_faults source) (after.load_faults source) × SameFiles before after)
-     ⊎ (Rose (before.store_faults file) (after.store_faults file) × SameFilesBut file before after))
+    ⊎ (Rose (before.store_faults file) (after.store_faults file) × SameFilesBut file before after))
     × NothingOut before after × NoOutFault before after
 
 -- The cause of each answer to exec, what files and output then hold, and the text that goes to the error stream.

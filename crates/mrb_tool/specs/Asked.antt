@@ -1,5 +1,5 @@
 -- The command that a value of the program stands for.
-use Rattle.std.specs.Prelude.{List, ℕ, Option, Some, None}
+use Rattle.std.specs.Prelude.{Option, Some, None}
 use Rattle.mrb_tool.specs.declared.words.Command.{Command}
 use Rattle.mrb_tool.specs.declared.words.Command.TheVariants as commands
 use Rattle.mrb_tool.specs.Words as words

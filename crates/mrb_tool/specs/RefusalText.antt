@@ -1,5 +1,5 @@
 -- The text of a refusal: the name of its kind, and what it speaks of.
-use Rattle.std.specs.Prelude.{ℕ, List, [], ◌∷◌, ◌++◌, codes, decimal, map, nat_le, ◌&&◌, if◌then◌else◌}
+use Rattle.std.specs.Prelude.{ℕ, List, ◌++◌, codes, decimal, map, nat_le, ◌&&◌, if◌then◌else◌}
 use Rattle.mrb_tool.specs.declared.refusal.Refusal.{Refusal}
 use Rattle.mrb_tool.specs.declared.refusal.Refusal.TheVariants.{Syntax, TooDeep, Outside, TooLarge, NotRite, Foreign, Truncated, BadSection, BadRecord, Bad}
 use Rattle.rb_syntax.specs.Outside as outsides

@@ -1,8 +1,7 @@
 -- What the steps of exec do, and what they report.
-use Rattle.std.specs.Prelude.{◌≡◌, ℕ, ◌≤◌, List, [], Option, Some, None, Bool, Result, Ok, Err, Vec, length, take}
+use Rattle.std.specs.Prelude.{◌≡◌, ℕ, ◌≤◌, List, [], Option, Some, None, Bool, Result, Ok, Err, Vec, length}
 use Rattle.std.specs.declared.alloc.Global.{Global}
 use Rattle.rb_base.specs.Outside.{Rose, with_more, TookFront}
-use Rattle.rb_value.specs.declared.failure.Failure.{Failure}
 use Rattle.rb_syntax.specs.Form.{Form}
 use Rattle.rite_code.specs.declared.code.Code.{Code}
 use Rattle.def_eval.specs.Seen.{Ended, Uncaught, Going, Over, Seen, output_of}
@@ -50,8 +49,15 @@ text_of reports.NoMemory = texts.no_memory
 -- what files tell, where no stream is spoken of
 abbrev pub files_alone : Bool → (List ℕ → Option (List ℕ)) → (List ℕ → ℕ) → (List ℕ → ℕ) → Told
 files_alone tells file load_faults store_faults = record {
-    tells = tells; file = file; load_faults = load_faults; store_faults = store_faults;
-    out = None; out_faults = 0; err = None; err_faults = 0 }
+  tells = tells;
+  file = file;
+  load_faults = load_faults;
+  store_faults = store_faults;
+  out = None;
+  out_faults = 0;
+  err = None;
+  err_faults = 0;
+}
 
 -- why nothing was built
 abbrev pub NotBuilt : Told → Told → List ℕ → List ℕ → Report → Type 0

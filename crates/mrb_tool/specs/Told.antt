@@ -1,6 +1,6 @@
 -- What files and streams tell at one moment.
-use Rattle.std.specs.Prelude.{◌≡◌, ◌≢◌, ℕ, List, Option, Bool, IsTrue}
-use Rattle.rb_base.specs.Outside.{IsLoaded, SameCounts}
+use Rattle.std.specs.Prelude.{◌≡◌, ◌≢◌, ℕ, List, Option, Bool}
+use Rattle.rb_base.specs.Outside.{SameCounts}
 
 pub record Told : Type 0 where
   -- whether the files tell what they hold, and what the file of a name holds

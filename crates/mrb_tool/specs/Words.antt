@@ -1,5 +1,5 @@
 -- The words after the program's name, and the command that they mean.
-use Rattle.std.specs.Prelude.{ℕ, ◌+◌, ◌*◌, ◌-◌, ◌≤◌, List, [], ◌∷◌, Option, Some, None, Bool, true, false, codes, bytes_eq, nat_le, nat_eq, if◌then◌else◌, ◌&&◌, ◌||◌, not, length, take, fold}
+use Rattle.std.specs.Prelude.{ℕ, ◌+◌, ◌*◌, ◌-◌, List, [], ◌∷◌, Option, Some, None, Bool, true, false, codes, bytes_eq, nat_le, nat_eq, if◌then◌else◌, ◌&&◌, not, take}
 
 pub data Command : Type 0 where
   -- at most so many turns of the source in the first file, whose code goes into the second

@@ -25,10 +25,26 @@ pub fn exec<F: Files, O: Sink>(
     file: &str,
 ) -> Report
     ensures { ExecReports
-        (record { tells = F.tells files.old; file = F.file files.old; load_faults = F.load_faults files.old; store_faults = F.store_faults files.old;
-            out = O.taken out.old; out_faults = O.faults out.old; err = None; err_faults = 0 })
-        (record { tells = F.tells files.new; file = F.file files.new; load_faults = F.load_faults files.new; store_faults = F.store_faults files.new;
-            out = O.taken out.new; out_faults = O.faults out.new; err = None; err_faults = 0 })
+        (record {
+          tells = F.tells files.old;
+          file = F.file files.old;
+          load_faults = F.load_faults files.old;
+          store_faults = F.store_faults files.old;
+          out = O.taken out.old;
+          out_faults = O.faults out.old;
+          err = None;
+          err_faults = 0;
+        })
+        (record {
+          tells = F.tells files.new;
+          file = F.file files.new;
+          load_faults = F.load_faults files.new;
+          store_faults = F.store_faults files.new;
+          out = O.taken out.new;
+          out_faults = O.faults out.new;
+          err = None;
+          err_faults = 0;
+        })
         steps source.now file.now (end_of result) (text_of result) }
 {
     match build(alloc, files, source, file) {

@@ -8,8 +8,8 @@ mod rite;
 mod texts;
 mod words;
 
-use report::Report;
 use rb_base::{DiskFiles, StdSink, StdSource};
+use report::Report;
 use rite::{End, rite};
 use std::env;
 use std::io::{self, ErrorKind};
@@ -41,3 +41,6 @@ fn given_words(rt: &HostRuntime) -> Result<Vec<String>, Report> {
     let _program = args.next();
     Ok(args.collect(rt.alloc())?)
 }
+
+#[cfg(test)]
+mod tests;

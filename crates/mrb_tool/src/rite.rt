@@ -45,10 +45,26 @@ pub fn rite<F: Files, S: Source, O: Sink, E: Sink>(
     // What came out has its cause, and files and streams then hold what it says.
     ensures answer { Answers
         (command_of (map string_bytes words.now.items))
-        (record { tells = F.tells files.old; file = F.file files.old; load_faults = F.load_faults files.old; store_faults = F.store_faults files.old;
-            out = O.taken out.old; out_faults = O.faults out.old; err = E.taken err.old; err_faults = E.faults err.old })
-        (record { tells = F.tells files.new; file = F.file files.new; load_faults = F.load_faults files.new; store_faults = F.store_faults files.new;
-            out = O.taken out.new; out_faults = O.faults out.new; err = E.taken err.new; err_faults = E.faults err.new })
+        (record {
+          tells = F.tells files.old;
+          file = F.file files.old;
+          load_faults = F.load_faults files.old;
+          store_faults = F.store_faults files.old;
+          out = O.taken out.old;
+          out_faults = O.faults out.old;
+          err = E.taken err.old;
+          err_faults = E.faults err.old;
+        })
+        (record {
+          tells = F.tells files.new;
+          file = F.file files.new;
+          load_faults = F.load_faults files.new;
+          store_faults = F.store_faults files.new;
+          out = O.taken out.new;
+          out_faults = O.faults out.new;
+          err = E.taken err.new;
+          err_faults = E.faults err.new;
+        })
         result }
     // The input is not touched.
     ensures input { input.new ≡ input.old }
@@ -78,26 +94,39 @@ impl End {
 }
 
 // Does what the words say, and tells nothing of it.
-fn perform<F: Files, O: Sink>(
-    alloc: Global,
-    words: &[String],
-    files: &mut F,
-    out: &mut O,
-) -> Report
+fn perform<F: Files, O: Sink>(alloc: Global, words: &[String], files: &mut F, out: &mut O) -> Report
     ensures { Reports
         (command_of (map string_bytes words.now))
-        (record { tells = F.tells files.old; file = F.file files.old; load_faults = F.load_faults files.old; store_faults = F.store_faults files.old;
-            out = O.taken out.old; out_faults = O.faults out.old; err = None; err_faults = 0 })
-        (record { tells = F.tells files.new; file = F.file files.new; load_faults = F.load_faults files.new; store_faults = F.store_faults files.new;
-            out = O.taken out.new; out_faults = O.faults out.new; err = None; err_faults = 0 })
+        (record {
+          tells = F.tells files.old;
+          file = F.file files.old;
+          load_faults = F.load_faults files.old;
+          store_faults = F.store_faults files.old;
+          out = O.taken out.old;
+          out_faults = O.faults out.old;
+          err = None;
+          err_faults = 0;
+        })
+        (record {
+          tells = F.tells files.new;
+          file = F.file files.new;
+          load_faults = F.load_faults files.new;
+          store_faults = F.store_faults files.new;
+          out = O.taken out.new;
+          out_faults = O.faults out.new;
+          err = None;
+          err_faults = 0;
+        })
         (end_of result) (text_of result) }
 {
     match read_words(words) {
-        Some(Command::Exec {
-            steps,
-            source,
-            file,
-        }) => exec(alloc, files, out, steps, source, file),
+        Some(
+            Command::Exec {
+                steps,
+                source,
+                file,
+            },
+        ) => exec(alloc, files, out, steps, source, file),
         None => Report::Usage,
     }
 }

@@ -42,7 +42,10 @@ pub fn tell_spent<E: Sink>(err: &mut E, steps: u64) -> Result<(), Failed>
         (record { taken = E.taken err.new; faults = E.faults err.new }) result }
 {
     let mut digits = Buffer::new();
-    write_pieces(err, &[b"spent: ", digits.format(steps).as_bytes(), b" turns\n"])
+    write_pieces(
+        err,
+        &[b"spent: ", digits.format(steps).as_bytes(), b" turns\n"],
+    )
 }
 
 /// Writes the class and the message of an exception that nothing caught.
@@ -117,7 +120,13 @@ fn tell_place<E: Sink>(err: &mut E, kind: &[u8], at: u64) -> Result<(), Failed>
     let mut digits = Buffer::new();
     write_pieces(
         err,
-        &[b"refused: ", kind, b" at ", digits.format(at).as_bytes(), b"\n"],
+        &[
+            b"refused: ",
+            kind,
+            b" at ",
+            digits.format(at).as_bytes(),
+            b"\n",
+        ],
     )
 }
 
@@ -128,7 +137,10 @@ fn tell_outside<E: Sink>(err: &mut E, what: Outside, at: u32) -> Result<(), Fail
 {
     let mut digits = Buffer::new();
     let place = digits.format(at).as_bytes();
-    write_pieces(err, &[b"refused: Outside ", what.name(), b" at ", place, b"\n"])
+    write_pieces(
+        err,
+        &[b"refused: Outside ", what.name(), b" at ", place, b"\n"],
+    )
 }
 
 fn tell_too_large<E: Sink>(err: &mut E, what: Count, count: u64) -> Result<(), Failed>
@@ -138,7 +150,10 @@ fn tell_too_large<E: Sink>(err: &mut E, what: Count, count: u64) -> Result<(), F
 {
     let mut digits = Buffer::new();
     let number = digits.format(count).as_bytes();
-    write_pieces(err, &[b"refused: TooLarge ", what.name(), b" ", number, b"\n"])
+    write_pieces(
+        err,
+        &[b"refused: TooLarge ", what.name(), b" ", number, b"\n"],
+    )
 }
 
 fn tell_foreign<E: Sink>(err: &mut E, name: [u8; 4]) -> Result<(), Failed>
@@ -155,7 +170,11 @@ fn tell_foreign<E: Sink>(err: &mut E, name: [u8; 4]) -> Result<(), Failed>
 fn visible(byte: u8) -> u8
     ensures { result ≡ visible byte }
 {
-    if (33..=126).contains(&byte) { byte } else { b'.' }
+    if (33..=126).contains(&byte) {
+        byte
+    } else {
+        b'.'
+    }
 }
 
 fn tell_bad<E: Sink>(err: &mut E, irep: u32, at: u32, cause: Cause) -> Result<(), Failed>
