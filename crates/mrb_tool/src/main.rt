@@ -10,9 +10,9 @@ mod words;
 
 use rb_base::{DiskFiles, StdSink, StdSource};
 use report::Report;
-use rite::{End, rite};
+use rite::rite;
 use std::env;
-use std::io::{self, ErrorKind};
+use std::io::ErrorKind;
 use std::process::ExitCode;
 
 fn main(rt: HostRuntime) -> ExitCode {
