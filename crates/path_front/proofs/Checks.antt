@@ -1,11 +1,9 @@
 -- The checks of a list of lines, and of the form that it stands for.
-use Rattle.std.proofs.Common.{◌≡◌, ℕ, suc, Bool, true, false, List, [], ◌∷◌, ◌++◌, refl, ap, subst, sym, ◌∙◌, arith, rules, length, take}
-use Rattle.std.proofs.lemmas.Grind.{common_steps}
-use Rattle.rb_syntax.specs.Form.{Name, Form, Forms, forms, none, more, seq, strict, call_puts, one, set_local, cond, while_form}
+use Rattle.std.proofs.Common.{◌≡◌, List, [], ◌∷◌, refl, subst, arith, rules}
+use Rattle.rb_syntax.specs.Form.{Name, Form, forms, strict, call_puts, one, set_local, cond, while_form}
 use Rattle.rb_syntax.specs.Names.{with_name, add_names, add_all}
 use Rattle.rb_syntax.specs.Limits.{is_scoped, lines_scoped, has_short_sums, have_short_sums}
-use Rattle.rb_syntax.specs.declared.operator.Operator.{Operator}
-use Rattle.path_front.specs.Tree.{block, operation, sum_form, sum_step, test_form, line_form, line_forms}
+use Rattle.path_front.specs.Tree.{block, sum_form, sum_step, test_form, line_form, line_forms}
 use Rattle.path_front.specs.declared.tree.Sum.{Sum}
 use Rattle.path_front.specs.declared.tree.Sum.TheOpen.{Sum-F}
 use Rattle.path_front.specs.declared.tree.Sum.TheFolds.{map-Sum, fold-roll-Sum, ind-Sum}

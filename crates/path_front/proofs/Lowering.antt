@@ -1,5 +1,5 @@
 -- What core forms stand for.
-use Rattle.std.proofs.Common.{◌≡◌, List, [], ◌∷◌, Option, Some, map, refl, rules, arith, length, ◌≤◌}
+use Rattle.std.proofs.Common.{◌≡◌, List, [], ◌∷◌, Some, map, refl, rules, arith, length, ◌≤◌}
 use Rattle.path_front.specs.Tree.{line_form, block}
 use Rattle.path_front.specs.declared.tree.Line.{Line}
 use Rattle.std.specs.Prelude.{Vec}

@@ -2,9 +2,9 @@
 use Rattle.std.proofs.Common.{◌≡◌, ℕ, ◌+◌, ◌*◌, ◌-◌, ◌≤◌, ◌<◌, Bool, true, false, List, [], ◌∷◌, Option, Some, None, if◌then◌else◌, length, drop, refl, ap, sym, ◌∙◌, arith}
 use Rattle.std.specs.Prelude.{nat_le, nat_lt, ◌&&◌, ◌==◌, not}
 use Rattle.std.proofs.lemmas.Bool.{and_parts, leb-true, le-leb, lt-ltb}
-use Rattle.path_front.specs.Parts.{front, is_digit, decimal, value_token, number_token, name_token, word_token, word, word_end, with_equals, sign, token, first, skip_blanks, is_word_byte, is_small_letter}
+use Rattle.path_front.specs.Parts.{front, is_digit, decimal, value_token, number_token, name_token, word_token, word, word_end, sign, token, first, skip_blanks, is_word_byte, is_small_letter}
 use Rattle.path_front.specs.declared.token.Token.{Token}
-use Rattle.path_front.specs.declared.token.Token.TheVariants.{Number, Unknown, Assign, Op, Finish}
+use Rattle.path_front.specs.declared.token.Token.TheVariants.{Number, Unknown}
 use Rattle.path_front.proofs.Holds.{Holds, holds_if}
 
 abbrev AtMost : ℕ → Type 0

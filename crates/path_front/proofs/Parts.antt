@@ -1,7 +1,7 @@
 -- A part takes bytes.
-use Rattle.std.proofs.Common.{◌≡◌, ◌≢◌, ℕ, zero, suc, ◌+◌, ◌-◌, ◌<◌, ◌≤◌, Bool, true, false, List, [], ◌∷◌, length, take, drop, refl, arith, cond}
+use Rattle.std.proofs.Common.{◌≢◌, ℕ, ◌+◌, ◌<◌, ◌≤◌, List, [], ◌∷◌, length, refl, arith}
 use Rattle.std.proofs.lemmas.List.{length-drop}
-use Rattle.path_front.specs.Parts.{front, is_blank, is_word_byte, skip_blanks, word_end, with_equals, sign, token, first, behind}
+use Rattle.path_front.specs.Parts.{skip_blanks, word_end, with_equals, sign, token, first, behind}
 use Rattle.path_front.specs.declared.token.Token.{Token}
 use Rattle.path_front.specs.declared.token.Token.TheVariants.{Finish}
 

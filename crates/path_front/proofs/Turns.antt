@@ -1,5 +1,5 @@
 -- The loops of the grammar, a turn at a time.
-use Rattle.std.proofs.Common.{◌≡◌, ℕ, zero, suc, ◌+◌, ◌-◌, ◌<◌, ◌≤◌, Bool, true, false, List, [], ◌∷◌, ◌++◌, Option, Some, None, if◌then◌else◌, length, refl, ap, map, arith, rules, ◌∙◌, sym}
+use Rattle.std.proofs.Common.{◌≡◌, ℕ, zero, suc, ◌-◌, ◌<◌, ◌≤◌, Bool, true, false, List, [], ◌∷◌, ◌++◌, Some, None, if◌then◌else◌, length, refl, ap, map, arith, rules, ◌∙◌, sym}
 use Rattle.std.specs.Prelude.{Vec}
 use Rattle.std.specs.declared.alloc.Global.{Global}
 use Rattle.rb_syntax.specs.Form.{Form, cond}
@@ -10,7 +10,6 @@ use Rattle.path_front.specs.Tree.{line_form, line_forms, test_form, block}
 use Rattle.path_front.specs.declared.tree.Line.{Line, Branch, the_lemmas}
 use Rattle.path_front.specs.declared.tree.Test.{Test}
 use Rattle.path_front.specs.Grammar.{Text, Read, operator_in, chain_turn, chain_from, is_separator, separators_from, skip_separators, ends_lines, ends_line, line, lines_from}
-use Rattle.path_front.specs.declared.token.Token.{Token}
 use Rattle.path_front.specs.declared.token.Token.TheVariants.{Finish}
 use Rattle.path_front.specs.Grammar.{heading, otherwise, branch}
 use Rattle.path_front.specs.Reads.{Fails}

@@ -1,15 +1,15 @@
 -- Whatever the grammar reads is plain, and has no more parts than the bytes that it took.
-use Rattle.std.proofs.Common.{◌≡◌, ◌≢◌, ℕ, zero, suc, ◌+◌, ◌*◌, ◌-◌, ◌<◌, ◌≤◌, Bool, true, false, List, [], ◌∷◌, ◌++◌, Option, Some, None, if◌then◌else◌, length, refl, ap, sym, ◌∙◌, arith}
-use Rattle.std.specs.Prelude.{nat_le, nat_lt, ◌&&◌, pos}
-use Rattle.rb_syntax.specs.Form.{Form, Forms, strict, give_nil, give_true, give_int, call_operator, call_puts, local, set_local, seq, cond, while_form, none, more, one, two, forms}
+use Rattle.std.proofs.Common.{◌≡◌, ℕ, zero, suc, ◌+◌, ◌<◌, ◌≤◌, Bool, true, false, List, [], ◌∷◌, ◌++◌, Option, Some, None, if◌then◌else◌, length, refl, ap, sym, ◌∙◌, arith}
+use Rattle.std.specs.Prelude.{nat_le, nat_lt, ◌&&◌}
+use Rattle.rb_syntax.specs.Form.{Form, strict, call_puts, set_local, cond, while_form, one, forms}
 use Rattle.rb_syntax.specs.Limits.{is_plain, are_plain, parts, all_parts, IsWithin, is_scoped, has_short_sums}
 use Rattle.rb_syntax.specs.View.{◌>>=◌}
 use Rattle.rb_syntax.specs.declared.operator.Operator.{Operator}
-use Rattle.path_front.specs.Tree.{number, operation, block}
+use Rattle.path_front.specs.Tree.{operation, block}
 use Rattle.path_front.specs.Parts.{first, behind, name_at}
 use Rattle.path_front.specs.Grammar.{Text, Read, is_separator, is_assign, is_right_paren, is_end, expect, is_adding, is_multiplying, is_comparing, operator_in, chain_turn, chain_from, chain, unit_at, unit, product, sum, inner_sum, whole_sum, comparison, test_at, test, heading, separators_from, skip_separators, ends_lines, ends_line, otherwise_at, otherwise, branch, repeat, line_at, line, lines_from, lines, inner_lines, finished, whole_text}
 use Rattle.path_front.specs.declared.token.Token.{Token}
-use Rattle.path_front.specs.declared.token.Token.TheVariants.{Separator, Puts, If, Else, End, While, True, Number, Name, Op, Assign, LeftParen, RightParen, Finish, Unknown}
+use Rattle.path_front.specs.declared.token.Token.TheVariants.{Puts, If, Else, End, While, True, Number, Name, LeftParen, Finish}
 use Rattle.std.specs.Prelude.{MatchOption}
 use Rattle.std.proofs.Common.{subst}
 use Rattle.std.proofs.lemmas.Bool.{and_parts, leb-true}

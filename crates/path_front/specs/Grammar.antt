@@ -7,7 +7,7 @@ use Rattle.rb_syntax.specs.declared.operator.Operator.TheVariants.{Plus, Minus, 
 use Rattle.path_front.specs.Parts.{first, behind, name_at}
 use Rattle.path_front.specs.Tree.{number, operation, block}
 use Rattle.path_front.specs.declared.token.Token.{Token}
-use Rattle.path_front.specs.declared.token.Token.TheVariants.{Separator, Puts, If, Else, End, While, True, Number, Name, Op, Assign, LeftParen, RightParen, Finish, Unknown}
+use Rattle.path_front.specs.declared.token.Token.TheVariants.{Separator, Puts, If, Else, End, While, True, Number, Name, Op, Assign, LeftParen, RightParen, Finish}
 
 abbrev pub Text : Type 0
 Text = List ℕ

@@ -1,5 +1,5 @@
 -- The parts of a text: what stands at the front of the bytes, and the bytes behind it.
-use Rattle.std.specs.Prelude.{ℕ, ◌+◌, ◌-◌, ◌*◌, List, [], ◌∷◌, length, take, drop, ◌==◌, nat_le, not, Bool, true, false, ◌||◌, ◌&&◌, if◌then◌else◌, Option, Some, None, codes, bytes_eq}
+use Rattle.std.specs.Prelude.{ℕ, ◌+◌, ◌-◌, ◌*◌, List, [], ◌∷◌, length, take, drop, ◌==◌, nat_le, not, Bool, ◌||◌, ◌&&◌, if◌then◌else◌, Option, Some, None, codes, bytes_eq}
 use Rattle.rb_syntax.specs.Names.{is_among}
 use Rattle.rb_syntax.specs.declared.operator.Operator.TheVariants as operators
 use Rattle.path_front.specs.declared.token.Token.{Token}

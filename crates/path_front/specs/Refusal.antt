@@ -1,5 +1,5 @@
 -- When a text is refused.
-use Rattle.std.specs.Prelude.{◌≡◌, ℕ, ◌≤◌, List, Option, None, length}
+use Rattle.std.specs.Prelude.{◌≡◌, ℕ, ◌≤◌, List, None, length}
 use Rattle.path_front.specs.Language.{program_of}
 use Rattle.path_front.specs.declared.error.FrontError.{FrontError}
 use Rattle.path_front.specs.declared.error.FrontError.TheVariants.{Syntax, NoMemory}

@@ -2,7 +2,7 @@
 use Rattle.std.specs.Prelude.{ℕ, pos, List, [], ◌∷◌, map, Vec}
 use Rattle.std.specs.declared.alloc.Global.{Global}
 use Rattle.rb_syntax.specs.declared.operator.Operator.{Operator}
-use Rattle.rb_syntax.specs.Form.{Name, Form, strict, give_nil, give_true, give_int, call_operator, call_puts, local, set_local, seq, cond, while_form, none, forms, one, two}
+use Rattle.rb_syntax.specs.Form.{Form, strict, give_nil, give_true, give_int, call_operator, call_puts, local, set_local, seq, cond, while_form, none, forms, one, two}
 use Rattle.path_front.specs.declared.tree.Sum.{Sum, fold-Sum}
 use Rattle.path_front.specs.declared.tree.Sum.TheOpen.{Sum-F}
 use Rattle.path_front.specs.declared.tree.Test.{Test}

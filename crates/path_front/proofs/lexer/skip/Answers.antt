@@ -1,4 +1,4 @@
-use Rattle.std.proofs.Common.{◌≡◌, ap, ◌∙◌, arith, ℕ, List}
+use Rattle.std.proofs.Common.{◌≡◌, ap, arith, ℕ, List}
 use Rattle.path_front.specs.Parts.{token, skip_blanks}
 use Rattle.path_front.specs.declared.token.Token.{Token}
 use Rattle.path_front.proofs.Parts.{token_within, skip_blanks_within}

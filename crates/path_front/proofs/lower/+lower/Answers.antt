@@ -1,4 +1,3 @@
-use Rattle.std.proofs.Common.{◌≡◌}
 use Rattle.path_front.proofs.Lowering.{form_of_lines}
 use Rattle.path_front.proofs.lower.+lower.Goals as goal
 

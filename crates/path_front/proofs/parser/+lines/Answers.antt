@@ -1,4 +1,4 @@
-use Rattle.std.proofs.Common.{◌≡◌, ◌-◌, ◌<◌, ◌≤◌, false, true, length, refl, ◌∙◌, sym, arith}
+use Rattle.std.proofs.Common.{◌≡◌, ◌-◌, false, true, refl, ◌∙◌, arith}
 use Rattle.path_front.specs.Parts.{first}
 use Rattle.path_front.specs.Grammar.{inner_lines, ends_lines, ends_line, branch}
 use Rattle.path_front.specs.Tree.{line_forms}
