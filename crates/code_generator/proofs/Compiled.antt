@@ -49,9 +49,10 @@ fetched p b pre i is e fit =
 has_from : (p : Code) (b : ℕ) (pre is : List Operation) → (body_at p b).code ≡ bytes_of (pre ++ is) → AllFit is → HasAt p b (total pre) is
 has_from p b pre [] e fit = tt
 has_from p b pre (i ∷ is) e fit =
-    let next : total (pre ++ i ∷ []) ≡ total pre + size_of i = omega (arith, total_append pre (i ∷ [])) in
-    (fetched p b pre i is e fit.0,
-     subst (λ (n : ℕ). HasAt p b n is) next (has_from p b (pre ++ i ∷ []) is (e ∙ ap bytes_of (sym (append_assoc pre (i ∷ []) is))) fit.1))
+    let next : total (pre ++ i ∷ []) ≡ total pre + size_of i = omega (arith, total_append pre (i ∷ [])) in (
+      fetched p b pre i is e fit.0,
+      subst (λ (n : ℕ). HasAt p b n is) next (has_from p b (pre ++ i ∷ []) is (e ∙ ap bytes_of (sym (append_assoc pre (i ∷ []) is))) fit.1),
+    )
 
 -- a test that holds of a part holds of the whole
 left : (a b : Bool) → a ≡ true → (a || b) ≡ true
@@ -78,10 +79,11 @@ module _ (p : Code) (b : ℕ) (ns : List Name) (layout : (body_at p b).locals �
     fine_of known (seq es) w s h k named = lines_fine known es w s h k named
     fine_of known (cond_form q e f) w s h k named =
         let hs = three_parts (is_plain q) (is_plain e) (is_plain f) h in
-        let ks = three_parts (is_scoped known q) (is_scoped known e) (is_scoped known f) k in
-        (fine_of known q w s.0 hs.0 ks.0 (λ y. named (left (calls_puts q || calls_puts e) (calls_puts f) (left (calls_puts q) (calls_puts e) y))),
-         fine_of known e w s.1 hs.1 ks.1 (λ y. named (left (calls_puts q || calls_puts e) (calls_puts f) (right (calls_puts q) (calls_puts e) y))),
-         fine_of known f w s.2 hs.2 ks.2 (λ y. named (right (calls_puts q || calls_puts e) (calls_puts f) y)))
+        let ks = three_parts (is_scoped known q) (is_scoped known e) (is_scoped known f) k in (
+          fine_of known q w s.0 hs.0 ks.0 (λ y. named (left (calls_puts q || calls_puts e) (calls_puts f) (left (calls_puts q) (calls_puts e) y))),
+          fine_of known e w s.1 hs.1 ks.1 (λ y. named (left (calls_puts q || calls_puts e) (calls_puts f) (right (calls_puts q) (calls_puts e) y))),
+          fine_of known f w s.2 hs.2 ks.2 (λ y. named (right (calls_puts q || calls_puts e) (calls_puts f) y)),
+        )
     fine_of known (while_form q e) w s h k named =
         let hs = and_parts (is_plain q) (is_plain e) h in
         let ks = and_parts (is_scoped known q) (is_scoped known e) k in
@@ -98,9 +100,10 @@ module _ (p : Code) (b : ℕ) (ns : List Name) (layout : (body_at p b).locals �
     lines_fine known none w s h k named = tt
     lines_fine known (more e es) w s h k named =
         let hs = and_parts (is_plain e) (are_plain es) h in
-        let ks = and_parts (is_scoped known e) (lines_scoped (known_after known e) es) k in
-        (fine_of known e w s.0 hs.0 ks.0 (λ y. named (left (calls_puts e) (any_calls_puts es) y)),
-         lines_fine (known_after known e) es (known_within known ns e w s.0) s.1 hs.1 ks.1 (λ y. named (right (calls_puts e) (any_calls_puts es) y)))
+        let ks = and_parts (is_scoped known e) (lines_scoped (known_after known e) es) k in (
+          fine_of known e w s.0 hs.0 ks.0 (λ y. named (left (calls_puts e) (any_calls_puts es) y)),
+          lines_fine (known_after known e) es (known_within known ns e w s.0) s.1 hs.1 ks.1 (λ y. named (right (calls_puts e) (any_calls_puts es) y)),
+        )
 
 named_by : (f : Form) → calls_puts f ≡ true → get_or (symbols_of f) 0 [] ≡ codes "puts"
 named_by f h = ap (λ (t : Bool). get_or (cond t (codes "puts" ∷ []) []) 0 []) h
@@ -123,7 +126,8 @@ code_is f w =
       room = omega arith;
       end = 0 + len f;
       code = gen_stands p 0 ns f (first_free f) 0 fine (omega arith) (omega arith) (front p 0 0 (gen ns f (first_free f) 0) (Stop ∷ []) code);
-      stop = record { here = (back p 0 0 (len f) (gen ns f (first_free f) 0) (Stop ∷ []) (gen_len ns f (first_free f) 0) code).0 } }
+      stop = record { here = (back p 0 0 (len f) (gen ns f (first_free f) 0) (Stop ∷ []) (gen_len ns f (first_free f) 0) code).0 };
+    }
 
 -- the theorem
 pub compiled : (f : Form) → IsWithin f → Implements (code_of f) f

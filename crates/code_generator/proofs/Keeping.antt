@@ -27,10 +27,14 @@ lower q p ls ls' b n r s le k = record { fits = k.fits; same = λ i above lt. k.
 pub awaits_keeps : (q : Source) (p : Code) (ls ls' : List Registers) (ks : List Item) (h : Around) (b n : ℕ) (fs : List Frame) (at r : ℕ) → Keeps q p ls ls' b n r → Awaits q p ls ks h b n fs at r → Awaits q p ls' ks h b n fs at r
 awaits_keeps q p ls ls' [] h b n fs at r k a = record { stop = a.stop; fits = k.fits a.fits }
 awaits_keeps q p ls ls' (inside c ∷ ks) h b n fs at r k a = record {
-    low = a.low; kept_below = a.kept_below; locals_below = a.locals_below;
-    held = holds_kept q p ls ls' b n r (a.low + spared c) (kept c) k (omega (arith, a.locals_below)) (omega (arith, a.kept_below)) a.held;
-    end = a.end; behind = a.behind;
-    next = awaits_keeps q p ls ls' ks h b n fs a.end a.low (lower q p ls ls' b n r a.low (omega (arith, a.kept_below)) k) a.next }
+  low = a.low;
+  kept_below = a.kept_below;
+  locals_below = a.locals_below;
+  held = holds_kept q p ls ls' b n r (a.low + spared c) (kept c) k (omega (arith, a.locals_below)) (omega (arith, a.kept_below)) a.held;
+  end = a.end;
+  behind = a.behind;
+  next = awaits_keeps q p ls ls' ks h b n fs a.end a.low (lower q p ls ls' b n r a.low (omega (arith, a.kept_below)) k) a.next;
+}
 awaits_keeps q p ls ls' (activation c ∷ ks) h b n fs at r k a = record { last = a.last; stop = a.stop; fits = k.fits a.fits }
 
 -- a write at r or above

@@ -27,9 +27,12 @@ by_none q p c s lt r = record { turns = 0; few = omega arith; related = r; betwe
 
 pub by_one : (q : Source) (p : Code) (c : Config) (s t : State) → shown s ≡ seen c → turn p s ≡ t → Related q p (go q c) t → Step q p c s
 by_one q p c s t e one r = record {
-    turns = 1; few = omega arith; related = subst (Related q p (go q c)) (sym one) r;
-    between = between;
-    falls = λ e. absurd (omega arith) }
+  turns = 1;
+  few = omega arith;
+  related = subst (Related q p (go q c)) (sym one) r;
+  between = between;
+  falls = λ e. absurd (omega arith);
+}
   where
     between : (j : ℕ) → j < 1 → (shown (times j (turn p) s) ≡ seen c) ⊎ (shown (times j (turn p) s) ≡ seen (go q c))
     between zero l = inl e
@@ -37,9 +40,12 @@ by_one q p c s t e one r = record {
 
 pub by_two : (q : Source) (p : Code) (c : Config) (s t u : State) → shown s ≡ seen c → turn p s ≡ t → shown t ≡ seen c → turn p t ≡ u → Related q p (go q c) u → Step q p c s
 by_two q p c s t u e one e' two r = record {
-    turns = 2; few = omega arith; related = subst (Related q p (go q c)) (sym (ap (turn p) one ∙ two)) r;
-    between = between;
-    falls = λ e. absurd (omega arith) }
+  turns = 2;
+  few = omega arith;
+  related = subst (Related q p (go q c)) (sym (ap (turn p) one ∙ two)) r;
+  between = between;
+  falls = λ e. absurd (omega arith);
+}
   where
     between : (j : ℕ) → j < 2 → (shown (times j (turn p) s) ≡ seen c) ⊎ (shown (times j (turn p) s) ≡ seen (go q c))
     between zero l = inl e
@@ -56,15 +62,23 @@ gives q p v ks w f fs m h r next end same names room a e =
     let fits = awaits_fits q p m.lists ks h f.body f.list fs end r a in
     record {
       same = same_above q p w f.body f.list m r (value v) fits room.above same;
-      h = h; names = names; r = r;
+      h = h;
+      names = names;
+      r = r;
       stands = slot_same m.lists f.list r (value v) fits.present (omega (arith, fits.long, room.within));
-      next = subst (λ (n : ℕ). Awaits q p (write m f.list r v).lists ks h f.body f.list fs n r) (sym e) (awaits_keeps q p m.lists (write m f.list r v).lists ks h f.body f.list fs end r (keeps_above q p m.lists f.body f.list r r (value v) fits.present (omega arith)) a) }
+      next = subst (λ (n : ℕ). Awaits q p (write m f.list r v).lists ks h f.body f.list fs n r) (sym e) (awaits_keeps q p m.lists (write m f.list r v).lists ks h f.body f.list fs end r (keeps_above q p m.lists f.body f.list r r (value v) fits.present (omega arith)) a);
+    }
 
 -- the value stays in the register of its form, and the items go on
 pub keeps_value : (q : Source) (p : Code) (v : Value) (ks : List Item) (w : World) (f : Frame) (fs : List Frame) (m m' : Memory) (h : Around) (r next end : ℕ) → Same q w f.list m' → h.names ≡ (source.body_at q f.body).names → slot_at m'.lists f.list r ≡ value v → Keeps q p m.lists m'.lists f.body f.list r → Awaits q p m.lists ks h f.body f.list fs end r → next ≡ end → Focused q p (give v) ks w (goto f next) fs m'
 keeps_value q p v ks w f fs m m' h r next end same names stands keep a e = record {
-    same = same; h = h; names = names; r = r; stands = stands;
-    next = subst (λ (n : ℕ). Awaits q p m'.lists ks h f.body f.list fs n r) (sym e) (awaits_keeps q p m.lists m'.lists ks h f.body f.list fs end r keep a) }
+  same = same;
+  h = h;
+  names = names;
+  r = r;
+  stands = stands;
+  next = subst (λ (n : ℕ). Awaits q p m'.lists ks h f.body f.list fs n r) (sym e) (awaits_keeps q p m.lists m'.lists ks h f.body f.list fs end r keep a);
+}
 
 holds_more : (ls : List Registers) (n low r : ℕ) (vs : List Slot) (v : Slot) → Holds ls n low vs → low + length vs ≡ r → slot_at ls n r ≡ v → Holds ls n low (vs ++ v ∷ [])
 holds_more ls n low r [] v h e q = let e' : low ≡ r = omega arith in (ap (slot_at ls n) e' ∙ q, tt)
@@ -74,5 +88,15 @@ holds_more ls n low r (u ∷ vs) v h e q = (h.0, holds_more ls n (low + 1) r vs 
 pub given_of : (q : Source) (p : Code) (v : Value) (k : Part) (ks : List Item) (w : World) (f : Frame) (fs : List Frame) (m : Memory) → Focused q p (give v) (inside k ∷ ks) w f fs m → Given q p v k ks w f fs m
 given_of q p v k ks w f fs m r =
     let a = r.next in
-    record { same = r.same; h = r.h; names = r.names; r = a.low; above = a.locals_below; held = holds_more m.lists f.list (a.low + spared k) r.r (kept k) (value v) a.held a.kept_below r.stands;
-      end = a.end; behind = a.behind; next = a.next; fits = awaits_fits q p m.lists ks r.h f.body f.list fs a.end a.low a.next }
+    record {
+      same = r.same;
+      h = r.h;
+      names = r.names;
+      r = a.low;
+      above = a.locals_below;
+      held = holds_more m.lists f.list (a.low + spared k) r.r (kept k) (value v) a.held a.kept_below r.stands;
+      end = a.end;
+      behind = a.behind;
+      next = a.next;
+      fits = awaits_fits q p m.lists ks r.h f.body f.list fs a.end a.low a.next;
+    }

@@ -32,10 +32,11 @@ length_put ls n i v = length-set ls n (record (list_at ls n) { slots = set (list
 
 pub fits_put : (q : Source) (p : Code) (ls : List Registers) (b n i : ℕ) (v : Slot) → Fits q p ls b n → Fits q p (put ls n i v) b n
 fits_put q p ls b n i v f = record {
-    present = omega (arith, f.present, length_put ls n i v);
-    long = ap (λ l. length l.slots) (list_same ls n i v f.present) ∙ length-set (list_at ls n).slots i v ∙ f.long;
-    own = ap (λ l. l.of) (list_same ls n i v f.present) ∙ f.own;
-    layout = f.layout }
+  present = omega (arith, f.present, length_put ls n i v);
+  long = ap (λ l. length l.slots) (list_same ls n i v f.present) ∙ length-set (list_at ls n).slots i v ∙ f.long;
+  own = ap (λ l. l.of) (list_same ls n i v f.present) ∙ f.own;
+  layout = f.layout;
+}
 
 -- writes behind the locals, and to a local
 front_above : (n r : ℕ) (ss : List Slot) (v : Slot) → n + 1 ≤ r → take n (behind_self (set ss r v)) ≡ take n (behind_self ss)
@@ -57,8 +58,12 @@ same_above q p w b n m r v fits above s =
     let own : (source.body_at q l.of).names ≡ (source.body_at q b).names = ap (λ k. (source.body_at q k).names) fits.own in
     let long : length (source.body_at q l.of).names ≡ length (source.body_at q b).names = ap length own in
     let keep : take (length (source.body_at q l.of).names) (behind_self (set l.slots r v)) ≡ take (length (source.body_at q l.of).names) (behind_self l.slots) = front_above (length (source.body_at q l.of).names) r l.slots v (omega (arith, long, above, fits.layout)) in
-    record { is_scope = s.is_scope; input = s.input; out = s.out;
-      scopes = s.scopes ∙ sym (map-set_same (scope_of q) m.lists n (record l { slots = set l.slots r v }) no_registers (ap (λ (vs : List Slot). record { of = l.of; values = map read vs }) keep)) }
+    record {
+      is_scope = s.is_scope;
+      input = s.input;
+      out = s.out;
+      scopes = s.scopes ∙ sym (map-set_same (scope_of q) m.lists n (record l { slots = set l.slots r v }) no_registers (ap (λ (vs : List Slot). record { of = l.of; values = map read vs }) keep));
+    }
 
 -- the scope of the running activation
 scope_is : (q : Source) (p : Code) (w : World) (b n : ℕ) (m : Memory) → Fits q p m.lists b n → Same q w n m → scope_at w ≡ scope_of q (list_at m.lists n)
@@ -95,13 +100,17 @@ same_local q p w b n m x v fits lt s =
     let size = length (source.body_at q l.of).names in
     let long : size ≡ length (source.body_at q b).names = ap (λ (k : ℕ). length (source.body_at q k).names) fits.own in
     let keep : map read (take size (behind_self (set l.slots (i + 1) (value v)))) ≡ set (map read (take size (behind_self l.slots))) i v =
-        ap (map read) (front_local size i l.slots (value v) (omega (arith, long, lt, fits.layout))) ∙ map-set read (take size (behind_self l.slots)) i (value v) in
+    ap (map read) (front_local size i l.slots (value v) (omega (arith, long, lt, fits.layout))) ∙ map-set read (take size (behind_self l.slots)) i (value v) in
     let now : scope_of q (record l { slots = set l.slots (i + 1) (value v) }) ≡ record (scope_of q l) { values = set (scope_of q l).values i v } = ap (λ (vs : List Value). record { of = l.of; values = vs }) keep in
-    record { is_scope = s.is_scope; input = s.input; out = s.out;
+    record {
+      is_scope = s.is_scope;
+      input = s.input;
+      out = s.out;
       scopes =
           ap (λ (j : ℕ). set w.scopes w.place.scope (record (scope_at w) { values = set (scope_at w).values j v })) (local_is q p w b n m x fits s)
           ∙ ap (λ (c : Scope). set w.scopes w.place.scope (record c { values = set c.values i v })) (scope_is q p w b n m fits s)
           ∙ ap (λ (k : ℕ). set w.scopes k (record (scope_of q l) { values = set (scope_of q l).values i v })) s.is_scope
           ∙ ap (λ (cs : List Scope). set cs n (record (scope_of q l) { values = set (scope_of q l).values i v })) s.scopes
           ∙ ap (set (map (scope_of q) m.lists) n) (sym now)
-          ∙ sym (map-set (scope_of q) m.lists n (record l { slots = set l.slots (i + 1) (value v) })) }
+          ∙ sym (map-set (scope_of q) m.lists n (record l { slots = set l.slots (i + 1) (value v) }));
+    }

@@ -35,8 +35,14 @@ pub record Fits (q : Source) (p : Code) (ls : List Registers) (b n : ℕ) : Type
 abbrev pub Awaits : Source → Code → List Registers → List Item → Around → ℕ → ℕ → List Frame → ℕ → ℕ → Type 0
 Awaits q p ls [] h b n fs at r = record { stop : Ins p b at Stop; fits : Fits q p ls b n }
 Awaits q p ls (inside k ∷ ks) h b n fs at r = record {
-    low : ℕ; kept_below : low + spared k + length (kept k) ≡ r; locals_below : (body_at p b).locals ≤ low; held : Holds ls n (low + spared k) (kept k);
-    end : ℕ; behind : Behind p b h k low at end; next : Awaits q p ls ks h b n fs end low }
+  low : ℕ;
+  kept_below : low + spared k + length (kept k) ≡ r;
+  locals_below : (body_at p b).locals ≤ low;
+  held : Holds ls n (low + spared k) (kept k);
+  end : ℕ;
+  behind : Behind p b h k low at end;
+  next : Awaits q p ls ks h b n fs end low;
+}
 Awaits q p ls (activation a ∷ ks) h b n fs at r = record { last : ks ≡ []; stop : Ins p b at Stop; fits : Fits q p ls b n }
 
 -- the scope of a list of registers
@@ -52,11 +58,23 @@ pub record Same (q : Source) (w : World) (n : ℕ) (m : Memory) : Type 0 where
 -- what the focus says of the frames
 abbrev pub Focused : Source → Code → Focus → List Item → World → Frame → List Frame → Memory → Type 0
 Focused q p (perform e) ks w f fs m = record {
-    same : Same q w f.list m; h : Around; names : h.names ≡ (source.body_at q f.body).names; r : ℕ; above : (body_at p f.body).locals ≤ r; end : ℕ;
-    code : Stands p f.body h e r f.pc end; next : Awaits q p m.lists ks h f.body f.list fs end r }
+  same : Same q w f.list m;
+  h : Around;
+  names : h.names ≡ (source.body_at q f.body).names;
+  r : ℕ;
+  above : (body_at p f.body).locals ≤ r;
+  end : ℕ;
+  code : Stands p f.body h e r f.pc end;
+  next : Awaits q p m.lists ks h f.body f.list fs end r;
+}
 Focused q p (give v) ks w f fs m = record {
-    same : Same q w f.list m; h : Around; names : h.names ≡ (source.body_at q f.body).names; r : ℕ; stands : slot_at m.lists f.list r ≡ value v;
-    next : Awaits q p m.lists ks h f.body f.list fs f.pc r }
+  same : Same q w f.list m;
+  h : Around;
+  names : h.names ≡ (source.body_at q f.body).names;
+  r : ℕ;
+  stands : slot_at m.lists f.list r ≡ value v;
+  next : Awaits q p m.lists ks h f.body f.list fs f.pc r;
+}
 -- the next turn ends the program with the exception
 Focused q p (travel (raise e)) ks w f fs m = record { out : w.out ≡ m.out; throws : turn p (On f fs m) ≡ Off (Uncaught m.out e) }
 

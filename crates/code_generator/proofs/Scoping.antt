@@ -109,10 +109,11 @@ mutual
   assigned_in xs ns (local x) w = tt
   assigned_in xs ns (set_local x e) w = (w x (add_within (with_name xs x) e x (with_has xs x)), assigned_in (with_name xs x) ns e w)
   assigned_in xs ns (seq es) w = all_assigned xs ns es w
-  assigned_in xs ns (cond_form t a b) w =
-      (assigned_in xs ns t (λ y h. w y (add_within (add_names (add_names xs t) a) b y (add_within (add_names xs t) a y h))),
-       assigned_in (add_names xs t) ns a (λ y h. w y (add_within (add_names (add_names xs t) a) b y h)),
-       assigned_in (add_names (add_names xs t) a) ns b w)
+  assigned_in xs ns (cond_form t a b) w = (
+    assigned_in xs ns t (λ y h. w y (add_within (add_names (add_names xs t) a) b y (add_within (add_names xs t) a y h))),
+    assigned_in (add_names xs t) ns a (λ y h. w y (add_within (add_names (add_names xs t) a) b y h)),
+    assigned_in (add_names (add_names xs t) a) ns b w,
+  )
   assigned_in xs ns (while_form t b) w = (assigned_in xs ns t (λ y h. w y (add_within (add_names xs t) b y h)), assigned_in (add_names xs t) ns b w)
 
   all_assigned : (xs ns : List Name) (es : Forms) → Within (add_all xs es) ns → AllAssigned ns es

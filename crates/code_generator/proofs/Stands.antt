@@ -38,19 +38,43 @@ abbrev mutual
   Stands p b h (set_local x e) r at end = record { mid : ℕ; assigned : Stands p b h e r at mid; move : Ins p b mid (Move (register_of h.names x) r); is_local : IsLocal p b h x; ends : mid + 3 ≡ end }
   Stands p b h (seq es) r at end = StandAll p b h es r at end
   Stands p b h (cond t e f) r at end = record {
-    tested : ℕ; test : Stands p b h t r at tested; d : ℤ; skip : Ins p b tested (JmpNot r d);
-    mid : ℕ; first : Stands p b h e r (tested + 4) mid; d' : ℤ; jump : Ins p b mid (Jmp d');
-    aim : target (tested + 4) d ≡ mid + 3; second : Stands p b h f r (mid + 3) end; aim' : target (mid + 3) d' ≡ end }
+    tested : ℕ;
+    test : Stands p b h t r at tested;
+    d : ℤ;
+    skip : Ins p b tested (JmpNot r d);
+    mid : ℕ;
+    first : Stands p b h e r (tested + 4) mid;
+    d' : ℤ;
+    jump : Ins p b mid (Jmp d');
+    aim : target (tested + 4) d ≡ mid + 3;
+    second : Stands p b h f r (mid + 3) end;
+    aim' : target (mid + 3) d' ≡ end;
+  }
   Stands p b h (while_form t e) r at end = record {
-    tested : ℕ; mid : ℕ; test : Stands p b h t r at tested; d : ℤ; skip : Ins p b tested (JmpNot r d);
-    body : Stands p b h e r (tested + 4) mid; d' : ℤ; jump : Ins p b mid (Jmp d');
-    aim : target (tested + 4) d ≡ mid + 3; back : target (mid + 3) d' ≡ at; load : Ins p b (mid + 3) (LoadNil r); room : Room p b r; ends : mid + 3 + 2 ≡ end }
+    tested : ℕ;
+    mid : ℕ;
+    test : Stands p b h t r at tested;
+    d : ℤ;
+    skip : Ins p b tested (JmpNot r d);
+    body : Stands p b h e r (tested + 4) mid;
+    d' : ℤ;
+    jump : Ins p b mid (Jmp d');
+    aim : target (tested + 4) d ≡ mid + 3;
+    back : target (mid + 3) d' ≡ at;
+    load : Ins p b (mid + 3) (LoadNil r);
+    room : Room p b r;
+    ends : mid + 3 + 2 ≡ end;
+  }
 
   -- the operands that are left, from the register r + n on, and the action
   pub StandOperands : Code → ℕ → Around → Action → Forms → ℕ → ℕ → ℕ → ℕ → Type 0
   StandOperands p b h a none r n at end = record {
-    act : Ins p b at (action_of a r); all : n ≡ before_operands a + arity a;
-    named : is_puts a ≡ true → get_or (body_at p b).symbols 0 [] ≡ codes "puts"; room : Room p b r; ends : at + action_size a ≡ end }
+    act : Ins p b at (action_of a r);
+    all : n ≡ before_operands a + arity a;
+    named : is_puts a ≡ true → get_or (body_at p b).symbols 0 [] ≡ codes "puts";
+    room : Room p b r;
+    ends : at + action_size a ≡ end;
+  }
   StandOperands p b h a (more e es) r n at end = record { mid : ℕ; first : Stands p b h e (r + n) at mid; others : StandOperands p b h a es r (n + 1) mid end }
 
   pub StandAll : Code → ℕ → Around → Forms → ℕ → ℕ → ℕ → Type 0
@@ -86,8 +110,16 @@ abbrev pub Behind : Code → ℕ → Around → Part → ℕ → ℕ → ℕ →
 Behind p b h (operands a vs es) r at end = StandOperands p b h a es r (before_operands a + (length vs + 1)) at end
 Behind p b h (rest es) r at end = StandRest p b h es r at end
 Behind p b h (branch e f) r at end = record {
-    d : ℤ; skip : Ins p b at (JmpNot r d); mid : ℕ; first : Stands p b h e r (at + 4) mid; d' : ℤ; jump : Ins p b mid (Jmp d');
-    aim : target (at + 4) d ≡ mid + 3; second : Stands p b h f r (mid + 3) end; aim' : target (mid + 3) d' ≡ end }
+  d : ℤ;
+  skip : Ins p b at (JmpNot r d);
+  mid : ℕ;
+  first : Stands p b h e r (at + 4) mid;
+  d' : ℤ;
+  jump : Ins p b mid (Jmp d');
+  aim : target (at + 4) d ≡ mid + 3;
+  second : Stands p b h f r (mid + 3) end;
+  aim' : target (mid + 3) d' ≡ end;
+}
 Behind p b h chosen r at end = (at ≡ end) ⊎ record { d : ℤ; jump : Ins p b at (Jmp d); aim : target (at + 3) d ≡ end }
 Behind p b h (loop_test t e) r at end = record { start : ℕ; loop : Stands p b h (while_form t e) r start end; is : loop.tested ≡ at }
 Behind p b h (loop_body t e) r at end = record { start : ℕ; loop : Stands p b h (while_form t e) r start end; is : loop.mid ≡ at }

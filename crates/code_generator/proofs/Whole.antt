@@ -105,8 +105,14 @@ opening_related q p input c =
     let names = (source.body_at q 0).names in
     record {
       same = record { is_scope = refl; input = refl; out = refl; scopes = ap (λ (vs : List Value). record { of = 0; values = vs } ∷ []) (sym (front_nils (length names) (body_at p 0).registers (omega (arith, c.layout, c.room)))) };
-      h = record { names = names }; names = refl; r = (body_at p 0).locals; above = omega arith; end = c.end; code = c.code;
-      next = record { last = refl; stop = c.stop; fits = record { present = omega arith; long = length-replicate (body_at p 0).registers (value Nil); own = refl; layout = c.layout } } }
+      h = record { names = names };
+      names = refl;
+      r = (body_at p 0).locals;
+      above = omega arith;
+      end = c.end;
+      code = c.code;
+      next = record { last = refl; stop = c.stop; fits = record { present = omega arith; long = length-replicate (body_at p 0).registers (value Nil); own = refl; layout = c.layout } };
+    }
 
 pub implements : (q : Source) (p : Code) (input : List ℕ) → IsCodeOf q p → Follows (go q) (turn p) seen shown over (opening q input) (start p input)
 implements q p input c = follows (go q) (turn p) seen shown over measure (Related q p) (step_law q p) (opening q input) (start p input) (opening_related q p input c)

@@ -20,7 +20,7 @@ abbrev pub countdown : Form
 countdown =
     seq (more (set_local (codes "i") (number 2))
     (more (while_form (strict (call_operator Greater) (two (local (codes "i")) (number 0)))
-        (seq (two (strict call_puts (one (local (codes "i")))) (set_local (codes "i") (strict (call_operator Minus) (two (local (codes "i")) (number 1)))))))
+    (seq (two (strict call_puts (one (local (codes "i")))) (set_local (codes "i") (strict (call_operator Minus) (two (local (codes "i")) (number 1)))))))
     none))
 
 -- both sides end with the lines 2 and 1

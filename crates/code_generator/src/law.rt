@@ -8,11 +8,9 @@ ghost use Rattle.code_generator.specs.Witness.{IsWitness, countdown};
 /// The code of every form within the limits does what the form means.
 pub fn code_implements()
     ensures { (f : Form) → IsWithin f → Implements (code_of f) f }
-{
-}
+{}
 
 /// There is such a form, whose evaluation and whose code come to the same end with an output.
 pub fn witness()
     ensures { IsWitness countdown }
-{
-}
+{}

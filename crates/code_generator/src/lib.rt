@@ -3,11 +3,10 @@
 //! Calls: [`generate`], and the laws [`law::code_implements`] and [`law::witness`].
 #![tactic(auto)]
 
-pub mod law;
-
 mod assembly;
 mod emit;
 mod from_core;
+pub mod law;
 mod measure;
 mod names;
 mod node;

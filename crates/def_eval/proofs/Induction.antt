@@ -12,7 +12,6 @@ times-fixed f zero x e = refl
 times-fixed f (suc n) x e = ap (times n f) e ∙ times-fixed f n x e
 
 module _ {C M V : Type 0} (go : C → C) (turn : M → M) (seen : C → V) (shown : M → V) (over : V → Bool) (measure : C → ℕ) (Related : C → M → Type 0) (law : StepLaw go turn seen shown over measure Related) where
-
   -- after any number of transitions the two are related again
   abbrev Reached : ℕ → C → M → Type 0
   Reached n c m = (k : ℕ) × (k ≤ 32 * n) × Related (times n go c) (times k turn m)

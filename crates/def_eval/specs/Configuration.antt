@@ -90,10 +90,11 @@ with_local w i v = record w { scopes = set w.scopes w.place.scope (record (scope
 abbrev pub opening : Source → List ℕ → Config
 opening s input =
     Run (perform (body_at s 0).form) (activation 1 ∷ []) (record {
-        place = record { activation = 1; scope = 0 };
-        scopes = record { of = 0; values = replicate (length (body_at s 0).names) Nil } ∷ [];
-        input = input;
-        out = [] })
+      place = record { activation = 1; scope = 0 };
+      scopes = record { of = 0; values = replicate (length (body_at s 0).names) Nil } ∷ [];
+      input = input;
+      out = [];
+    })
 
 abbrev pub seen : Config → Seen
 seen (Run f ks w) = Going w.out

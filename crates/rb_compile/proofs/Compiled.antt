@@ -38,13 +38,17 @@ short_file false locals registers code lt = simp length-append (omega arith)
 
 pub plain_code : (f : Form) → IsWithin f → IsPlain (code_of f)
 plain_code f w = record {
-    version = refl;
-    body = record {
-      catches = refl; pool = refl; children = refl;
-      locals = let r = within_registers f w in omega (arith, r);
-      registers = let r = within_registers f w in omega (arith, r);
-      symbols = few_symbols (calls_puts f);
-      size = short_file (calls_puts f) (first_free f) (first_free f + width f) (bytes_of (operations_of f)) (code_size f w) } }
+  version = refl;
+  body = record {
+    catches = refl;
+    pool = refl;
+    children = refl;
+    locals = let r = within_registers f w in omega (arith, r);
+    registers = let r = within_registers f w in omega (arith, r);
+    symbols = few_symbols (calls_puts f);
+    size = short_file (calls_puts f) (first_free f) (first_free f + width f) (bytes_of (operations_of f)) (code_size f w);
+  };
+}
 
 pub implements_of : (o : Option Form) (c : Code) → MatchOption o ⊥ IsWithin → MatchOption o ⊥ (λ f. c ≡ code_of f) → MatchOption o ⊥ (Implements c)
 implements_of None c w e = w

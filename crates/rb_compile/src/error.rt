@@ -1,10 +1,10 @@
-use path_front::FrontError;
-use rb_syntax::{Count, Outside};
-use std::alloc::AllocError;
-
 ghost use Rattle.std.specs.Prelude.{◌≡◌};
 ghost use Rattle.rb_compile.specs.declared.error.CompileError.TheVariants.{NoMemory};
 ghost use Rattle.rb_compile.specs.Front.{front_error};
+
+use path_front::FrontError;
+use rb_syntax::{Count, Outside};
+use std::alloc::AllocError;
 
 /// Why a text isn't compiled. `at` is the place of the first byte that the refusal speaks of.
 #[derive(Clone, Copy, Debug, PartialEq, Eq)]

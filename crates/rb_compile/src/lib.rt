@@ -12,7 +12,6 @@ ghost use Rattle.rb_compile.specs.Compiled.{Refuses};
 pub mod error;
 
 pub use error::CompileError;
-
 use rite_code::Code;
 use std::alloc::Global;
 

@@ -1,8 +1,8 @@
-use crate::value::Value;
-use rb_syntax::Operator;
-
 ghost use Rattle.std.specs.Prelude.{◌≡◌};
 ghost use Rattle.rb_value.specs.Value as values;
+
+use crate::value::Value;
+use rb_syntax::Operator;
 
 /// A class that values or exceptions are of.
 #[derive(Clone, Copy, Debug, PartialEq, Eq)]

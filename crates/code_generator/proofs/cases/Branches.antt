@@ -24,17 +24,48 @@ use Rattle.code_generator.proofs.Matching.{turned, by_none, by_one, by_two, goin
 
 pub do_cond : (q : Source) (p : Code) (t a b : Form) (ks : List Item) (w : World) (f : Frame) (fs : List Frame) (m : Memory) → Focused q p (perform (cond t a b)) ks w f fs m → Step q p (Run (perform (cond t a b)) ks w) (On f fs m)
 do_cond q p t a b ks w f fs m r =
-    by_none q p _ _ (omega arith) (record { same = r.same; h = r.h; names = r.names; r = r.r; above = r.above; end = r.code.tested; code = r.code.test;
-      next = record { low = r.r; kept_below = omega arith; locals_below = r.above; held = tt; end = r.end;
-        behind = record { d = r.code.d; skip = r.code.skip; mid = r.code.mid; first = r.code.first; d' = r.code.d'; jump = r.code.jump; aim = r.code.aim; second = r.code.second; aim' = r.code.aim' }; next = r.next } })
+    by_none q p _ _ (omega arith) (record {
+      same = r.same;
+      h = r.h;
+      names = r.names;
+      r = r.r;
+      above = r.above;
+      end = r.code.tested;
+      code = r.code.test;
+      next = record {
+        low = r.r;
+        kept_below = omega arith;
+        locals_below = r.above;
+        held = tt;
+        end = r.end;
+        behind = record { d = r.code.d; skip = r.code.skip; mid = r.code.mid; first = r.code.first; d' = r.code.d'; jump = r.code.jump; aim = r.code.aim; second = r.code.second; aim' = r.code.aim' };
+        next = r.next;
+      };
+    })
 
 branch_by : (q : Source) (p : Code) (v : Value) (a b : Form) (ks : List Item) (w : World) (f : Frame) (fs : List Frame) (m : Memory) (r : Given q p v (branch a b) ks w f fs m) (o : Bool) → is_true v ≡ o → turn p (On f fs m) ≡ On (goto f (if o then f.pc + 4 else target (f.pc + 4) r.behind.d)) fs m → Step q p (Run (give v) (inside (branch a b) ∷ ks) w) (On f fs m)
 branch_by q p v a b ks w f fs m r true e t =
-    by_one q p _ _ _ (going r.same) t (subst (λ (o : Bool). Related q p (choose o a b ks w) (On (goto f (f.pc + 4)) fs m)) (sym e) (record { same = r.same; h = r.h; names = r.names; r = r.r; above = r.above; end = r.behind.mid; code = r.behind.first;
-      next = record { low = r.r; kept_below = omega arith; locals_below = r.above; held = tt; end = r.end; behind = inr (record { d = r.behind.d'; jump = r.behind.jump; aim = r.behind.aim' }); next = r.next } }))
+    by_one q p _ _ _ (going r.same) t (subst (λ (o : Bool). Related q p (choose o a b ks w) (On (goto f (f.pc + 4)) fs m)) (sym e) (record {
+      same = r.same;
+      h = r.h;
+      names = r.names;
+      r = r.r;
+      above = r.above;
+      end = r.behind.mid;
+      code = r.behind.first;
+      next = record { low = r.r; kept_below = omega arith; locals_below = r.above; held = tt; end = r.end; behind = inr (record { d = r.behind.d'; jump = r.behind.jump; aim = r.behind.aim' }); next = r.next };
+    }))
 branch_by q p v a b ks w f fs m r false e t =
-    by_one q p _ _ _ (going r.same) (t ∙ ap (λ (n : ℕ). On (goto f n) fs m) r.behind.aim) (subst (λ (o : Bool). Related q p (choose o a b ks w) (On (goto f (r.behind.mid + 3)) fs m)) (sym e) (record { same = r.same; h = r.h; names = r.names; r = r.r; above = r.above; end = r.end; code = r.behind.second;
-      next = record { low = r.r; kept_below = omega arith; locals_below = r.above; held = tt; end = r.end; behind = inl refl; next = r.next } }))
+    by_one q p _ _ _ (going r.same) (t ∙ ap (λ (n : ℕ). On (goto f n) fs m) r.behind.aim) (subst (λ (o : Bool). Related q p (choose o a b ks w) (On (goto f (r.behind.mid + 3)) fs m)) (sym e) (record {
+      same = r.same;
+      h = r.h;
+      names = r.names;
+      r = r.r;
+      above = r.above;
+      end = r.end;
+      code = r.behind.second;
+      next = record { low = r.r; kept_below = omega arith; locals_below = r.above; held = tt; end = r.end; behind = inl refl; next = r.next };
+    }))
 
 pub give_branch : (q : Source) (p : Code) (v : Value) (a b : Form) (ks : List Item) (w : World) (f : Frame) (fs : List Frame) (m : Memory) → Given q p v (branch a b) ks w f fs m → Step q p (Run (give v) (inside (branch a b) ∷ ks) w) (On f fs m)
 give_branch q p v a b ks w f fs m r =

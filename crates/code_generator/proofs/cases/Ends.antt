@@ -28,7 +28,7 @@ give_none q p v w f fs m r = by_one q p _ _ _ (going r.same) (turned p Stop f fs
 pub give_activation : (q : Source) (p : Code) (v : Value) (a : ℕ) (ks : List Item) (w : World) (f : Frame) (fs : List Frame) (m : Memory) → Focused q p (give v) (activation a ∷ ks) w f fs m → Step q p (Run (give v) (activation a ∷ ks) w) (On f fs m)
 give_activation q p v a ks w f fs m r =
     by_none q p _ _ (omega arith) (subst (λ (is : List Item). Focused q p (give v) is w f fs m) (sym r.next.last)
-      (record { same = r.same; h = r.h; names = r.names; r = r.r; stands = r.stands; next = record { stop = r.next.stop; fits = r.next.fits } }))
+    (record { same = r.same; h = r.h; names = r.names; r = r.r; stands = r.stands; next = record { stop = r.next.stop; fits = r.next.fits } }))
 
 pub travel_none : (q : Source) (p : Code) (x : Exit) (w : World) (f : Frame) (fs : List Frame) (m : Memory) → Focused q p (travel x) [] w f fs m → Step q p (Run (travel x) [] w) (On f fs m)
 travel_none q p (raise e) w f fs m r = by_one q p _ _ (Off (Uncaught m.out e)) (ap source_going (sym r.out)) r.throws (ap (λ (o : List ℕ). Uncaught o e) (sym r.out))

@@ -109,16 +109,16 @@ apply_by q p c ks w f fs m h r next end out names (gives v) goes less same turns
     by_one q p _ _ _ (going same ∙ sym out) turns (subst (λ (d : Config). Related q p d (On (goto f next) fs (write m f.list r v))) (sym goes) (gives_value q p v ks w f fs m h r next end same names room awaits ends))
 apply_by q p c ks w f fs m h r next end out names (raises e) goes less same turns room ends awaits =
     by_none q p _ _ (subst (λ (d : Config). measure d < measure c) (sym goes) (omega (arith, less)))
-      (subst (λ (d : Config). Related q p d (On f fs m)) (sym goes) (record { out = same.out; throws = turns ∙ thrown e f fs m }))
+    (subst (λ (d : Config). Related q p d (On f fs m)) (sym goes) (record { out = same.out; throws = turns ∙ thrown e f fs m }))
 apply_by q p c ks w f fs m h r next end out names (writes bytes) goes less same turns room ends awaits =
     let fits = awaits_fits q p m.lists ks h f.body f.list fs end r awaits in
     let above = same_above q p w f.body f.list m r (value Nil) fits room.above same in
     let m' : Memory = record (write m f.list r Nil) { out = m.out ++ bytes } in
     by_one q p _ _ _ (going same ∙ sym out) turns (subst (λ (d : Config). Related q p d (On (goto f next) fs m')) (sym goes)
-      (keeps_value q p Nil ks (evaluation.write w bytes) f fs m m' h r next end
-        (record { is_scope = above.is_scope; input = above.input; out = ap (λ (o : List ℕ). o ++ bytes) same.out; scopes = above.scopes }) names
-        (slot_same m.lists f.list r (value Nil) fits.present (omega (arith, fits.long, room.within)))
-        (keeps_above q p m.lists f.body f.list r r (value Nil) fits.present (omega arith)) awaits ends))
+    (keeps_value q p Nil ks (evaluation.write w bytes) f fs m m' h r next end
+    (record { is_scope = above.is_scope; input = above.input; out = ap (λ (o : List ℕ). o ++ bytes) same.out; scopes = above.scopes }) names
+    (slot_same m.lists f.list r (value Nil) fits.present (omega (arith, fits.long, room.within)))
+    (keeps_above q p m.lists f.body f.list r r (value Nil) fits.present (omega arith)) awaits ends))
 
 -- the action of a strict form whose operands stand in their registers
 act_by : (q : Source) (p : Code) (c : Config) (a : Action) (vs : List Value) (ks : List Item) (w : World) (f : Frame) (fs : List Frame) (m : Memory) (h : Around) (r n end : ℕ) → seen c ≡ Going w.out → h.names ≡ (source.body_at q f.body).names → go q c ≡ evaluation.after (outcome a vs) ks w → weights ks < measure c → Same q w f.list m → StandOperands p f.body h a none r n f.pc end → n ≡ before_operands a + length vs → Holds m.lists f.list (r + before_operands a) (map value vs) → Awaits q p m.lists ks h f.body f.list fs end r → Step q p c (On f fs m)
@@ -126,24 +126,47 @@ act_by q p c a vs ks w f fs m h r n end out names goes less same code count held
     let size : f.pc + size_of (action_of a r) ≡ f.pc + action_size a = ap (λ (k : ℕ). f.pc + k) (size_is a r) in
     let all : length vs ≡ arity a = omega (arith, code.all) in
     apply_by q p c ks w f fs m h r (f.pc + size_of (action_of a r)) end out names (outcome a vs) goes less same
-      (turned p (action_of a r) f fs m code.act ∙ acted p a vs r (f.pc + size_of (action_of a r)) f fs m all code.named held)
-      code.room (size ∙ code.ends) awaits
+    (turned p (action_of a r) f fs m code.act ∙ acted p a vs r (f.pc + size_of (action_of a r)) f fs m all code.named held)
+    code.room (size ∙ code.ends) awaits
 
 pub do_strict : (q : Source) (p : Code) (a : Action) (es : Forms) (ks : List Item) (w : World) (f : Frame) (fs : List Frame) (m : Memory) → Focused q p (perform (strict a es)) ks w f fs m → Step q p (Run (perform (strict a es)) ks w) (On f fs m)
 do_strict q p a none ks w f fs m r =
     act_by q p (Run (perform (strict a none)) ks w) a [] ks w f fs m r.h r.r (before_operands a) r.end refl r.names refl (omega arith) r.same r.code (omega arith) tt r.next
 do_strict q p a (more e es) ks w f fs m r =
-    by_none q p _ _ (omega arith) (record { same = r.same; h = r.h; names = r.names; r = r.r + before_operands a; above = omega (arith, r.above); end = r.code.mid; code = r.code.first;
-      next = record { low = r.r; kept_below = omega arith; locals_below = r.above; held = tt; end = r.end; behind = r.code.others; next = r.next } })
+    by_none q p _ _ (omega arith) (record {
+      same = r.same;
+      h = r.h;
+      names = r.names;
+      r = r.r + before_operands a;
+      above = omega (arith, r.above);
+      end = r.code.mid;
+      code = r.code.first;
+      next = record { low = r.r; kept_below = omega arith; locals_below = r.above; held = tt; end = r.end; behind = r.code.others; next = r.next };
+    })
 
 pub give_operand : (q : Source) (p : Code) (v : Value) (a : Action) (vs : List Value) (es : Forms) (ks : List Item) (w : World) (f : Frame) (fs : List Frame) (m : Memory) → Given q p v (operands a vs es) ks w f fs m → Step q p (Run (give v) (inside (operands a vs es) ∷ ks) w) (On f fs m)
 give_operand q p v a vs none ks w f fs m r =
     let n : before_operands a + (length vs + 1) ≡ before_operands a + length (vs ++ v ∷ []) = omega (arith, length-append vs (v ∷ [])) in
     act_by q p (Run (give v) (inside (operands a vs none) ∷ ks) w) a (vs ++ v ∷ []) ks w f fs m r.h r.r (before_operands a + (length vs + 1)) r.end refl r.names refl (omega arith) r.same r.behind n
-      (subst (Holds m.lists f.list (r.r + before_operands a)) (sym (map-append value vs (v ∷ []))) r.held) r.next
+    (subst (Holds m.lists f.list (r.r + before_operands a)) (sym (map-append value vs (v ∷ []))) r.held) r.next
 give_operand q p v a vs (more e es) ks w f fs m r =
     let n : length vs + 1 ≡ length (vs ++ v ∷ []) = omega (arith, length-append vs (v ∷ [])) in
     let m1 : length (map value (vs ++ v ∷ [])) ≡ length vs + 1 = length-map (vs ++ v ∷ []) value ∙ sym n in
-    by_none q p _ _ (omega arith) (record { same = r.same; h = r.h; names = r.names; r = r.r + (before_operands a + (length vs + 1)); above = omega (arith, r.above); end = r.behind.mid; code = r.behind.first;
-      next = record { low = r.r; kept_below = omega (arith, m1); locals_below = r.above; held = subst (Holds m.lists f.list (r.r + before_operands a)) (sym (map-append value vs (v ∷ []))) r.held; end = r.end;
-        behind = subst (λ (k : ℕ). StandOperands p f.body r.h a es r.r k r.behind.mid r.end) (omega (arith, n)) r.behind.others; next = r.next } })
+    by_none q p _ _ (omega arith) (record {
+      same = r.same;
+      h = r.h;
+      names = r.names;
+      r = r.r + (before_operands a + (length vs + 1));
+      above = omega (arith, r.above);
+      end = r.behind.mid;
+      code = r.behind.first;
+      next = record {
+        low = r.r;
+        kept_below = omega (arith, m1);
+        locals_below = r.above;
+        held = subst (Holds m.lists f.list (r.r + before_operands a)) (sym (map-append value vs (v ∷ []))) r.held;
+        end = r.end;
+        behind = subst (λ (k : ℕ). StandOperands p f.body r.h a es r.r k r.behind.mid r.end) (omega (arith, n)) r.behind.others;
+        next = r.next;
+      };
+    })

@@ -20,4 +20,5 @@ unfolding encoding decode_wide_at front narrow_front opcode_of call integer outc
 returns c = record {
   within = record { plain = refl; scoped = refl; short = refl; few_names = omega arith; few_parts = omega arith };
   evaluates = λ input. ap (λ (out : List ℕ). Over (Ended out 0)) digits;
-  runs = λ input. ap (λ (out : List ℕ). Over (Ended out 0)) digits }
+  runs = λ input. ap (λ (out : List ℕ). Over (Ended out 0)) digits;
+}
