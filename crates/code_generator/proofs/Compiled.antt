@@ -1,22 +1,22 @@
 -- The code of a form within the limits has the form's code in its main body.
-use Rattle.std.proofs.Common.{◌≡◌, ℕ, zero, suc, ◌+◌, ◌<◌, ◌≤◌, List, [], ◌∷◌, ◌++◌, refl, sym, ap, ◌∙◌, subst, arith, Option, Some, Bool, true, false, cond, ◌&&◌, ◌||◌, length, length-append, append_assoc, map, get_or}
-use Rattle.std.specs.Prelude.{IsTrue, codes, max, flat_map}
+use Rattle.std.proofs.Common.{◌≡◌, ℕ, ◌+◌, ◌<◌, List, [], ◌∷◌, ◌++◌, refl, sym, ap, ◌∙◌, subst, arith, Some, Bool, true, false, cond, ◌||◌, length, length-append, append_assoc, map, get_or}
+use Rattle.std.specs.Prelude.{IsTrue, codes}
 use Rattle.std.proofs.lemmas.List.{map-append}
 use Rattle.std.proofs.lemmas.Grind.{flat_map-append}
 use Rattle.std.proofs.lemmas.Bool.{and_parts}
-use Rattle.rb_syntax.specs.Form.{Name, Action, give_nil, give_true, give_int, call_operator, call_puts, Form, strict, local, set_local, seq, cond as cond_form, while_form, Forms, none, more}
-use Rattle.rb_syntax.specs.Names.{place_of, is_among, names_of}
-use Rattle.rb_syntax.specs.Limits.{arity, count, is_plain, are_plain, is_scoped, are_scoped, lines_scoped, known_after, IsWithin}
+use Rattle.rb_syntax.specs.Form.{Name, Form, strict, local, set_local, seq, cond as cond_form, while_form, Forms, none, more}
+use Rattle.rb_syntax.specs.Names.{is_among, names_of}
+use Rattle.rb_syntax.specs.Limits.{is_plain, are_plain, is_scoped, are_scoped, lines_scoped, known_after, IsWithin}
 use Rattle.rite_code.specs.declared.code.Code.{Code}
 use Rattle.rite_code.specs.declared.instr.Operation.{Operation}
 use Rattle.rite_code.specs.declared.instr.Operation.TheVariants.{Stop}
-use Rattle.rite_code.specs.Instruction.{Instruction, narrow}
+use Rattle.rite_code.specs.Instruction.{narrow}
 use Rattle.rite_code.specs.Shape.{size_of}
 use Rattle.rite_code.specs.Spelling.{encoding, encodings, decode_wide_at}
 use Rattle.rite_code.proofs.RoundTrip.{decode_encoded, length-encoding_narrow}
 use Rattle.def_machine.specs.State.{body_at}
 use Rattle.def_machine.specs.Turn.{fetch}
-use Rattle.code_generator.specs.Gen.{gen, len, width, register_of, is_puts, calls_puts, any_calls_puts, symbols_of, first_free, operations_of, code_of}
+use Rattle.code_generator.specs.Gen.{gen, len, register_of, is_puts, calls_puts, any_calls_puts, symbols_of, first_free, operations_of, code_of}
 use Rattle.code_generator.specs.Implements.{source_of, Implements}
 use Rattle.code_generator.proofs.Bounds.{has_operands, three_parts, within_registers, within_code}
 use Rattle.code_generator.proofs.Pieces.{HasAt, total, total_append, front, back, gen_len}

@@ -1,5 +1,5 @@
 -- Every operand of the generated code fits a narrow instruction.
-use Rattle.std.proofs.Common.{◌≡◌, ℕ, zero, suc, ◌+◌, ◌<◌, ◌≤◌, ℤ, pos, negsuc, List, [], ◌∷◌, ◌++◌, refl, sym, ap, ◌∙◌, subst, arith, Bool, true, false, cond, ◌&&◌}
+use Rattle.std.proofs.Common.{◌≡◌, ℕ, ◌+◌, ◌<◌, ◌≤◌, ℤ, pos, negsuc, List, [], ◌∷◌, ◌++◌, refl, arith, Bool, true, false, cond, ◌&&◌}
 use Rattle.std.specs.Prelude.{IsTrue, nat_lt}
 use Rattle.std.proofs.lemmas.Bool.{and_parts}
 use Rattle.std.proofs.lemmas.Bool.Decides.{nat_tests}
@@ -8,7 +8,7 @@ use Rattle.rb_syntax.specs.Limits.{is_plain_action, is_plain, are_plain}
 use Rattle.rb_syntax.specs.declared.operator.Operator.TheVariants.{Plus, Minus, Times, Equal, Less, LessEqual, Greater, GreaterEqual}
 use Rattle.rite_code.specs.declared.code.Code.{Code}
 use Rattle.rite_code.specs.declared.instr.Operation.{Operation}
-use Rattle.rite_code.specs.declared.instr.Operation.TheVariants.{Move, LoadI, LoadI16, LoadI32, LoadNil, Jmp, JmpNot}
+use Rattle.rite_code.specs.declared.instr.Operation.TheVariants.{Move, LoadI, LoadI16, LoadI32}
 use Rattle.rite_code.specs.Instruction.{narrow}
 use Rattle.rite_code.specs.Shape.{fits, is_byte, is_short, is_long}
 use Rattle.def_machine.specs.State.{body_at}

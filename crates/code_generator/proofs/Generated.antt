@@ -1,20 +1,16 @@
 -- The generated code stands where it is placed.
-use Rattle.std.proofs.Common.{◌≡◌, ℕ, zero, suc, ◌+◌, ◌<◌, ◌≤◌, ℤ, List, [], ◌∷◌, ◌++◌, refl, sym, ap, ◌∙◌, subst, arith, Option, Some, Bool, true, false, get_or}
+use Rattle.std.proofs.Common.{◌≡◌, ℕ, ◌+◌, ◌<◌, ◌≤◌, List, [], ◌∷◌, ◌++◌, refl, ◌∙◌, subst, arith, true, get_or}
 use Rattle.std.specs.Prelude.{codes}
 use Rattle.rb_syntax.specs.Form.{Name, Action, Form, strict, local, set_local, seq, cond, while_form, Forms, none, more}
 use Rattle.rb_syntax.specs.Limits.{arity, count}
 use Rattle.rite_code.specs.declared.code.Code.{Code}
 use Rattle.rite_code.specs.declared.instr.Operation.{Operation}
-use Rattle.rite_code.specs.declared.instr.Operation.TheVariants.{Move, LoadNil, Jmp, JmpNot}
-use Rattle.rite_code.specs.Instruction.{Instruction, narrow}
-use Rattle.rite_code.specs.Shape.{size_of}
+use Rattle.rite_code.specs.declared.instr.Operation.TheVariants.{Move}
 use Rattle.def_machine.specs.State.{body_at}
-use Rattle.def_machine.specs.Turn.{fetch}
-use Rattle.code_generator.specs.Gen.{distance, action_of, action_size, before_operands, register_of, is_puts, len, len_all, len_rest, gen, gen_operands, gen_all, gen_rest, width, operands_width, all_width}
-use Rattle.code_generator.proofs.Stands.{Around, Ins, Room, Stands, StandOperands, StandAll, StandRest}
+use Rattle.code_generator.specs.Gen.{distance, action_size, before_operands, register_of, is_puts, len, len_all, len_rest, gen, gen_operands, gen_all, gen_rest, width, operands_width, all_width}
+use Rattle.code_generator.proofs.Stands.{Around, Ins, Stands, StandOperands, StandAll, StandRest}
 use Rattle.code_generator.proofs.Jumps.{distance_leads}
-use Rattle.code_generator.proofs.Pieces.{HasAt, front, back, gen_len, gen_len_rest}
-use Rattle.code_generator.proofs.cases.Strict.{size_is}
+use Rattle.code_generator.proofs.Pieces.{HasAt, front, back, gen_len}
 
 -- names have registers among the locals, actions have their operands, and puts is a symbol where it is called
 abbrev mutual

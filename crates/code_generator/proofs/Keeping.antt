@@ -1,7 +1,7 @@
 -- What a write leaves of the pending items.
-use Rattle.std.proofs.Common.{◌≡◌, ◌≢◌, ℕ, suc, ◌+◌, ◌<◌, ◌≤◌, List, [], ◌∷◌, ◌++◌, refl, sym, ap, ◌∙◌, subst, arith, length}
+use Rattle.std.proofs.Common.{◌≡◌, ℕ, ◌+◌, ◌<◌, ◌≤◌, List, [], ◌∷◌, ◌∙◌, arith, length}
 use Rattle.rite_code.specs.declared.code.Code.{Code}
-use Rattle.def_eval.specs.Configuration.{Source, Part, Item, inside, activation}
+use Rattle.def_eval.specs.Configuration.{Source, Item, inside, activation}
 use Rattle.def_machine.specs.State.{Slot, body_at, Registers, slot_at, put, Frame}
 use Rattle.code_generator.proofs.Stands.{Around, spared, kept}
 use Rattle.code_generator.proofs.Relation.{Fits, Holds, Awaits}

@@ -1,5 +1,5 @@
 -- How a transition is matched by no turn, one turn and two.
-use Rattle.std.proofs.Common.{◌≡◌, ◌⊎◌, ℕ, zero, suc, ◌+◌, ◌<◌, ◌≤◌, List, [], ◌∷◌, ◌++◌, refl, sym, ap, ◌∙◌, subst, inl, inr, arith, Option, Some, length}
+use Rattle.std.proofs.Common.{◌≡◌, ◌⊎◌, ℕ, zero, suc, ◌+◌, ◌<◌, List, [], ◌∷◌, ◌++◌, sym, ap, ◌∙◌, subst, inl, arith, Option, length}
 use Rattle.rb_value.specs.declared.value.Value.{Value}
 use Rattle.rite_code.specs.declared.code.Code.{Code}
 use Rattle.rite_code.specs.declared.instr.Operation.{Operation}
@@ -11,10 +11,10 @@ use Rattle.def_eval.specs.Configuration as source
 use Rattle.def_eval.specs.Configuration.{Source, Part, Item, inside, Focus, give, World, Config, Run, seen}
 use Rattle.def_eval.specs.Transition.{go}
 use Rattle.def_eval.specs.Measure.{measure}
-use Rattle.def_machine.specs.State.{Slot, value, body_at, Registers, slot_at, Frame, Memory, State, On, shown}
+use Rattle.def_machine.specs.State.{Slot, value, Registers, slot_at, Frame, Memory, State, On, shown}
 use Rattle.def_machine.specs.Turn.{turn, turn_by, act, goto, write}
 use Rattle.code_generator.proofs.Stands.{Around, Ins, Room, spared, kept}
-use Rattle.code_generator.proofs.Relation.{Holds, Related, Focused, Given, Awaits, Same, Fits, Step}
+use Rattle.code_generator.proofs.Relation.{Holds, Related, Focused, Given, Awaits, Same, Step}
 use Rattle.code_generator.proofs.Registers.{slot_same, same_above}
 use Rattle.code_generator.proofs.Keeping.{awaits_fits, awaits_keeps, keeps_above, Keeps}
 

@@ -1,14 +1,13 @@
 -- Pieces of code, and the bytes that they take.
-use Rattle.std.proofs.Common.{◌≡◌, ℕ, zero, suc, ◌+◌, ◌<◌, ◌≤◌, ℤ, List, [], ◌∷◌, ◌++◌, refl, sym, ap, ◌∙◌, subst, arith, Option, Some, Bool, true, false, append_assoc, length, length-append, map}
-use Rattle.std.specs.Prelude.{IsTrue}
+use Rattle.std.proofs.Common.{◌≡◌, ℕ, ◌+◌, List, [], ◌∷◌, ◌++◌, subst, arith, Some}
 use Rattle.rb_syntax.specs.Form.{Name, Action, Form, strict, local, set_local, seq, cond, while_form, Forms, none, more}
 use Rattle.rite_code.specs.declared.code.Code.{Code}
 use Rattle.rite_code.specs.declared.instr.Operation.{Operation}
-use Rattle.rite_code.specs.declared.instr.Operation.TheVariants.{Move, LoadNil, Jmp, JmpNot, Stop}
-use Rattle.rite_code.specs.Instruction.{Instruction, narrow}
+use Rattle.rite_code.specs.declared.instr.Operation.TheVariants.{Move, LoadNil, Jmp, JmpNot}
+use Rattle.rite_code.specs.Instruction.{narrow}
 use Rattle.rite_code.specs.Shape.{size_of}
 use Rattle.def_machine.specs.Turn.{fetch}
-use Rattle.code_generator.specs.Gen.{distance, action_of, action_size, before_operands, register_of, len, len_all, len_rest, gen, gen_operands, gen_all, gen_rest}
+use Rattle.code_generator.specs.Gen.{distance, action_size, before_operands, register_of, len, len_all, len_rest, gen, gen_operands, gen_all, gen_rest}
 use Rattle.code_generator.proofs.cases.Strict.{size_is}
 
 -- instructions stand in a row from a byte on

@@ -1,10 +1,9 @@
 -- When a configuration of the evaluation and a state of the machine are alike.
 use Rattle.std.proofs.Common.{◌≡◌, ℕ, ◌+◌, ◌<◌, ◌≤◌, List, [], ◌∷◌, ◌++◌, length, map, take}
-use Rattle.rb_syntax.specs.Form.{Form}
 use Rattle.rb_value.specs.declared.value.Value.{Value}
 use Rattle.rite_code.specs.declared.code.Code.{Code}
 use Rattle.rite_code.specs.declared.instr.Operation.TheVariants.{Stop}
-use Rattle.def_eval.specs.Seen.{End, Uncaught}
+use Rattle.def_eval.specs.Seen.{Uncaught}
 use Rattle.def_eval.specs.Steps.{Matched}
 use Rattle.def_eval.specs.Configuration as source
 use Rattle.def_eval.specs.Configuration.{Source, Part, Item, inside, activation, Exit, raise, Focus, perform, give, travel, Scope, World, Config, Run, Halt, seen}
@@ -12,7 +11,7 @@ use Rattle.def_eval.specs.Transition.{go}
 use Rattle.def_eval.specs.Measure.{measure}
 use Rattle.def_machine.specs.State.{Slot, value, read, body_at, Registers, list_at, slot_at, Frame, Memory, State, On, Off, shown}
 use Rattle.def_machine.specs.Turn.{turn}
-use Rattle.code_generator.proofs.Stands.{Around, Ins, Room, Stands, spared, kept, Behind}
+use Rattle.code_generator.proofs.Stands.{Around, Ins, Stands, spared, kept, Behind}
 
 -- these slots stand in a row of registers
 abbrev pub Holds : List Registers → ℕ → ℕ → List Slot → Type 0

@@ -1,12 +1,10 @@
 -- Names that are known have registers.
-use Rattle.std.proofs.Common.{◌≡◌, ℕ, zero, suc, ◌+◌, ◌<◌, ◌≤◌, List, [], ◌∷◌, ◌++◌, refl, sym, ap, ◌∙◌, subst, arith, Bool, true, false, cond, ◌&&◌, ◌||◌, length, get_or}
-use Rattle.std.specs.Prelude.{bytes_eq, codes}
+use Rattle.std.proofs.Common.{◌≡◌, ◌+◌, ◌<◌, List, [], ◌∷◌, ◌++◌, refl, sym, ap, subst, arith, Bool, true, false, cond, length}
+use Rattle.std.specs.Prelude.{bytes_eq}
 use Rattle.std.proofs.lemmas.Slice.Eq.{bytes_eq-Decides}
-use Rattle.std.proofs.lemmas.Bool.{and_parts}
-use Rattle.rb_syntax.specs.Form.{Name, Action, Form, strict, local, set_local, seq, cond as cond_form, while_form, Forms, none, more}
+use Rattle.rb_syntax.specs.Form.{Name, Form, strict, local, set_local, seq, cond as cond_form, while_form, Forms, none, more}
 use Rattle.rb_syntax.specs.Names.{place_of, is_among, with_name, add_names, add_all, names_of}
-use Rattle.rb_syntax.specs.Limits.{is_scoped, are_scoped, lines_scoped, known_after}
-use Rattle.code_generator.proofs.Bounds.{three_parts}
+use Rattle.rb_syntax.specs.Limits.{known_after}
 
 -- each name of the first list is in the second
 abbrev pub Within : List Name → List Name → Type 0

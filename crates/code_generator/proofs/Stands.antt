@@ -1,13 +1,12 @@
 -- The code of a form, as a relation: from which byte to which it stands in a body.
-use Rattle.std.proofs.Common.{◌≡◌, ◌⊎◌, ℕ, zero, suc, ◌+◌, ◌<◌, ◌≤◌, ℤ, List, [], ◌∷◌, Option, Some, None, true, false, map, length, get_or}
+use Rattle.std.proofs.Common.{◌≡◌, ◌⊎◌, ℕ, ◌+◌, ◌<◌, ◌≤◌, ℤ, List, [], Some, true, map, length, get_or}
 use Rattle.std.specs.Prelude.{codes}
 use Rattle.rb_syntax.specs.Form.{Name, Action, Form, strict, local, set_local, seq, cond, while_form, Forms, none, more}
 use Rattle.rb_syntax.specs.Limits.{arity}
-use Rattle.rb_value.specs.declared.value.Value.{Value}
 use Rattle.rite_code.specs.declared.code.Code.{Code}
 use Rattle.rite_code.specs.declared.instr.Operation.{Operation}
-use Rattle.rite_code.specs.declared.instr.Operation.TheVariants.{Move, LoadNil, Jmp, JmpNot, Stop}
-use Rattle.rite_code.specs.Instruction.{Instruction, narrow}
+use Rattle.rite_code.specs.declared.instr.Operation.TheVariants.{Move, LoadNil, Jmp, JmpNot}
+use Rattle.rite_code.specs.Instruction.{narrow}
 use Rattle.rite_code.specs.Shape.{size_of}
 use Rattle.def_eval.specs.Configuration.{Part, operands, rest, branch, chosen, loop_test, loop_body, assign}
 use Rattle.def_machine.specs.State.{Slot, value, body_at}

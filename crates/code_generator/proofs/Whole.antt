@@ -1,7 +1,6 @@
 -- The step law, by cases on the focus, and the theorem for a main program.
-use Rattle.std.proofs.Common.{◌≡◌, ℕ, zero, suc, ◌+◌, ◌<◌, ◌≤◌, List, [], ◌∷◌, refl, sym, ap, ◌∙◌, subst, arith, Bool, true, false, length, map, take, replicate, true≢false}
+use Rattle.std.proofs.Common.{◌≡◌, ℕ, zero, suc, ◌+◌, ◌≤◌, List, [], ◌∷◌, refl, sym, ap, ◌∙◌, arith, true, false, length, map, take, replicate, true≢false}
 use Rattle.std.proofs.lemmas.List.{take-replicate, length-replicate}
-use Rattle.std.proofs.Math.Seq.{take-nil}
 use Rattle.rb_syntax.specs.Form.{Form, strict, local, set_local, seq, cond, while_form}
 use Rattle.rb_value.specs.declared.value.Value.{Value}
 use Rattle.rb_value.specs.declared.value.Value.TheVariants.{Nil}
@@ -13,11 +12,11 @@ use Rattle.def_eval.proofs.Induction.{follows}
 use Rattle.def_eval.specs.Configuration as source
 use Rattle.def_eval.specs.Configuration.{Source, Part, operands, rest, branch, chosen, loop_test, loop_body, assign, Item, inside, activation, Exit, raise, Focus, perform, give, travel, Config, Run, Halt, World, opening, seen}
 use Rattle.def_eval.specs.Transition.{go}
-use Rattle.def_eval.specs.Measure.{measure, weights, weight}
-use Rattle.def_machine.specs.State.{Slot, value, read, body_at, Registers, Frame, Memory, State, On, Off, start, shown}
+use Rattle.def_eval.specs.Measure.{measure, weight}
+use Rattle.def_machine.specs.State.{value, read, body_at, Frame, Memory, State, On, Off, start, shown}
 use Rattle.def_machine.specs.Turn.{turn}
-use Rattle.code_generator.proofs.Stands.{Around, Ins, Stands}
-use Rattle.code_generator.proofs.Relation.{Related, Focused, Given, Step, Fits, behind_self, scope_of}
+use Rattle.code_generator.proofs.Stands.{Ins, Stands}
+use Rattle.code_generator.proofs.Relation.{Related, Focused, Given, Step, behind_self}
 use Rattle.code_generator.proofs.Matching.{given_of, going}
 use Rattle.code_generator.proofs.cases.Strict.{do_strict, give_operand}
 use Rattle.code_generator.proofs.cases.Locals.{do_local, do_set_local, give_assign}

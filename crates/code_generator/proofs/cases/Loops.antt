@@ -1,26 +1,18 @@
 -- Loops.
-use Rattle.std.proofs.Common.{◌≡◌, ◌⊎◌, ℕ, zero, suc, ◌+◌, ◌<◌, ◌≤◌, ℤ, List, [], ◌∷◌, ◌++◌, refl, sym, ap, ◌∙◌, subst, inl, inr, arith, length, map, Bool, true, false, if◌then◌else◌}
-use Rattle.rb_syntax.specs.Form.{Name, Action, Form, strict, local, set_local, seq, cond, while_form, Forms, none, more}
+use Rattle.std.proofs.Common.{◌≡◌, ℕ, ◌+◌, List, ◌∷◌, refl, sym, ap, ◌∙◌, subst, arith, Bool, true, false, if◌then◌else◌}
+use Rattle.rb_syntax.specs.Form.{Form, while_form}
 use Rattle.rb_value.specs.Value.{is_true}
 use Rattle.rb_value.specs.declared.value.Value.{Value}
 use Rattle.rb_value.specs.declared.value.Value.TheVariants.{Nil}
-use Rattle.rb_value.specs.declared.failure.Failure.{Failure}
 use Rattle.rite_code.specs.declared.code.Code.{Code}
-use Rattle.rite_code.specs.declared.instr.Operation.TheVariants.{Move, LoadNil, Jmp, JmpNot, Stop}
-use Rattle.def_eval.specs.Seen.{Ended, Uncaught}
-use Rattle.def_eval.specs.Configuration as source
-use Rattle.def_eval.specs.Configuration.{Source, Part, operands, rest, branch, chosen, loop_test, loop_body, assign, Item, inside, activation, Exit, raise, Focus, perform, give, travel, World, Config, Run, Halt, named, local_of, with_local, seen}
-use Rattle.def_eval.specs.Transition as evaluation
-use Rattle.def_eval.specs.Transition.{go, choose, turn_loop}
-use Rattle.def_eval.specs.Measure.{measure, weights, weight}
-use Rattle.def_machine.specs.State.{Slot, value, read, body_at, slot_at, value_at, put, Frame, Memory, State, On, Off, shown}
+use Rattle.rite_code.specs.declared.instr.Operation.TheVariants.{LoadNil, Jmp, JmpNot}
+use Rattle.def_eval.specs.Configuration.{Source, loop_test, loop_body, Item, inside, perform, give, World, Run}
+use Rattle.def_eval.specs.Transition.{turn_loop}
+use Rattle.def_machine.specs.State.{Slot, value, read, slot_at, Frame, Memory, On}
 use Rattle.def_machine.specs.Turn.{turn, goto, write, target}
-use Rattle.code_generator.specs.Gen.{register_of}
-use Rattle.code_generator.proofs.Stands.{Around, Ins, Room, Stands, StandRest, Behind, kept, spared}
-use Rattle.code_generator.proofs.Relation.{Holds, Related, Focused, Given, Awaits, Same, Fits, Step}
-use Rattle.code_generator.proofs.Registers.{slot_other, named_is, same_local}
-use Rattle.code_generator.proofs.Keeping.{awaits_fits, keeps_local}
-use Rattle.code_generator.proofs.Matching.{turned, by_none, by_one, by_two, going, gives, keeps_value}
+use Rattle.code_generator.proofs.Stands.{Ins}
+use Rattle.code_generator.proofs.Relation.{Related, Focused, Given, Step}
+use Rattle.code_generator.proofs.Matching.{turned, by_none, by_one, by_two, going, gives}
 
 pub do_while : (q : Source) (p : Code) (t b : Form) (ks : List Item) (w : World) (f : Frame) (fs : List Frame) (m : Memory) → Focused q p (perform (while_form t b)) ks w f fs m → Step q p (Run (perform (while_form t b)) ks w) (On f fs m)
 do_while q p t b ks w f fs m r =

@@ -1,16 +1,15 @@
 -- Strict forms: the operands from left to right, and the action.
-use Rattle.std.proofs.Common.{◌≡◌, ℕ, zero, suc, ◌+◌, ◌<◌, ◌≤◌, ℤ, pos, negsuc, List, [], ◌∷◌, ◌++◌, refl, sym, ap, ◌∙◌, subst, arith, length, map, Bool, true, false, cond, Option, length-append, get_or}
+use Rattle.std.proofs.Common.{◌≡◌, ℕ, ◌+◌, ◌<◌, ℤ, pos, negsuc, List, [], ◌∷◌, ◌++◌, refl, sym, ap, ◌∙◌, subst, arith, length, map, Bool, true, false, cond, length-append, get_or}
 use Rattle.std.specs.Prelude.{nat_lt, codes}
 use Rattle.std.proofs.lemmas.List.{map-append, length-map}
-use Rattle.rb_syntax.specs.Form.{Action, give_nil, give_true, give_int, call_operator, call_puts, Form, strict, Forms, none, more}
+use Rattle.rb_syntax.specs.Form.{Action, give_nil, give_true, give_int, call_operator, call_puts, strict, Forms, none, more}
 use Rattle.rb_syntax.specs.Limits.{arity}
 use Rattle.rb_syntax.specs.declared.operator.Operator.{Operator}
 use Rattle.rb_syntax.specs.declared.operator.Operator.TheVariants.{Plus, Minus, Times, Equal, Less, LessEqual, Greater, GreaterEqual}
 use Rattle.rb_value.specs.declared.value.Value.{Value}
-use Rattle.rb_value.specs.declared.value.Value.TheVariants.{Nil, True, Int}
+use Rattle.rb_value.specs.declared.value.Value.TheVariants.{Nil, Int}
 use Rattle.rb_value.specs.declared.failure.Failure.{Failure}
 use Rattle.rite_code.specs.declared.code.Code.{Code}
-use Rattle.rite_code.specs.declared.instr.Operation.{Operation}
 use Rattle.rite_code.specs.declared.instr.Operation.TheVariants as ops
 use Rattle.rite_code.specs.Shape.{size_of}
 use Rattle.def_core.specs.Rows.{Outcome, gives, raises, writes, call, line_of}
@@ -20,13 +19,13 @@ use Rattle.def_eval.specs.Configuration.{Source, Part, operands, Item, inside, F
 use Rattle.def_eval.specs.Transition as evaluation
 use Rattle.def_eval.specs.Transition.{outcome, go}
 use Rattle.def_eval.specs.Measure.{measure, weights}
-use Rattle.def_machine.specs.State.{Slot, value, read, raised, body_at, Registers, slot_at, value_at, put, Frame, Memory, State, On, Off, shown}
+use Rattle.def_machine.specs.State.{value, read, raised, body_at, slot_at, value_at, Frame, Memory, On, Off}
 use Rattle.def_machine.specs.Turn as machine
 use Rattle.def_machine.specs.Turn.{turn, act, goto, write, throw}
 use Rattle.code_generator.specs.Gen.{action_of, action_size, before_operands, load_number, number_size}
 use Rattle.code_generator.specs.Gen as generator
-use Rattle.code_generator.proofs.Stands.{Around, Ins, Room, StandOperands, kept, spared}
-use Rattle.code_generator.proofs.Relation.{Holds, Related, Focused, Given, Awaits, Same, Fits, Step}
+use Rattle.code_generator.proofs.Stands.{Around, Room, StandOperands}
+use Rattle.code_generator.proofs.Relation.{Holds, Related, Focused, Given, Awaits, Same, Step}
 use Rattle.code_generator.proofs.Registers.{slot_same, same_above}
 use Rattle.code_generator.proofs.Keeping.{awaits_fits, keeps_above}
 use Rattle.code_generator.proofs.Matching.{turned, by_none, by_one, going, gives as gives_value, keeps_value}
