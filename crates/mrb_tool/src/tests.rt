@@ -1,33 +1,244 @@
-//! Answers over files and streams in memory.
+//! The program over files and streams in memory.
+ghost use Rattle.std.specs.Prelude.{◌<◌};
+
 use crate::rite::{End, rite};
 use rb_base::{MemoryFiles, MemorySink, MemorySource};
 use std::alloc::Global;
 use std::process::Abort;
 use std::test::Fail;
 
-/// How the words come out over one file `one.rb`, where the error stream takes three bytes a call and its
-/// calls of these numbers fail, and what it took.
-fn answer(alloc: Global, words: &[&str], fails: Vec<u64>) -> Result<(End, MemorySink), Fail> {
+/// What a call left behind.
+#[derive(Drop)]
+struct Left {
+    end: End,
+    files: MemoryFiles,
+    out: MemorySink,
+    err: MemorySink,
+}
+
+/// Calls the program with these words over one file `one.rb`. The file's calls of the numbers `fails` fail;
+/// the error stream takes three bytes a call.
+fn call(
+    alloc: Global,
+    words: &[&str],
+    source: &[u8],
+    fails: Vec<u64>,
+    mut out: MemorySink,
+    mut err: MemorySink,
+) -> Result<Left, Fail> {
     let mut given = Vec::new(alloc);
     for word in words {
         given.push(String::from_str(alloc, word)?)?;
     }
-    let mut files = MemoryFiles::new(alloc, Vec::new(alloc));
-    files.put("one.rb", b"puts 1 + 2 * 3\n")?;
+    let mut files = MemoryFiles::new(alloc, fails);
+    files.put("one.rb", source)?;
     let mut input = MemorySource::new(Vec::new(alloc), Vec::new(alloc));
-    let mut out = MemorySink::new(alloc, 3, Vec::new(alloc));
-    let mut err = MemorySink::new(alloc, 3, fails);
     let end = rite(alloc, &given, &mut files, &mut input, &mut out, &mut err);
-    Ok((end, err))
+    Ok(Left {
+        end,
+        files,
+        out,
+        err,
+    })
 }
 
+/// A sink that takes so many bytes a call and never fails.
+fn sink(alloc: Global, most: usize) -> MemorySink
+    requires { 0 < most }
+{
+    MemorySink::new(alloc, most, Vec::new(alloc))
+}
+
+/// Executes the source, with at most so many turns where a number is given.
+fn exec(alloc: Global, source: &[u8], steps: Option<&str>) -> Result<Left, Fail> {
+    let out = sink(alloc, 1);
+    let err = sink(alloc, 3);
+    let none = Vec::new(alloc);
+    match steps {
+        Some(n) => {
+            let words = ["exec", "--steps", n, "one.rb", "one.mrb"];
+            call(alloc, &words, source, none, out, err)
+        }
+        None => call(
+            alloc,
+            &["exec", "one.rb", "one.mrb"],
+            source,
+            none,
+            out,
+            err,
+        ),
+    }
+}
+
+#[test]
+fn runs_sources(rt: HostRuntime) -> Result<(), Fail> {
+    let rows = [
+        ("puts 1 + 2 * 3", "7\n"),
+        ("a = 2\nputs (a + 3) * 4 - 1", "19\n"),
+        ("puts 2147483647 * 2147483647 * 2", "9223372028264841218\n"),
+        (
+            "i = 0\nwhile i < 3\nputs i * i\ni = i + 1\nend",
+            "0\n1\n4\n",
+        ),
+        ("if 1 < 2; puts 1 else puts 2 end", "1\n"),
+        ("if 2 <= 1; puts 1 else puts 2 end", "2\n"),
+        ("if 1 == 1\n  if 3 > 4\n    puts 5\n  end\nend", ""),
+        ("puts 0 - 5 * (7 - 2 * 3)", "-5\n"),
+        ("", ""),
+        (";;\n ; \n", ""),
+    ];
+    for (source, lines) in rows {
+        let left = exec(rt.alloc(), source.as_bytes(), None)?;
+        assert_eq!(rt; left.end, End::Ended(0), "{source}");
+        assert_eq!(rt; left.out.bytes(), lines.as_bytes(), "{source}");
+        assert_eq!(rt; left.err.bytes().len(), 0, "{source}");
+        assert!(rt; left.files.get("one.mrb").is_some(), "{source}");
+    }
+    Ok(())
+}
+
+#[test]
+fn ends_with_an_overflow(rt: HostRuntime) -> Result<(), Fail> {
+    let left = exec(
+        rt.alloc(),
+        b"puts 1; puts 2147483647 * 2147483647 * 3",
+        None,
+    )?;
+    assert_eq!(rt; left.end, End::Uncaught);
+    assert_eq!(rt; left.end.status(), 1);
+    assert_eq!(rt; left.out.bytes(), b"1\n".as_slice());
+    assert_eq!(rt;
+        left.err.bytes(),
+        b"RangeError: integer overflow\n".as_slice()
+    );
+    Ok(())
+}
+
+#[test]
+fn stops_after_its_turns(rt: HostRuntime) -> Result<(), Fail> {
+    let source = b"while true; puts 1; end";
+    let left = exec(rt.alloc(), source, Some("1000"))?;
+    assert_eq!(rt; left.end, End::Spent);
+    assert_eq!(rt; left.end.status(), 122);
+    assert_eq!(rt; left.err.bytes(), b"spent: 1000 turns\n".as_slice());
+    // A line takes five turns: the test, its jump, the number, puts and the jump back.
+    assert_eq!(rt; left.out.bytes().len(), 400);
+    for (i, byte) in left.out.bytes().iter().enumerate() {
+        assert_eq!(rt; *byte, if i % 2 == 0 { b'1' } else { b'\n' });
+    }
+    let left = exec(rt.alloc(), source, Some("0"))?;
+    assert_eq!(rt; left.end, End::Spent);
+    assert_eq!(rt; left.out.bytes().len(), 0);
+    assert_eq!(rt; left.err.bytes(), b"spent: 0 turns\n".as_slice());
+    Ok(())
+}
+
+#[test]
+fn refuses_texts(rt: HostRuntime) -> Result<(), Fail> {
+    let texts = [
+        "puts (1",
+        "puts b",
+        "puts1",
+        "puts(1)",
+        "puts 1x",
+        "a = 01",
+        "a = 2147483648",
+        "if 1 < 2; end puts 1",
+        "if = 3",
+        "a = true",
+        "puts -1",
+        "if true; b = 1; end; puts b",
+        "while true; puts 1",
+        "puts 1 # one",
+    ];
+    for text in texts {
+        let left = exec(rt.alloc(), text.as_bytes(), None)?;
+        assert!(rt; matches!(left.end, End::Refused(_)), "{text}");
+        assert_eq!(rt; left.end.status(), 121, "{text}");
+        assert!(rt;
+            left.err.bytes().starts_with(b"refused: Syntax at "),
+            "{text}"
+        );
+        assert_eq!(rt; left.out.bytes().len(), 0, "{text}");
+        assert!(rt; left.files.get("one.mrb").is_none(), "{text}");
+    }
+    Ok(())
+}
+
+#[test]
+fn tells_faults_of_files(rt: HostRuntime) -> Result<(), Fail> {
+    let alloc = rt.alloc();
+    let words = ["exec", "two.rb", "one.mrb"];
+    let none = Vec::new(alloc);
+    let missing = call(
+        alloc,
+        &words,
+        b"puts 1",
+        none,
+        sink(alloc, 1),
+        sink(alloc, 3),
+    )?;
+    assert_eq!(rt; missing.end, End::FileFault);
+    assert_eq!(rt; missing.end.status(), 126);
+    assert_eq!(rt; missing.err.bytes(), b"file fault\n".as_slice());
+    let words = ["exec", "one.rb", "one.mrb"];
+    let second = vec![in alloc; 2u64]?;
+    let unstored = call(
+        alloc,
+        &words,
+        b"puts 1",
+        second,
+        sink(alloc, 1),
+        sink(alloc, 3),
+    )?;
+    assert_eq!(rt; unstored.end, End::FileFault);
+    assert_eq!(rt; unstored.out.bytes().len(), 0);
+    Ok(())
+}
+
+#[test]
+fn tells_faults_of_streams(rt: HostRuntime) -> Result<(), Fail> {
+    let alloc = rt.alloc();
+    let words = ["exec", "one.rb", "one.mrb"];
+    let sixth = MemorySink::new(alloc, 1, vec![in alloc; 6u64]?);
+    let none = Vec::new(alloc);
+    let cut = call(
+        alloc,
+        &words,
+        b"puts 123456789",
+        none,
+        sixth,
+        sink(alloc, 3),
+    )?;
+    assert_eq!(rt; cut.end, End::OutputFault);
+    assert_eq!(rt; cut.end.status(), 125);
+    assert_eq!(rt; cut.out.bytes(), b"12345".as_slice());
+    assert_eq!(rt; cut.err.bytes().len(), 0);
+    let third = MemorySink::new(alloc, 3, vec![in alloc; 3u64]?);
+    let none = Vec::new(alloc);
+    let words = ["exec", "two.rb", "one.mrb"];
+    let cut = call(alloc, &words, b"puts 1", none, sink(alloc, 1), third)?;
+    assert_eq!(rt; cut.end, End::OutputFault);
+    assert_eq!(rt; cut.err.bytes(), b"file f".as_slice());
+    Ok(())
+}
+
+/// These words are no command.
 fn is_usage(rt: &impl Abort, alloc: Global, words: &[&str]) -> Result<(), Fail> {
-    let (end, err) = answer(alloc, words, Vec::new(alloc))?;
-    assert_eq!(rt; end, End::Usage);
-    assert_eq!(rt; end.status(), 120);
+    let none = Vec::new(alloc);
+    let left = call(
+        alloc,
+        words,
+        b"puts 1",
+        none,
+        sink(alloc, 1),
+        sink(alloc, 3),
+    )?;
+    assert_eq!(rt; left.end, End::Usage);
+    assert_eq!(rt; left.end.status(), 120);
     let usage =
         b"usage: rite build SRC OUT; run [--steps N] [--stats] FILE; exec [--steps N] SRC OUT; list FILE; info FILE; sample K\n";
-    assert_eq!(rt; err.bytes(), usage.as_slice());
+    assert_eq!(rt; left.err.bytes(), usage.as_slice());
     Ok(())
 }
 
@@ -43,34 +254,5 @@ fn refuses_words_that_are_no_command(rt: HostRuntime) -> Result<(), Fail> {
     )?;
     is_usage(&rt, rt.alloc(), &["exec", "--stats", "b"])?;
     is_usage(&rt, rt.alloc(), &["build", "a"])?;
-    Ok(())
-}
-
-#[test]
-fn tells_a_missing_source(rt: HostRuntime) -> Result<(), Fail> {
-    let words = [
-        "exec",
-        "--steps",
-        "18446744073709551615",
-        "two.rb",
-        "two.mrb",
-    ];
-    let (end, err) = answer(rt.alloc(), &words, Vec::new(rt.alloc()))?;
-    assert_eq!(rt; end, End::FileFault);
-    assert_eq!(rt; end.status(), 126);
-    assert_eq!(rt; err.bytes(), b"file fault\n".as_slice());
-    Ok(())
-}
-
-#[test]
-fn reports_an_error_stream_that_fails(rt: HostRuntime) -> Result<(), Fail> {
-    let (end, err) = answer(
-        rt.alloc(),
-        &["exec", "two.rb", "two.mrb"],
-        vec![in rt.alloc(); 3]?,
-    )?;
-    assert_eq!(rt; end, End::OutputFault);
-    assert_eq!(rt; end.status(), 125);
-    assert_eq!(rt; err.bytes(), b"file f".as_slice());
     Ok(())
 }
