@@ -7,7 +7,7 @@ use Rattle.rb_syntax.specs.View.{◌>>=◌}
 use Rattle.rb_syntax.specs.declared.operator.Operator.{Operator}
 use Rattle.path_front.specs.Tree.{operation, block}
 use Rattle.path_front.specs.Parts.{first, behind, name_at}
-use Rattle.path_front.specs.Grammar.{Text, Read, is_separator, is_assign, is_right_paren, is_end, expect, is_adding, is_multiplying, is_comparing, operator_in, chain_turn, chain_from, chain, unit_at, unit, product, sum, inner_sum, whole_sum, comparison, test_at, test, heading, separators_from, skip_separators, ends_lines, ends_line, otherwise_at, otherwise, branch, repeat, line_at, line, lines_from, lines, inner_lines, finished, whole_text}
+use Rattle.path_front.specs.Grammar.{Text, Read, is_separator, is_assign, is_right_paren, is_end, expect, is_adding, is_multiplying, is_comparing, operator_in, chain_turn, chain_from, chain, unit_at, unit, product, sum, inner_sum, whole_sum, comparison, test_at, whole_test, heading, separators_from, skip_separators, ends_lines, ends_line, otherwise_at, otherwise, branch, repeat, line_at, line, lines_from, lines, inner_lines, finished, whole_text}
 use Rattle.path_front.specs.declared.token.Token.{Token}
 use Rattle.path_front.specs.declared.token.Token.TheVariants.{Puts, If, Else, End, While, True, Number, Name, LeftParen, Finish}
 use Rattle.std.specs.Prelude.{MatchOption}
@@ -140,8 +140,8 @@ test_at_good : (t : Token) (ts : Text) → first ts ≡ t → Holds (Fits ts) (t
 test_at_good True ts is = let less = present True ts is refl in record { plain = refl; size = omega arith }
 test_at_good _ ts is = compared_good ts
 
-test_good : Good test
-unfolding test
+test_good : Good whole_test
+unfolding whole_test
 test_good ts = test_at_good (first ts) ts refl
 
 -- a heading takes a separator, too
@@ -152,7 +152,7 @@ pub record Heads (ts : Text) (r : Form × Text) : Type 0 where
 heading_good : (ts : Text) → Holds (Heads ts) (heading ts)
 unfolding heading
 heading_good ts =
-    holds_bind (Fits ts) (Heads ts) (test ts) (λ t. expect is_separator t.1 >>= (λ body. Some (t.0, body))) (test_good ts)
+    holds_bind (Fits ts) (Heads ts) (whole_test ts) (λ t. expect is_separator t.1 >>= (λ body. Some (t.0, body))) (test_good ts)
     (λ t ft. holds_bind (Shorter t.1) (Heads ts) (expect is_separator t.1) (λ body. Some (t.0, body)) (expect_shorter is_separator refl t.1)
     (λ body short. record { plain = ft.plain; size = omega (arith, ft.size) }))
 

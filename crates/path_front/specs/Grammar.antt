@@ -110,12 +110,12 @@ abbrev pub test_at : Token → Text → Read Form
 test_at True ts = Some (strict give_true none, behind ts)
 test_at _ ts = whole_sum ts >>= (λ r. comparison r.0 (operator_in is_comparing (first r.1)) r.1)
 
-unfoldable pub test : Text → Read Form
-test ts = test_at (first ts) ts
+unfoldable pub whole_test : Text → Read Form
+whole_test ts = test_at (first ts) ts
 
 -- test sep, behind "if" or "while"
 unfoldable pub heading : Text → Read Form
-heading ts = test ts >>= (λ t. expect is_separator t.1 >>= (λ body. Some (t.0, body)))
+heading ts = whole_test ts >>= (λ t. expect is_separator t.1 >>= (λ body. Some (t.0, body)))
 
 -- at most n separators
 unfoldable pub separators_from : ℕ → Text → Text

@@ -186,9 +186,9 @@ fn whole_sum(alloc: Global, text: &[u8]) -> Result<(Sum, &[u8]), ParseError>
 }
 
 /// `true`, or a comparison of two sums.
-#[tactic(auto, unfolding(crate::specs::Grammar::test))]
+#[tactic(auto, unfolding(crate::specs::Grammar::whole_test))]
 fn test(alloc: Global, text: &[u8]) -> Result<(Test, &[u8]), ParseError>
-    ensures value { Reads test_form result (grammar.test text.now) }
+    ensures value { Reads test_form result (grammar.whole_test text.now) }
     ensures shorter { Shortens text.now result }
 {
     if let Token::True = first(text) {
