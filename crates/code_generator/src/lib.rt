@@ -14,6 +14,3 @@ mod program;
 mod tree;
 
 pub use program::generate;
-
-#[cfg(test)]
-mod tests;

@@ -98,6 +98,19 @@ fn runs_sources(rt: HostRuntime) -> Result<(), Fail> {
 }
 
 #[test]
+fn stores_the_code(rt: HostRuntime) -> Result<(), Fail> {
+    let left = exec(rt.alloc(), b"puts 1 + 2 * 3", None)?;
+    let file = b"RITE0300\x00\x00\x00\x56RBWN0002\
+        IREP\x00\x00\x00\x3a0300\
+        \x00\x00\x00\x2e\x00\x01\x00\x05\x00\x00\x00\x00\x00\x00\x00\x12\
+        \x03\x02\x01\x03\x03\x02\x03\x04\x03\x29\x03\x27\x02\x1c\x01\x00\x01\x48\
+        \x00\x00\x00\x01\x00\x00\x00\x04puts\
+        END\x00\x00\x00\x00\x08";
+    assert!(rt; left.files.get("one.mrb") == Some(file.as_slice()));
+    Ok(())
+}
+
+#[test]
 fn ends_with_an_overflow(rt: HostRuntime) -> Result<(), Fail> {
     let left = exec(
         rt.alloc(),
