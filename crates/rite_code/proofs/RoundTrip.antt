@@ -1,26 +1,32 @@
 -- What is spelled is decoded again.
-use Rattle.std.proofs.Common.{ℕ, ◌+◌, ◌^◌, ◌<◌, ◌≤◌, ◌≡◌, List, [], ◌∷◌, ◌++◌, length, arith, ap, refl, ◌∙◌, Bool, true, false}
-use Rattle.std.specs.Prelude.{◌&&◌, ℤ, pos, negsuc, IsTrue, Option, Some}
-use Rattle.std.specs.Int.{to_be_bytes, from_be_bytes, cast_unsigned, cast_signed, w16, w32}
+use Rattle.std.proofs.Common.{ℕ, ◌+◌, ◌*◌, ◌/◌, ◌%◌, ◌^◌, ◌<◌, ◌≤◌, ◌≡◌, List, [], ◌∷◌, ◌++◌, length, arith, ap, refl, sym, ◌∙◌, Bool, true, false, ltb}
+use Rattle.std.specs.Prelude.{◌&&◌, ℤ, pos, negsuc, IsTrue, Option, Some, nat_eq, if◌then◌else◌}
+use Rattle.std.specs.Int.{to_be_bytes, from_be_bytes, cast_unsigned, cast_signed, w8, w16, w32}
 use Rattle.std.proofs.lemmas.Nat.{from_be_bytes-to_be_bytes_2, from_be_bytes-to_be_bytes_4}
 use Rattle.std.proofs.lemmas.Int.{to_z-of_z}
 use Rattle.std.proofs.lemmas.Bool.{ltb-true, le-ltb, and_parts}
-use Rattle.std.proofs.lemmas.List.{drop_at}
+use Rattle.std.proofs.lemmas.List.{drop_at, length-append}
 use mir.Val.{SFits}
-use Rattle.rite_code.specs.declared.instr.Operation.{Operation}
-use Rattle.rite_code.specs.declared.instr.Operation.TheVariants.{Move, LoadI, LoadI16, LoadI32, LoadNil, LoadT, Jmp, JmpIf, JmpNot, SSend, Add, Sub, Mul, Eq, Lt, Le, Gt, Ge, Stop}
 use Rattle.rite_code.specs.declared.opcode.Opcode.{Opcode}
-use Rattle.rite_code.specs.declared.opcode.Opcode.TheVariants as opcode
 use Rattle.rite_code.specs.declared.opcode.Shape.{Shape}
-use Rattle.rite_code.specs.declared.opcode.Shape.TheVariants.{Z, B, BB, BBB, S, BS, BSS}
-use Rattle.rite_code.specs.declared.opcode.Operands.{Operands}
+use Rattle.rite_code.specs.declared.opcode.Shape.TheVariants.{Z, B, BB, BBB, BBI, S, BS, BSS, W}
+use Rattle.rite_code.specs.declared.operation.Parameters.{Parameters}
+use Rattle.rite_code.specs.declared.operation.Operands.{Operands}
+use Rattle.rite_code.specs.declared.operation.Operation.{Operation}
 use Rattle.rite_code.specs.Instruction.{Instruction, narrow}
-use Rattle.rite_code.specs.Shape.{size_of, fits, fits_as, is_byte, is_short, is_two_bytes, is_long}
-use Rattle.rite_code.specs.Spelling.{operands, operand_size, operation_of, opcode_of, shape_of, body_of, encoding, front, wide_front, narrow_front, placed, decode_wide_at}
+use Rattle.rite_code.specs.Table.{number_of, shape_of, opcode_of}
+use Rattle.rite_code.specs.Operation.{opcode_in, operands_in, operation_of, keep, numbers, with_signed, with_parameters}
+use Rattle.rite_code.specs.Shape.{size_of, operand_size, grows, fits, fits_as, fits_shape, are_counts, is_byte, is_short, is_two_bytes, is_long, is_signed_byte, is_index, is_signed_index, is_distance}
+use Rattle.rite_code.specs.Spelling.{bit, word_of, word_at, word_bytes, parameters_of, operands, shape_bytes, body_of, narrow_body, wide_body, encoding, front, wide_front, narrow_front, placed, decode_at, decode_wide_at, decode, index_bytes, distance_bytes, signed_index_bytes, index_at, signed_index_at, distance_at}
+use Rattle.rite_code.proofs.Tables.{opcode_of-number_of, operation_of-keep, number_of-ext}
 
--- two bytes of a number, and a signed number of two and of four bytes
+-- two bytes of a number, and a signed number of one byte, of two and of four
 pub two : (n : ℕ) → IsTrue (is_two_bytes n) → from_be_bytes w16 (to_be_bytes w16 n) ≡ n
 two n h = from_be_bytes-to_be_bytes_2 n (omega (arith, ltb-true n 65536 h))
+
+byte_fits : (z : ℤ) → IsTrue (is_signed_byte z) → SFits w8 z
+byte_fits (pos n) h = record { sfits = omega (arith, ltb-true n 128 h) }
+byte_fits (negsuc n) h = record { sfits = omega (arith, ltb-true n 128 h) }
 
 short_fits : (z : ℤ) → IsTrue (is_short z) → SFits w16 z
 short_fits (pos n) h = record { sfits = omega (arith, ltb-true n 32768 h) }
@@ -38,111 +44,155 @@ long_bits : (z : ℤ) → IsTrue (is_long z) → cast_unsigned w32 z < 2 ^ 32
 long_bits (pos n) h = omega (arith, ltb-true n 2147483648 h)
 long_bits (negsuc n) h = omega arith
 
+pub tiny : (z : ℤ) → IsTrue (is_signed_byte z) → cast_signed w8 (cast_unsigned w8 z) ≡ z
+tiny z h = to_z-of_z w8 z (byte_fits z h)
+
 pub short : (z : ℤ) → IsTrue (is_short z) → cast_signed w16 (from_be_bytes w16 (to_be_bytes w16 (cast_unsigned w16 z))) ≡ z
 short z h = ap (cast_signed w16) (from_be_bytes-to_be_bytes_2 (cast_unsigned w16 z) (short_bits z h)) ∙ to_z-of_z w16 z (short_fits z h)
 
 pub long : (z : ℤ) → IsTrue (is_long z) → cast_signed w32 (from_be_bytes w32 (to_be_bytes w32 (cast_unsigned w32 z))) ≡ z
 long z h = ap (cast_signed w32) (from_be_bytes-to_be_bytes_4 (cast_unsigned w32 z) (long_bits z h)) ∙ to_z-of_z w32 z (long_fits z h)
 
--- the operands of an instruction that are all there
-abbrev operands_of : ℕ → ℕ → ℕ → ℤ → Operands
-operands_of a b c by = record { a = a; b = b; c = c; by = by }
+-- the bits of ENTER
+bit_small : (b : Bool) → bit b < 2
+bit_small false = omega arith
+bit_small true = omega arith
 
-abbrev decoded : Bool → Opcode → Operands → ℕ → Option (Instruction × ℕ)
-decoded w op o size = Some (record { wide = w; operation = operation_of op o }, size)
+bit_again : (b : Bool) (n : ℕ) → n ≡ bit b → nat_eq n 1 ≡ b
+bit_again false n h = rw h refl
+bit_again true n h = rw h refl
 
-body_is : (w : Bool) (prefix : ℕ) (op : Opcode) (s : Shape) (bytes : List ℕ) (o : Operands) → shape_of op ≡ s → operand_size w s ≤ length bytes → operands w s bytes ≡ o → body_of w prefix op bytes ≡ decoded w op o (prefix + 1 + operand_size w s)
-body_is w prefix op s bytes o e enough read = rw (e, le-ltb (length bytes) (operand_size w s) enough, read) refl
+record Counts (p : Parameters) : Type 0 where
+  required : p.required < 128
+  optional : p.optional < 128
+  post : p.post < 128
 
-same : {a a' b b' c c' : ℕ} {by by' : ℤ} → a ≡ a' → b ≡ b' → c ≡ c' → by ≡ by' → operands_of a b c by ≡ operands_of a' b' c' by'
-same p q r s = cc
+counts : (p : Parameters) → IsTrue (are_counts p) → Counts p
+counts p h = let last = and_parts (ltb p.required 128 && ltb p.optional 128) (ltb p.post 128) h in let first = and_parts (ltb p.required 128) (ltb p.optional 128) last.0 in record {
+  required = ltb-true p.required 128 first.0;
+  optional = ltb-true p.optional 128 first.1;
+  post = ltb-true p.post 128 last.1;
+}
 
-z_narrow : (op : Opcode) (rest : List ℕ) → shape_of op ≡ Z → body_of false 0 op ([] ++ rest) ≡ decoded false op (operands_of 0 0 0 (pos 0)) 1
-z_narrow op rest e = body_is false 0 op Z ([] ++ rest) (operands_of 0 0 0 (pos 0)) e (omega arith) (same refl refl refl refl)
+abbrev parameters : ℕ → ℕ → Bool → ℕ → Bool → Bool → Parameters
+parameters r o e p b s = record { required = r; optional = o; rest = e; post = p; block = b; spare = s }
 
-b_narrow : (op : Opcode) (a : ℕ) (rest : List ℕ) → shape_of op ≡ B → IsTrue (is_byte a) → body_of false 0 op ((a ∷ []) ++ rest) ≡ decoded false op (operands_of a 0 0 (pos 0)) 2
-b_narrow op a rest e h0 = body_is false 0 op B ((a ∷ []) ++ rest) (operands_of a 0 0 (pos 0)) e (omega arith) (same refl refl refl refl)
+same_parameters : {r r' o o' p p' : ℕ} {e e' b b' s s' : Bool} → r ≡ r' → o ≡ o' → e ≡ e' → p ≡ p' → b ≡ b' → s ≡ s' → parameters r o e p b s ≡ parameters r' o' e' p' b' s'
+same_parameters a b c d e f = cc
 
-bb_narrow : (op : Opcode) (a : ℕ) (b : ℕ) (rest : List ℕ) → shape_of op ≡ BB → IsTrue (is_byte a) → IsTrue (is_byte b) → body_of false 0 op ((a ∷ []) ++ (b ∷ []) ++ rest) ≡ decoded false op (operands_of a b 0 (pos 0)) 3
-bb_narrow op a b rest e h0 h1 = body_is false 0 op BB ((a ∷ []) ++ (b ∷ []) ++ rest) (operands_of a b 0 (pos 0)) e (omega arith) (same refl refl refl refl)
+pub parameters_again : (p : Parameters) → IsTrue (are_counts p) → parameters_of (word_of p) ≡ p
+parameters_again p h =
+    let k = counts p h in
+    let r = bit_small p.rest in
+    let b = bit_small p.block in
+    let s = bit_small p.spare in
+    same_parameters
+      (omega (arith, k.required, k.optional, k.post, r, b, s))
+      (omega (arith, k.required, k.optional, k.post, r, b, s))
+      (bit_again p.rest _ (omega (arith, k.required, k.optional, k.post, r, b, s)))
+      (omega (arith, k.required, k.optional, k.post, r, b, s))
+      (bit_again p.block _ (omega (arith, k.required, k.optional, k.post, r, b, s)))
+      (bit_again p.spare _ (omega (arith, k.required, k.optional, k.post, r, b, s)))
 
-bbb_narrow : (op : Opcode) (a : ℕ) (b : ℕ) (c : ℕ) (rest : List ℕ) → shape_of op ≡ BBB → IsTrue (is_byte a) → IsTrue (is_byte b) → IsTrue (is_byte c) → body_of false 0 op ((a ∷ []) ++ (b ∷ []) ++ (c ∷ []) ++ rest) ≡ decoded false op (operands_of a b c (pos 0)) 4
-bbb_narrow op a b c rest e h0 h1 h2 = body_is false 0 op BBB ((a ∷ []) ++ (b ∷ []) ++ (c ∷ []) ++ rest) (operands_of a b c (pos 0)) e (omega arith) (same refl refl refl refl)
+word_again : (n : ℕ) (rest : List ℕ) → n < 16777216 → word_at (word_bytes n ++ rest) 0 ≡ n
+word_again n rest h = omega (arith, h)
 
-s_narrow : (op : Opcode) (by : ℤ) (rest : List ℕ) → shape_of op ≡ S → IsTrue (is_short by) → body_of false 0 op (to_be_bytes w16 (cast_unsigned w16 by) ++ rest) ≡ decoded false op (operands_of 0 0 0 by) 3
-s_narrow op by rest e h0 = body_is false 0 op S (to_be_bytes w16 (cast_unsigned w16 by) ++ rest) (operands_of 0 0 0 by) e (omega arith) (same refl refl refl (short by h0))
+word_small : (p : Parameters) → IsTrue (are_counts p) → word_of p < 16777216
+word_small p h = let k = counts p h in omega (arith, k.required, k.optional, k.post, bit_small p.rest, bit_small p.block, bit_small p.spare)
 
-bs_narrow : (op : Opcode) (a : ℕ) (by : ℤ) (rest : List ℕ) → shape_of op ≡ BS → IsTrue (is_byte a) → IsTrue (is_short by) → body_of false 0 op ((a ∷ []) ++ to_be_bytes w16 (cast_unsigned w16 by) ++ rest) ≡ decoded false op (operands_of a 0 0 by) 4
-bs_narrow op a by rest e h0 h1 = body_is false 0 op BS ((a ∷ []) ++ to_be_bytes w16 (cast_unsigned w16 by) ++ rest) (operands_of a 0 0 by) e (omega arith) (same refl refl refl (short by h1))
+-- the operands of a shape
+numbers_same : {a a' b b' c c' : ℕ} → a ≡ a' → b ≡ b' → c ≡ c' → numbers a b c ≡ numbers a' b' c'
+numbers_same p q r = cc
 
-bss_narrow : (op : Opcode) (a : ℕ) (by : ℤ) (rest : List ℕ) → shape_of op ≡ BSS → IsTrue (is_byte a) → IsTrue (is_long by) → body_of false 0 op ((a ∷ []) ++ to_be_bytes w32 (cast_unsigned w32 by) ++ rest) ≡ decoded false op (operands_of a 0 0 by) 6
-bss_narrow op a by rest e h0 h1 = body_is false 0 op BSS ((a ∷ []) ++ to_be_bytes w32 (cast_unsigned w32 by) ++ rest) (operands_of a 0 0 by) e (omega arith) (same refl refl refl (long by h1))
+signed_same : {a a' b b' : ℕ} {z z' : ℤ} → a ≡ a' → b ≡ b' → z ≡ z' → with_signed a b z ≡ with_signed a' b' z'
+signed_same p q r = cc
 
-b_wide : (op : Opcode) (a : ℕ) (rest : List ℕ) → shape_of op ≡ B → IsTrue (is_two_bytes a) → body_of true 1 op (to_be_bytes w16 a ++ rest) ≡ decoded true op (operands_of a 0 0 (pos 0)) 4
-b_wide op a rest e h0 = body_is true 1 op B (to_be_bytes w16 a ++ rest) (operands_of a 0 0 (pos 0)) e (omega arith) (same (two a h0) refl refl refl)
+narrow_again : (s : Shape) (x : Operands) (rest : List ℕ) → IsTrue (fits_shape false s x) → operands false s (shape_bytes false s x ++ rest) ≡ keep s x
+narrow_again Z x rest h = refl
+narrow_again B x rest h = refl
+narrow_again BB x rest h = refl
+narrow_again BBB x rest h = refl
+narrow_again BBI x rest h = signed_same refl refl (tiny x.by (and_parts (is_byte x.a && is_byte x.b) (is_signed_byte x.by) h).1)
+narrow_again S x rest h = signed_same refl refl (short x.by h)
+narrow_again BS x rest h = signed_same refl refl (short x.by (and_parts (is_byte x.a) (is_short x.by) h).1)
+narrow_again BSS x rest h = signed_same refl refl (long x.by (and_parts (is_byte x.a) (is_long x.by) h).1)
+narrow_again W x rest h = ap (λ n. with_parameters (parameters_of n)) (word_again (word_of x.parameters) rest (word_small x.parameters h)) ∙ ap with_parameters (parameters_again x.parameters h)
 
-bb_wide : (op : Opcode) (a : ℕ) (b : ℕ) (rest : List ℕ) → shape_of op ≡ BB → IsTrue (is_two_bytes a) → IsTrue (is_two_bytes b) → body_of true 1 op (to_be_bytes w16 a ++ to_be_bytes w16 b ++ rest) ≡ decoded true op (operands_of a b 0 (pos 0)) 6
-bb_wide op a b rest e h0 h1 = body_is true 1 op BB (to_be_bytes w16 a ++ to_be_bytes w16 b ++ rest) (operands_of a b 0 (pos 0)) e (omega arith) (same (two a h0) (two b h1) refl refl)
+wide_again : (s : Shape) (x : Operands) (rest : List ℕ) → IsTrue (fits_shape true s x) → operands true s (shape_bytes true s x ++ rest) ≡ keep s x
+wide_again Z x rest h = absurd cc
+wide_again B x rest h = numbers_same (two x.a h) refl refl
+wide_again BB x rest h = let p = and_parts (is_two_bytes x.a) (is_two_bytes x.b) h in numbers_same (two x.a p.0) (two x.b p.1) refl
+wide_again BBB x rest h = let q = and_parts (is_two_bytes x.a && is_two_bytes x.b) (is_two_bytes x.c) h in let p = and_parts (is_two_bytes x.a) (is_two_bytes x.b) q.0 in numbers_same (two x.a p.0) (two x.b p.1) (two x.c q.1)
+wide_again BBI x rest h = let q = and_parts (is_two_bytes x.a && is_two_bytes x.b) (is_short x.by) h in let p = and_parts (is_two_bytes x.a) (is_two_bytes x.b) q.0 in signed_same (two x.a p.0) (two x.b p.1) (short x.by q.1)
+wide_again S x rest h = signed_same refl refl (long x.by h)
+wide_again BS x rest h = let p = and_parts (is_two_bytes x.a) (is_long x.by) h in signed_same (two x.a p.0) refl (long x.by p.1)
+wide_again BSS x rest h = let p = and_parts (is_two_bytes x.a) (is_long x.by) h in signed_same (two x.a p.0) refl (long x.by p.1)
+wide_again W x rest h = absurd cc
 
-bbb_wide : (op : Opcode) (a : ℕ) (b : ℕ) (c : ℕ) (rest : List ℕ) → shape_of op ≡ BBB → IsTrue (is_two_bytes a) → IsTrue (is_two_bytes b) → IsTrue (is_two_bytes c) → body_of true 1 op (to_be_bytes w16 a ++ to_be_bytes w16 b ++ to_be_bytes w16 c ++ rest) ≡ decoded true op (operands_of a b c (pos 0)) 8
-bbb_wide op a b c rest e h0 h1 h2 = body_is true 1 op BBB (to_be_bytes w16 a ++ to_be_bytes w16 b ++ to_be_bytes w16 c ++ rest) (operands_of a b c (pos 0)) e (omega arith) (same (two a h0) (two b h1) (two c h2) refl)
+operands_again : (w : Bool) (s : Shape) (x : Operands) (rest : List ℕ) → IsTrue (fits_shape w s x) → operands w s (shape_bytes w s x ++ rest) ≡ keep s x
+operands_again false s x rest h = narrow_again s x rest h
+operands_again true s x rest h = wide_again s x rest h
 
-s_wide : (op : Opcode) (by : ℤ) (rest : List ℕ) → shape_of op ≡ S → IsTrue (is_long by) → body_of true 1 op (to_be_bytes w32 (cast_unsigned w32 by) ++ rest) ≡ decoded true op (operands_of 0 0 0 by) 6
-s_wide op by rest e h0 = body_is true 1 op S (to_be_bytes w32 (cast_unsigned w32 by) ++ rest) (operands_of 0 0 0 by) e (omega arith) (same refl refl refl (long by h0))
+pub length-shape_bytes : (w : Bool) (s : Shape) (x : Operands) → length (shape_bytes w s x) ≡ operand_size w s
+length-shape_bytes false Z x = refl
+length-shape_bytes false B x = refl
+length-shape_bytes false BB x = refl
+length-shape_bytes false BBB x = refl
+length-shape_bytes false BBI x = refl
+length-shape_bytes false S x = refl
+length-shape_bytes false BS x = refl
+length-shape_bytes false BSS x = refl
+length-shape_bytes false W x = refl
+length-shape_bytes true Z x = refl
+length-shape_bytes true B x = refl
+length-shape_bytes true BB x = refl
+length-shape_bytes true BBB x = refl
+length-shape_bytes true BBI x = refl
+length-shape_bytes true S x = refl
+length-shape_bytes true BS x = refl
+length-shape_bytes true BSS x = refl
+length-shape_bytes true W x = refl
 
-bs_wide : (op : Opcode) (a : ℕ) (by : ℤ) (rest : List ℕ) → shape_of op ≡ BS → IsTrue (is_two_bytes a) → IsTrue (is_long by) → body_of true 1 op (to_be_bytes w16 a ++ to_be_bytes w32 (cast_unsigned w32 by) ++ rest) ≡ decoded true op (operands_of a 0 0 by) 8
-bs_wide op a by rest e h0 h1 = body_is true 1 op BS (to_be_bytes w16 a ++ to_be_bytes w32 (cast_unsigned w32 by) ++ rest) (operands_of a 0 0 by) e (omega arith) (same (two a h0) refl refl (long by h1))
+long_enough : (w : Bool) (s : Shape) (x : Operands) (rest : List ℕ) → ltb (length (shape_bytes w s x ++ rest)) (operand_size w s) ≡ false
+long_enough w s x rest = le-ltb _ _ (simp (length-append, length-shape_bytes w s x) (omega arith))
 
-bss_wide : (op : Opcode) (a : ℕ) (by : ℤ) (rest : List ℕ) → shape_of op ≡ BSS → IsTrue (is_two_bytes a) → IsTrue (is_long by) → body_of true 1 op (to_be_bytes w16 a ++ to_be_bytes w32 (cast_unsigned w32 by) ++ rest) ≡ decoded true op (operands_of a 0 0 by) 8
-bss_wide op a by rest e h0 h1 = body_is true 1 op BSS (to_be_bytes w16 a ++ to_be_bytes w32 (cast_unsigned w32 by) ++ rest) (operands_of a 0 0 by) e (omega arith) (same (two a h0) refl refl (long by h1))
+body_again : (w : Bool) (prefix : ℕ) (op : Opcode) (x : Operands) (rest : List ℕ) → IsTrue (fits_shape w (shape_of op) x) → body_of w prefix op (shape_bytes w (shape_of op) x ++ rest) ≡ Some (record { wide = w; operation = operation_of op (keep (shape_of op) x) }, prefix + 1 + operand_size w (shape_of op))
+body_again w prefix op x rest h = rw (long_enough w (shape_of op) x rest, operands_again w (shape_of op) x rest h) refl
 
-front_narrow : (o : Operation) (rest : List ℕ) → IsTrue (fits_as false o) → front (encoding (record { wide = false; operation = o }) ++ rest) ≡ Some (record { wide = false; operation = o }, length (encoding (record { wide = false; operation = o })))
-unfolding encoding front wide_front narrow_front opcode_of
-front_narrow (Move a b) rest h = bb_narrow opcode.Move a b rest refl (and_parts (is_byte a) (is_byte b) h).0 (and_parts (is_byte a) (is_byte b) h).1
-front_narrow (LoadI a b) rest h = bb_narrow opcode.LoadI a b rest refl (and_parts (is_byte a) (is_byte b) h).0 (and_parts (is_byte a) (is_byte b) h).1
-front_narrow (LoadI16 a by) rest h = bs_narrow opcode.LoadI16 a by rest refl (and_parts (is_byte a) (is_short by) h).0 (and_parts (is_byte a) (is_short by) h).1
-front_narrow (LoadI32 a by) rest h = bss_narrow opcode.LoadI32 a by rest refl (and_parts (is_byte a) (is_long by) h).0 (and_parts (is_byte a) (is_long by) h).1
-front_narrow (LoadNil a) rest h = b_narrow opcode.LoadNil a rest refl h
-front_narrow (LoadT a) rest h = b_narrow opcode.LoadT a rest refl h
-front_narrow (Jmp by) rest h = s_narrow opcode.Jmp by rest refl h
-front_narrow (JmpIf a by) rest h = bs_narrow opcode.JmpIf a by rest refl (and_parts (is_byte a) (is_short by) h).0 (and_parts (is_byte a) (is_short by) h).1
-front_narrow (JmpNot a by) rest h = bs_narrow opcode.JmpNot a by rest refl (and_parts (is_byte a) (is_short by) h).0 (and_parts (is_byte a) (is_short by) h).1
-front_narrow (SSend a b c) rest h = bbb_narrow opcode.SSend a b c rest refl (and_parts (is_byte a) (is_byte b) (and_parts (is_byte a && is_byte b) (is_byte c) h).0).0 (and_parts (is_byte a) (is_byte b) (and_parts (is_byte a && is_byte b) (is_byte c) h).0).1 (and_parts (is_byte a && is_byte b) (is_byte c) h).1
-front_narrow (Add a) rest h = b_narrow opcode.Add a rest refl h
-front_narrow (Sub a) rest h = b_narrow opcode.Sub a rest refl h
-front_narrow (Mul a) rest h = b_narrow opcode.Mul a rest refl h
-front_narrow (Eq a) rest h = b_narrow opcode.Eq a rest refl h
-front_narrow (Lt a) rest h = b_narrow opcode.Lt a rest refl h
-front_narrow (Le a) rest h = b_narrow opcode.Le a rest refl h
-front_narrow (Gt a) rest h = b_narrow opcode.Gt a rest refl h
-front_narrow (Ge a) rest h = b_narrow opcode.Ge a rest refl h
-front_narrow Stop rest h = z_narrow opcode.Stop rest refl
+wide_grows : (s : Shape) (x : Operands) → IsTrue (fits_shape true s x) → grows s ≡ true
+wide_grows Z x h = absurd cc
+wide_grows B x h = refl
+wide_grows BB x h = refl
+wide_grows BBB x h = refl
+wide_grows BBI x h = refl
+wide_grows S x h = refl
+wide_grows BS x h = refl
+wide_grows BSS x h = refl
+wide_grows W x h = absurd cc
 
-front_wide : (o : Operation) (rest : List ℕ) → IsTrue (fits_as true o) → front (encoding (record { wide = true; operation = o }) ++ rest) ≡ Some (record { wide = true; operation = o }, length (encoding (record { wide = true; operation = o })))
-unfolding encoding front wide_front narrow_front opcode_of
-front_wide (Move a b) rest h = bb_wide opcode.Move a b rest refl (and_parts (is_two_bytes a) (is_two_bytes b) h).0 (and_parts (is_two_bytes a) (is_two_bytes b) h).1
-front_wide (LoadI a b) rest h = bb_wide opcode.LoadI a b rest refl (and_parts (is_two_bytes a) (is_two_bytes b) h).0 (and_parts (is_two_bytes a) (is_two_bytes b) h).1
-front_wide (LoadI16 a by) rest h = bs_wide opcode.LoadI16 a by rest refl (and_parts (is_two_bytes a) (is_long by) h).0 (and_parts (is_two_bytes a) (is_long by) h).1
-front_wide (LoadI32 a by) rest h = bss_wide opcode.LoadI32 a by rest refl (and_parts (is_two_bytes a) (is_long by) h).0 (and_parts (is_two_bytes a) (is_long by) h).1
-front_wide (LoadNil a) rest h = b_wide opcode.LoadNil a rest refl h
-front_wide (LoadT a) rest h = b_wide opcode.LoadT a rest refl h
-front_wide (Jmp by) rest h = s_wide opcode.Jmp by rest refl h
-front_wide (JmpIf a by) rest h = bs_wide opcode.JmpIf a by rest refl (and_parts (is_two_bytes a) (is_long by) h).0 (and_parts (is_two_bytes a) (is_long by) h).1
-front_wide (JmpNot a by) rest h = bs_wide opcode.JmpNot a by rest refl (and_parts (is_two_bytes a) (is_long by) h).0 (and_parts (is_two_bytes a) (is_long by) h).1
-front_wide (SSend a b c) rest h = bbb_wide opcode.SSend a b c rest refl (and_parts (is_two_bytes a) (is_two_bytes b) (and_parts (is_two_bytes a && is_two_bytes b) (is_two_bytes c) h).0).0 (and_parts (is_two_bytes a) (is_two_bytes b) (and_parts (is_two_bytes a && is_two_bytes b) (is_two_bytes c) h).0).1 (and_parts (is_two_bytes a && is_two_bytes b) (is_two_bytes c) h).1
-front_wide (Add a) rest h = b_wide opcode.Add a rest refl h
-front_wide (Sub a) rest h = b_wide opcode.Sub a rest refl h
-front_wide (Mul a) rest h = b_wide opcode.Mul a rest refl h
-front_wide (Eq a) rest h = b_wide opcode.Eq a rest refl h
-front_wide (Lt a) rest h = b_wide opcode.Lt a rest refl h
-front_wide (Le a) rest h = b_wide opcode.Le a rest refl h
-front_wide (Gt a) rest h = b_wide opcode.Gt a rest refl h
-front_wide (Ge a) rest h = b_wide opcode.Ge a rest refl h
-front_wide Stop rest h = absurd cc
+abbrev whole : Bool → Operation → ℕ → Option (Instruction × ℕ)
+whole w o size = Some (record { wide = w; operation = o }, size)
+
+narrow_front_again : (o : Operation) (rest : List ℕ) → IsTrue (fits_as false o) → narrow_front (encoding (record { wide = false; operation = o }) ++ rest) ≡ whole false o (1 + operand_size false (shape_of (opcode_in o)))
+unfolding encoding narrow_front
+narrow_front_again o rest h = rw (opcode_of-number_of (opcode_in o)) (body_again false 0 (opcode_in o) (operands_in o) rest h ∙ ap (λ p. whole false p (1 + operand_size false (shape_of (opcode_in o)))) (operation_of-keep o))
+
+front_narrow : (o : Operation) (rest : List ℕ) → IsTrue (fits_as false o) → front (encoding (record { wide = false; operation = o }) ++ rest) ≡ whole false o (1 + operand_size false (shape_of (opcode_in o)))
+unfolding encoding front narrow_front
+front_narrow o rest h = rw (number_of-ext (opcode_in o)) (narrow_front_again o rest h)
+
+front_wide : (o : Operation) (rest : List ℕ) → IsTrue (fits_as true o) → front (encoding (record { wide = true; operation = o }) ++ rest) ≡ whole true o (2 + operand_size true (shape_of (opcode_in o)))
+unfolding encoding front wide_front
+front_wide o rest h = rw (opcode_of-number_of (opcode_in o), wide_grows (shape_of (opcode_in o)) (operands_in o) h) (body_again true 1 (opcode_in o) (operands_in o) rest h ∙ ap (λ p. whole true p (2 + operand_size true (shape_of (opcode_in o)))) (operation_of-keep o))
+
+length-encoding : (w : Bool) (o : Operation) → length (encoding (record { wide = w; operation = o })) ≡ (if w then 2 else 1) + operand_size w (shape_of (opcode_in o))
+unfolding encoding
+length-encoding false o = omega (arith, length-shape_bytes false (shape_of (opcode_in o)) (operands_in o))
+length-encoding true o = omega (arith, length-shape_bytes true (shape_of (opcode_in o)) (operands_in o))
 
 front_as : (w : Bool) (o : Operation) (rest : List ℕ) → IsTrue (fits_as w o) → front (encoding (record { wide = w; operation = o }) ++ rest) ≡ Some (record { wide = w; operation = o }, length (encoding (record { wide = w; operation = o })))
-front_as false o rest h = front_narrow o rest h
-front_as true o rest h = front_wide o rest h
+front_as false o rest h = front_narrow o rest h ∙ ap (whole false o) (sym (length-encoding false o))
+front_as true o rest h = front_wide o rest h ∙ ap (whole true o) (sym (length-encoding true o))
 
 front_encoding : (i : Instruction) (rest : List ℕ) → IsTrue (fits i) → front (encoding i ++ rest) ≡ Some (i, length (encoding i))
 front_encoding i rest h = front_as i.wide i.operation rest h
@@ -151,24 +201,10 @@ pub decode_encoded : (pre rest : List ℕ) (i : Instruction) → IsTrue (fits i)
 unfolding decode_wide_at
 decode_encoded pre rest i h = ap (λ (bytes : List ℕ). placed (length pre) (front bytes)) (drop_at pre (encoding i ++ rest) (length pre) refl) ∙ ap (placed (length pre)) (front_encoding i rest h)
 
+-- a narrow instruction is decoded without EXT, too
+pub decode_narrow : (pre rest : List ℕ) (o : Operation) → IsTrue (fits_as false o) → decode_at (pre ++ (encoding (narrow o) ++ rest)) (length pre) ≡ Some (narrow o, length pre + size_of o)
+unfolding decode_at
+decode_narrow pre rest o h = ap (λ (bytes : List ℕ). placed (length pre) (narrow_front bytes)) (drop_at pre (encoding (narrow o) ++ rest) (length pre) refl) ∙ ap (placed (length pre)) (narrow_front_again o rest h)
+
 pub length-encoding_narrow : (o : Operation) → length (encoding (narrow o)) ≡ size_of o
-unfolding encoding
-length-encoding_narrow (Move a b) = refl
-length-encoding_narrow (LoadI a b) = refl
-length-encoding_narrow (LoadI16 a by) = refl
-length-encoding_narrow (LoadI32 a by) = refl
-length-encoding_narrow (LoadNil a) = refl
-length-encoding_narrow (LoadT a) = refl
-length-encoding_narrow (Jmp by) = refl
-length-encoding_narrow (JmpIf a by) = refl
-length-encoding_narrow (JmpNot a by) = refl
-length-encoding_narrow (SSend a b c) = refl
-length-encoding_narrow (Add a) = refl
-length-encoding_narrow (Sub a) = refl
-length-encoding_narrow (Mul a) = refl
-length-encoding_narrow (Eq a) = refl
-length-encoding_narrow (Lt a) = refl
-length-encoding_narrow (Le a) = refl
-length-encoding_narrow (Gt a) = refl
-length-encoding_narrow (Ge a) = refl
-length-encoding_narrow Stop = refl
+length-encoding_narrow o = length-encoding false o

@@ -1,6 +1,6 @@
 -- An instruction, as contracts see it.
 use Rattle.std.specs.Prelude.{Bool, false}
-use Rattle.rite_code.specs.declared.instr.Operation.{Operation}
+use Rattle.rite_code.specs.declared.operation.Operation.{Operation}
 
 pub record Instruction : Type 0 where
   pub wide : Bool

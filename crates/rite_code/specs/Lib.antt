@@ -1,4 +1,7 @@
 pub mod Instruction
+pub mod Table
+pub mod Operation
 pub mod Shape
 pub mod Spelling
+pub mod Code
 pub mod Cause

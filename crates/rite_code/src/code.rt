@@ -1,5 +1,6 @@
 //! A compiled program, as the file holds it.
 use rb_base::{Bytes, List};
+use std::marker::Model;
 
 /// The instructions from `begin` up to but not including `end` that an exit leaves at `target`:
 /// exceptions alone, or every exit where it is no rescue entry.
@@ -33,10 +34,49 @@ pub struct Irep {
     pub children: List<u32>,
 }
 
-/// A program: the bodies depth first, of which number 0 is the main program.
+/// A program: the bodies depth first, of which number 0 is the main program. It is whole: within the bounds of
+/// a file (docs/formats.md), with each body but the first a child of one that stands before it.
 #[derive(Debug, Drop)]
 pub struct Code {
+    version: u8,
+    bodies: List<Irep>,
+}
+
+impl Model for Code {
+    ghost use Rattle.rite_code.specs.Code.{Program, IsWhole};
+
+    ghost Value = { Program };
+
+    ghost view = { λ c. record { version = c.version; bodies = c.bodies } };
+
+    ghost invariant = { λ c. IsWhole (record { version = c.version; bodies = c.bodies }) };
+}
+
+impl Code {
+    ghost use Rattle.std.specs.Prelude.{◌≡◌};
+    ghost use Rattle.rite_code.specs.Code.{program, IsWhole};
+
+    /// The program of these bodies.
+    pub fn new(version: u8, bodies: List<Irep>) -> Code
+        requires { IsWhole (program version bodies) }
+        ensures { result ≡ program version bodies }
+    {
+        Code { version, bodies }
+    }
+
     /// 1 or 2: version 2 has the wide instructions.
-    pub version: u8,
-    pub bodies: List<Irep>,
+    pub fn version(&self) -> u8
+        ensures value { result ≡ self.now.version }
+        ensures whole { IsWhole self.now }
+    {
+        self.version
+    }
+
+    /// The bodies, depth first.
+    pub fn bodies(&self) -> &[Irep]
+        ensures value { result.now ≡ self.now.bodies }
+        ensures whole { IsWhole self.now }
+    {
+        self.bodies.as_slice()
+    }
 }

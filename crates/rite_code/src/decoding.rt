@@ -1,52 +1,23 @@
 //! From bytes to instructions.
-ghost use Rattle.std.specs.Prelude.{◌≡◌, ◌≤◌, ℕ, ◌+◌, List, ◌++◌, Some, length, IsTrue, IfSome};
-ghost use Rattle.rite_code.specs.declared.instr.Operation.{Operation as OperationValue};
+ghost use Rattle.std.specs.Prelude.{◌≡◌, ◌<◌, ◌≤◌, ℕ, ◌+◌, List, ◌++◌, Some, length, IsTrue, IfSome};
+ghost use Rattle.rite_code.specs.declared.operation.Operation.{Operation as OperationValue};
 ghost use Rattle.rite_code.specs.Instruction.{Instruction, narrow};
 ghost use Rattle.rite_code.specs.Shape.{fits};
-ghost use Rattle.rite_code.specs.Shape as shape;
+ghost use Rattle.rite_code.specs.Shape as shapes;
 ghost use Rattle.rite_code.specs.Spelling.{encoding};
 ghost use Rattle.rite_code.specs.Spelling as spelling;
+ghost use Rattle.rite_code.specs.Table as table;
 
 use crate::instr::Instr;
-use crate::opcode::{Opcode, Operands, Shape};
+use crate::opcode::{Opcode, Shape, index_size};
+use crate::operation::{NO_OPERANDS, Operands, Parameters};
 
 /// The number of EXT, the prefix of a wide instruction.
 pub const EXT: u8 = 73;
 
 #[inline(always)]
-fn index_size(wide: bool) -> usize
-    ensures { result ≡ spelling.index_size wide }
-{
-    if wide { 2 } else { 1 }
-}
-
-#[inline(always)]
-fn distance_size(wide: bool) -> usize
-    ensures { result ≡ spelling.distance_size wide }
-{
-    if wide { 4 } else { 2 }
-}
-
-/// How many bytes the operands take.
-#[inline(always)]
-fn operand_size(wide: bool, shape: Shape) -> usize
-    ensures value { result ≡ spelling.operand_size wide shape }
-    ensures small { result ≤ 6 }
-{
-    match shape {
-        Shape::Z => 0,
-        Shape::B => index_size(wide),
-        Shape::BB => 2 * index_size(wide),
-        Shape::BBB => 3 * index_size(wide),
-        Shape::S => distance_size(wide),
-        Shape::BS => index_size(wide) + distance_size(wide),
-        Shape::BSS => index_size(wide) + 4,
-    }
-}
-
-#[inline(always)]
 fn index_at(wide: bool, bytes: &[u8], at: usize) -> u16
-    requires { at + spelling.index_size wide ≤ length bytes.now }
+    requires { at + shapes.index_size wide ≤ length bytes.now }
     ensures { result ≡ spelling.index_at wide bytes.now at }
 {
     if wide {
@@ -74,7 +45,7 @@ fn short_at(bytes: &[u8], at: usize) -> i16
 
 #[inline(always)]
 fn distance_at(wide: bool, bytes: &[u8], at: usize) -> i32
-    requires { at + spelling.distance_size wide ≤ length bytes.now }
+    requires { at + shapes.distance_size wide ≤ length bytes.now }
     ensures { result ≡ spelling.distance_at wide bytes.now at }
 {
     if wide {
@@ -84,18 +55,49 @@ fn distance_at(wide: bool, bytes: &[u8], at: usize) -> i32
     }
 }
 
+#[inline(always)]
+fn signed_index_at(wide: bool, bytes: &[u8], at: usize) -> i32
+    requires { at + shapes.index_size wide ≤ length bytes.now }
+    ensures { result ≡ spelling.signed_index_at wide bytes.now at }
+{
+    if wide {
+        i32::from(short_at(bytes, at))
+    } else {
+        i32::from(i8::from_be_bytes([bytes[at]]))
+    }
+}
+
+/// The 24 bits of ENTER.
+fn word_at(bytes: &[u8]) -> u32
+    requires { 3 ≤ length bytes.now }
+    ensures value { result ≡ spelling.word_at bytes.now 0 }
+    ensures small { result < 16777216 }
+{
+    u32::from(bytes[0]) * 65536 + u32::from(bytes[1]) * 256 + u32::from(bytes[2])
+}
+
+/// What the 24 bits say.
+fn parameters_of(word: u32) -> Parameters
+    requires { word < 16777216 }
+    ensures { result ≡ spelling.parameters_of word }
+{
+    Parameters {
+        required: (word / 131072) as u8,
+        optional: (word / 1024 % 128) as u8,
+        rest: word / 512 % 2 == 1,
+        post: (word / 4 % 128) as u8,
+        block: word / 2 % 2 == 1,
+        spare: word % 2 == 1,
+    }
+}
+
 /// The operands of a shape at the front of the bytes.
 #[inline(always)]
 fn operands(wide: bool, shape: Shape, bytes: &[u8]) -> Operands
-    requires { spelling.operand_size wide shape ≤ length bytes.now }
+    requires { shapes.operand_size wide shape ≤ length bytes.now }
     ensures { result ≡ spelling.operands wide shape bytes.now }
 {
-    let mut found = Operands {
-        a: 0,
-        b: 0,
-        c: 0,
-        by: 0,
-    };
+    let mut found = NO_OPERANDS;
     let size = index_size(wide);
     match shape {
         Shape::Z => {}
@@ -109,6 +111,11 @@ fn operands(wide: bool, shape: Shape, bytes: &[u8]) -> Operands
             found.b = index_at(wide, bytes, size);
             found.c = index_at(wide, bytes, size + size);
         }
+        Shape::BBI => {
+            found.a = index_at(wide, bytes, 0);
+            found.b = index_at(wide, bytes, size);
+            found.by = signed_index_at(wide, bytes, size + size);
+        }
         Shape::S => found.by = distance_at(wide, bytes, 0),
         Shape::BS => {
             found.a = index_at(wide, bytes, 0);
@@ -118,6 +125,7 @@ fn operands(wide: bool, shape: Shape, bytes: &[u8]) -> Operands
             found.a = index_at(wide, bytes, 0);
             found.by = long_at(bytes, size);
         }
+        Shape::W => found.parameters = parameters_of(word_at(bytes)),
     }
     found
 }
@@ -126,12 +134,12 @@ fn operands(wide: bool, shape: Shape, bytes: &[u8]) -> Operands
 #[inline(always)]
 fn body_of(wide: bool, prefix: usize, opcode: Opcode, rest: &[u8]) -> Option<(Instr, usize)>
     requires small { prefix ≤ 1 }
-    requires grows { IsTrue wide → IsTrue (spelling.has_operands (spelling.shape_of opcode)) }
+    requires grows { IsTrue wide → IsTrue (shapes.grows (table.shape_of opcode)) }
     ensures value { result ≡ spelling.body_of wide prefix opcode rest.now }
-    ensures within { IfSome result (λ found. found.1 ≤ prefix + 1 + length rest.now) }
+    ensures within { IfSome result (λ found. (0 < found.1) × (found.1 ≤ prefix + 1 + length rest.now)) }
 {
     let shape = opcode.shape();
-    let size = operand_size(wide, shape);
+    let size = shape.operand_size(wide);
     if rest.len() < size {
         return None;
     }
@@ -144,7 +152,7 @@ fn body_of(wide: bool, prefix: usize, opcode: Opcode, rest: &[u8]) -> Option<(In
 #[tactic(auto, unfolding(crate::specs::Spelling::narrow_front))]
 fn narrow_front(bytes: &[u8]) -> Option<(Instr, usize)>
     ensures value { result ≡ spelling.narrow_front bytes.now }
-    ensures within { IfSome result (λ found. found.1 ≤ length bytes.now) }
+    ensures within { IfSome result (λ found. (0 < found.1) × (found.1 ≤ length bytes.now)) }
 {
     let [number, rest @ ..] = bytes else {
         return None;
@@ -155,18 +163,11 @@ fn narrow_front(bytes: &[u8]) -> Option<(Instr, usize)>
     }
 }
 
-#[inline(always)]
-fn has_operands(shape: Shape) -> bool
-    ensures { result ≡ spelling.has_operands shape }
-{
-    !matches!(shape, Shape::Z)
-}
-
 /// The instruction at the front of the bytes behind EXT, and how many bytes both take.
 #[tactic(auto, unfolding(crate::specs::Spelling::wide_front))]
 fn wide_front(bytes: &[u8]) -> Option<(Instr, usize)>
     ensures value { result ≡ spelling.wide_front bytes.now }
-    ensures within { IfSome result (λ found. found.1 ≤ 1 + length bytes.now) }
+    ensures within { IfSome result (λ found. (0 < found.1) × (found.1 ≤ 1 + length bytes.now)) }
 {
     let [number, rest @ ..] = bytes else {
         return None;
@@ -174,7 +175,7 @@ fn wide_front(bytes: &[u8]) -> Option<(Instr, usize)>
     match Opcode::from_number(*number) {
         None => None,
         Some(opcode) => {
-            if has_operands(opcode.shape()) {
+            if opcode.shape().grows() {
                 body_of(true, 1, opcode, rest)
             } else {
                 None
@@ -188,7 +189,7 @@ fn wide_front(bytes: &[u8]) -> Option<(Instr, usize)>
 #[tactic(auto, unfolding(crate::specs::Spelling::front))]
 fn front(bytes: &[u8]) -> Option<(Instr, usize)>
     ensures value { result ≡ spelling.front bytes.now }
-    ensures within { IfSome result (λ found. found.1 ≤ length bytes.now) }
+    ensures within { IfSome result (λ found. (0 < found.1) × (found.1 ≤ length bytes.now)) }
 {
     match bytes {
         [] => None,
@@ -202,7 +203,8 @@ fn front(bytes: &[u8]) -> Option<(Instr, usize)>
 #[inline(always)]
 #[tactic(auto, unfolding(crate::specs::Spelling::decode_at, crate::specs::Spelling::narrow_front))]
 pub fn decode_at(code: &[u8], at: usize) -> Option<(Instr, usize)>
-    ensures { result ≡ spelling.decode_at code.now at }
+    ensures value { result ≡ spelling.decode_at code.now at }
+    ensures within { IfSome result (λ found. (at < found.1) × (found.1 ≤ length code.now)) }
 {
     let rest = code.get(at..)?;
     let (instr, size) = narrow_front(rest)?;
@@ -213,7 +215,8 @@ pub fn decode_at(code: &[u8], at: usize) -> Option<(Instr, usize)>
 #[inline(always)]
 #[tactic(auto, unfolding(crate::specs::Spelling::decode_wide_at, crate::specs::Spelling::front))]
 pub fn decode_wide_at(code: &[u8], at: usize) -> Option<(Instr, usize)>
-    ensures { result ≡ spelling.decode_wide_at code.now at }
+    ensures value { result ≡ spelling.decode_wide_at code.now at }
+    ensures within { IfSome result (λ found. (at < found.1) × (found.1 ≤ length code.now)) }
 {
     let rest = code.get(at..)?;
     let (instr, size) = front(rest)?;
@@ -224,5 +227,5 @@ pub fn decode_wide_at(code: &[u8], at: usize) -> Option<(Instr, usize)>
 /// is spelled in the bytes of its size.
 pub fn decoding_undoes_encoding()
     ensures decoded { (pre rest : List ℕ) (i : Instruction) → IsTrue (fits i) → spelling.decode_wide_at (pre ++ (encoding i ++ rest)) (length pre) ≡ Some (i, length pre + length (encoding i)) }
-    ensures sizes { (o : OperationValue) → length (encoding (narrow o)) ≡ shape.size_of o }
+    ensures sizes { (o : OperationValue) → length (encoding (narrow o)) ≡ shapes.size_of o }
 {}

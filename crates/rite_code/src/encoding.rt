@@ -1,15 +1,17 @@
 //! From instructions to bytes.
-ghost use Rattle.std.specs.Prelude.{◌≡◌, ◌++◌, IfOk, OnOk, IsTrue};
-ghost use Rattle.rite_code.specs.Shape as shape;
+ghost use Rattle.std.specs.Prelude.{◌≡◌, ◌<◌, ◌++◌, IfOk, OnOk, IsTrue};
+ghost use Rattle.rite_code.specs.Shape as shapes;
 ghost use Rattle.rite_code.specs.Spelling.{encoding, encodings};
 ghost use Rattle.rite_code.specs.Spelling as spelling;
 
 use crate::decoding::EXT;
-use crate::instr::{Instr, Operation};
+use crate::instr::Instr;
+use crate::opcode::Shape;
+use crate::operation::{Operands, Parameters};
 use std::alloc::{AllocError, Global};
 
 fn put_index(out: &mut Vec<u8>, wide: bool, n: u16) -> Result<(), AllocError>
-    requires { IsTrue (shape.is_index wide n) }
+    requires { IsTrue (shapes.is_index wide n) }
     ensures { OnOk result (out.new.items ≡ out.old.items ++ spelling.index_bytes wide n) }
 {
     if wide {
@@ -28,7 +30,7 @@ fn put_long(out: &mut Vec<u8>, n: i32) -> Result<(), AllocError>
 }
 
 fn put_distance(out: &mut Vec<u8>, wide: bool, by: i32) -> Result<(), AllocError>
-    requires { IsTrue (shape.is_distance wide by) }
+    requires { IsTrue (shapes.is_distance wide by) }
     ensures { OnOk result (out.new.items ≡ out.old.items ++ spelling.distance_bytes wide by) }
 {
     if wide {
@@ -39,76 +41,88 @@ fn put_distance(out: &mut Vec<u8>, wide: bool, by: i32) -> Result<(), AllocError
     Ok(())
 }
 
-fn put_operands(out: &mut Vec<u8>, wide: bool, operation: Operation) -> Result<(), AllocError>
-    requires { IsTrue (shape.fits_as wide operation) }
-    ensures { OnOk result (out.new.items ≡ out.old.items ++ spelling.operand_bytes wide operation) }
+fn put_signed_index(out: &mut Vec<u8>, wide: bool, n: i32) -> Result<(), AllocError>
+    requires { IsTrue (shapes.is_signed_index wide n) }
+    ensures { OnOk result (out.new.items ≡ out.old.items ++ spelling.signed_index_bytes wide n) }
 {
-    match operation {
-        Operation::Move { a, b } | Operation::LoadI { a, b } => {
-            put_index(out, wide, a)?;
-            put_index(out, wide, b)?;
-        }
-        Operation::LoadI16 { a, b } => {
-            put_index(out, wide, a)?;
-            put_distance(out, wide, b)?;
-        }
-        Operation::LoadI32 { a, b } => {
-            put_index(out, wide, a)?;
-            put_long(out, b)?;
-        }
-        Operation::Jmp { by } => put_distance(out, wide, by)?,
-        Operation::JmpIf { a, by } => {
-            put_index(out, wide, a)?;
-            put_distance(out, wide, by)?;
-        }
-        Operation::JmpNot { a, by } => {
-            put_index(out, wide, a)?;
-            put_distance(out, wide, by)?;
-        }
-        Operation::SSend { a, b, c } => {
-            put_index(out, wide, a)?;
-            put_index(out, wide, b)?;
-            put_index(out, wide, c)?;
-        }
-        Operation::LoadNil { a }
-        | Operation::LoadT { a }
-        | Operation::Add { a }
-        | Operation::Sub { a }
-        | Operation::Mul { a }
-        | Operation::Eq { a }
-        | Operation::Lt { a }
-        | Operation::Le { a }
-        | Operation::Gt { a }
-        | Operation::Ge { a } => put_index(out, wide, a)?,
-        Operation::Stop => {}
+    if wide {
+        out.extend_from_slice(&(n as i16).to_be_bytes())?;
+    } else {
+        out.extend_from_slice(&(n as i8).to_be_bytes())?;
     }
     Ok(())
 }
 
-fn number_of(operation: Operation) -> u8
-    ensures { result ≡ spelling.number_of operation }
+/// The 24 bits of ENTER.
+fn word_of(parameters: Parameters) -> u32
+    requires { IsTrue (shapes.are_counts parameters) }
+    ensures value { result ≡ spelling.word_of parameters }
+    ensures small { result < 16777216 }
 {
-    match operation {
-        Operation::Move { .. } => 1,
-        Operation::LoadI { .. } => 3,
-        Operation::LoadI16 { .. } => 4,
-        Operation::LoadI32 { .. } => 5,
-        Operation::LoadNil { .. } => 7,
-        Operation::LoadT { .. } => 9,
-        Operation::Jmp { .. } => 21,
-        Operation::JmpIf { .. } => 22,
-        Operation::JmpNot { .. } => 23,
-        Operation::SSend { .. } => 28,
-        Operation::Add { .. } => 39,
-        Operation::Sub { .. } => 40,
-        Operation::Mul { .. } => 41,
-        Operation::Eq { .. } => 43,
-        Operation::Lt { .. } => 44,
-        Operation::Le { .. } => 45,
-        Operation::Gt { .. } => 46,
-        Operation::Ge { .. } => 47,
-        Operation::Stop => 72,
+    u32::from(parameters.required) * 131072
+        + u32::from(parameters.optional) * 1024
+        + u32::from(parameters.rest) * 512
+        + u32::from(parameters.post) * 4
+        + u32::from(parameters.block) * 2
+        + u32::from(parameters.spare)
+}
+
+fn put_word(out: &mut Vec<u8>, word: u32) -> Result<(), AllocError>
+    requires { word < 16777216 }
+    ensures { OnOk result (out.new.items ≡ out.old.items ++ spelling.word_bytes word) }
+{
+    out.push((word / 65536) as u8)?;
+    out.push((word / 256 % 256) as u8)?;
+    out.push((word % 256) as u8)?;
+    Ok(())
+}
+
+/// Puts the operands that the shape has.
+fn put_operands(
+    out: &mut Vec<u8>,
+    wide: bool,
+    shape: Shape,
+    operands: Operands,
+) -> Result<(), AllocError>
+    requires { IsTrue (shapes.fits_shape wide shape operands) }
+    ensures { OnOk result (out.new.items ≡ out.old.items ++ spelling.shape_bytes wide shape operands) }
+{
+    let Operands {
+        a,
+        b,
+        c,
+        by,
+        parameters,
+    } = operands;
+    match shape {
+        Shape::Z => {}
+        Shape::B => put_index(out, wide, a)?,
+        Shape::BB => {
+            put_index(out, wide, a)?;
+            put_index(out, wide, b)?;
+        }
+        Shape::BBB => {
+            put_index(out, wide, a)?;
+            put_index(out, wide, b)?;
+            put_index(out, wide, c)?;
+        }
+        Shape::BBI => {
+            put_index(out, wide, a)?;
+            put_index(out, wide, b)?;
+            put_signed_index(out, wide, by)?;
+        }
+        Shape::S => put_distance(out, wide, by)?,
+        Shape::BS => {
+            put_index(out, wide, a)?;
+            put_distance(out, wide, by)?;
+        }
+        Shape::BSS => {
+            put_index(out, wide, a)?;
+            put_long(out, by)?;
+        }
+        Shape::W => put_word(out, word_of(parameters))?,
     }
+    Ok(())
 }
 
 /// Puts an instruction at the end.
@@ -120,8 +134,9 @@ fn put(out: &mut Vec<u8>, instr: &Instr) -> Result<(), AllocError>
     if instr.is_wide() {
         out.push(EXT)?;
     }
-    out.push(number_of(operation))?;
-    put_operands(out, instr.is_wide(), operation)
+    let opcode = operation.opcode();
+    out.push(opcode.number())?;
+    put_operands(out, instr.is_wide(), opcode.shape(), operation.operands())
 }
 
 /// The bytes of the instructions, one behind the other.

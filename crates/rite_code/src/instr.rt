@@ -1,33 +1,10 @@
-//! Instructions with their operands.
+//! Instructions whose operands fit their shape.
 ghost use Rattle.std.specs.Prelude.{◌≡◌, ◌↔◌, IsSome, IfSome, IsTrue};
-ghost use Rattle.rite_code.specs.Shape as shape;
+ghost use Rattle.rite_code.specs.Shape as shapes;
 
+use crate::opcode::Shape;
+use crate::operation::{Operands, Operation, Parameters};
 use std::marker::Model;
-
-/// What an instruction does, with its operands. `a`, `b` and `c` are registers, or indices where the
-/// instruction says so; `by` is the signed distance of a jump from the next instruction.
-#[derive(Clone, Copy, Debug, PartialEq, Eq)]
-pub enum Operation {
-    Move { a: u16, b: u16 },
-    LoadI { a: u16, b: u16 },
-    LoadI16 { a: u16, b: i32 },
-    LoadI32 { a: u16, b: i32 },
-    LoadNil { a: u16 },
-    LoadT { a: u16 },
-    Jmp { by: i32 },
-    JmpIf { a: u16, by: i32 },
-    JmpNot { a: u16, by: i32 },
-    SSend { a: u16, b: u16, c: u16 },
-    Add { a: u16 },
-    Sub { a: u16 },
-    Mul { a: u16 },
-    Eq { a: u16 },
-    Lt { a: u16 },
-    Le { a: u16 },
-    Gt { a: u16 },
-    Ge { a: u16 },
-    Stop,
-}
 
 /// An instruction. Without `wide` its operands fit the shape of the instruction; `wide` stands only where
 /// the shape has an operand that grows.
@@ -54,45 +31,63 @@ impl Model for Instr {
 
 #[inline(always)]
 fn is_index(wide: bool, n: u16) -> bool
-    ensures { result ≡ shape.is_index wide n }
+    ensures { result ≡ shapes.is_index wide n }
 {
     wide || n < 256
 }
 
 #[inline(always)]
-fn is_distance(wide: bool, by: i32) -> bool
-    ensures { result ≡ shape.is_distance wide by }
+fn is_short(by: i32) -> bool
+    ensures { result ≡ shapes.is_short by }
 {
-    wide || (-32768 <= by && by < 32768)
+    -32768 <= by && by < 32768
 }
 
-/// Whether the operands fit the shape of the instruction.
-fn fits(wide: bool, operation: Operation) -> bool
-    ensures { result ≡ shape.fits_as wide operation }
+#[inline(always)]
+fn is_signed_index(wide: bool, n: i32) -> bool
+    ensures { result ≡ shapes.is_signed_index wide n }
 {
-    match operation {
-        Operation::Move { a, b } | Operation::LoadI { a, b } => {
-            is_index(wide, a) && is_index(wide, b)
-        }
-        Operation::LoadI16 { a, b } => is_index(wide, a) && is_distance(wide, b),
-        Operation::JmpIf { a, by } => is_index(wide, a) && is_distance(wide, by),
-        Operation::JmpNot { a, by } => is_index(wide, a) && is_distance(wide, by),
-        Operation::Jmp { by } => is_distance(wide, by),
-        Operation::SSend { a, b, c } => {
-            is_index(wide, a) && is_index(wide, b) && is_index(wide, c)
-        }
-        Operation::LoadI32 { a, .. } => is_index(wide, a),
-        Operation::LoadNil { a }
-        | Operation::LoadT { a }
-        | Operation::Add { a }
-        | Operation::Sub { a }
-        | Operation::Mul { a }
-        | Operation::Eq { a }
-        | Operation::Lt { a }
-        | Operation::Le { a }
-        | Operation::Gt { a }
-        | Operation::Ge { a } => is_index(wide, a),
-        Operation::Stop => !wide,
+    if wide {
+        is_short(n)
+    } else {
+        -128 <= n && n < 128
+    }
+}
+
+#[inline(always)]
+fn is_distance(wide: bool, by: i32) -> bool
+    ensures { result ≡ shapes.is_distance wide by }
+{
+    wide || is_short(by)
+}
+
+fn are_counts(parameters: Parameters) -> bool
+    ensures { result ≡ shapes.are_counts parameters }
+{
+    parameters.required < 128 && parameters.optional < 128 && parameters.post < 128
+}
+
+/// Whether the operands that the shape has fit it.
+fn fits(wide: bool, shape: Shape, operands: Operands) -> bool
+    ensures { result ≡ shapes.fits_shape wide shape operands }
+{
+    let Operands {
+        a,
+        b,
+        c,
+        by,
+        parameters,
+    } = operands;
+    match shape {
+        Shape::Z => !wide,
+        Shape::B => is_index(wide, a),
+        Shape::BB => is_index(wide, a) && is_index(wide, b),
+        Shape::BBB => is_index(wide, a) && is_index(wide, b) && is_index(wide, c),
+        Shape::BBI => is_index(wide, a) && is_index(wide, b) && is_signed_index(wide, by),
+        Shape::S => is_distance(wide, by),
+        Shape::BS => is_index(wide, a) && is_distance(wide, by),
+        Shape::BSS => is_index(wide, a),
+        Shape::W => !wide && are_counts(parameters),
     }
 }
 
@@ -105,7 +100,7 @@ impl Instr {
         ensures some { IsSome result ↔ IsTrue (fits_as wide operation) }
         ensures value { IfSome result (λ i. i ≡ instruction wide operation) }
     {
-        if fits(wide, operation) {
+        if fits(wide, operation.opcode().shape(), operation.operands()) {
             Some(Instr { wide, operation })
         } else {
             None
@@ -125,7 +120,7 @@ impl Instr {
     #[inline(always)]
     pub fn operation(&self) -> Operation
         ensures value { result ≡ self.now.operation }
-        ensures fits { IsTrue (shape.fits self.now) }
+        ensures fits { IsTrue (shapes.fits self.now) }
     {
         self.operation
     }
@@ -143,26 +138,8 @@ impl Operation {
     /// How many bytes it takes without EXT.
     #[inline(always)]
     pub fn size_of(self) -> usize
-        ensures { result ≡ shape.size_of self }
+        ensures { result ≡ shapes.size_of self }
     {
-        match self {
-            Operation::Stop => 1,
-            Operation::LoadNil { .. }
-            | Operation::LoadT { .. }
-            | Operation::Add { .. }
-            | Operation::Sub { .. }
-            | Operation::Mul { .. }
-            | Operation::Eq { .. }
-            | Operation::Lt { .. }
-            | Operation::Le { .. }
-            | Operation::Gt { .. }
-            | Operation::Ge { .. } => 2,
-            Operation::Move { .. } | Operation::LoadI { .. } | Operation::Jmp { .. } => 3,
-            Operation::LoadI16 { .. }
-            | Operation::JmpIf { .. }
-            | Operation::JmpNot { .. }
-            | Operation::SSend { .. } => 4,
-            Operation::LoadI32 { .. } => 6,
-        }
+        1 + self.opcode().shape().operand_size(false)
     }
 }
