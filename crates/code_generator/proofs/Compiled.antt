@@ -7,9 +7,9 @@ use Rattle.std.proofs.lemmas.Bool.{and_parts}
 use Rattle.rb_syntax.specs.Form.{Name, Form, strict, local, set_local, seq, cond as cond_form, while_form, Forms, none, more}
 use Rattle.rb_syntax.specs.Names.{is_among, names_of}
 use Rattle.rb_syntax.specs.Limits.{is_plain, are_plain, is_scoped, are_scoped, lines_scoped, known_after, IsWithin}
-use Rattle.rite_code.specs.declared.code.Code.{Code}
-use Rattle.rite_code.specs.declared.instr.Operation.{Operation}
-use Rattle.rite_code.specs.declared.instr.Operation.TheVariants.{Stop}
+use Rattle.rite_code.specs.Code.{Program}
+use Rattle.rite_code.specs.declared.operation.Operation.{Operation}
+use Rattle.rite_code.specs.declared.operation.Operation.TheVariants.{Stop}
 use Rattle.rite_code.specs.Instruction.{narrow}
 use Rattle.rite_code.specs.Shape.{size_of}
 use Rattle.rite_code.specs.Spelling.{encoding, encodings, decode_wide_at}
@@ -36,7 +36,7 @@ length_bytes [] = refl
 length_bytes (i ∷ is) = length-append (encoding (narrow i)) (bytes_of is) ∙ let e = length-encoding_narrow i in let h = length_bytes is in omega (arith, e, h)
 
 -- an instruction is fetched from where it was put
-fetched : (p : Code) (b : ℕ) (pre : List Operation) (i : Operation) (is : List Operation) → (body_at p b).code ≡ bytes_of (pre ++ i ∷ is) → IsTrue (Rattle.rite_code.specs.Shape.fits (narrow i)) → fetch p b (total pre) ≡ Some (narrow i, total pre + size_of i)
+fetched : (p : Program) (b : ℕ) (pre : List Operation) (i : Operation) (is : List Operation) → (body_at p b).code ≡ bytes_of (pre ++ i ∷ is) → IsTrue (Rattle.rite_code.specs.Shape.fits (narrow i)) → fetch p b (total pre) ≡ Some (narrow i, total pre + size_of i)
 unfolding fetch
 fetched p b pre i is e fit =
     let at : length (bytes_of pre) ≡ total pre = length_bytes pre in
@@ -46,7 +46,7 @@ fetched p b pre i is e fit =
     ∙ decode_encoded (bytes_of pre) (bytes_of is) (narrow i) fit
     ∙ ap (λ (n : ℕ). Some (narrow i, n)) (let size = length-encoding_narrow i in omega (arith, at, size))
 
-has_from : (p : Code) (b : ℕ) (pre is : List Operation) → (body_at p b).code ≡ bytes_of (pre ++ is) → AllFit is → HasAt p b (total pre) is
+has_from : (p : Program) (b : ℕ) (pre is : List Operation) → (body_at p b).code ≡ bytes_of (pre ++ is) → AllFit is → HasAt p b (total pre) is
 has_from p b pre [] e fit = tt
 has_from p b pre (i ∷ is) e fit =
     let next : total (pre ++ i ∷ []) ≡ total pre + size_of i = omega (arith, total_append pre (i ∷ [])) in (
@@ -64,7 +64,7 @@ right true b e = refl
 right false b e = e
 
 -- what is plain, scoped and assigned is fine where the names are the locals and puts is a symbol
-module _ (p : Code) (b : ℕ) (ns : List Name) (layout : (body_at p b).locals ≡ length ns + 1) where
+module _ (p : Program) (b : ℕ) (ns : List Name) (layout : (body_at p b).locals ≡ length ns + 1) where
   abbrev Named : Type 0
   Named = get_or (body_at p b).symbols 0 [] ≡ codes "puts"
 

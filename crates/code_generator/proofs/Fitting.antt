@@ -6,9 +6,9 @@ use Rattle.std.proofs.lemmas.Bool.Decides.{nat_tests}
 use Rattle.rb_syntax.specs.Form.{Name, Action, give_nil, give_true, give_int, call_operator, call_puts, Form, strict, local, set_local, seq, cond as cond_form, while_form, Forms, none, more}
 use Rattle.rb_syntax.specs.Limits.{is_plain_action, is_plain, are_plain}
 use Rattle.rb_syntax.specs.declared.operator.Operator.TheVariants.{Plus, Minus, Times, Equal, Less, LessEqual, Greater, GreaterEqual}
-use Rattle.rite_code.specs.declared.code.Code.{Code}
-use Rattle.rite_code.specs.declared.instr.Operation.{Operation}
-use Rattle.rite_code.specs.declared.instr.Operation.TheVariants.{Move, LoadI, LoadI16, LoadI32}
+use Rattle.rite_code.specs.Code.{Program}
+use Rattle.rite_code.specs.declared.operation.Operation.{Operation}
+use Rattle.rite_code.specs.declared.operation.Operation.TheVariants.{Move, LoadI, LoadI16, LoadI32}
 use Rattle.rite_code.specs.Instruction.{narrow}
 use Rattle.rite_code.specs.Shape.{fits, is_byte, is_short, is_long}
 use Rattle.def_machine.specs.State.{body_at}
@@ -69,7 +69,7 @@ action_fits call_puts r h lt = both (is_byte r && true) true (both (is_byte r) t
 pub plain_action : (a : Action) (es : Forms) → is_plain (strict a es) ≡ true → is_plain_action a ≡ true
 plain_action a es h = (and_parts (is_plain_action a) _ (and_parts _ (are_plain es) h).0).0
 
-module _ (p : Code) (b : ℕ) (ns : List Name) (few : (body_at p b).locals ≤ 256) where
+module _ (p : Program) (b : ℕ) (ns : List Name) (few : (body_at p b).locals ≤ 256) where
   mutual
     pub gen_fits : (e : Form) (r at : ℕ) → is_plain e ≡ true → Fine p b ns e → r + width e ≤ 256 → at + len e < 32768 → AllFit (gen ns e r at)
     gen_fits (strict a es) r at h fine wide end = operands_fit a es r (before_operands a) at (plain_action a es h) (has_operands a es h).1 fine.2 (omega (arith, wide)) (omega (arith, wide)) (omega (arith, end))

@@ -3,9 +3,9 @@ use Rattle.std.proofs.Common.{◌≡◌, ℕ, ◌+◌, ◌<◌, ◌≤◌, List,
 use Rattle.std.specs.Prelude.{codes}
 use Rattle.rb_syntax.specs.Form.{Name, Action, Form, strict, local, set_local, seq, cond, while_form, Forms, none, more}
 use Rattle.rb_syntax.specs.Limits.{arity, count}
-use Rattle.rite_code.specs.declared.code.Code.{Code}
-use Rattle.rite_code.specs.declared.instr.Operation.{Operation}
-use Rattle.rite_code.specs.declared.instr.Operation.TheVariants.{Move}
+use Rattle.rite_code.specs.Code.{Program}
+use Rattle.rite_code.specs.declared.operation.Operation.{Operation}
+use Rattle.rite_code.specs.declared.operation.Operation.TheVariants.{Move}
 use Rattle.def_machine.specs.State.{body_at}
 use Rattle.code_generator.specs.Gen.{distance, action_size, before_operands, register_of, is_puts, len, len_all, len_rest, gen, gen_operands, gen_all, gen_rest, width, operands_width, all_width}
 use Rattle.code_generator.proofs.Stands.{Around, Ins, Stands, StandOperands, StandAll, StandRest}
@@ -14,7 +14,7 @@ use Rattle.code_generator.proofs.Pieces.{HasAt, front, back, gen_len}
 
 -- names have registers among the locals, actions have their operands, and puts is a symbol where it is called
 abbrev mutual
-  pub Fine : Code → ℕ → List Name → Form → Type 0
+  pub Fine : Program → ℕ → List Name → Form → Type 0
   Fine p b ns (strict a es) = (count es ≡ arity a) × (is_puts a ≡ true → get_or (body_at p b).symbols 0 [] ≡ codes "puts") × AllFine p b ns es
   Fine p b ns (local x) = register_of ns x < (body_at p b).locals
   Fine p b ns (set_local x e) = (register_of ns x < (body_at p b).locals) × Fine p b ns e
@@ -22,11 +22,11 @@ abbrev mutual
   Fine p b ns (cond t e f) = Fine p b ns t × Fine p b ns e × Fine p b ns f
   Fine p b ns (while_form t e) = Fine p b ns t × Fine p b ns e
 
-  pub AllFine : Code → ℕ → List Name → Forms → Type 0
+  pub AllFine : Program → ℕ → List Name → Forms → Type 0
   AllFine p b ns none = Unit {0}
   AllFine p b ns (more e es) = Fine p b ns e × AllFine p b ns es
 
-module _ (p : Code) (b : ℕ) (ns : List Name) where
+module _ (p : Program) (b : ℕ) (ns : List Name) where
   abbrev h : Around
   h = record { names = ns }
 

@@ -16,3 +16,4 @@ pub mod Widths
 pub mod Lists
 pub mod Narrow
 pub mod Numbers
+pub mod Bodies

@@ -1,9 +1,9 @@
 -- Pieces of code, and the bytes that they take.
 use Rattle.std.proofs.Common.{◌≡◌, ℕ, ◌+◌, List, [], ◌∷◌, ◌++◌, subst, arith, Some}
 use Rattle.rb_syntax.specs.Form.{Name, Action, Form, strict, local, set_local, seq, cond, while_form, Forms, none, more}
-use Rattle.rite_code.specs.declared.code.Code.{Code}
-use Rattle.rite_code.specs.declared.instr.Operation.{Operation}
-use Rattle.rite_code.specs.declared.instr.Operation.TheVariants.{Move, LoadNil, Jmp, JmpNot}
+use Rattle.rite_code.specs.Code.{Program}
+use Rattle.rite_code.specs.declared.operation.Operation.{Operation}
+use Rattle.rite_code.specs.declared.operation.Operation.TheVariants.{Move, LoadNil, Jmp, JmpNot}
 use Rattle.rite_code.specs.Instruction.{narrow}
 use Rattle.rite_code.specs.Shape.{size_of}
 use Rattle.def_machine.specs.Turn.{fetch}
@@ -11,7 +11,7 @@ use Rattle.code_generator.specs.Gen.{distance, action_size, before_operands, reg
 use Rattle.code_generator.proofs.cases.Strict.{size_is}
 
 -- instructions stand in a row from a byte on
-abbrev pub HasAt : Code → ℕ → ℕ → List Operation → Type 0
+abbrev pub HasAt : Program → ℕ → ℕ → List Operation → Type 0
 HasAt p b at [] = Unit {0}
 HasAt p b at (i ∷ is) = (fetch p b at ≡ Some (narrow i, at + size_of i)) × HasAt p b (at + size_of i) is
 
@@ -23,15 +23,15 @@ pub total_append : (a b : List Operation) → total (a ++ b) ≡ total a + total
 total_append [] b = omega arith
 total_append (i ∷ a) b = let h = total_append a b in omega (arith, h)
 
-pub front : (p : Code) (b at : ℕ) (is rest : List Operation) → HasAt p b at (is ++ rest) → HasAt p b at is
+pub front : (p : Program) (b at : ℕ) (is rest : List Operation) → HasAt p b at (is ++ rest) → HasAt p b at is
 front p b at [] rest h = tt
 front p b at (i ∷ is) rest h = (h.0, front p b (at + size_of i) is rest h.1)
 
-back_total : (p : Code) (b at : ℕ) (is rest : List Operation) → HasAt p b at (is ++ rest) → HasAt p b (at + total is) rest
+back_total : (p : Program) (b at : ℕ) (is rest : List Operation) → HasAt p b at (is ++ rest) → HasAt p b (at + total is) rest
 back_total p b at [] rest h = let e : at ≡ at + 0 = omega arith in subst (λ (n : ℕ). HasAt p b n rest) e h
 back_total p b at (i ∷ is) rest h = let e : at + size_of i + total is ≡ at + (size_of i + total is) = omega arith in subst (λ (n : ℕ). HasAt p b n rest) e (back_total p b (at + size_of i) is rest h.1)
 
-pub back : (p : Code) (b at n : ℕ) (is rest : List Operation) → total is ≡ n → HasAt p b at (is ++ rest) → HasAt p b (at + n) rest
+pub back : (p : Program) (b at n : ℕ) (is rest : List Operation) → total is ≡ n → HasAt p b at (is ++ rest) → HasAt p b (at + n) rest
 back p b at n is rest e h = subst (λ (m : ℕ). HasAt p b (at + m) rest) e (back_total p b at is rest h)
 
 mutual

@@ -7,7 +7,7 @@ use Rattle.rb_syntax.specs.Form.{Name}
 use Rattle.rb_syntax.specs.Names.{place_of}
 use Rattle.rb_value.specs.declared.value.Value.{Value}
 use Rattle.rb_value.specs.declared.value.Value.TheVariants.{Nil}
-use Rattle.rite_code.specs.declared.code.Code.{Code}
+use Rattle.rite_code.specs.Code.{Program}
 use Rattle.def_eval.specs.Configuration as source
 use Rattle.def_eval.specs.Configuration.{Source, Scope, World, no_scope, scope_at, named, local_of, with_local}
 use Rattle.def_machine.specs.State.{Slot, value, read, body_at, Registers, no_registers, list_at, slot_at, value_at, put, Memory}
@@ -30,7 +30,7 @@ length_put : (ls : List Registers) (n i : ℕ) (v : Slot) → length (put ls n i
 unfolding put
 length_put ls n i v = length-set ls n (record (list_at ls n) { slots = set (list_at ls n).slots i v })
 
-pub fits_put : (q : Source) (p : Code) (ls : List Registers) (b n i : ℕ) (v : Slot) → Fits q p ls b n → Fits q p (put ls n i v) b n
+pub fits_put : (q : Source) (p : Program) (ls : List Registers) (b n i : ℕ) (v : Slot) → Fits q p ls b n → Fits q p (put ls n i v) b n
 fits_put q p ls b n i v f = record {
   present = omega (arith, f.present, length_put ls n i v);
   long = ap (λ l. length l.slots) (list_same ls n i v f.present) ∙ length-set (list_at ls n).slots i v ∙ f.long;
@@ -51,7 +51,7 @@ front_local n i (s ∷ ss) v lt =
     subst (λ (j : ℕ). take n (behind_self (set (s ∷ ss) j v)) ≡ set (take n ss) i v) (sym e) (take-set-lt n ss i v lt)
 
 -- a write above the locals leaves the scopes
-pub same_above : (q : Source) (p : Code) (w : World) (b n : ℕ) (m : Memory) (r : ℕ) (v : Slot) → Fits q p m.lists b n → (body_at p b).locals ≤ r → Same q w n m → Same q w n (record m { lists = put m.lists n r v })
+pub same_above : (q : Source) (p : Program) (w : World) (b n : ℕ) (m : Memory) (r : ℕ) (v : Slot) → Fits q p m.lists b n → (body_at p b).locals ≤ r → Same q w n m → Same q w n (record m { lists = put m.lists n r v })
 unfolding put
 same_above q p w b n m r v fits above s =
     let l = list_at m.lists n in
@@ -66,12 +66,12 @@ same_above q p w b n m r v fits above s =
     }
 
 -- the scope of the running activation
-scope_is : (q : Source) (p : Code) (w : World) (b n : ℕ) (m : Memory) → Fits q p m.lists b n → Same q w n m → scope_at w ≡ scope_of q (list_at m.lists n)
+scope_is : (q : Source) (p : Program) (w : World) (b n : ℕ) (m : Memory) → Fits q p m.lists b n → Same q w n m → scope_at w ≡ scope_of q (list_at m.lists n)
 scope_is q p w b n m fits s =
     ap (get_or w.scopes w.place.scope) refl ∙ ap (λ (k : ℕ). get_or w.scopes k no_scope) s.is_scope ∙ ap (λ (cs : List Scope). get_or cs n no_scope) s.scopes ∙ get_or-map (scope_of q) m.lists n no_registers no_scope fits.present
 
 -- the place of a name among the locals
-pub local_is : (q : Source) (p : Code) (w : World) (b n : ℕ) (m : Memory) (x : Name) → Fits q p m.lists b n → Same q w n m → local_of q w x ≡ place_of x (source.body_at q b).names
+pub local_is : (q : Source) (p : Program) (w : World) (b n : ℕ) (m : Memory) (x : Name) → Fits q p m.lists b n → Same q w n m → local_of q w x ≡ place_of x (source.body_at q b).names
 local_is q p w b n m x fits s = ap (λ (c : Scope). place_of x (source.body_at q c.of).names) (scope_is q p w b n m fits s) ∙ ap (λ (k : ℕ). place_of x (source.body_at q k).names) fits.own
 
 get_behind : (ss : List Slot) (i : ℕ) → get_or (behind_self ss) i (value Nil) ≡ get_or ss (i + 1) (value Nil)
@@ -81,7 +81,7 @@ get_behind (s ∷ ss) i = let e : i + 1 ≡ suc i = omega arith in rw e refl
 get_front : (n i : ℕ) (ss : List Slot) → i < n → get_or (map read (take n (behind_self ss))) i Nil ≡ read (get_or ss (i + 1) (value Nil))
 get_front n i ss lt = get_or_map read (take n (behind_self ss)) i (value Nil) ∙ ap read (get_or-take n (behind_self ss) i (value Nil) lt ∙ get_behind ss i)
 
-pub named_is : (q : Source) (p : Code) (w : World) (b n : ℕ) (m : Memory) (x : Name) → Fits q p m.lists b n → place_of x (source.body_at q b).names + 1 < (body_at p b).locals → Same q w n m → named q w x ≡ value_at m.lists n (place_of x (source.body_at q b).names + 1)
+pub named_is : (q : Source) (p : Program) (w : World) (b n : ℕ) (m : Memory) (x : Name) → Fits q p m.lists b n → place_of x (source.body_at q b).names + 1 < (body_at p b).locals → Same q w n m → named q w x ≡ value_at m.lists n (place_of x (source.body_at q b).names + 1)
 unfolding slot_at
 named_is q p w b n m x fits lt s =
     let l = list_at m.lists n in
@@ -92,7 +92,7 @@ named_is q p w b n m x fits lt s =
     ∙ get_front (length (source.body_at q l.of).names) i l.slots (omega (arith, long, lt, fits.layout))
 
 -- an assignment on both sides
-pub same_local : (q : Source) (p : Code) (w : World) (b n : ℕ) (m : Memory) (x : Name) (v : Value) → Fits q p m.lists b n → place_of x (source.body_at q b).names + 1 < (body_at p b).locals → Same q w n m → Same q (with_local w (local_of q w x) v) n (write m n (place_of x (source.body_at q b).names + 1) v)
+pub same_local : (q : Source) (p : Program) (w : World) (b n : ℕ) (m : Memory) (x : Name) (v : Value) → Fits q p m.lists b n → place_of x (source.body_at q b).names + 1 < (body_at p b).locals → Same q w n m → Same q (with_local w (local_of q w x) v) n (write m n (place_of x (source.body_at q b).names + 1) v)
 unfolding put
 same_local q p w b n m x v fits lt s =
     let l = list_at m.lists n in

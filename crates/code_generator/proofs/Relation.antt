@@ -1,8 +1,8 @@
 -- When a configuration of the evaluation and a state of the machine are alike.
 use Rattle.std.proofs.Common.{◌≡◌, ℕ, ◌+◌, ◌<◌, ◌≤◌, List, [], ◌∷◌, ◌++◌, length, map, take}
 use Rattle.rb_value.specs.declared.value.Value.{Value}
-use Rattle.rite_code.specs.declared.code.Code.{Code}
-use Rattle.rite_code.specs.declared.instr.Operation.TheVariants.{Stop}
+use Rattle.rite_code.specs.Code.{Program}
+use Rattle.rite_code.specs.declared.operation.Operation.TheVariants.{Stop}
 use Rattle.def_eval.specs.Seen.{Uncaught}
 use Rattle.def_eval.specs.Steps.{Matched}
 use Rattle.def_eval.specs.Configuration as source
@@ -24,14 +24,14 @@ behind_self [] = []
 behind_self (s ∷ ss) = ss
 
 -- a list of registers has the size of its body, whose locals are self and the names of the source
-pub record Fits (q : Source) (p : Code) (ls : List Registers) (b n : ℕ) : Type 0 where
+pub record Fits (q : Source) (p : Program) (ls : List Registers) (b n : ℕ) : Type 0 where
   pub present : n < length ls
   pub long : length (list_at ls n).slots ≡ (body_at p b).registers
   pub own : (list_at ls n).of ≡ b
   pub layout : (body_at p b).locals ≡ length (source.body_at q b).names + 1
 
 -- Where a value stands in register r at a byte of a body, the code goes on with these items.
-abbrev pub Awaits : Source → Code → List Registers → List Item → Around → ℕ → ℕ → List Frame → ℕ → ℕ → Type 0
+abbrev pub Awaits : Source → Program → List Registers → List Item → Around → ℕ → ℕ → List Frame → ℕ → ℕ → Type 0
 Awaits q p ls [] h b n fs at r = record { stop : Ins p b at Stop; fits : Fits q p ls b n }
 Awaits q p ls (inside k ∷ ks) h b n fs at r = record {
   low : ℕ;
@@ -55,7 +55,7 @@ pub record Same (q : Source) (w : World) (n : ℕ) (m : Memory) : Type 0 where
   pub scopes : w.scopes ≡ map (scope_of q) m.lists
 
 -- what the focus says of the frames
-abbrev pub Focused : Source → Code → Focus → List Item → World → Frame → List Frame → Memory → Type 0
+abbrev pub Focused : Source → Program → Focus → List Item → World → Frame → List Frame → Memory → Type 0
 Focused q p (perform e) ks w f fs m = record {
   same : Same q w f.list m;
   h : Around;
@@ -77,14 +77,14 @@ Focused q p (give v) ks w f fs m = record {
 -- the next turn ends the program with the exception
 Focused q p (travel (raise e)) ks w f fs m = record { out : w.out ≡ m.out; throws : turn p (On f fs m) ≡ Off (Uncaught m.out e) }
 
-abbrev pub Related : Source → Code → Config → State → Type 0
+abbrev pub Related : Source → Program → Config → State → Type 0
 Related q p (Halt s) (Off t) = t ≡ s
 Related q p (Halt s) (On f fs m) = ⊥
 Related q p (Run x ks w) (Off t) = ⊥
 Related q p (Run x ks w) (On f fs m) = Focused q p x ks w f fs m
 
 -- A value given to a part: it stands in a row with the values that the part kept, behind the registers that it spares.
-pub record Given (q : Source) (p : Code) (v : Value) (k : Part) (ks : List Item) (w : World) (f : Frame) (fs : List Frame) (m : Memory) : Type 0 where
+pub record Given (q : Source) (p : Program) (v : Value) (k : Part) (ks : List Item) (w : World) (f : Frame) (fs : List Frame) (m : Memory) : Type 0 where
   pub same : Same q w f.list m
   pub h : Around
   pub names : h.names ≡ (source.body_at q f.body).names
@@ -97,5 +97,5 @@ pub record Given (q : Source) (p : Code) (v : Value) (k : Part) (ks : List Item)
   pub fits : Fits q p m.lists f.body f.list
 
 -- one transition, matched by turns
-abbrev pub Step : Source → Code → Config → State → Type 0
+abbrev pub Step : Source → Program → Config → State → Type 0
 Step q p c t = Matched (go q) (turn p) seen shown measure (Related q p) c t

@@ -3,9 +3,9 @@ use Rattle.std.proofs.Common.{◌≡◌, ◌⊎◌, ℕ, ◌+◌, ◌<◌, ◌�
 use Rattle.std.specs.Prelude.{codes}
 use Rattle.rb_syntax.specs.Form.{Name, Action, Form, strict, local, set_local, seq, cond, while_form, Forms, none, more}
 use Rattle.rb_syntax.specs.Limits.{arity}
-use Rattle.rite_code.specs.declared.code.Code.{Code}
-use Rattle.rite_code.specs.declared.instr.Operation.{Operation}
-use Rattle.rite_code.specs.declared.instr.Operation.TheVariants.{Move, LoadNil, Jmp, JmpNot}
+use Rattle.rite_code.specs.Code.{Program}
+use Rattle.rite_code.specs.declared.operation.Operation.{Operation}
+use Rattle.rite_code.specs.declared.operation.Operation.TheVariants.{Move, LoadNil, Jmp, JmpNot}
 use Rattle.rite_code.specs.Instruction.{narrow}
 use Rattle.rite_code.specs.Shape.{size_of}
 use Rattle.def_eval.specs.Configuration.{Part, operands, rest, branch, chosen, loop_test, loop_body, assign}
@@ -18,20 +18,20 @@ pub record Around : Type 0 where
   pub names : List Name
 
 -- an instruction stands at a byte
-pub record Ins (p : Code) (b at : ℕ) (o : Operation) : Type 0 where
+pub record Ins (p : Program) (b at : ℕ) (o : Operation) : Type 0 where
   pub here : fetch p b at ≡ Some (narrow o, at + size_of o)
 
 -- a register may be written as the value of a form
-pub record Room (p : Code) (b r : ℕ) : Type 0 where
+pub record Room (p : Program) (b r : ℕ) : Type 0 where
   pub within : r < (body_at p b).registers
   pub above : (body_at p b).locals ≤ r
 
 -- a name has a register among the locals
-abbrev pub IsLocal : Code → ℕ → Around → Name → Type 0
+abbrev pub IsLocal : Program → ℕ → Around → Name → Type 0
 IsLocal p b h x = register_of h.names x < (body_at p b).locals
 
 abbrev mutual
-  pub Stands : Code → ℕ → Around → Form → ℕ → ℕ → ℕ → Type 0
+  pub Stands : Program → ℕ → Around → Form → ℕ → ℕ → ℕ → Type 0
   Stands p b h (strict a es) r at end = StandOperands p b h a es r (before_operands a) at end
   Stands p b h (local x) r at end = record { move : Ins p b at (Move r (register_of h.names x)); is_local : IsLocal p b h x; room : Room p b r; ends : at + 3 ≡ end }
   Stands p b h (set_local x e) r at end = record { mid : ℕ; assigned : Stands p b h e r at mid; move : Ins p b mid (Move (register_of h.names x) r); is_local : IsLocal p b h x; ends : mid + 3 ≡ end }
@@ -66,7 +66,7 @@ abbrev mutual
   }
 
   -- the operands that are left, from the register r + n on, and the action
-  pub StandOperands : Code → ℕ → Around → Action → Forms → ℕ → ℕ → ℕ → ℕ → Type 0
+  pub StandOperands : Program → ℕ → Around → Action → Forms → ℕ → ℕ → ℕ → ℕ → Type 0
   StandOperands p b h a none r n at end = record {
     act : Ins p b at (action_of a r);
     all : n ≡ before_operands a + arity a;
@@ -76,12 +76,12 @@ abbrev mutual
   }
   StandOperands p b h a (more e es) r n at end = record { mid : ℕ; first : Stands p b h e (r + n) at mid; others : StandOperands p b h a es r (n + 1) mid end }
 
-  pub StandAll : Code → ℕ → Around → Forms → ℕ → ℕ → ℕ → Type 0
+  pub StandAll : Program → ℕ → Around → Forms → ℕ → ℕ → ℕ → Type 0
   StandAll p b h none r at end = record { load : Ins p b at (LoadNil r); room : Room p b r; ends : at + 2 ≡ end }
   StandAll p b h (more e es) r at end = record { mid : ℕ; first : Stands p b h e r at mid; others : StandRest p b h es r mid end }
 
   -- what stands behind a first form
-  pub StandRest : Code → ℕ → Around → Forms → ℕ → ℕ → ℕ → Type 0
+  pub StandRest : Program → ℕ → Around → Forms → ℕ → ℕ → ℕ → Type 0
   StandRest p b h none r at end = at ≡ end
   StandRest p b h (more e es) r at end = record { mid : ℕ; first : Stands p b h e r at mid; others : StandRest p b h es r mid end }
 
@@ -105,7 +105,7 @@ kept (loop_body t e) = []
 kept (assign x) = []
 
 -- The code behind a part, from the byte at which its value is awaited to the end of its form. The form's register is r.
-abbrev pub Behind : Code → ℕ → Around → Part → ℕ → ℕ → ℕ → Type 0
+abbrev pub Behind : Program → ℕ → Around → Part → ℕ → ℕ → ℕ → Type 0
 Behind p b h (operands a vs es) r at end = StandOperands p b h a es r (before_operands a + (length vs + 1)) at end
 Behind p b h (rest es) r at end = StandRest p b h es r at end
 Behind p b h (branch e f) r at end = record {

@@ -4,8 +4,8 @@ use Rattle.std.proofs.lemmas.List.{take-replicate, length-replicate}
 use Rattle.rb_syntax.specs.Form.{Form, strict, local, set_local, seq, cond, while_form}
 use Rattle.rb_value.specs.declared.value.Value.{Value}
 use Rattle.rb_value.specs.declared.value.Value.TheVariants.{Nil}
-use Rattle.rite_code.specs.declared.code.Code.{Code}
-use Rattle.rite_code.specs.declared.instr.Operation.TheVariants.{Stop}
+use Rattle.rite_code.specs.Code.{Program}
+use Rattle.rite_code.specs.declared.operation.Operation.TheVariants.{Stop}
 use Rattle.def_eval.specs.Seen.{Over, over}
 use Rattle.def_eval.specs.Steps.{StepLaw, Follows}
 use Rattle.def_eval.proofs.Induction.{follows}
@@ -25,7 +25,7 @@ use Rattle.code_generator.proofs.cases.Branches.{do_cond, give_branch, give_chos
 use Rattle.code_generator.proofs.cases.Loops.{do_while, give_test, give_body}
 use Rattle.code_generator.proofs.cases.Ends.{give_none, give_activation, travel_none, travel_on}
 
-do_matched : (q : Source) (p : Code) (e : Form) (ks : List Item) (w : World) (f : Frame) (fs : List Frame) (m : Memory) → Focused q p (perform e) ks w f fs m → Step q p (Run (perform e) ks w) (On f fs m)
+do_matched : (q : Source) (p : Program) (e : Form) (ks : List Item) (w : World) (f : Frame) (fs : List Frame) (m : Memory) → Focused q p (perform e) ks w f fs m → Step q p (Run (perform e) ks w) (On f fs m)
 do_matched q p (strict a es) ks w f fs m = do_strict q p a es ks w f fs m
 do_matched q p (local x) ks w f fs m = do_local q p x ks w f fs m
 do_matched q p (set_local x e) ks w f fs m = do_set_local q p x e ks w f fs m
@@ -33,7 +33,7 @@ do_matched q p (seq es) ks w f fs m = do_seq q p es ks w f fs m
 do_matched q p (cond t a b) ks w f fs m = do_cond q p t a b ks w f fs m
 do_matched q p (while_form t b) ks w f fs m = do_while q p t b ks w f fs m
 
-part_matched : (q : Source) (p : Code) (v : Value) (k : Part) (ks : List Item) (w : World) (f : Frame) (fs : List Frame) (m : Memory) → Given q p v k ks w f fs m → Step q p (Run (give v) (inside k ∷ ks) w) (On f fs m)
+part_matched : (q : Source) (p : Program) (v : Value) (k : Part) (ks : List Item) (w : World) (f : Frame) (fs : List Frame) (m : Memory) → Given q p v k ks w f fs m → Step q p (Run (give v) (inside k ∷ ks) w) (On f fs m)
 part_matched q p v (operands a vs es) ks w f fs m = give_operand q p v a vs es ks w f fs m
 part_matched q p v (rest es) ks w f fs m = give_rest q p v es ks w f fs m
 part_matched q p v (branch a b) ks w f fs m = give_branch q p v a b ks w f fs m
@@ -51,7 +51,7 @@ weight_pos (loop_test t b) = omega arith
 weight_pos (loop_body t b) = omega arith
 weight_pos (assign x) = omega arith
 
-matched : (q : Source) (p : Code) (c : Config) (s : State) → Related q p c s → over (seen c) ≡ false → Step q p c s
+matched : (q : Source) (p : Program) (c : Config) (s : State) → Related q p c s → over (seen c) ≡ false → Step q p c s
 matched q p (Halt v) (Off t) r o = absurd (true≢false o)
 matched q p (Halt v) (On f fs m) r o = absurd r
 matched q p (Run x ks w) (Off t) r o = absurd r
@@ -63,7 +63,7 @@ matched q p (Run (travel x) [] w) (On f fs m) r o = travel_none q p x w f fs m r
 matched q p (Run (travel x) (inside k ∷ ks) w) (On f fs m) r o = travel_on q p x (inside k) ks w f fs m refl (omega (arith, weight_pos k)) r
 matched q p (Run (travel x) (activation a ∷ ks) w) (On f fs m) r o = travel_on q p x (activation a) ks w f fs m refl (omega arith) r
 
-alike : (q : Source) (p : Code) (c : Config) (s : State) → Related q p c s → shown s ≡ seen c
+alike : (q : Source) (p : Program) (c : Config) (s : State) → Related q p c s → shown s ≡ seen c
 alike q p (Halt v) (Off t) r = ap Over r
 alike q p (Halt v) (On f fs m) r = absurd r
 alike q p (Run x ks w) (Off t) r = absurd r
@@ -75,15 +75,15 @@ ended : (q : Source) (c : Config) → over (seen c) ≡ true → go q c ≡ c
 ended q (Halt v) o = refl
 ended q (Run x ks w) o = absurd (true≢false (sym o))
 
-stopped : (p : Code) (s : State) → over (shown s) ≡ true → turn p s ≡ s
+stopped : (p : Program) (s : State) → over (shown s) ≡ true → turn p s ≡ s
 stopped p (Off v) o = refl
 stopped p (On f fs m) o = absurd (true≢false (sym o))
 
-step_law : (q : Source) (p : Code) → StepLaw (go q) (turn p) seen shown over measure (Related q p)
+step_law : (q : Source) (p : Program) → StepLaw (go q) (turn p) seen shown over measure (Related q p)
 step_law q p = record { alike = alike q p; ended = ended q; stopped = stopped p; matched = matched q p }
 
 -- Body 0 is the code of the main program, and a stop behind it.
-pub record IsCodeOf (q : Source) (p : Code) : Type 0 where
+pub record IsCodeOf (q : Source) (p : Program) : Type 0 where
   pub layout : (body_at p 0).locals ≡ length (source.body_at q 0).names + 1
   pub room : (body_at p 0).locals ≤ (body_at p 0).registers
   pub end : ℕ
@@ -99,7 +99,7 @@ front_nils : (n k : ℕ) → n + 1 ≤ k → map read (take n (behind_self (repl
 front_nils n zero le = absurd (omega arith)
 front_nils n (suc k) le = ap (map read) (take-replicate n k (value Nil) (omega arith)) ∙ map-replicate n
 
-opening_related : (q : Source) (p : Code) (input : List ℕ) → IsCodeOf q p → Related q p (opening q input) (start p input)
+opening_related : (q : Source) (p : Program) (input : List ℕ) → IsCodeOf q p → Related q p (opening q input) (start p input)
 opening_related q p input c =
     let names = (source.body_at q 0).names in
     record {
@@ -113,5 +113,5 @@ opening_related q p input c =
       next = record { last = refl; stop = c.stop; fits = record { present = omega arith; long = length-replicate (body_at p 0).registers (value Nil); own = refl; layout = c.layout } };
     }
 
-pub implements : (q : Source) (p : Code) (input : List ℕ) → IsCodeOf q p → Follows (go q) (turn p) seen shown over (opening q input) (start p input)
+pub implements : (q : Source) (p : Program) (input : List ℕ) → IsCodeOf q p → Follows (go q) (turn p) seen shown over (opening q input) (start p input)
 implements q p input c = follows (go q) (turn p) seen shown over measure (Related q p) (step_law q p) (opening q input) (start p input) (opening_related q p input c)

@@ -4,9 +4,10 @@ use Rattle.rb_syntax.specs.Form.{Name, Action, give_nil, give_true, give_int, ca
 use Rattle.rb_syntax.specs.Names.{place_of, names_of}
 use Rattle.rb_syntax.specs.declared.operator.Operator.{Operator}
 use Rattle.rb_syntax.specs.declared.operator.Operator.TheVariants.{Plus, Minus, Times, Equal, Less, LessEqual, Greater, GreaterEqual}
-use Rattle.rite_code.specs.declared.code.Code.{Code}
-use Rattle.rite_code.specs.declared.instr.Operation.{Operation}
-use Rattle.rite_code.specs.declared.instr.Operation.TheVariants.{Move, LoadI, LoadI16, LoadI32, LoadNil, LoadT, Jmp, JmpNot, SSend, Add, Sub, Mul, Eq, Lt, Le, Gt, Ge, Stop}
+use Rattle.rite_code.specs.Code.{Program}
+use Rattle.rite_code.specs.declared.code.Irep.{Irep}
+use Rattle.rite_code.specs.declared.operation.Operation.{Operation}
+use Rattle.rite_code.specs.declared.operation.Operation.TheVariants.{Move, LoadI, LoadI16, LoadI32, LoadNil, LoadT, Jmp, JmpNot, SSend, Add, Sub, Mul, Eq, Lt, Le, Gt, Ge, Stop}
 use Rattle.rite_code.specs.Instruction.{narrow}
 use Rattle.rite_code.specs.Spelling.{encodings}
 
@@ -155,17 +156,17 @@ first_free f = length (names_of f) + 1
 abbrev pub operations_of : Form → List Operation
 operations_of f = gen (names_of f) f (first_free f) 0 ++ Stop ∷ []
 
--- the code of a main program
-abbrev pub code_of : Form → Code
-code_of f = record {
-  version = 2;
-  bodies = record {
-    locals = first_free f;
-    registers = first_free f + width f;
-    code = encodings (map narrow (operations_of f));
-    catches = [];
-    pool = [];
-    symbols = symbols_of f;
-    children = [];
-  } ∷ [];
+-- the body of a main program, and its code
+abbrev pub body_of : Form → Irep
+body_of f = record {
+  locals = first_free f;
+  registers = first_free f + width f;
+  code = encodings (map narrow (operations_of f));
+  catches = [];
+  pool = [];
+  symbols = symbols_of f;
+  children = [];
 }
+
+abbrev pub code_of : Form → Program
+code_of f = record { version = 2; bodies = body_of f ∷ [] }

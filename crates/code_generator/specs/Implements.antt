@@ -2,7 +2,7 @@
 use Rattle.std.specs.Prelude.{ℕ, List, [], ◌∷◌}
 use Rattle.rb_syntax.specs.Form.{Form}
 use Rattle.rb_syntax.specs.Names.{names_of}
-use Rattle.rite_code.specs.declared.code.Code.{Code}
+use Rattle.rite_code.specs.Code.{Program}
 use Rattle.def_eval.specs.Steps.{Follows}
 use Rattle.def_eval.specs.Seen.{over}
 use Rattle.def_eval.specs.Configuration.{Source, opening, seen}
@@ -16,5 +16,5 @@ source_of f = record { names = names_of f; form = f } ∷ []
 
 -- For every input the code ends as the evaluation does, in at most 32 turns for each transition and 32 more; it
 -- ends only so; and while neither has ended, its output is that of the evaluation, which no turn holds back.
-abbrev pub Implements : Code → Form → Type 0
+abbrev pub Implements : Program → Form → Type 0
 Implements c f = (input : List ℕ) → Follows (go (source_of f)) (turn c) seen shown over (opening (source_of f) input) (start c input)

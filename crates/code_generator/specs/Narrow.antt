@@ -1,6 +1,6 @@
 -- Narrow instructions and what they do.
 use Rattle.std.specs.Prelude.{◌≡◌, List, [], ◌∷◌, map, false}
-use Rattle.rite_code.specs.declared.instr.Operation.{Operation}
+use Rattle.rite_code.specs.declared.operation.Operation.{Operation}
 use Rattle.rite_code.specs.Instruction.{Instruction}
 
 abbrev pub operations_in : List Instruction → List Operation

@@ -16,7 +16,7 @@ pub struct Assembly {
 
 impl Model for Assembly {
     ghost use Rattle.std.specs.Prelude as prelude;
-    ghost use Rattle.rite_code.specs.declared.instr.Operation.{Operation};
+    ghost use Rattle.rite_code.specs.declared.operation.Operation.{Operation};
     ghost use Rattle.code_generator.specs.Narrow.{operations_in, AreNarrow};
 
     ghost Value = { prelude.List Operation };

@@ -1,7 +1,7 @@
 //! The instructions of a form.
 ghost use Rattle.std.specs.Prelude.{◌≡◌, ◌+◌, ◌<◌, ◌≤◌, ◌++◌, [], ◌∷◌, false, length, map, OnOk, IsTrue};
 ghost use Rattle.rb_syntax.specs.Limits.{is_number};
-ghost use Rattle.rite_code.specs.declared.instr.Operation.TheVariants.{Move, Jmp, JmpNot};
+ghost use Rattle.rite_code.specs.declared.operation.Operation.TheVariants.{Move, Jmp, JmpNot};
 ghost use Rattle.rite_code.specs.Shape.{fits_as, is_short};
 ghost use Rattle.code_generator.specs.Gen.{distance, gen, gen_rest, len, len_rest, load_number, operate, register_of, width, all_width};
 ghost use Rattle.code_generator.specs.Emission.{form, all_forms, HasNumbers, HaveNumbers};
@@ -102,6 +102,7 @@ fn register(name: &Bytes, names: &[Bytes]) -> u16
 
 /// Puts the code of a form at the byte `at`, with its value in `r`.
 #[cycle(emission)]
+#[tactic(auto, using(crate::specs::declared::tree::Tree::the_lemmas, std::proofs::lemmas::List::append_assoc))]
 pub fn emit(
     code: &mut Assembly,
     names: &[Bytes],

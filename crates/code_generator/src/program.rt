@@ -56,7 +56,7 @@ fn symbols(alloc: Global, tree: &Tree) -> Result<List<Bytes>, AllocError>
 }
 
 /// The code of a main program.
-#[tactic(auto, using(crate::proofs::Bounds::within_registers, crate::proofs::Bounds::within_code, crate::proofs::Numbers::within_numbers))]
+#[tactic(auto, using(crate::proofs::Bounds::within_registers, crate::proofs::Bounds::within_code, crate::proofs::Numbers::within_numbers, crate::proofs::Bodies::code_is_whole))]
 fn main_program(alloc: Global, tree: &Tree) -> Result<Code, AllocError>
     requires { IsWithin (form tree.now) }
     ensures { IfOk result (λ code. code ≡ code_of (form tree.now)) }
@@ -78,7 +78,7 @@ fn main_program(alloc: Global, tree: &Tree) -> Result<Code, AllocError>
     };
     let mut bodies = List::new(alloc);
     bodies.push(body)?;
-    Ok(Code { version: 2, bodies })
+    Ok(Code::new(2, bodies))
 }
 
 /// The code of a core form that stands for a form within the limits. The error is that memory ran out.

@@ -3,7 +3,7 @@ use Rattle.std.specs.Prelude.{◌≡◌, ◌⊎◌, ℕ, ◌≤◌, List, [], Op
 use Rattle.rb_base.specs.Outside.{Rose, with_more, IsLoaded}
 use Rattle.rb_syntax.specs.Form.{Form}
 use Rattle.rb_value.specs.declared.failure.Failure.{Failure}
-use Rattle.rite_code.specs.declared.code.Code.{Code}
+use Rattle.rite_code.specs.Code.{Program}
 use Rattle.def_eval.specs.Seen.{Ended, Uncaught, Going, Over, Seen, output_of}
 use Rattle.path_front.specs.Language.{program_of}
 use Rattle.path_file.specs.File.{canonical}
@@ -23,7 +23,7 @@ IsSource before source text = IsTrue before.tells → IsLoaded (before.file sour
 
 -- The file under the second name is that of this code, which implements the source under the first name, and
 -- every other file stays.
-pub record Built (before after : Told) (source file : List ℕ) (code : Code) : Type 0 where
+pub record Built (before after : Told) (source file : List ℕ) (code : Program) : Type 0 where
   pub text : List ℕ
   pub is_source : IsSource before source text
   pub form : Form
@@ -35,7 +35,7 @@ pub record Built (before after : Told) (source file : List ℕ) (code : Code) : 
 
 -- The program was built, and after n turns, over every input, this is seen.
 pub record Shows (before after : Told) (n : ℕ) (source file : List ℕ) (seen : Seen) : Type 0 where
-  pub code : Code
+  pub code : Program
   pub built : Built before after source file code
   pub seen_is : (input : List ℕ) → seen_after code n input ≡ seen
 

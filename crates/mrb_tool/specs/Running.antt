@@ -3,7 +3,7 @@ use Rattle.std.specs.Prelude.{◌≡◌, ℕ, ◌≤◌, List, [], Option, Some,
 use Rattle.std.specs.declared.alloc.Global.{Global}
 use Rattle.rb_base.specs.Outside.{Rose, with_more, TookFront}
 use Rattle.rb_syntax.specs.Form.{Form}
-use Rattle.rite_code.specs.declared.code.Code.{Code}
+use Rattle.rite_code.specs.Code.{Program}
 use Rattle.def_eval.specs.Seen.{Ended, Uncaught, Going, Over, Seen, output_of}
 use Rattle.path_front.specs.Language.{program_of}
 use Rattle.path_file.specs.File.{canonical}
@@ -70,12 +70,12 @@ NotBuilt before after source file (reports.Spent n) = ⊥
 NotBuilt before after source file reports.Usage = ⊥
 NotBuilt before after source file reports.OutputFault = ⊥
 
-abbrev pub Builds : Told → Told → List ℕ → List ℕ → Result Code Report → Type 0
+abbrev pub Builds : Told → Told → List ℕ → List ℕ → Result Program Report → Type 0
 Builds before after source file (Ok code) = Built before after source file code
 Builds before after source file (Err report) = NotBuilt before after source file report
 
 -- bytes that are the file of code which implements the text
-pub record Encodes (text : List ℕ) (code : Code) (bytes : List ℕ) : Type 0 where
+pub record Encodes (text : List ℕ) (code : Program) (bytes : List ℕ) : Type 0 where
   pub form : Form
   pub program : program_of text ≡ Some form
   pub implements : Implements code form
@@ -105,7 +105,7 @@ NotEncoded text reports.Usage = ⊥
 NotEncoded text reports.FileFault = ⊥
 NotEncoded text reports.OutputFault = ⊥
 
-abbrev pub EncodesAs : List ℕ → Result (Code × Vec ℕ Global) Report → Type 0
+abbrev pub EncodesAs : List ℕ → Result (Program × Vec ℕ Global) Report → Type 0
 EncodesAs text (Ok pair) = Encodes text pair.0 pair.1.items
 EncodesAs text (Err report) = NotEncoded text report
 
@@ -123,18 +123,18 @@ of_file_error file_errors.Failed = reports.FileFault
 of_file_error file_errors.NoMemory = reports.NoMemory
 
 -- every input shows this after n turns, and the output went out whole
-pub record RanWhole (code : Code) (n : ℕ) (before after : Stream) (seen : Seen) : Type 0 where
+pub record RanWhole (code : Program) (n : ℕ) (before after : Stream) (seen : Seen) : Type 0 where
   pub seen_is : (input : List ℕ) → seen_after code n input ≡ seen
   pub taken : after.taken ≡ with_more before.taken (output_of seen)
   pub faults : after.faults ≡ before.faults
 
 -- every input shows this after n turns, and a front of the output went out
-pub record RanInPart (code : Code) (n : ℕ) (before after : Stream) (seen : Seen) : Type 0 where
+pub record RanInPart (code : Program) (n : ℕ) (before after : Stream) (seen : Seen) : Type 0 where
   pub seen_is : (input : List ℕ) → seen_after code n input ≡ seen
   pub front : TookFront before.taken after.taken (output_of seen)
 
 -- what a run of at most n turns reports
-abbrev pub Runs : Code → ℕ → Stream → Stream → Report → Type 0
+abbrev pub Runs : Program → ℕ → Stream → Stream → Report → Type 0
 Runs code n before after (reports.Ended k) = (out : List ℕ) × RanWhole code n before after (Over (Ended out k))
 Runs code n before after (reports.Uncaught f) = (out : List ℕ) × RanWhole code n before after (Over (Uncaught out f))
 Runs code n before after (reports.Spent m) = (m ≡ n) × (out : List ℕ) × RanWhole code n before after (Going out)

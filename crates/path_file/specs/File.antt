@@ -1,7 +1,7 @@
 -- The file of a program of one body. All numbers are big-endian.
 use Rattle.std.specs.Prelude.{◌≡◌, ℕ, ◌+◌, ◌^◌, ◌<◌, List, [], ◌∷◌, ◌++◌, length, flat_map, codes}
 use Rattle.std.specs.Int.{to_be_bytes, w16, w32}
-use Rattle.rite_code.specs.declared.code.Code.{Code}
+use Rattle.rite_code.specs.Code.{Program}
 use Rattle.rite_code.specs.declared.code.Irep.{Irep}
 
 -- a text: its length in four bytes, and its bytes
@@ -33,7 +33,7 @@ abbrev pub file_of_bodies : List Irep → List ℕ
 file_of_bodies [] = []
 file_of_bodies (b ∷ bs) = file_of b
 
-unfoldable pub canonical : Code → List ℕ
+unfoldable pub canonical : Program → List ℕ
 canonical c = file_of_bodies c.bodies
 
 -- one body without catch entries, pool and children, whose file has a size of four bytes
@@ -51,6 +51,6 @@ IsOnePlain [] = ⊥
 IsOnePlain (b ∷ []) = IsPlainBody b
 IsOnePlain (b ∷ (d ∷ bs)) = ⊥
 
-pub record IsPlain (c : Code) : Type 0 where
+pub record IsPlain (c : Program) : Type 0 where
   pub version : c.version ≡ 2
   pub body : IsOnePlain c.bodies

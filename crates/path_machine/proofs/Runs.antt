@@ -3,7 +3,7 @@ use Rattle.std.proofs.Common.{◌≡◌, ℕ, zero, suc, List, [], ◌∷◌, �
 use Rattle.std.proofs.lemmas.List.{append-nil}
 use Rattle.rb_value.specs.declared.value.Value.{Value}
 use Rattle.rb_value.specs.declared.value.Value.TheVariants.{Nil}
-use Rattle.rite_code.specs.declared.code.Code.{Code}
+use Rattle.rite_code.specs.Code.{Program}
 use Rattle.def_core.specs.Rows.{line_of}
 use Rattle.def_eval.specs.Steps.{times}
 use Rattle.def_eval.specs.Seen.{End, Ended, Uncaught, Seen, Going, Over, output_of}
@@ -19,7 +19,7 @@ use Rattle.path_machine.specs.declared.ran.Ran.TheVariants as rans
 use Rattle.path_machine.proofs.Turns.{turn_as}
 
 -- a run that has ended stays ended
-times_off : (c : Code) (n : ℕ) (e : End) → times n (turn c) (Off e) ≡ Off e
+times_off : (c : Program) (n : ℕ) (e : End) → times n (turn c) (Off e) ≡ Off e
 times_off c zero e = refl
 times_off c (suc n) e = times_off c n e
 
@@ -27,7 +27,7 @@ abbrev seen_behind : Course → List ℕ → Seen
 seen_behind k out = seen_of k.ran (out ++ k.written)
 
 leads :
-    (c : Code) (n : ℕ) (step : Values × Next) (input out : List ℕ)
+    (c : Program) (n : ℕ) (step : Values × Next) (input out : List ℕ)
     → ((pc : ℕ) (rs : Values) (input out : List ℕ) → shown (times n (turn c) (standing pc rs input out)) ≡ seen_behind (course (body_at c 0) n pc rs) out)
     → shown (times n (turn c) (led_to step input out)) ≡ seen_behind (follows (course (body_at c 0) n) step) out
 leads c n (rs, nexts.To pc) input out ih = ih pc rs input out
@@ -37,7 +37,7 @@ leads c n (rs, nexts.Puts pc v) input out ih =
 leads c n (rs, nexts.Ended k) input out ih = ap shown (times_off c n (Ended out k)) ∙ ap (λ (w : List ℕ). Over (Ended w k)) (sym (append-nil out))
 leads c n (rs, nexts.Uncaught f) input out ih = ap shown (times_off c n (Uncaught out f)) ∙ ap (λ (w : List ℕ). Over (Uncaught w f)) (sym (append-nil out))
 
-runs : (c : Code) (n pc : ℕ) (rs : Values) (input out : List ℕ) → shown (times n (turn c) (standing pc rs input out)) ≡ seen_behind (course (body_at c 0) n pc rs) out
+runs : (c : Program) (n pc : ℕ) (rs : Values) (input out : List ℕ) → shown (times n (turn c) (standing pc rs input out)) ≡ seen_behind (course (body_at c 0) n pc rs) out
 unfolding course
 runs c zero pc rs input out = ap Going (sym (append-nil out))
 runs c (suc n) pc rs input out =
@@ -48,7 +48,7 @@ map-replicate : (n : ℕ) (v : Value) → map value (replicate n v) ≡ replicat
 map-replicate zero v = refl
 map-replicate (suc n) v = ap (λ (s : List Slot). value v ∷ s) (map-replicate n v)
 
-pub seen_is : (c : Code) (n : ℕ) (input : List ℕ) → seen_after c n input ≡ seen_of (whole_course (body_at c 0) n).ran (whole_course (body_at c 0) n).written
+pub seen_is : (c : Program) (n : ℕ) (input : List ℕ) → seen_after c n input ≡ seen_of (whole_course (body_at c 0) n).ran (whole_course (body_at c 0) n).written
 unfolding seen_after
 seen_is c n input =
     ap (λ (s : List Slot). shown (times n (turn c) (On (frame_at 0) [] (record { lists = record { of = 0; slots = s } ∷ []; input = input; out = [] })))) (sym (map-replicate (body_at c 0).registers Nil))
@@ -59,7 +59,7 @@ is_ran rans.Spent out = (out, refl)
 is_ran (rans.Ended k) out = (out, refl)
 is_ran (rans.Uncaught f) out = (out, refl)
 
-pub ran_as : (c : Code) (n : ℕ) (input : List ℕ) (r : Ran) → r ≡ (whole_course (body_at c 0) n).ran → IsRan r (seen_after c n input)
+pub ran_as : (c : Program) (n : ℕ) (input : List ℕ) (r : Ran) → r ≡ (whole_course (body_at c 0) n).ran → IsRan r (seen_after c n input)
 ran_as c n input r e = rw (seen_is c n input, e) (is_ran (whole_course (body_at c 0) n).ran (whole_course (body_at c 0) n).written)
 
 output_as : (r : Ran) (out : List ℕ) → output_of (seen_of r out) ≡ out
@@ -67,5 +67,5 @@ output_as rans.Spent out = refl
 output_as (rans.Ended k) out = refl
 output_as (rans.Uncaught f) out = refl
 
-pub written_as : (c : Code) (n : ℕ) (input : List ℕ) → output_of (seen_after c n input) ≡ (whole_course (body_at c 0) n).written
+pub written_as : (c : Program) (n : ℕ) (input : List ℕ) → output_of (seen_after c n input) ≡ (whole_course (body_at c 0) n).written
 written_as c n input = ap output_of (seen_is c n input) ∙ output_as (whole_course (body_at c 0) n).ran (whole_course (body_at c 0) n).written

@@ -7,9 +7,9 @@ use Rattle.rb_syntax.specs.declared.operator.Operator.TheVariants.{Plus, Minus, 
 use Rattle.rb_value.specs.Value.{is_true}
 use Rattle.rb_value.specs.declared.value.Value.{Value}
 use Rattle.rb_value.specs.declared.value.Value.TheVariants.{Nil, True, Int}
-use Rattle.rite_code.specs.declared.code.Code.{Code}
-use Rattle.rite_code.specs.declared.instr.Operation.{Operation}
-use Rattle.rite_code.specs.declared.instr.Operation.TheVariants.{Move, LoadI, LoadI16, LoadI32, LoadNil, LoadT, Jmp, JmpIf, JmpNot, SSend, Add, Sub, Mul, Eq, Lt, Le, Gt, Ge, Stop}
+use Rattle.rite_code.specs.Code.{Program}
+use Rattle.rite_code.specs.declared.operation.Operation.{Operation}
+use Rattle.rite_code.specs.declared.operation.Operation.TheVariants.{Move, LoadI, LoadI16, LoadI32, LoadNil, LoadT, Jmp, JmpIf, JmpNot, SSend, Add, Sub, Mul, Eq, Lt, Le, Gt, Ge, Stop}
 use Rattle.rite_code.specs.Instruction.{Instruction}
 use Rattle.rite_code.specs.Spelling.{decode_wide_at}
 use Rattle.def_core.specs.Rows.{Outcome, gives, raises, writes, call, line_of}
@@ -53,7 +53,7 @@ send_as true rs a pc next input out =
     ∙ got rs a next Nil Nil input (out ++ line_of (value_of rs (a + 1))) refl
 send_as false rs a pc next input out = refl
 
-act_as : (c : Code) (o : Operation) (rs : Values) (pc next : ℕ) (input out : List ℕ) → act c o next (frame_at pc) [] (memory_of rs input out) ≡ led_to (executed (body_at c 0).symbols o next rs) input out
+act_as : (c : Program) (o : Operation) (rs : Values) (pc next : ℕ) (input out : List ℕ) → act c o next (frame_at pc) [] (memory_of rs input out) ≡ led_to (executed (body_at c 0).symbols o next rs) input out
 act_as c (Move a b) rs pc next input out = got rs a next (value_at (lists_of rs) 0 b) (value_of rs b) input out (read_at rs b)
 act_as c (LoadI a b) rs pc next input out = got rs a next (Int (pos b)) (Int (pos b)) input out refl
 act_as c (LoadI16 a b) rs pc next input out = got rs a next (Int b) (Int b) input out refl
@@ -74,10 +74,10 @@ act_as c (Gt a) rs pc next input out = operate_as Greater rs a pc next input out
 act_as c (Ge a) rs pc next input out = operate_as GreaterEqual rs a pc next input out
 act_as c Stop rs pc next input out = refl
 
-turn_by_as : (c : Code) (fetched : Option (Instruction × ℕ)) (rs : Values) (pc : ℕ) (input out : List ℕ) → turn_by c fetched (frame_at pc) [] (memory_of rs input out) ≡ led_to (stepped_by (body_at c 0).symbols fetched rs) input out
+turn_by_as : (c : Program) (fetched : Option (Instruction × ℕ)) (rs : Values) (pc : ℕ) (input out : List ℕ) → turn_by c fetched (frame_at pc) [] (memory_of rs input out) ≡ led_to (stepped_by (body_at c 0).symbols fetched rs) input out
 turn_by_as c None rs pc input out = refl
 turn_by_as c (Some i) rs pc input out = act_as c i.0.operation rs pc i.1 input out
 
-pub turn_as : (c : Code) (pc : ℕ) (rs : Values) (input out : List ℕ) → turn c (standing pc rs input out) ≡ led_to (stepped (body_at c 0) pc rs) input out
+pub turn_as : (c : Program) (pc : ℕ) (rs : Values) (input out : List ℕ) → turn c (standing pc rs input out) ≡ led_to (stepped (body_at c 0) pc rs) input out
 unfolding fetch stepped
 turn_as c pc rs input out = turn_by_as c (decode_wide_at (body_at c 0).code pc) rs pc input out

@@ -6,8 +6,8 @@ use Rattle.rb_value.specs.Value.{is_true}
 use Rattle.rb_value.specs.declared.value.Value.{Value}
 use Rattle.rb_value.specs.declared.value.Value.TheVariants.{Nil, True, Int}
 use Rattle.rite_code.specs.declared.code.Irep.{Irep}
-use Rattle.rite_code.specs.declared.instr.Operation.{Operation}
-use Rattle.rite_code.specs.declared.instr.Operation.TheVariants.{Move, LoadI, LoadI16, LoadI32, LoadNil, LoadT, Jmp, JmpIf, JmpNot, SSend, Add, Sub, Mul, Eq, Lt, Le, Gt, Ge, Stop}
+use Rattle.rite_code.specs.declared.operation.Operation.{Operation}
+use Rattle.rite_code.specs.declared.operation.Operation.TheVariants.{Move, LoadI, LoadI16, LoadI32, LoadNil, LoadT, Jmp, JmpIf, JmpNot, SSend, Add, Sub, Mul, Eq, Lt, Le, Gt, Ge, Stop}
 use Rattle.rite_code.specs.Instruction.{Instruction}
 use Rattle.rite_code.specs.Spelling.{decode_wide_at}
 use Rattle.def_core.specs.Rows.{Outcome, gives, raises, writes, call, line_of}
@@ -63,6 +63,7 @@ executed symbols (Le a) next rs = operated LessEqual rs a next
 executed symbols (Gt a) next rs = operated Greater rs a next
 executed symbols (Ge a) next rs = operated GreaterEqual rs a next
 executed symbols Stop next rs = (rs, nexts.Ended 0)
+executed symbols o next rs = (rs, nexts.Ended 0)
 
 -- the instruction that stands at a place; a place without one ends the program
 abbrev pub stepped_by : List (List ℕ) → Option (Instruction × ℕ) → Values → Values × Next

@@ -141,7 +141,7 @@ fn execute(symbols: &[Bytes], operation: Operation, next: usize, registers: &mut
         Operation::Le { a } => operate(Operator::LessEqual, registers, a, next),
         Operation::Gt { a } => operate(Operator::Greater, registers, a, next),
         Operation::Ge { a } => operate(Operator::GreaterEqual, registers, a, next),
-        Operation::Stop => Next::Ended(0),
+        _ => Next::Ended(0),
     }
 }
 

@@ -5,9 +5,9 @@ use Rattle.std.specs.Int.{to_be_bytes, w16, w32}
 use Rattle.rb_syntax.specs.Form.{Form}
 use Rattle.rb_syntax.specs.Limits.{IsWithin}
 use Rattle.rb_syntax.specs.Names.{names_of}
-use Rattle.rite_code.specs.declared.code.Code.{Code}
+use Rattle.rite_code.specs.Code.{Program}
 use Rattle.rite_code.specs.declared.code.Irep.{Irep}
-use Rattle.rite_code.specs.declared.instr.Operation.TheVariants.{Stop}
+use Rattle.rite_code.specs.declared.operation.Operation.TheVariants.{Stop}
 use Rattle.path_file.specs.File.{IsPlain, file_of, fields}
 use Rattle.code_generator.specs.Gen.{code_of, gen, len, width, operations_of, first_free, symbols_of, calls_puts}
 use Rattle.code_generator.specs.Implements.{Implements}
@@ -50,11 +50,11 @@ plain_code f w = record {
   };
 }
 
-pub implements_of : (o : Option Form) (c : Code) → MatchOption o ⊥ IsWithin → MatchOption o ⊥ (λ f. c ≡ code_of f) → MatchOption o ⊥ (Implements c)
+pub implements_of : (o : Option Form) (c : Program) → MatchOption o ⊥ IsWithin → MatchOption o ⊥ (λ f. c ≡ code_of f) → MatchOption o ⊥ (Implements c)
 implements_of None c w e = w
-implements_of (Some f) c w e = subst (λ (d : Code). Implements d f) (sym e) (compiled f w)
+implements_of (Some f) c w e = subst (λ (d : Program). Implements d f) (sym e) (compiled f w)
 
-pub plain_of : (o : Option Form) (c : Code) → MatchOption o ⊥ IsWithin → MatchOption o ⊥ (λ f. c ≡ code_of f) → IsPlain c
+pub plain_of : (o : Option Form) (c : Program) → MatchOption o ⊥ IsWithin → MatchOption o ⊥ (λ f. c ≡ code_of f) → IsPlain c
 plain_of None c w e = absurd w
 plain_of (Some f) c w e = subst IsPlain (sym e) (plain_code f w)
 

@@ -3,8 +3,8 @@ use Rattle.std.proofs.Common.{◌≡◌, ◌⊎◌, ℕ, ◌+◌, ℤ, List, ◌
 use Rattle.rb_syntax.specs.Form.{Form, cond}
 use Rattle.rb_value.specs.Value.{is_true}
 use Rattle.rb_value.specs.declared.value.Value.{Value}
-use Rattle.rite_code.specs.declared.code.Code.{Code}
-use Rattle.rite_code.specs.declared.instr.Operation.TheVariants.{Jmp, JmpNot}
+use Rattle.rite_code.specs.Code.{Program}
+use Rattle.rite_code.specs.declared.operation.Operation.TheVariants.{Jmp, JmpNot}
 use Rattle.def_eval.specs.Configuration.{Source, branch, chosen, Item, inside, perform, give, World, Run}
 use Rattle.def_eval.specs.Transition.{choose}
 use Rattle.def_machine.specs.State.{Slot, value, read, slot_at, Frame, Memory, On}
@@ -13,7 +13,7 @@ use Rattle.code_generator.proofs.Stands.{Ins}
 use Rattle.code_generator.proofs.Relation.{Related, Focused, Given, Awaits, Step}
 use Rattle.code_generator.proofs.Matching.{turned, by_none, by_one, going}
 
-pub do_cond : (q : Source) (p : Code) (t a b : Form) (ks : List Item) (w : World) (f : Frame) (fs : List Frame) (m : Memory) → Focused q p (perform (cond t a b)) ks w f fs m → Step q p (Run (perform (cond t a b)) ks w) (On f fs m)
+pub do_cond : (q : Source) (p : Program) (t a b : Form) (ks : List Item) (w : World) (f : Frame) (fs : List Frame) (m : Memory) → Focused q p (perform (cond t a b)) ks w f fs m → Step q p (Run (perform (cond t a b)) ks w) (On f fs m)
 do_cond q p t a b ks w f fs m r =
     by_none q p _ _ (omega arith) (record {
       same = r.same;
@@ -34,7 +34,7 @@ do_cond q p t a b ks w f fs m r =
       };
     })
 
-branch_by : (q : Source) (p : Code) (v : Value) (a b : Form) (ks : List Item) (w : World) (f : Frame) (fs : List Frame) (m : Memory) (r : Given q p v (branch a b) ks w f fs m) (o : Bool) → is_true v ≡ o → turn p (On f fs m) ≡ On (goto f (if o then f.pc + 4 else target (f.pc + 4) r.behind.d)) fs m → Step q p (Run (give v) (inside (branch a b) ∷ ks) w) (On f fs m)
+branch_by : (q : Source) (p : Program) (v : Value) (a b : Form) (ks : List Item) (w : World) (f : Frame) (fs : List Frame) (m : Memory) (r : Given q p v (branch a b) ks w f fs m) (o : Bool) → is_true v ≡ o → turn p (On f fs m) ≡ On (goto f (if o then f.pc + 4 else target (f.pc + 4) r.behind.d)) fs m → Step q p (Run (give v) (inside (branch a b) ∷ ks) w) (On f fs m)
 branch_by q p v a b ks w f fs m r true e t =
     by_one q p _ _ _ (going r.same) t (subst (λ (o : Bool). Related q p (choose o a b ks w) (On (goto f (f.pc + 4)) fs m)) (sym e) (record {
       same = r.same;
@@ -58,13 +58,13 @@ branch_by q p v a b ks w f fs m r false e t =
       next = record { low = r.r; kept_below = omega arith; locals_below = r.above; held = tt; end = r.end; behind = inl refl; next = r.next };
     }))
 
-pub give_branch : (q : Source) (p : Code) (v : Value) (a b : Form) (ks : List Item) (w : World) (f : Frame) (fs : List Frame) (m : Memory) → Given q p v (branch a b) ks w f fs m → Step q p (Run (give v) (inside (branch a b) ∷ ks) w) (On f fs m)
+pub give_branch : (q : Source) (p : Program) (v : Value) (a b : Form) (ks : List Item) (w : World) (f : Frame) (fs : List Frame) (m : Memory) → Given q p v (branch a b) ks w f fs m → Step q p (Run (give v) (inside (branch a b) ∷ ks) w) (On f fs m)
 give_branch q p v a b ks w f fs m r =
     let e : r.r + 0 ≡ r.r = omega arith in
     let stands : slot_at m.lists f.list r.r ≡ value v = subst (λ (n : ℕ). slot_at m.lists f.list n ≡ value v) e r.held.0 in
     branch_by q p v a b ks w f fs m r (is_true v) refl (turned p (JmpNot r.r r.behind.d) f fs m r.behind.skip ∙ ap (λ (u : Slot). On (goto f (if is_true (read u) then f.pc + 4 else target (f.pc + 4) r.behind.d)) fs m) stands)
 
-pub give_chosen : (q : Source) (p : Code) (v : Value) (ks : List Item) (w : World) (f : Frame) (fs : List Frame) (m : Memory) → Given q p v chosen ks w f fs m → Step q p (Run (give v) (inside chosen ∷ ks) w) (On f fs m)
+pub give_chosen : (q : Source) (p : Program) (v : Value) (ks : List Item) (w : World) (f : Frame) (fs : List Frame) (m : Memory) → Given q p v chosen ks w f fs m → Step q p (Run (give v) (inside chosen ∷ ks) w) (On f fs m)
 give_chosen q p v ks w f fs m r = by_way r.behind
   where
     stands : slot_at m.lists f.list r.r ≡ value v

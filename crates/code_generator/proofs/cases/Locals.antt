@@ -2,8 +2,8 @@
 use Rattle.std.proofs.Common.{◌≡◌, ℕ, ◌+◌, ◌<◌, List, ◌∷◌, sym, ap, ◌∙◌, subst, arith}
 use Rattle.rb_syntax.specs.Form.{Name, Form, local, set_local}
 use Rattle.rb_value.specs.declared.value.Value.{Value}
-use Rattle.rite_code.specs.declared.code.Code.{Code}
-use Rattle.rite_code.specs.declared.instr.Operation.TheVariants.{Move}
+use Rattle.rite_code.specs.Code.{Program}
+use Rattle.rite_code.specs.declared.operation.Operation.TheVariants.{Move}
 use Rattle.def_eval.specs.Configuration as source
 use Rattle.def_eval.specs.Configuration.{Source, Part, operands, rest, branch, chosen, loop_test, loop_body, assign, Item, inside, activation, Exit, raise, Focus, perform, give, travel, World, Config, Run, Halt, named, local_of, with_local, seen}
 use Rattle.def_machine.specs.State.{Slot, value, read, body_at, slot_at, value_at, Frame, Memory, On}
@@ -19,7 +19,7 @@ use Rattle.code_generator.proofs.Matching.{turned, by_none, by_one, going, gives
 local_register : (q : Source) (b : ℕ) (h : Around) (x : Name) → h.names ≡ (source.body_at q b).names → register_of h.names x ≡ register_of (source.body_at q b).names x
 local_register q b h x e = ap (λ (ns : List Name). register_of ns x) e
 
-pub do_local : (q : Source) (p : Code) (x : Name) (ks : List Item) (w : World) (f : Frame) (fs : List Frame) (m : Memory) → Focused q p (perform (local x)) ks w f fs m → Step q p (Run (perform (local x)) ks w) (On f fs m)
+pub do_local : (q : Source) (p : Program) (x : Name) (ks : List Item) (w : World) (f : Frame) (fs : List Frame) (m : Memory) → Focused q p (perform (local x)) ks w f fs m → Step q p (Run (perform (local x)) ks w) (On f fs m)
 do_local q p x ks w f fs m r =
     let fits = awaits_fits q p m.lists ks r.h f.body f.list fs r.end r.r r.next in
     let reg = local_register q f.body r.h x r.names in
@@ -30,7 +30,7 @@ do_local q p x ks w f fs m r =
     ∙ ap (λ (v : Value). On (goto f (f.pc + 3)) fs (write m f.list r.r v)) (sym e))
     (gives q p (named q w x) ks w f fs m r.h r.r (f.pc + 3) r.end r.same r.names r.code.room r.next r.code.ends)
 
-pub do_set_local : (q : Source) (p : Code) (x : Name) (e : Form) (ks : List Item) (w : World) (f : Frame) (fs : List Frame) (m : Memory) → Focused q p (perform (set_local x e)) ks w f fs m → Step q p (Run (perform (set_local x e)) ks w) (On f fs m)
+pub do_set_local : (q : Source) (p : Program) (x : Name) (e : Form) (ks : List Item) (w : World) (f : Frame) (fs : List Frame) (m : Memory) → Focused q p (perform (set_local x e)) ks w f fs m → Step q p (Run (perform (set_local x e)) ks w) (On f fs m)
 do_set_local q p x e ks w f fs m r =
     by_none q p _ _ (omega arith) (record {
       same = r.same;
@@ -43,7 +43,7 @@ do_set_local q p x e ks w f fs m r =
       next = record { low = r.r; kept_below = omega arith; locals_below = r.above; held = tt; end = r.end; behind = record { move = r.code.move; is_local = r.code.is_local; ends = r.code.ends }; next = r.next };
     })
 
-pub give_assign : (q : Source) (p : Code) (v : Value) (x : Name) (ks : List Item) (w : World) (f : Frame) (fs : List Frame) (m : Memory) → Given q p v (assign x) ks w f fs m → Step q p (Run (give v) (inside (assign x) ∷ ks) w) (On f fs m)
+pub give_assign : (q : Source) (p : Program) (v : Value) (x : Name) (ks : List Item) (w : World) (f : Frame) (fs : List Frame) (m : Memory) → Given q p v (assign x) ks w f fs m → Step q p (Run (give v) (inside (assign x) ∷ ks) w) (On f fs m)
 give_assign q p v x ks w f fs m r =
     let reg = local_register q f.body r.h x r.names in
     let own = register_of (source.body_at q f.body).names x in

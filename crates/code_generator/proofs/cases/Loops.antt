@@ -4,8 +4,8 @@ use Rattle.rb_syntax.specs.Form.{Form, while_form}
 use Rattle.rb_value.specs.Value.{is_true}
 use Rattle.rb_value.specs.declared.value.Value.{Value}
 use Rattle.rb_value.specs.declared.value.Value.TheVariants.{Nil}
-use Rattle.rite_code.specs.declared.code.Code.{Code}
-use Rattle.rite_code.specs.declared.instr.Operation.TheVariants.{LoadNil, Jmp, JmpNot}
+use Rattle.rite_code.specs.Code.{Program}
+use Rattle.rite_code.specs.declared.operation.Operation.TheVariants.{LoadNil, Jmp, JmpNot}
 use Rattle.def_eval.specs.Configuration.{Source, loop_test, loop_body, Item, inside, perform, give, World, Run}
 use Rattle.def_eval.specs.Transition.{turn_loop}
 use Rattle.def_machine.specs.State.{Slot, value, read, slot_at, Frame, Memory, On}
@@ -14,7 +14,7 @@ use Rattle.code_generator.proofs.Stands.{Ins}
 use Rattle.code_generator.proofs.Relation.{Related, Focused, Given, Step}
 use Rattle.code_generator.proofs.Matching.{turned, by_none, by_one, by_two, going, gives}
 
-pub do_while : (q : Source) (p : Code) (t b : Form) (ks : List Item) (w : World) (f : Frame) (fs : List Frame) (m : Memory) → Focused q p (perform (while_form t b)) ks w f fs m → Step q p (Run (perform (while_form t b)) ks w) (On f fs m)
+pub do_while : (q : Source) (p : Program) (t b : Form) (ks : List Item) (w : World) (f : Frame) (fs : List Frame) (m : Memory) → Focused q p (perform (while_form t b)) ks w f fs m → Step q p (Run (perform (while_form t b)) ks w) (On f fs m)
 do_while q p t b ks w f fs m r =
     by_none q p _ _ (omega arith) (record {
       same = r.same;
@@ -27,7 +27,7 @@ do_while q p t b ks w f fs m r =
       next = record { low = r.r; kept_below = omega arith; locals_below = r.above; held = tt; end = r.end; behind = record { start = f.pc; loop = r.code; is = refl }; next = r.next };
     })
 
-loop_by : (q : Source) (p : Code) (v : Value) (t b : Form) (ks : List Item) (w : World) (f : Frame) (fs : List Frame) (m : Memory) (r : Given q p v (loop_test t b) ks w f fs m) (o : Bool) → is_true v ≡ o → turn p (On f fs m) ≡ On (goto f (if o then r.behind.loop.tested + 4 else target (r.behind.loop.tested + 4) r.behind.loop.d)) fs m → Step q p (Run (give v) (inside (loop_test t b) ∷ ks) w) (On f fs m)
+loop_by : (q : Source) (p : Program) (v : Value) (t b : Form) (ks : List Item) (w : World) (f : Frame) (fs : List Frame) (m : Memory) (r : Given q p v (loop_test t b) ks w f fs m) (o : Bool) → is_true v ≡ o → turn p (On f fs m) ≡ On (goto f (if o then r.behind.loop.tested + 4 else target (r.behind.loop.tested + 4) r.behind.loop.d)) fs m → Step q p (Run (give v) (inside (loop_test t b) ∷ ks) w) (On f fs m)
 loop_by q p v t b ks w f fs m r true e turns =
     let l = r.behind.loop in
     by_one q p _ _ _ (going r.same) turns (subst (λ (o : Bool). Related q p (turn_loop o t b ks w) (On (goto f (l.tested + 4)) fs m)) (sym e) (record {
@@ -45,7 +45,7 @@ loop_by q p v t b ks w f fs m r false e turns =
     by_two q p _ _ _ _ (going r.same) (turns ∙ ap (λ (n : ℕ). On (goto f n) fs m) l.aim) (going r.same) (turned p (LoadNil r.r) (goto f (l.mid + 3)) fs m l.load)
     (subst (λ (o : Bool). Related q p (turn_loop o t b ks w) (On (goto f (l.mid + 3 + 2)) fs (write m f.list r.r Nil))) (sym e) (gives q p Nil ks w f fs m r.h r.r (l.mid + 3 + 2) r.end r.same r.names l.room r.next l.ends))
 
-pub give_test : (q : Source) (p : Code) (v : Value) (t b : Form) (ks : List Item) (w : World) (f : Frame) (fs : List Frame) (m : Memory) → Given q p v (loop_test t b) ks w f fs m → Step q p (Run (give v) (inside (loop_test t b) ∷ ks) w) (On f fs m)
+pub give_test : (q : Source) (p : Program) (v : Value) (t b : Form) (ks : List Item) (w : World) (f : Frame) (fs : List Frame) (m : Memory) → Given q p v (loop_test t b) ks w f fs m → Step q p (Run (give v) (inside (loop_test t b) ∷ ks) w) (On f fs m)
 give_test q p v t b ks w f fs m r =
     let l = r.behind.loop in
     let e : r.r + 0 ≡ r.r = omega arith in
@@ -54,7 +54,7 @@ give_test q p v t b ks w f fs m r =
     ∙ ap (λ (u : Slot). On (goto f (if is_true (read u) then f.pc + 4 else target (f.pc + 4) l.d)) fs m) stands
     ∙ ap (λ (n : ℕ). On (goto f (if is_true v then n + 4 else target (n + 4) l.d)) fs m) (sym r.behind.is))
 
-pub give_body : (q : Source) (p : Code) (v : Value) (t b : Form) (ks : List Item) (w : World) (f : Frame) (fs : List Frame) (m : Memory) → Given q p v (loop_body t b) ks w f fs m → Step q p (Run (give v) (inside (loop_body t b) ∷ ks) w) (On f fs m)
+pub give_body : (q : Source) (p : Program) (v : Value) (t b : Form) (ks : List Item) (w : World) (f : Frame) (fs : List Frame) (m : Memory) → Given q p v (loop_body t b) ks w f fs m → Step q p (Run (give v) (inside (loop_body t b) ∷ ks) w) (On f fs m)
 give_body q p v t b ks w f fs m r =
     let l = r.behind.loop in
     by_one q p _ _ _ (going r.same) (turned p (Jmp l.d') f fs m (subst (λ (n : ℕ). Ins p f.body n (Jmp l.d')) r.behind.is l.jump)

@@ -9,8 +9,8 @@ use Rattle.rb_syntax.specs.declared.operator.Operator.TheVariants.{Plus, Minus, 
 use Rattle.rb_value.specs.declared.value.Value.{Value}
 use Rattle.rb_value.specs.declared.value.Value.TheVariants.{Nil, Int}
 use Rattle.rb_value.specs.declared.failure.Failure.{Failure}
-use Rattle.rite_code.specs.declared.code.Code.{Code}
-use Rattle.rite_code.specs.declared.instr.Operation.TheVariants as ops
+use Rattle.rite_code.specs.Code.{Program}
+use Rattle.rite_code.specs.declared.operation.Operation.TheVariants as ops
 use Rattle.rite_code.specs.Shape.{size_of}
 use Rattle.def_core.specs.Rows.{Outcome, gives, raises, writes, call, line_of}
 use Rattle.def_eval.specs.Seen.{Going, Uncaught}
@@ -36,7 +36,7 @@ thrown e f [] m = refl
 thrown e f (g ∷ gs) m = thrown e g gs m
 
 -- a number is loaded, whichever instruction is the shortest
-load_is : (p : Code) (r next : ℕ) (z : ℤ) (f : Frame) (fs : List Frame) (m : Memory) → act p (load_number r z) next f fs m ≡ On (goto f next) fs (write m f.list r (Int z))
+load_is : (p : Program) (r next : ℕ) (z : ℤ) (f : Frame) (fs : List Frame) (m : Memory) → act p (load_number r z) next f fs m ≡ On (goto f next) fs (write m f.list r (Int z))
 load_is p r next (pos n) f fs m = by (nat_lt n 256) (nat_lt n 32768)
   where
     by : (s t : Bool) → act p (cond s (ops.LoadI r n) (cond t (ops.LoadI16 r (pos n)) (ops.LoadI32 r (pos n)))) next f fs m ≡ On (goto f next) fs (write m f.list r (Int (pos n)))
@@ -49,7 +49,7 @@ load_is p r next (negsuc n) f fs m = by (nat_lt n 32768)
     by true = refl
     by false = refl
 
-operate_is : (p : Code) (o : Operator) (r next : ℕ) (f : Frame) (fs : List Frame) (m : Memory) → act p (generator.operate o r) next f fs m ≡ machine.operate o r next f fs m
+operate_is : (p : Program) (o : Operator) (r next : ℕ) (f : Frame) (fs : List Frame) (m : Memory) → act p (generator.operate o r) next f fs m ≡ machine.operate o r next f fs m
 operate_is p Plus r next f fs m = refl
 operate_is p Minus r next f fs m = refl
 operate_is p Times r next f fs m = refl
@@ -60,7 +60,7 @@ operate_is p Greater r next f fs m = refl
 operate_is p GreaterEqual r next f fs m = refl
 
 -- the instruction of an action does with the registers what the action does with their values
-acted : (p : Code) (a : Action) (vs : List Value) (r next : ℕ) (f : Frame) (fs : List Frame) (m : Memory) → length vs ≡ arity a → (generator.is_puts a ≡ true → get_or (body_at p f.body).symbols 0 [] ≡ codes "puts") → Holds m.lists f.list (r + before_operands a) (map value vs) → act p (action_of a r) next f fs m ≡ machine.after (outcome a vs) r next f fs m
+acted : (p : Program) (a : Action) (vs : List Value) (r next : ℕ) (f : Frame) (fs : List Frame) (m : Memory) → length vs ≡ arity a → (generator.is_puts a ≡ true → get_or (body_at p f.body).symbols 0 [] ≡ codes "puts") → Holds m.lists f.list (r + before_operands a) (map value vs) → act p (action_of a r) next f fs m ≡ machine.after (outcome a vs) r next f fs m
 unfolding outcome machine.is_puts
 acted p give_nil vs r next f fs m count named held = refl
 acted p give_true vs r next f fs m count named held = refl
@@ -103,7 +103,7 @@ size_is (call_operator GreaterEqual) r = refl
 size_is call_puts r = refl
 
 -- the turn of an action
-apply_by : (q : Source) (p : Code) (c : Config) (ks : List Item) (w : World) (f : Frame) (fs : List Frame) (m : Memory) (h : Around) (r next end : ℕ) → seen c ≡ Going w.out → h.names ≡ (source.body_at q f.body).names → (x : Outcome) → go q c ≡ evaluation.after x ks w → weights ks < measure c → Same q w f.list m → turn p (On f fs m) ≡ machine.after x r next f fs m → Room p f.body r → next ≡ end → Awaits q p m.lists ks h f.body f.list fs end r → Step q p c (On f fs m)
+apply_by : (q : Source) (p : Program) (c : Config) (ks : List Item) (w : World) (f : Frame) (fs : List Frame) (m : Memory) (h : Around) (r next end : ℕ) → seen c ≡ Going w.out → h.names ≡ (source.body_at q f.body).names → (x : Outcome) → go q c ≡ evaluation.after x ks w → weights ks < measure c → Same q w f.list m → turn p (On f fs m) ≡ machine.after x r next f fs m → Room p f.body r → next ≡ end → Awaits q p m.lists ks h f.body f.list fs end r → Step q p c (On f fs m)
 apply_by q p c ks w f fs m h r next end out names (gives v) goes less same turns room ends awaits =
     by_one q p _ _ _ (going same ∙ sym out) turns (subst (λ (d : Config). Related q p d (On (goto f next) fs (write m f.list r v))) (sym goes) (gives_value q p v ks w f fs m h r next end same names room awaits ends))
 apply_by q p c ks w f fs m h r next end out names (raises e) goes less same turns room ends awaits =
@@ -120,7 +120,7 @@ apply_by q p c ks w f fs m h r next end out names (writes bytes) goes less same 
     (keeps_above q p m.lists f.body f.list r r (value Nil) fits.present (omega arith)) awaits ends))
 
 -- the action of a strict form whose operands stand in their registers
-act_by : (q : Source) (p : Code) (c : Config) (a : Action) (vs : List Value) (ks : List Item) (w : World) (f : Frame) (fs : List Frame) (m : Memory) (h : Around) (r n end : ℕ) → seen c ≡ Going w.out → h.names ≡ (source.body_at q f.body).names → go q c ≡ evaluation.after (outcome a vs) ks w → weights ks < measure c → Same q w f.list m → StandOperands p f.body h a none r n f.pc end → n ≡ before_operands a + length vs → Holds m.lists f.list (r + before_operands a) (map value vs) → Awaits q p m.lists ks h f.body f.list fs end r → Step q p c (On f fs m)
+act_by : (q : Source) (p : Program) (c : Config) (a : Action) (vs : List Value) (ks : List Item) (w : World) (f : Frame) (fs : List Frame) (m : Memory) (h : Around) (r n end : ℕ) → seen c ≡ Going w.out → h.names ≡ (source.body_at q f.body).names → go q c ≡ evaluation.after (outcome a vs) ks w → weights ks < measure c → Same q w f.list m → StandOperands p f.body h a none r n f.pc end → n ≡ before_operands a + length vs → Holds m.lists f.list (r + before_operands a) (map value vs) → Awaits q p m.lists ks h f.body f.list fs end r → Step q p c (On f fs m)
 act_by q p c a vs ks w f fs m h r n end out names goes less same code count held awaits =
     let size : f.pc + size_of (action_of a r) ≡ f.pc + action_size a = ap (λ (k : ℕ). f.pc + k) (size_is a r) in
     let all : length vs ≡ arity a = omega (arith, code.all) in
@@ -128,7 +128,7 @@ act_by q p c a vs ks w f fs m h r n end out names goes less same code count held
     (turned p (action_of a r) f fs m code.act ∙ acted p a vs r (f.pc + size_of (action_of a r)) f fs m all code.named held)
     code.room (size ∙ code.ends) awaits
 
-pub do_strict : (q : Source) (p : Code) (a : Action) (es : Forms) (ks : List Item) (w : World) (f : Frame) (fs : List Frame) (m : Memory) → Focused q p (perform (strict a es)) ks w f fs m → Step q p (Run (perform (strict a es)) ks w) (On f fs m)
+pub do_strict : (q : Source) (p : Program) (a : Action) (es : Forms) (ks : List Item) (w : World) (f : Frame) (fs : List Frame) (m : Memory) → Focused q p (perform (strict a es)) ks w f fs m → Step q p (Run (perform (strict a es)) ks w) (On f fs m)
 do_strict q p a none ks w f fs m r =
     act_by q p (Run (perform (strict a none)) ks w) a [] ks w f fs m r.h r.r (before_operands a) r.end refl r.names refl (omega arith) r.same r.code (omega arith) tt r.next
 do_strict q p a (more e es) ks w f fs m r =
@@ -143,7 +143,7 @@ do_strict q p a (more e es) ks w f fs m r =
       next = record { low = r.r; kept_below = omega arith; locals_below = r.above; held = tt; end = r.end; behind = r.code.others; next = r.next };
     })
 
-pub give_operand : (q : Source) (p : Code) (v : Value) (a : Action) (vs : List Value) (es : Forms) (ks : List Item) (w : World) (f : Frame) (fs : List Frame) (m : Memory) → Given q p v (operands a vs es) ks w f fs m → Step q p (Run (give v) (inside (operands a vs es) ∷ ks) w) (On f fs m)
+pub give_operand : (q : Source) (p : Program) (v : Value) (a : Action) (vs : List Value) (es : Forms) (ks : List Item) (w : World) (f : Frame) (fs : List Frame) (m : Memory) → Given q p v (operands a vs es) ks w f fs m → Step q p (Run (give v) (inside (operands a vs es) ∷ ks) w) (On f fs m)
 give_operand q p v a vs none ks w f fs m r =
     let n : before_operands a + (length vs + 1) ≡ before_operands a + length (vs ++ v ∷ []) = omega (arith, length-append vs (v ∷ [])) in
     act_by q p (Run (give v) (inside (operands a vs none) ∷ ks) w) a (vs ++ v ∷ []) ks w f fs m r.h r.r (before_operands a + (length vs + 1)) r.end refl r.names refl (omega arith) r.same r.behind n
