@@ -1,4 +1,3 @@
-pub mod Place
 pub mod Writes
 pub mod Turns
 pub mod Runs

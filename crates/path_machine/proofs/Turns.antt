@@ -73,6 +73,7 @@ act_as c (Le a) rs pc next input out = operate_as LessEqual rs a pc next input o
 act_as c (Gt a) rs pc next input out = operate_as Greater rs a pc next input out
 act_as c (Ge a) rs pc next input out = operate_as GreaterEqual rs a pc next input out
 act_as c Stop rs pc next input out = refl
+act_as c o rs pc next input out = refl
 
 turn_by_as : (c : Program) (fetched : Option (Instruction × ℕ)) (rs : Values) (pc : ℕ) (input out : List ℕ) → turn_by c fetched (frame_at pc) [] (memory_of rs input out) ≡ led_to (stepped_by (body_at c 0).symbols fetched rs) input out
 turn_by_as c None rs pc input out = refl

@@ -26,7 +26,7 @@ pub fn run<O: Sink>(alloc: Global, code: &Code, budget: u64, out: &mut O) -> Res
     ensures fault { IsErrOf result RunFault.OutputFault → Rose (O.faults out.old) (O.faults out.new) }
     ensures stopped { OnErr result ((input : List ℕ) → StoppedWithin code.now budget input (O.taken out.old) (O.taken out.new)) }
 {
-    match code.bodies.as_slice().first() {
+    match code.bodies().first() {
         Some(body) => running::run_body(alloc, body, budget, out),
         None => Ok(running::ended(budget)),
     }

@@ -147,7 +147,6 @@ fn execute(symbols: &[Bytes], operation: Operation, next: usize, registers: &mut
 
 /// The instruction that stands at a place, and the place behind it.
 #[inline(always)]
-#[tactic(auto, using(crate::proofs::Place::next_fits))]
 fn fetch(code: &[u8], place: usize) -> Option<(Instr, usize)>
     ensures same { result ≡ spelling.decode_wide_at code.now place }
     ensures fits { IfSome result (λ fetched. fetched.1 < 2 ^ 63) }

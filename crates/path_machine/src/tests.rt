@@ -1,6 +1,7 @@
 ghost use Rattle.std.specs.Prelude.{Option, None};
 
 use super::*;
+use crate::running::run_body;
 use rb_base::{Bytes, Failed, List};
 use rb_value::Failure;
 use rite_code::Irep;
@@ -39,12 +40,11 @@ fn empty() -> Page {
     }
 }
 
-/// The program of one body with three registers and the symbol `puts`.
-fn program(alloc: Global, bytes: &[u8]) -> Result<Code, AllocError> {
+/// A body with three registers and the symbol `puts`.
+fn body(alloc: Global, bytes: &[u8]) -> Result<Irep, AllocError> {
     let mut symbols = List::new(alloc);
     symbols.push(Bytes::from_slice(alloc, b"puts")?)?;
-    let mut bodies = List::new(alloc);
-    bodies.push(Irep {
+    Ok(Irep {
         locals: 1,
         registers: 3,
         code: Bytes::from_slice(alloc, bytes)?,
@@ -52,16 +52,15 @@ fn program(alloc: Global, bytes: &[u8]) -> Result<Code, AllocError> {
         pool: List::new(alloc),
         symbols,
         children: List::new(alloc),
-    })?;
-    Ok(Code { version: 1, bodies })
+    })
 }
 
 #[test]
 fn puts_writes_a_line(rt: HostRuntime) -> Result<(), Fail> {
     // LOADI 2 7; SSEND 1 0 1; STOP
-    let code = program(rt.alloc(), &[3, 2, 7, 28, 1, 0, 1, 72])?;
+    let body = body(rt.alloc(), &[3, 2, 7, 28, 1, 0, 1, 72])?;
     let mut page = empty();
-    let ran = run(rt.alloc(), &code, 100, &mut page);
+    let ran = run_body(rt.alloc(), &body, 100, &mut page);
     assert_eq!(rt; ran, Ok(Ran::Ended(0)));
     assert_eq!(rt; page.end, 2);
     assert_eq!(rt;
@@ -74,8 +73,8 @@ fn puts_writes_a_line(rt: HostRuntime) -> Result<(), Fail> {
 #[test]
 fn an_endless_loop_spends_the_budget(rt: HostRuntime) -> Result<(), Fail> {
     // JMP -3
-    let code = program(rt.alloc(), &[21, 0xff, 0xfd])?;
-    let ran = run(rt.alloc(), &code, 5, &mut empty());
+    let body = body(rt.alloc(), &[21, 0xff, 0xfd])?;
+    let ran = run_body(rt.alloc(), &body, 5, &mut empty());
     assert_eq!(rt; ran, Ok(Ran::Spent));
     Ok(())
 }
@@ -86,8 +85,8 @@ fn a_product_past_64_bits_is_uncaught(rt: HostRuntime) -> Result<(), Fail> {
     let bytes = [
         5, 1, 0x7f, 0xff, 0xff, 0xff, 5, 2, 0x7f, 0xff, 0xff, 0xff, 41, 1, 3, 2, 4, 41, 1, 72,
     ];
-    let code = program(rt.alloc(), &bytes)?;
-    let ran = run(rt.alloc(), &code, 100, &mut empty());
+    let body = body(rt.alloc(), &bytes)?;
+    let ran = run_body(rt.alloc(), &body, 100, &mut empty());
     assert_eq!(rt; ran, Ok(Ran::Uncaught(Failure::IntegerOverflow)));
     Ok(())
 }
@@ -95,9 +94,9 @@ fn a_product_past_64_bits_is_uncaught(rt: HostRuntime) -> Result<(), Fail> {
 #[test]
 fn a_full_sink_stops_the_run(rt: HostRuntime) -> Result<(), Fail> {
     // LOADI 2 7; SSEND 1 0 1; JMP -7
-    let code = program(rt.alloc(), &[3, 2, 7, 28, 1, 0, 1, 21, 0xff, 0xf9])?;
+    let body = body(rt.alloc(), &[3, 2, 7, 28, 1, 0, 1, 21, 0xff, 0xf9])?;
     let mut page = empty();
-    let ran = run(rt.alloc(), &code, 100, &mut page);
+    let ran = run_body(rt.alloc(), &body, 100, &mut page);
     assert_eq!(rt; ran, Err(RunFault::OutputFault));
     assert_eq!(rt;
         page.bytes.as_slice(),
