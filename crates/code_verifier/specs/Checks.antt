@@ -125,9 +125,11 @@ abbrev pub parameter_count : Parameters → ℕ
 parameter_count q = q.required + q.optional + bit q.rest + q.post
 
 -- behind ENTER with optional parameters stands a jump for each number of them that may be given
+abbrev pub are_jumps : List Standing → Bool
+are_jumps ss = list_all (λ s. is_jump s.instruction.operation) ss
+
 abbrev pub jumps_follow : ℕ → List Standing → Bool
-jumps_follow zero ss = true
-jumps_follow (suc n) ss = nat_le (n + 2) (length ss) && list_all (λ s. is_jump s.instruction.operation) (take (n + 2) ss)
+jumps_follow n ss = nat_eq n 0 || (nat_le (n + 1) (length ss) && are_jumps (take (n + 1) ss))
 
 abbrev pub parameters_hold : Irep → List Standing → Parameters → Bool
 parameters_hold b behind q = nat_le (parameter_count q + 2) b.locals && not q.spare && jumps_follow q.optional behind
@@ -168,9 +170,7 @@ has_maker (Some m) = true
 
 -- every body but the main program is used, which its first instruction answers for
 abbrev pub is_used : Program → ℕ → ℕ → Bool
-is_used p zero at = true
-is_used p (suc k) zero = has_maker (maker_of p (suc k))
-is_used p (suc k) (suc at) = true
+is_used p k at = nat_eq k 0 || not (nat_eq at 0) || has_maker (maker_of p k)
 
 -- ## All checks of one instruction, in their order
 
@@ -208,13 +208,20 @@ read_whole version (n ∷ rest) end = if nat_eq end (length rest + 1) then None 
 abbrev pub catch_holds : ℕ → List Standing → CatchEntry → Bool
 catch_holds size ss e = nat_lt e.begin e.end && is_start ss e.begin && is_start ss e.target && (is_start ss e.end || nat_eq e.end size)
 
+-- the failures of some of the instructions, of the place where reading ends, and of catch entries
+abbrev pub instructions_bad : Program → ℕ → Irep → List Standing → List Standing → List (Option Bad)
+instructions_bad p k b ss some = map (λ s. bad k s.at (cause_of p k b ss s)) some
+
+abbrev pub end_bad : Program → ℕ → Irep → ℕ → Option Bad
+end_bad p k b end = bad k end (read_whole p.version b.code end)
+
+abbrev pub catches_bad : ℕ → Irep → List Standing → List CatchEntry → List (Option Bad)
+catches_bad k b ss some = map (λ e. bad k e.begin (unless (catch_holds (length b.code) ss e) cause.Catch)) some
+
 unfoldable pub body_bad : Program → ℕ → Irep → Option Bad
 body_bad p k b =
     let ss = layout p.version b.code in
-    first (
-      map (λ s. bad k s.at (cause_of p k b ss s)) ss
-      ++ bad k (end_of 0 ss) (read_whole p.version b.code (end_of 0 ss))
-      ∷ map (λ e. bad k e.begin (unless (catch_holds (length b.code) ss e) cause.Catch)) b.catches)
+    first (instructions_bad p k b ss ss ++ end_bad p k b (end_of 0 ss) ∷ catches_bad k b ss b.catches)
 
 -- ## All bodies
 

@@ -1,3 +1,5 @@
 pub mod Needs
 pub mod Checks
 pub mod Verified
+pub mod Known
+pub mod Answers
