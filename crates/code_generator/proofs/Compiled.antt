@@ -111,21 +111,27 @@ named_by f h = ap (λ (t : Bool). get_or (cond t (codes "puts" ∷ []) []) 0 [])
 none_within : (ns : List Name) → Within [] ns
 none_within ns = λ x h. absurd (cc)
 
+pub fine_code : (f : Form) → IsWithin f → Fine (code_of f) 0 (names_of f) f
+fine_code f w = fine_of (code_of f) 0 (names_of f) refl [] f (none_within (names_of f)) (assigned_own f) w.plain w.scoped (named_by f)
+
+-- the instructions stand in the code one behind the other
+pub has_code : (f : Form) → IsWithin f → HasAt (code_of f) 0 0 (operations_of f)
+has_code f w =
+    let registers = within_registers f w in
+    let short = within_code f w in
+    let fit = AllFit-append (gen (names_of f) f (first_free f) 0) (Stop ∷ []) (gen_fits (code_of f) 0 (names_of f) (omega (arith, registers)) f (first_free f) 0 w.plain (fine_code f w) registers (omega (arith, short))) (refl, tt) in
+    has_from (code_of f) 0 [] (operations_of f) refl fit
+
 pub code_is : (f : Form) → IsWithin f → IsCodeOf (source_of f) (code_of f)
 code_is f w =
     let p = code_of f in
     let ns = names_of f in
-    let registers = within_registers f w in
-    let short = within_code f w in
-    let fine = fine_of p 0 ns refl [] f (none_within ns) (assigned_own f) w.plain w.scoped (named_by f) in
-    let fit = AllFit-append (gen ns f (first_free f) 0) (Stop ∷ []) (gen_fits p 0 ns (omega (arith, registers)) f (first_free f) 0 w.plain fine registers (omega (arith, short))) (refl, tt) in
-    let code : HasAt p 0 0 (operations_of f) = has_from p 0 [] (operations_of f) refl fit in
-    let zero_off : 0 + len f ≡ len f = omega arith in
+    let code = has_code f w in
     record {
       layout = refl;
       room = omega arith;
       end = 0 + len f;
-      code = gen_stands p 0 ns f (first_free f) 0 fine (omega arith) (omega arith) (front p 0 0 (gen ns f (first_free f) 0) (Stop ∷ []) code);
+      code = gen_stands p 0 ns f (first_free f) 0 (fine_code f w) (omega arith) (omega arith) (front p 0 0 (gen ns f (first_free f) 0) (Stop ∷ []) code);
       stop = record { here = (back p 0 0 (len f) (gen ns f (first_free f) 0) (Stop ∷ []) (gen_len ns f (first_free f) 0) code).0 };
     }
 

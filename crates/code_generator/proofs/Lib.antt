@@ -17,3 +17,6 @@ pub mod Lists
 pub mod Narrow
 pub mod Numbers
 pub mod Bodies
+pub mod Checked
+pub mod Layouts
+pub mod Verified

@@ -1,6 +1,6 @@
 //! Code for core forms: each body's instructions, and the theorem that they do what the forms mean.
 //!
-//! Calls: [`generate`], and the laws [`law::code_implements`] and [`law::witness`].
+//! Calls: [`generate`], and the laws [`law::code_implements`], [`law::code_verified`] and [`law::witness`].
 #![tactic(auto)]
 
 mod assembly;
