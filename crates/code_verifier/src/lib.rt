@@ -10,6 +10,7 @@ ghost use Rattle.code_verifier.specs.Verified.{IsVerified, IsFault};
 
 pub mod error;
 mod needs;
+mod unread;
 pub mod verified;
 
 pub use error::VerifyError;
