@@ -125,9 +125,11 @@ abbrev pub parameter_count : Parameters → ℕ
 parameter_count q = q.required + q.optional + bit q.rest + q.post
 
 -- behind ENTER with optional parameters stands a jump for each number of them that may be given
+abbrev pub are_jumps : List Standing → Bool
+are_jumps ss = list_all (λ s. is_jump s.instruction.operation) ss
+
 abbrev pub jumps_follow : ℕ → List Standing → Bool
-jumps_follow zero ss = true
-jumps_follow (suc n) ss = nat_le (n + 2) (length ss) && list_all (λ s. is_jump s.instruction.operation) (take (n + 2) ss)
+jumps_follow n ss = nat_eq n 0 || (nat_le (n + 1) (length ss) && are_jumps (take (n + 1) ss))
 
 abbrev pub parameters_hold : Irep → List Standing → Parameters → Bool
 parameters_hold b behind q = nat_le (parameter_count q + 2) b.locals && not q.spare && jumps_follow q.optional behind
@@ -168,9 +170,7 @@ has_maker (Some m) = true
 
 -- every body but the main program is used, which its first instruction answers for
 abbrev pub is_used : Program → ℕ → ℕ → Bool
-is_used p zero at = true
-is_used p (suc k) zero = has_maker (maker_of p (suc k))
-is_used p (suc k) (suc at) = true
+is_used p k at = nat_eq k 0 || not (nat_eq at 0) || has_maker (maker_of p k)
 
 -- ## All checks of one instruction, in their order
 

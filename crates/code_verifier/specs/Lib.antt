@@ -1,3 +1,4 @@
 pub mod Needs
 pub mod Checks
 pub mod Verified
+pub mod Known

@@ -1,6 +1,5 @@
 -- What an instruction needs: registers, entries of the pool, symbols, children, places.
 use Rattle.std.specs.Prelude.{ℕ, ◌+◌, ◌*◌, max, ℤ, List, [], ◌∷◌, Bool, true, false, Option, Some, None, nat_eq, nat_lt, if◌then◌else◌}
-use Rattle.code_outline.specs.declared.maker.Purpose.{Purpose}
 use Rattle.rite_code.specs.declared.operation.Parameters.{Parameters}
 use Rattle.rite_code.specs.declared.operation.Operation.{Operation}
 use Rattle.rite_code.specs.declared.operation.Operation.TheVariants as operation
@@ -105,11 +104,6 @@ symbols_of (operation.Alias a b) = a ∷ b ∷ []
 symbols_of (operation.Undef a) = a ∷ []
 symbols_of (operation.Defined a b c) = if nat_lt b 6 then c ∷ [] else []
 symbols_of o = []
-
--- the index of the child that is used, without the purpose
-abbrev pub index_of : Option (ℕ × Purpose) → Option ℕ
-index_of None = None
-index_of (Some u) = Some u.0
 
 -- an entry of the pool: of an integer, or of a text
 pub data Entry : Type 0 where

@@ -8,6 +8,7 @@ ghost use Rattle.std.specs.Prelude.{◌≡◌, IfOk, IfErr};
 ghost use Rattle.code_verifier.specs.Checks.{first_bad};
 ghost use Rattle.code_verifier.specs.Verified.{IsVerified, IsFault};
 
+mod checks;
 pub mod error;
 mod needs;
 mod unread;

@@ -4,6 +4,7 @@ ghost use Rattle.std.specs.List.{list_all};
 ghost use Rattle.code_outline.specs.Makers.{use_in};
 ghost use Rattle.code_verifier.specs.Needs as needs;
 
+use code_outline::Purpose;
 use rite_code::{Operation, Parameters};
 
 /// The registers that hold the arguments of a call.
@@ -122,13 +123,15 @@ pub fn symbols_hold(count: usize, operation: Operation) -> bool
     }
 }
 
-/// The index of the child that it uses.
-pub fn child_of(operation: Operation) -> Option<u16>
-    ensures { result ≡ needs.index_of (use_in operation) }
+/// The index of the child that it uses, and what it makes of it.
+pub fn use_of(operation: Operation) -> Option<(u16, Purpose)>
+    ensures { result ≡ use_in operation }
 {
     match operation {
-        Operation::Lambda { b, .. } | Operation::Block { b, .. } | Operation::Exec { b, .. } => Some(b),
-        Operation::Def { c, .. } => Some(c),
+        Operation::Lambda { b, .. } => Some((b, Purpose::Lambda)),
+        Operation::Block { b, .. } => Some((b, Purpose::Block)),
+        Operation::Exec { b, .. } => Some((b, Purpose::ClassBody)),
+        Operation::Def { c, .. } => Some((c, Purpose::Method)),
         _ => None,
     }
 }
