@@ -208,13 +208,20 @@ read_whole version (n ∷ rest) end = if nat_eq end (length rest + 1) then None 
 abbrev pub catch_holds : ℕ → List Standing → CatchEntry → Bool
 catch_holds size ss e = nat_lt e.begin e.end && is_start ss e.begin && is_start ss e.target && (is_start ss e.end || nat_eq e.end size)
 
+-- the failures of some of the instructions, of the place where reading ends, and of catch entries
+abbrev pub instructions_bad : Program → ℕ → Irep → List Standing → List Standing → List (Option Bad)
+instructions_bad p k b ss some = map (λ s. bad k s.at (cause_of p k b ss s)) some
+
+abbrev pub end_bad : Program → ℕ → Irep → ℕ → Option Bad
+end_bad p k b end = bad k end (read_whole p.version b.code end)
+
+abbrev pub catches_bad : ℕ → Irep → List Standing → List CatchEntry → List (Option Bad)
+catches_bad k b ss some = map (λ e. bad k e.begin (unless (catch_holds (length b.code) ss e) cause.Catch)) some
+
 unfoldable pub body_bad : Program → ℕ → Irep → Option Bad
 body_bad p k b =
     let ss = layout p.version b.code in
-    first (
-      map (λ s. bad k s.at (cause_of p k b ss s)) ss
-      ++ bad k (end_of 0 ss) (read_whole p.version b.code (end_of 0 ss))
-      ∷ map (λ e. bad k e.begin (unless (catch_holds (length b.code) ss e) cause.Catch)) b.catches)
+    first (instructions_bad p k b ss ss ++ end_bad p k b (end_of 0 ss) ∷ catches_bad k b ss b.catches)
 
 -- ## All bodies
 

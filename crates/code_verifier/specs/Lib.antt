@@ -2,3 +2,4 @@ pub mod Needs
 pub mod Checks
 pub mod Verified
 pub mod Known
+pub mod Answers

@@ -1,5 +1,5 @@
 //! The checks of one instruction, and of a catch entry.
-ghost use Rattle.std.specs.Prelude.{◌≡◌, ◌<◌, ℕ, drop, length, map};
+ghost use Rattle.std.specs.Prelude.{◌≡◌, ◌<◌, ◌^◌, ℕ, drop, length, map};
 ghost use Rattle.std.specs.Prelude as prelude;
 ghost use Rattle.code_outline.specs.Layout as laid;
 ghost use Rattle.code_outline.specs.Makers.{child_made, use_in};
@@ -42,7 +42,7 @@ pub fn child_holds(body: &Irep, operation: Operation) -> bool
 
 /// A jump from before the place `next` leads to the start of an instruction.
 pub fn jump_holds(layout: &Layout, next: u32, operation: Operation) -> bool
-    ensures { (version : ℕ) (code : prelude.List ℕ) → LaysOut version code layout.now → result ≡ checks.jump_holds (laid.layout version code) next (needs.distance_of operation) }
+    ensures { (version : ℕ) (code : prelude.List ℕ) → length code < 2 ^ 32 → LaysOut version code layout.now → result ≡ checks.jump_holds (laid.layout version code) next (needs.distance_of operation) }
 {
     match distance_of(operation) {
         None => true,
@@ -51,7 +51,7 @@ pub fn jump_holds(layout: &Layout, next: u32, operation: Operation) -> bool
 }
 
 fn leads_to_start(layout: &Layout, target: i64) -> bool
-    ensures { (version : ℕ) (code : prelude.List ℕ) → LaysOut version code layout.now → result ≡ checks.leads_to_start (laid.layout version code) target }
+    ensures { (version : ℕ) (code : prelude.List ℕ) → length code < 2 ^ 32 → LaysOut version code layout.now → result ≡ checks.leads_to_start (laid.layout version code) target }
 {
     match u32::try_from(target) {
         Ok(at) => layout.is_start(at),

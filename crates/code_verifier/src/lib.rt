@@ -8,6 +8,8 @@ ghost use Rattle.std.specs.Prelude.{◌≡◌, IfOk, IfErr};
 ghost use Rattle.code_verifier.specs.Checks.{first_bad};
 ghost use Rattle.code_verifier.specs.Verified.{IsVerified, IsFault};
 
+mod bodies;
+mod causes;
 mod checks;
 pub mod error;
 mod needs;

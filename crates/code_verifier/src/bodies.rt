@@ -1,0 +1,123 @@
+//! The checks of a body: its instructions, the place where reading ends, its catch entries; and of all bodies.
+ghost use Rattle.std.specs.Prelude.{◌≡◌, ◌<◌, ◌^◌, Option, drop, length, map};
+ghost use Rattle.code_outline.specs.Layout as laid;
+ghost use Rattle.code_outline.specs.Outlined.{LaysOut, Outlines, seen};
+ghost use Rattle.code_verifier.specs.Answers.{answer, outcome};
+ghost use Rattle.code_verifier.specs.Checks as checks;
+ghost use Rattle.code_verifier.specs.Known.{KnowsMakers};
+ghost use Rattle.rite_code.specs.declared.cause.Cause.{Cause as CauseValue};
+
+use crate::causes::{check, check_instruction};
+use crate::checks::catch_holds;
+use crate::error::VerifyError;
+use crate::unread::unread;
+use code_outline::{Layout, Outline, Standing};
+use rite_code::{Cause, Code, Irep};
+
+/// The cause, if any, with the body and the place.
+fn placed(irep: u32, at: u32, checked: Result<(), Cause>) -> Result<(), VerifyError>
+    ensures { (found : Option CauseValue) → checked ≡ outcome found → result ≡ answer (checks.bad irep at found) }
+{
+    match checked {
+        Ok(()) => Ok(()),
+        Err(cause) => Err(VerifyError::Bad { irep, at, cause }),
+    }
+}
+
+fn check_instructions(
+    code: &Code,
+    outline: &Outline,
+    number: u32,
+    body: &Irep,
+    layout: &Layout,
+) -> Result<(), VerifyError>
+    requires outlined { Outlines code.now outline.now }
+    requires makers { KnowsMakers code.now outline.now }
+    requires number { number < length code.now.bodies }
+    requires small { length body.now.code < 2 ^ 32 }
+    requires laid { LaysOut code.now.version body.now.code layout.now }
+    ensures { let list = laid.layout code.now.version body.now.code in result ≡ answer (checks.first (checks.instructions_bad code.now number body.now list list)) }
+{
+    for standing in layout.instructions.as_slice() {
+        let checked = check_instruction(code, outline, number, body, layout, standing);
+        placed(number, standing.at, checked)?;
+    }
+    Ok(())
+}
+
+/// Where reading ends.
+fn end_of(list: &[Standing]) -> u32
+    ensures { result ≡ laid.end_of 0 (map seen list.now) }
+{
+    match list {
+        [] => 0,
+        [.., last] => last.next,
+    }
+}
+
+fn rest_from(code: &[u8], at: u32) -> &[u8]
+    ensures { result.now ≡ drop at code.now }
+{
+    code.get(at as usize..).unwrap_or(&[])
+}
+
+/// The code is read to its end, and has an instruction.
+fn check_end(version: u8, code: &[u8], end: u32) -> Result<(), Cause>
+    ensures { result ≡ outcome (checks.read_whole version code.now end) }
+{
+    if code.is_empty() {
+        return Err(Cause::Cut);
+    }
+    if end as usize == code.len() {
+        return Ok(());
+    }
+    Err(unread(version, rest_from(code, end)))
+}
+
+fn check_catches(version: u8, number: u32, body: &Irep, layout: &Layout) -> Result<(), VerifyError>
+    requires laid { LaysOut version body.now.code layout.now }
+    ensures { result ≡ answer (checks.first (checks.catches_bad number body.now (laid.layout version body.now.code) body.now.catches)) }
+{
+    for entry in body.catches.as_slice() {
+        let holds = catch_holds(body.code.len(), layout, entry);
+        placed(number, entry.begin, check(holds, Cause::Catch))?;
+    }
+    Ok(())
+}
+
+/// The first check of body `number` that fails.
+#[tactic(auto, unfolding(crate::specs::Checks::body_bad))]
+fn check_body(
+    code: &Code,
+    outline: &Outline,
+    number: u32,
+    body: &Irep,
+    layout: &Layout,
+) -> Result<(), VerifyError>
+    requires outlined { Outlines code.now outline.now }
+    requires makers { KnowsMakers code.now outline.now }
+    requires number { number < length code.now.bodies }
+    requires small { length body.now.code < 2 ^ 32 }
+    requires laid { LaysOut code.now.version body.now.code layout.now }
+    ensures { result ≡ answer (checks.body_bad code.now number body.now) }
+{
+    check_instructions(code, outline, number, body, layout)?;
+    let end = end_of(layout.instructions.as_slice());
+    placed(number, end, check_end(code.version(), body.code.as_slice(), end))?;
+    check_catches(code.version(), number, body, layout)
+}
+
+/// The first check of the program that fails.
+#[tactic(auto, unfolding(crate::specs::Checks::first_bad))]
+pub fn check_bodies(code: &Code, outline: &Outline) -> Result<(), VerifyError>
+    requires outlined { Outlines code.now outline.now }
+    requires makers { KnowsMakers code.now outline.now }
+    ensures { result ≡ answer (checks.first_bad code.now) }
+{
+    let bodies = code.bodies();
+    let layouts = outline.layouts.as_slice();
+    for number in 0..bodies.len() {
+        check_body(code, outline, number as u32, &bodies[number], &layouts[number])?;
+    }
+    Ok(())
+}
