@@ -1,28 +1,17 @@
 //! The checks of a body: its instructions, the place where reading ends, its catch entries; and of all bodies.
-ghost use Rattle.std.specs.Prelude.{◌≡◌, ◌<◌, ◌^◌, Option, drop, length, map};
+ghost use Rattle.std.specs.Prelude.{◌≡◌, ◌<◌, ◌^◌, drop, length, map};
 ghost use Rattle.code_outline.specs.Layout as laid;
 ghost use Rattle.code_outline.specs.Outlined.{LaysOut, Outlines, seen};
 ghost use Rattle.code_verifier.specs.Answers.{answer, outcome};
 ghost use Rattle.code_verifier.specs.Checks as checks;
 ghost use Rattle.code_verifier.specs.Known.{KnowsMakers};
-ghost use Rattle.rite_code.specs.declared.cause.Cause.{Cause as CauseValue};
 
-use crate::causes::{check, check_instruction};
+use crate::causes::check_instruction;
 use crate::checks::catch_holds;
 use crate::error::VerifyError;
 use crate::unread::unread;
 use code_outline::{Layout, Outline, Standing};
 use rite_code::{Cause, Code, Irep};
-
-/// The cause, if any, with the body and the place.
-fn placed(irep: u32, at: u32, checked: Result<(), Cause>) -> Result<(), VerifyError>
-    ensures { (found : Option CauseValue) → checked ≡ outcome found → result ≡ answer (checks.bad irep at found) }
-{
-    match checked {
-        Ok(()) => Ok(()),
-        Err(cause) => Err(VerifyError::Bad { irep, at, cause }),
-    }
-}
 
 fn check_instructions(
     code: &Code,
@@ -39,8 +28,10 @@ fn check_instructions(
     ensures { let list = laid.layout code.now.version body.now.code in result ≡ answer (checks.first (checks.instructions_bad code.now number body.now list list)) }
 {
     for standing in layout.instructions.as_slice() {
-        let checked = check_instruction(code, outline, number, body, layout, standing);
-        placed(number, standing.at, checked)?;
+        let at = standing.at;
+        if let Err(cause) = check_instruction(code, outline, number, body, layout, standing) {
+            return Err(VerifyError::Bad { irep: number, at, cause });
+        }
     }
     Ok(())
 }
@@ -79,8 +70,10 @@ fn check_catches(version: u8, number: u32, body: &Irep, layout: &Layout) -> Resu
     ensures { result ≡ answer (checks.first (checks.catches_bad number body.now (laid.layout version body.now.code) body.now.catches)) }
 {
     for entry in body.catches.as_slice() {
-        let holds = catch_holds(body.code.len(), layout, entry);
-        placed(number, entry.begin, check(holds, Cause::Catch))?;
+        if !catch_holds(body.code.len(), layout, entry) {
+            let at = entry.begin;
+            return Err(VerifyError::Bad { irep: number, at, cause: Cause::Catch });
+        }
     }
     Ok(())
 }
@@ -103,7 +96,9 @@ fn check_body(
 {
     check_instructions(code, outline, number, body, layout)?;
     let end = end_of(layout.instructions.as_slice());
-    placed(number, end, check_end(code.version(), body.code.as_slice(), end))?;
+    if let Err(cause) = check_end(code.version(), body.code.as_slice(), end) {
+        return Err(VerifyError::Bad { irep: number, at: end, cause });
+    }
     check_catches(code.version(), number, body, layout)
 }
 
