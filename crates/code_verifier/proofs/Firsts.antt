@@ -22,12 +22,12 @@ before [] ys e h = absurd cc
 before (None ∷ xs) ys e h = before xs ys e h
 before (Some x ∷ xs) ys e h = sym h
 
-head_past : (x : Option Bad) (ys : List (Option Bad)) → Ok tt ≡ answer x → answer (first (x ∷ ys)) ≡ answer (first ys)
+pub head_past : (x : Option Bad) (ys : List (Option Bad)) → Ok tt ≡ answer x → answer (first (x ∷ ys)) ≡ answer (first ys)
 unfolding first
 head_past None ys h = refl
 head_past (Some x) ys h = absurd cc
 
-head_before : (x : Option Bad) (ys : List (Option Bad)) (e : VerifyError) → Err e ≡ answer x → answer (first (x ∷ ys)) ≡ Err e
+pub head_before : (x : Option Bad) (ys : List (Option Bad)) (e : VerifyError) → Err e ≡ answer x → answer (first (x ∷ ys)) ≡ Err e
 unfolding first
 head_before None ys e h = absurd cc
 head_before (Some x) ys e h = sym h

@@ -1,2 +1,6 @@
+pub mod Ends
 pub mod Firsts
+pub mod InOrder
+pub mod Known
+pub mod Parts
 pub mod Starts

@@ -79,7 +79,7 @@ fn check_catches(version: u8, number: u32, body: &Irep, layout: &Layout) -> Resu
 }
 
 /// The first check of body `number` that fails.
-#[tactic(auto, unfolding(crate::specs::Checks::body_bad))]
+#[tactic(auto, using(crate::proofs::Parts::in_instructions))]
 fn check_body(
     code: &Code,
     outline: &Outline,
@@ -95,11 +95,12 @@ fn check_body(
     ensures { result ≡ answer (checks.body_bad code.now number body.now) }
 {
     check_instructions(code, outline, number, body, layout)?;
+    let version = code.version();
     let end = end_of(layout.instructions.as_slice());
-    if let Err(cause) = check_end(code.version(), body.code.as_slice(), end) {
+    if let Err(cause) = check_end(version, body.code.as_slice(), end) {
         return Err(VerifyError::Bad { irep: number, at: end, cause });
     }
-    check_catches(code.version(), number, body, layout)
+    check_catches(version, number, body, layout)
 }
 
 /// The first check of the program that fails.
