@@ -1,4 +1,5 @@
 pub mod Ends
+pub mod Faults
 pub mod Firsts
 pub mod InOrder
 pub mod Known

@@ -106,8 +106,7 @@ fn check_body(
 /// The first check of the program that fails.
 #[tactic(auto, unfolding(crate::specs::Checks::first_bad))]
 pub fn check_bodies(code: &Code, outline: &Outline) -> Result<(), VerifyError>
-    requires outlined { Outlines code.now outline.now }
-    requires makers { KnowsMakers code.now outline.now }
+    requires { Outlines code.now outline.now }
     ensures { result ≡ answer (checks.first_bad code.now) }
 {
     let bodies = code.bodies();

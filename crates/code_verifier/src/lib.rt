@@ -16,15 +16,20 @@ mod needs;
 mod unread;
 pub mod verified;
 
+use crate::bodies::check_bodies;
+use code_outline::outline;
 pub use error::VerifyError;
 use rite_code::Code;
 use std::alloc::Global;
 pub use verified::Verified;
 
 /// The same code, where no check fails; else the first that does.
+#[tactic(auto, using(crate::proofs::Faults::is_fault, crate::proofs::Faults::no_fault))]
 pub fn verify(alloc: Global, code: Code) -> Result<Verified, VerifyError>
     ensures verified { IfOk result (λ v. (v ≡ code) × IsVerified code) }
     ensures bad { IfErr result (IsFault (first_bad code)) }
 {
-    Err(VerifyError::NoMemory)
+    let found = outline(alloc, &code)?;
+    check_bodies(&code, &found)?;
+    Ok(Verified::new(code, found))
 }
