@@ -1,0 +1,7 @@
+pub mod Ends
+pub mod Faults
+pub mod Firsts
+pub mod InOrder
+pub mod Known
+pub mod Parts
+pub mod Starts

@@ -1,4 +1,8 @@
+ghost use Rattle.std.specs.Prelude.{◌≡◌};
+ghost use Rattle.code_verifier.specs.declared.error.VerifyError.TheVariants.{NoMemory};
+
 use rite_code::Cause;
+use std::alloc::AllocError;
 
 /// Why code isn't verified: the first check that fails, in the order of docs/formats.md, with the number of the
 /// body and the place in its code; or want of memory.
@@ -6,4 +10,12 @@ use rite_code::Cause;
 pub enum VerifyError {
     Bad { irep: u32, at: u32, cause: Cause },
     NoMemory,
+}
+
+impl From<AllocError> for VerifyError {
+    ghost from_gives = { λ _ e. e ≡ NoMemory };
+
+    fn from(_refused: AllocError) -> VerifyError {
+        VerifyError::NoMemory
+    }
 }

@@ -8,19 +8,28 @@ ghost use Rattle.std.specs.Prelude.{◌≡◌, IfOk, IfErr};
 ghost use Rattle.code_verifier.specs.Checks.{first_bad};
 ghost use Rattle.code_verifier.specs.Verified.{IsVerified, IsFault};
 
+mod bodies;
+mod causes;
+mod checks;
 pub mod error;
 mod needs;
+mod unread;
 pub mod verified;
 
+use crate::bodies::check_bodies;
+use code_outline::outline;
 pub use error::VerifyError;
 use rite_code::Code;
 use std::alloc::Global;
 pub use verified::Verified;
 
 /// The same code, where no check fails; else the first that does.
+#[tactic(auto, using(crate::proofs::Faults::is_fault, crate::proofs::Faults::no_fault))]
 pub fn verify(alloc: Global, code: Code) -> Result<Verified, VerifyError>
     ensures verified { IfOk result (λ v. (v ≡ code) × IsVerified code) }
     ensures bad { IfErr result (IsFault (first_bad code)) }
 {
-    Err(VerifyError::NoMemory)
+    let found = outline(alloc, &code)?;
+    check_bodies(&code, &found)?;
+    Ok(Verified::new(code, found))
 }

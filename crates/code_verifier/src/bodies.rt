@@ -1,0 +1,118 @@
+//! The checks of a body: its instructions, the place where reading ends, its catch entries; and of all bodies.
+ghost use Rattle.std.specs.Prelude.{◌≡◌, ◌<◌, ◌^◌, drop, length, map};
+ghost use Rattle.code_outline.specs.Layout as laid;
+ghost use Rattle.code_outline.specs.Outlined.{LaysOut, Outlines, seen};
+ghost use Rattle.code_verifier.specs.Answers.{answer, outcome};
+ghost use Rattle.code_verifier.specs.Checks as checks;
+ghost use Rattle.code_verifier.specs.Known.{KnowsMakers};
+
+use crate::causes::check_instruction;
+use crate::checks::catch_holds;
+use crate::error::VerifyError;
+use crate::unread::unread;
+use code_outline::{Layout, Outline, Standing};
+use rite_code::{Cause, Code, Irep};
+
+fn check_instructions(
+    code: &Code,
+    outline: &Outline,
+    number: u32,
+    body: &Irep,
+    layout: &Layout,
+) -> Result<(), VerifyError>
+    requires outlined { Outlines code.now outline.now }
+    requires makers { KnowsMakers code.now outline.now }
+    requires number { number < length code.now.bodies }
+    requires small { length body.now.code < 2 ^ 32 }
+    requires laid { LaysOut code.now.version body.now.code layout.now }
+    ensures { let list = laid.layout code.now.version body.now.code in result ≡ answer (checks.first (checks.instructions_bad code.now number body.now list list)) }
+{
+    for standing in layout.instructions.as_slice() {
+        let at = standing.at;
+        if let Err(cause) = check_instruction(code, outline, number, body, layout, standing) {
+            return Err(VerifyError::Bad { irep: number, at, cause });
+        }
+    }
+    Ok(())
+}
+
+/// Where reading ends.
+fn end_of(list: &[Standing]) -> u32
+    ensures { result ≡ laid.end_of 0 (map seen list.now) }
+{
+    match list {
+        [] => 0,
+        [.., last] => last.next,
+    }
+}
+
+fn rest_from(code: &[u8], at: u32) -> &[u8]
+    ensures { result.now ≡ drop at code.now }
+{
+    code.get(at as usize..).unwrap_or(&[])
+}
+
+/// The code is read to its end, and has an instruction.
+fn check_end(version: u8, code: &[u8], end: u32) -> Result<(), Cause>
+    ensures { result ≡ outcome (checks.read_whole version code.now end) }
+{
+    if code.is_empty() {
+        return Err(Cause::Cut);
+    }
+    if end as usize == code.len() {
+        return Ok(());
+    }
+    Err(unread(version, rest_from(code, end)))
+}
+
+fn check_catches(version: u8, number: u32, body: &Irep, layout: &Layout) -> Result<(), VerifyError>
+    requires laid { LaysOut version body.now.code layout.now }
+    ensures { result ≡ answer (checks.first (checks.catches_bad number body.now (laid.layout version body.now.code) body.now.catches)) }
+{
+    for entry in body.catches.as_slice() {
+        if !catch_holds(body.code.len(), layout, entry) {
+            let at = entry.begin;
+            return Err(VerifyError::Bad { irep: number, at, cause: Cause::Catch });
+        }
+    }
+    Ok(())
+}
+
+/// The first check of body `number` that fails.
+#[tactic(auto, using(crate::proofs::Parts::in_instructions))]
+fn check_body(
+    code: &Code,
+    outline: &Outline,
+    number: u32,
+    body: &Irep,
+    layout: &Layout,
+) -> Result<(), VerifyError>
+    requires outlined { Outlines code.now outline.now }
+    requires makers { KnowsMakers code.now outline.now }
+    requires number { number < length code.now.bodies }
+    requires small { length body.now.code < 2 ^ 32 }
+    requires laid { LaysOut code.now.version body.now.code layout.now }
+    ensures { result ≡ answer (checks.body_bad code.now number body.now) }
+{
+    check_instructions(code, outline, number, body, layout)?;
+    let version = code.version();
+    let end = end_of(layout.instructions.as_slice());
+    if let Err(cause) = check_end(version, body.code.as_slice(), end) {
+        return Err(VerifyError::Bad { irep: number, at: end, cause });
+    }
+    check_catches(version, number, body, layout)
+}
+
+/// The first check of the program that fails.
+#[tactic(auto, unfolding(crate::specs::Checks::first_bad))]
+pub fn check_bodies(code: &Code, outline: &Outline) -> Result<(), VerifyError>
+    requires { Outlines code.now outline.now }
+    ensures { result ≡ answer (checks.first_bad code.now) }
+{
+    let bodies = code.bodies();
+    let layouts = outline.layouts.as_slice();
+    for number in 0..bodies.len() {
+        check_body(code, outline, number as u32, &bodies[number], &layouts[number])?;
+    }
+    Ok(())
+}

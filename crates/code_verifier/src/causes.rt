@@ -1,0 +1,57 @@
+//! The first check of an instruction that fails.
+ghost use Rattle.std.specs.Prelude.{◌≡◌, ◌<◌, ◌^◌, length};
+ghost use Rattle.code_outline.specs.Layout as laid;
+ghost use Rattle.code_outline.specs.Outlined.{LaysOut, Outlines, seen};
+ghost use Rattle.code_verifier.specs.Answers.{outcome};
+ghost use Rattle.code_verifier.specs.Checks as checks;
+ghost use Rattle.code_verifier.specs.Known.{KnowsMakers};
+
+use crate::checks::{
+    catch_holds, child_holds, count_holds, enter_holds, entry_holds, is_used, jump_holds, makes_once,
+    place_holds, takes_arguments, variable_holds,
+};
+use crate::needs::{leaves, registers_of, symbols_hold};
+use code_outline::{Layout, Outline, Standing};
+use rite_code::{Cause, Code, Irep};
+
+/// The cause, where its check doesn't hold.
+pub fn check(holds: bool, cause: Cause) -> Result<(), Cause>
+    ensures { result ≡ outcome (checks.unless holds cause) }
+{
+    if holds { Ok(()) } else { Err(cause) }
+}
+
+/// The first check of an instruction of body `number` that fails.
+#[tactic(auto, unfolding(crate::specs::Checks::cause_of, crate::specs::Checks::first))]
+pub fn check_instruction(
+    code: &Code,
+    outline: &Outline,
+    number: u32,
+    body: &Irep,
+    layout: &Layout,
+    standing: &Standing,
+) -> Result<(), Cause>
+    requires outlined { Outlines code.now outline.now }
+    requires makers { KnowsMakers code.now outline.now }
+    requires number { number < length code.now.bodies }
+    requires small { length body.now.code < 2 ^ 32 }
+    requires laid { LaysOut code.now.version body.now.code layout.now }
+    ensures { result ≡ outcome (checks.cause_of code.now number body.now (laid.layout code.now.version body.now.code) (seen standing.now)) }
+{
+    let Standing { at, next, instr } = *standing;
+    let operation = instr.operation();
+    let maker = outline.maker(number);
+    let list = layout.instructions.as_slice();
+    check(count_holds(&instr), Cause::Extended)?;
+    check(registers_of(operation) <= u32::from(body.registers), Cause::Register)?;
+    check(entry_holds(body.pool.as_slice(), operation), Cause::Pool)?;
+    check(symbols_hold(body.symbols.len(), operation), Cause::Symbol)?;
+    check(child_holds(body, operation), Cause::Child)?;
+    check(jump_holds(layout, next, operation), Cause::Jump)?;
+    check(variable_holds(code, outline, number, operation), Cause::Upvar)?;
+    check(enter_holds(takes_arguments(maker), at, body, list, operation), Cause::Enter)?;
+    check(place_holds(number, maker, operation), Cause::Place)?;
+    let is_sole = makes_once(code, outline, number, body, at, operation);
+    check(is_sole && is_used(code, outline, number, at), Cause::Use)?;
+    check(leaves(operation) || layout.is_start(next), Cause::Fall)
+}
