@@ -1,2 +1,4 @@
+pub mod Rows
+pub mod Layouts
 pub mod Places
 pub mod Scopes

@@ -9,6 +9,7 @@ ghost use Rattle.std.specs.Prelude.{IfOk};
 ghost use Rattle.code_outline.specs.Outlined.{Outlines};
 
 pub mod layout;
+mod laying;
 pub mod maker;
 
 pub use layout::{Layout, Outline, Standing};
