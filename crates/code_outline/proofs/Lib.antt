@@ -1,4 +1,5 @@
-pub mod Rows
+pub mod Ends
 pub mod Layouts
 pub mod Places
+pub mod Rows
 pub mod Scopes

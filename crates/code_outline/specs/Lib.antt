@@ -1,3 +1,4 @@
+pub mod Rows
 pub mod Layout
 pub mod Makers
 pub mod Outlined
