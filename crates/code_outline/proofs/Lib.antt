@@ -1,5 +1,7 @@
 pub mod Ends
 pub mod Layouts
+pub mod Made
+pub mod Marks
 pub mod Places
 pub mod Rows
 pub mod Scopes

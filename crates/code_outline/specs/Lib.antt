@@ -1,3 +1,4 @@
+pub mod Making
 pub mod Rows
 pub mod Layout
 pub mod Makers
