@@ -1,3 +1,4 @@
+pub mod Bodies
 pub mod Ends
 pub mod Layouts
 pub mod Made
