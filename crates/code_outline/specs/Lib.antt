@@ -1,3 +1,4 @@
+pub mod Makes
 pub mod Making
 pub mod Rows
 pub mod Layout
