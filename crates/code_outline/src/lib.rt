@@ -9,10 +9,15 @@ ghost use Rattle.std.specs.Prelude.{IfOk};
 ghost use Rattle.code_outline.specs.Outlined.{Outlines};
 
 pub mod layout;
+mod laying;
 pub mod maker;
+mod making;
 
 pub use layout::{Layout, Outline, Standing};
 pub use maker::{Maker, Purpose};
+use crate::laying::layout;
+use crate::making::put_makers;
+use rb_base::List;
 use rite_code::Code;
 use std::alloc::{AllocError, Global};
 
@@ -20,5 +25,21 @@ use std::alloc::{AllocError, Global};
 pub fn outline(alloc: Global, code: &Code) -> Result<Outline, AllocError>
     ensures { IfOk result (λ o. Outlines code.now o) }
 {
-    Err(AllocError)
+    let bodies = code.bodies();
+    let mut layouts = List::new(alloc);
+    let mut makers = vec![in alloc; None; bodies.len()]?;
+    for (number, body) in bodies.iter().enumerate() {
+        let layout = layout(alloc, code.version(), body.code.as_slice())?;
+        put_makers(
+            &mut makers,
+            number as u32,
+            body,
+            layout.instructions.as_slice(),
+        );
+        layouts.push(layout)?;
+    }
+    Ok(Outline {
+        layouts,
+        makers: List::from_vec(makers),
+    })
 }
