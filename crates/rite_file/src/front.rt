@@ -1,0 +1,74 @@
+//! The header of a file and its sections.
+ghost use Rattle.std.specs.Prelude.{◌≡◌, ◌<◌, ◌≤◌, ◌^◌, ◌+◌, ℕ, length, drop, slice_get, Result, IsTrue, IfOk};
+ghost use Rattle.std.specs.Prelude as prelude;
+ghost use Rattle.rite_file.specs.Front as specs;
+
+use crate::error::LoadError;
+
+/// What the first 20 bytes of a file say.
+#[derive(Clone, Copy, Debug, PartialEq, Eq)]
+pub struct Header {
+    /// The size of the whole file in bytes.
+    pub size: u32,
+    /// The name of the compiler.
+    pub name: [u8; 4],
+    /// The version of the compiler.
+    pub version: [u8; 4],
+}
+
+/// A section of a file.
+#[derive(Clone, Copy, Debug, PartialEq, Eq)]
+pub struct Section {
+    pub id: [u8; 4],
+    /// Where its identifier begins.
+    pub at: u32,
+    /// Its size in bytes, with the eight of identifier and size.
+    pub size: u32,
+}
+
+/// The bytes before the first section.
+pub const HEADER_SIZE: usize = 20;
+
+/// Four bytes at a place.
+#[tactic(auto, using(crate::proofs::Places::four_at_is))]
+pub fn four_at(bytes: &[u8], at: usize) -> [u8; 4]
+    requires { at + 4 ≤ length bytes.now }
+    ensures { result ≡ specs.four_at bytes.now at }
+{
+    [bytes[at], bytes[at + 1], bytes[at + 2], bytes[at + 3]]
+}
+
+/// What the first 20 bytes say, whatever the file's size is.
+#[tactic(auto, unfolding(crate::specs::Front::front_of))]
+pub fn front_of(bytes: &[u8]) -> Result<Header, LoadError>
+    ensures { result ≡ specs.front_of bytes.now }
+{
+    if !bytes.starts_with(b"RITE0300") {
+        return Err(LoadError::NotRite);
+    }
+    if bytes.len() < HEADER_SIZE {
+        let at = bytes.len() as u64;
+        return Err(LoadError::Truncated { at });
+    }
+    Ok(Header {
+        size: u32::from_be_bytes(four_at(bytes, 8)),
+        name: four_at(bytes, 12),
+        version: four_at(bytes, 16),
+    })
+}
+
+/// The header, where its size is that of the bytes.
+#[tactic(auto, unfolding(crate::specs::Front::sized))]
+pub fn sized(bytes: &[u8], header: Header) -> Result<Header, LoadError>
+    ensures { result ≡ specs.sized bytes.now header }
+{
+    if bytes.len() < header.size as usize {
+        let at = bytes.len() as u64;
+        return Err(LoadError::Truncated { at });
+    }
+    if bytes.len() > header.size as usize {
+        let at = u64::from(header.size);
+        return Err(LoadError::BadSection { at });
+    }
+    Ok(header)
+}
