@@ -43,7 +43,7 @@ text_at bytes at = number_at w32 bytes at >>= λ n. bytes_at n.0 bytes n.1
 
 -- there is a register of self, the locals are registers, and version 1 has at most 256 of these
 unfoldable pub are_registers : ℕ → ℕ → ℕ → Bool
-are_registers version locals n = not (nat_lt n locals) && (not (nat_eq version 1) || nat_lt n 257)
+are_registers version locals n = not (nat_lt n locals) && (not (nat_eq version 1) || not (nat_lt 256 n))
 
 unfoldable pub counts_at : ℕ → Reader Counts
 counts_at version bytes at =

@@ -1,5 +1,5 @@
 //! The header of a file and its sections.
-ghost use Rattle.std.specs.Prelude.{◌≡◌, ◌<◌, ◌≤◌, ◌^◌, ◌+◌, ℕ, length, drop, slice_get, Result, IsTrue, IfOk};
+ghost use Rattle.std.specs.Prelude.{◌≡◌, ◌<◌, ◌≤◌, ◌^◌, ◌+◌, ℕ, length, take, drop, slice_get, Result, IsTrue, IfOk};
 ghost use Rattle.std.specs.Prelude as prelude;
 ghost use Rattle.rite_file.specs.Front as specs;
 
@@ -29,17 +29,18 @@ pub struct Section {
 /// The bytes before the first section.
 pub const HEADER_SIZE: usize = 20;
 
-/// Four bytes at a place.
-#[tactic(auto, using(crate::proofs::Places::four_at_is))]
-pub fn four_at(bytes: &[u8], at: usize) -> [u8; 4]
-    requires { at + 4 ≤ length bytes.now }
-    ensures { result ≡ specs.four_at bytes.now at }
+/// So many bytes at a place.
+pub fn array_at<const N: usize>(bytes: &[u8], at: usize) -> [u8; N]
+    requires { at + N ≤ length bytes.now }
+    ensures { result ≡ take N (drop at bytes.now) }
 {
-    [bytes[at], bytes[at + 1], bytes[at + 2], bytes[at + 3]]
+    let mut array = [0; N];
+    array.copy_from_slice(&bytes[at..at + N]);
+    array
 }
 
 /// What the first 20 bytes say, whatever the file's size is.
-#[tactic(auto, unfolding(crate::specs::Front::front_of))]
+#[tactic(auto, unfolding(crate::specs::Front::front_of, crate::specs::Front::four_at))]
 pub fn front_of(bytes: &[u8]) -> Result<Header, LoadError>
     ensures { result ≡ specs.front_of bytes.now }
 {
@@ -51,9 +52,9 @@ pub fn front_of(bytes: &[u8]) -> Result<Header, LoadError>
         return Err(LoadError::Truncated { at });
     }
     Ok(Header {
-        size: u32::from_be_bytes(four_at(bytes, 8)),
-        name: four_at(bytes, 12),
-        version: four_at(bytes, 16),
+        size: u32::from_be_bytes(array_at(bytes, 8)),
+        name: array_at(bytes, 12),
+        version: array_at(bytes, 16),
     })
 }
 

@@ -4,7 +4,7 @@ ghost use Rattle.rite_file.specs.Front.{sections_of};
 ghost use Rattle.rite_file.specs.Front as specs;
 
 use crate::error::LoadError;
-use crate::front::{HEADER_SIZE, Section, four_at};
+use crate::front::{HEADER_SIZE, Section, array_at};
 use std::marker::Model;
 
 /// The sections of a file from a place on, seen as what [`Sections::next`] will answer.
@@ -28,7 +28,7 @@ impl<'a> Model for Sections<'a> {
 }
 
 /// The section at a place, where it fits there.
-#[tactic(auto, unfolding(crate::specs::Front::fits_at, crate::specs::Front::section_at))]
+#[tactic(auto, unfolding(crate::specs::Front::fits_at, crate::specs::Front::section_at, crate::specs::Front::four_at))]
 fn section_at(bytes: &[u8], at: usize) -> Option<Section>
     requires small { length bytes.now < 2 ^ 32 }
     requires within { at ≤ length bytes.now }
@@ -39,7 +39,7 @@ fn section_at(bytes: &[u8], at: usize) -> Option<Section>
     if left < 8 {
         return None;
     }
-    let size = u32::from_be_bytes(four_at(bytes, at + 4));
+    let size = u32::from_be_bytes(array_at(bytes, at + 4));
     if size < 8 {
         return None;
     }
@@ -47,7 +47,7 @@ fn section_at(bytes: &[u8], at: usize) -> Option<Section>
         return None;
     }
     Some(Section {
-        id: four_at(bytes, at),
+        id: array_at(bytes, at),
         at: at as u32,
         size,
     })
