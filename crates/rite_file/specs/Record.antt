@@ -3,6 +3,7 @@ use Rattle.std.specs.Prelude.{◌≡◌, ℕ, ℤ, zero, suc, ◌+◌, ◌-◌, 
 use Rattle.std.specs.Int.{Width, byte_len, from_be_bytes, cast_signed, w8, w16, w32, w64}
 use Rattle.std.specs.Str.{bytes_eq}
 use Rattle.std.specs.Ordering.{int_eq}
+use Rattle.std.specs.List.{list_any}
 use Rattle.rite_code.specs.declared.code.Irep.{Irep}
 use Rattle.rite_code.specs.declared.code.CatchEntry.{CatchEntry}
 use Rattle.rite_code.specs.declared.code.PoolItem.{PoolItem}
@@ -77,11 +78,6 @@ item_eq (Text x) (Int n) = false
 
 -- ---- lists
 
--- whether a value stands in a list
-unfoldable pub has : {A : Type 0} → (A → A → Bool) → List A → A → Bool
-has eq [] x = false
-has eq (y ∷ ys) x = eq y x || has eq ys x
-
 -- so many values behind those seen before, each refused where it doesn't fit to those
 unfoldable pub list_at : {A : Type 0} → (List A → A → Bool) → Reader A → List A → ℕ → Reader (List A)
 list_at fits read seen zero bytes at = Ok (seen, at)
@@ -91,7 +87,7 @@ abbrev pub any : {A : Type 0} → List A → A → Bool
 any seen x = true
 
 abbrev pub is_new : {A : Type 0} → (A → A → Bool) → List A → A → Bool
-is_new eq seen x = not (has eq seen x)
+is_new eq seen x = not (list_any (λ y. eq y x) seen)
 
 unfoldable pub catches_at : ℕ → Reader (List CatchEntry)
 catches_at n bytes at = list_at any catch_at [] n bytes at

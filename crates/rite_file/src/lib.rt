@@ -13,6 +13,7 @@ pub mod counts;
 pub mod error;
 pub mod front;
 mod opening;
+mod lists;
 pub mod reading;
 pub mod records;
 pub mod section_list;
