@@ -14,6 +14,8 @@ pub mod error;
 pub mod front;
 mod opening;
 mod lists;
+mod loading;
+mod numbering;
 pub mod reading;
 pub mod records;
 pub mod section_list;

@@ -67,3 +67,32 @@ fn record_at(
     }
     Ok((record, next))
 }
+
+/// The most bodies of a program.
+const MOST_BODIES: usize = 65536;
+
+/// The records from a place on: that of body 0 and those of its children, depth first. Each awaits its children.
+pub fn records_at(
+    alloc: Global,
+    version: u8,
+    bytes: &[u8],
+    at: usize,
+) -> Result<(List<Record>, usize), LoadError>
+    requires { at ≤ length bytes.now }
+    ensures value { Gives result (specs.records_at 65536 version [] 1 bytes.now at) }
+    ensures within { IfOk result (λ x. x.1 ≤ length bytes.now) }
+{
+    let mut records = List::new(alloc);
+    let mut awaited = 1;
+    let mut next = at;
+    'records: while awaited > 0 {
+        if records.len() == MOST_BODIES {
+            return Err(bad(next));
+        }
+        let (record, after) = record_at(alloc, version, bytes, next)?;
+        awaited = awaited - 1 + u64::from(record.children);
+        records.push(record)?;
+        next = after;
+    }
+    Ok((records, next))
+}
