@@ -2,3 +2,4 @@ pub mod Listing
 pub mod SectionSteps
 pub mod Forests
 pub mod Walking
+pub mod Fields

@@ -1,5 +1,5 @@
 -- Which bytes are the file of a program. All numbers are big-endian.
-use Rattle.std.specs.Prelude.{◌≡◌, ℕ, ◌+◌, ◌^◌, ◌<◌, Bool, true, false, List, [], ◌∷◌, ◌++◌, length, flat_map, codes}
+use Rattle.std.specs.Prelude.{◌≡◌, ℕ, ℤ, pos, negsuc, ◌+◌, ◌^◌, ◌<◌, All, Bool, true, false, List, [], ◌∷◌, ◌++◌, length, flat_map, codes}
 use Rattle.std.specs.Int.{to_be_bytes, cast_unsigned, w16, w32, w64}
 use Rattle.rite_code.specs.Code.{Program}
 use Rattle.rite_code.specs.declared.code.Irep.{Irep}
@@ -73,6 +73,29 @@ pub data AreSkipped : List ℕ → Type 0 where
   debug : (contents others : List ℕ) → AreSkipped others → AreSkipped (section debug_name contents ++ others)
   locals : (contents others : List ℕ) → AreSkipped others → AreSkipped (section locals_name contents ++ others)
 
+-- ---- what fields hold
+
+-- an integer of 64 bits
+abbrev pub IsInteger : ℤ → Type 0
+IsInteger (pos n) = n < 2 ^ 63
+IsInteger (negsuc n) = n < 2 ^ 63
+
+abbrev pub IsHeldItem : PoolItem → Type 0
+IsHeldItem (Int n) = IsInteger n
+IsHeldItem (Text bytes) = Unit
+
+pub record IsHeldEntry (c : CatchEntry) : Type 0 where
+  pub begin : c.begin < 2 ^ 32
+  pub end : c.end < 2 ^ 32
+  pub target : c.target < 2 ^ 32
+
+-- the numbers of a body are of the sizes of their fields
+pub record IsHeld (b : Irep) : Type 0 where
+  pub locals : b.locals < 2 ^ 16
+  pub registers : b.registers < 2 ^ 16
+  pub catches : All IsHeldEntry b.catches
+  pub pool : All IsHeldItem b.pool
+
 -- ---- files
 
 -- the version of the compiler, `0001` or `0002`
@@ -95,3 +118,4 @@ pub record Spells (bytes : List ℕ) (p : Program) : Type 0 where
   pub behind_skipped : AreSkipped behind
   pub same : bytes ≡ file_of p.version (before ++ (irep_section p.bodies ++ (behind ++ end_section)))
   pub size : length bytes < 2 ^ 32
+  pub held : All IsHeld p.bodies
