@@ -2,7 +2,7 @@
 use Rattle.std.proofs.Common.{◌≡◌, ℕ, zero, suc, ◌+◌, ◌-◌, ◌^◌, ◌<◌, ◌≤◌, Bool, true, false, ltb, List, [], ◌∷◌, ◌++◌, length, get_or, take, drop, refl, sym, ap, subst, ◌∙◌, append_assoc, arith, inl, inr}
 use Rattle.std.specs.Prelude.{not, Result, Ok, Err, ℤ, pos, negsuc}
 use Rattle.std.specs.Int.{Width, w8, w16, w32, w64, byte_len, from_be_bytes, to_be_bytes, cast_signed, cast_unsigned}
-use Rattle.std.proofs.lemmas.Bool.{cases_lt, ltb-false, le-ltb}
+use Rattle.std.proofs.lemmas.Bool.{cases_lt, ltb-false, lt-ltb, le-ltb}
 use Rattle.std.proofs.lemmas.List.{take_at, drop_at, drop-drop, take-append-drop, length-append, length-take, length-drop, get_or-drop, get_or-take, get_or_past}
 use Rattle.std.proofs.lemmas.Nat.{be_bytes_2, be_bytes_4, be_bytes_8, from_be_bytes-to_be_bytes_2, from_be_bytes-to_be_bytes_4, from_be_bytes-to_be_bytes_8}
 use Rattle.std.proofs.lemmas.Int.{to_z-of_z, of_z-to_z}
@@ -215,8 +215,8 @@ bits (negsuc n) h = omega arith
 signed : (n : ℕ) → n < 2 ^ 64 → IsInteger (cast_signed w64 n)
 signed n h =
     elim (cases_lt n 9223372036854775808) [
-      | inl lt ↦ ?
-      | inr le ↦ ?
+      | inl lt ↦ rw (lt-ltb n 9223372036854775808 lt) (omega (arith, lt))
+      | inr le ↦ rw (le-ltb n 9223372036854775808 le) (omega (arith, le, h))
     ]
 
 int_takes : (text : List ℕ) (at : ℕ) (z : ℤ) (next : ℕ) → IsBytes text → int_at text at ≡ Ok (z, next) → Takes text at (integer z) next × IsInteger z

@@ -3,3 +3,4 @@ pub mod SectionSteps
 pub mod Forests
 pub mod Walking
 pub mod Fields
+pub mod Parts
