@@ -1,9 +1,10 @@
--- The code of a text and its bytes.
-use Rattle.std.proofs.Common.{◌≡◌, ℕ, List, Option, Some, None, MatchOption, refl, sym, ◌∙◌, subst, ap}
+-- A text and the bytes of its file.
+use Rattle.std.proofs.Common.{◌≡◌, ℕ, List, Option, Some, None, MatchOption, refl}
 use Rattle.rb_syntax.specs.Form.{Form}
-use Rattle.rite_code.specs.Code.{Program}
+use Rattle.rite_code.specs.Code.{Program, IsWhole}
 use Rattle.path_front.specs.Language.{program_of}
-use Rattle.path_file.specs.File.{canonical}
+use Rattle.rite_file.specs.File.{Spells}
+use Rattle.code_verifier.specs.Verified.{IsVerified}
 use Rattle.code_generator.specs.Implements.{Implements}
 use Rattle.mrb_tool.specs.Running.{Encodes}
 
@@ -11,12 +12,15 @@ there_is : (o : Option Form) (P : Form → Type 0) → MatchOption o ⊥ P → (
 there_is None P h = absurd h
 there_is (Some f) P h = (f, refl, h)
 
-pub encodes : (text : List ℕ) (written code : Program) (bytes : List ℕ) → MatchOption (program_of text) ⊥ (Implements written) → bytes ≡ canonical written → code ≡ written → Encodes text code bytes
-encodes text written code bytes implements is same =
-    let found = there_is (program_of text) (Implements written) implements in
+pub encodes : (text bytes : List ℕ) (code : Program) → MatchOption (program_of text) ⊥ (Implements code) → IsWhole code → IsVerified code → Spells bytes code → Encodes text bytes
+encodes text bytes code implements whole verified spelled =
+    let found = there_is (program_of text) (Implements code) implements in
     record {
+      code = code;
       form = found.0;
       program = found.1;
-      implements = subst (λ c. Implements c found.0) (sym same) found.2;
-      bytes_are = is ∙ ap canonical (sym same);
+      implements = found.2;
+      whole = whole;
+      verified = verified;
+      spelled = spelled;
     }

@@ -56,6 +56,7 @@ act-input c i (Le a) next f fs m = operate-input i LessEqual a next f fs m
 act-input c i (Gt a) next f fs m = operate-input i Greater a next f fs m
 act-input c i (Ge a) next f fs m = operate-input i GreaterEqual a next f fs m
 act-input c i Stop next f fs m = refl
+act-input c i o next f fs m = refl
 
 turn_by-input : (c : Program) (i : List ℕ) (o : Option (Instruction × ℕ)) (f : Frame) (fs : List Frame) (m : Memory) → turn_by c o f fs (given i m) ≡ with_input i (turn_by c o f fs m)
 turn_by-input c i None f fs m = refl

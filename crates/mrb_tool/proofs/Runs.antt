@@ -7,7 +7,7 @@ use Rattle.def_eval.specs.Seen.{Ended, Uncaught, Going, Over, Seen, output_of}
 use Rattle.path_machine.specs.Run.{seen_after, IsRan, StoppedWithin}
 use Rattle.path_machine.specs.declared.ran.Ran.{Ran}
 use Rattle.path_machine.specs.declared.ran.Ran.TheVariants as rans
-use Rattle.mrb_tool.specs.Writing.{Stream}
+use Rattle.code_listing.specs.Writing.{Stream}
 use Rattle.mrb_tool.specs.Running.{RanWhole, RanInPart}
 use Rattle.mrb_tool.proofs.Input.{seen-input}
 

@@ -6,14 +6,17 @@ use Rattle.rb_value.specs.declared.failure.Failure.{Failure}
 use Rattle.rite_code.specs.Code.{Program}
 use Rattle.def_eval.specs.Seen.{Ended, Uncaught, Going, Over, Seen, output_of}
 use Rattle.path_front.specs.Language.{program_of}
-use Rattle.path_file.specs.File.{canonical}
+use Rattle.rite_file.specs.File.{Spells}
+use Rattle.code_verifier.specs.Verified.{IsVerified}
+use Rattle.code_listing.specs.Info.{info_of}
 use Rattle.path_machine.specs.Run.{seen_after}
 use Rattle.code_generator.specs.Implements.{Implements}
-use Rattle.mrb_tool.specs.Words.{Command, exec}
+use Rattle.mrb_tool.specs.Words.{Command, build, exec, list, info}
 use Rattle.mrb_tool.specs.Told.{Told, SameFiles, SameFilesBut, NoFileFault, NoOutFault, NothingOut}
+use Rattle.mrb_tool.specs.Showing.{Untouched, ShowReports, listed}
 use Rattle.mrb_tool.specs.Texts as texts
-use Rattle.mrb_tool.specs.declared.refusal.Refusal.{Refusal}
-use Rattle.mrb_tool.specs.declared.refusal.Refusal.TheVariants as refusals
+use Rattle.code_listing.specs.declared.refusal.Refusal.{Refusal}
+use Rattle.code_listing.specs.declared.refusal.Refusal.TheVariants as refusals
 use Rattle.mrb_tool.specs.declared.rite.End.{End}
 use Rattle.mrb_tool.specs.declared.rite.End.TheVariants as ends
 
@@ -21,15 +24,18 @@ use Rattle.mrb_tool.specs.declared.rite.End.TheVariants as ends
 abbrev pub IsSource : Told → List ℕ → List ℕ → Type 0
 IsSource before source text = IsTrue before.tells → IsLoaded (before.file source) 4001 text
 
--- The file under the second name is that of this code, which implements the source under the first name, and
--- every other file stays.
+-- The file under the second name spells this code, which passes the verifier and implements the source under the
+-- first name, and every other file stays.
 pub record Built (before after : Told) (source file : List ℕ) (code : Program) : Type 0 where
   pub text : List ℕ
   pub is_source : IsSource before source text
   pub form : Form
   pub program : program_of text ≡ Some form
   pub implements : Implements code form
-  pub stored : IsTrue before.tells → after.file file ≡ Some (canonical code)
+  pub verified : IsVerified code
+  pub bytes : List ℕ
+  pub spelled : Spells bytes code
+  pub stored : IsTrue before.tells → after.file file ≡ Some bytes
   pub others : SameFilesBut file before after
   pub no_fault : NoFileFault before after
 
@@ -46,9 +52,6 @@ Wrote before after seen = (after.out ≡ with_more before.out (output_of seen)) 
 -- a front of its output went out
 abbrev pub WroteFront : Told → Told → Seen → Type 0
 WroteFront before after seen = (k : ℕ) × (after.out ≡ with_more before.out (take k (output_of seen)))
-
-abbrev pub Untouched : Told → Told → Type 0
-Untouched before after = SameFiles before after × NoFileFault before after × NothingOut before after × NoOutFault before after
 
 -- Why a refusal comes, and that nothing was done.
 abbrev pub IsRefused : Told → Told → List ℕ → Refusal → Type 0
@@ -90,6 +93,19 @@ ExecReports before after n source file ends.NoMemory text =
 ExecReports before after n source file ends.Usage text = ⊥
 ExecReports before after n source file ends.InputFault text = ⊥
 
+-- the cause of each answer to build
+abbrev pub BuildReports : Told → Told → List ℕ → List ℕ → End → List ℕ → Type 0
+BuildReports before after source file (ends.Ended k) text =
+    (k ≡ 0) × (code : Program) × Built before after source file code × NothingOut before after × NoOutFault before after × (text ≡ [])
+BuildReports before after source file (ends.Refused r) text = IsRefused before after source r × (text ≡ texts.refused r)
+BuildReports before after source file ends.FileFault text = FileFailed before after source file × (text ≡ texts.file_fault)
+BuildReports before after source file ends.NoMemory text = Untouched before after × (text ≡ texts.no_memory)
+BuildReports before after source file ends.Uncaught text = ⊥
+BuildReports before after source file ends.Spent text = ⊥
+BuildReports before after source file ends.OutputFault text = ⊥
+BuildReports before after source file ends.Usage text = ⊥
+BuildReports before after source file ends.InputFault text = ⊥
+
 -- where the words are no command
 abbrev pub UsageReports : Told → Told → End → List ℕ → Type 0
 UsageReports before after ends.Usage text = Untouched before after × (text ≡ texts.usage)
@@ -104,7 +120,10 @@ UsageReports before after ends.InputFault text = ⊥
 
 abbrev pub Reports : Option Command → Told → Told → End → List ℕ → Type 0
 Reports None before after end text = UsageReports before after end text
+Reports (Some (build source file)) before after end text = BuildReports before after source file end text
 Reports (Some (exec n source file)) before after end text = ExecReports before after n source file end text
+Reports (Some (list file)) before after end text = ShowReports listed before after file end text
+Reports (Some (info file)) before after end text = ShowReports info_of before after file end text
 
 -- The answer came out, and its text was written whole.
 pub record Answered (command : Option Command) (before after : Told) (end : End) : Type 0 where

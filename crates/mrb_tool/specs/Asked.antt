@@ -5,7 +5,10 @@ use Rattle.mrb_tool.specs.declared.words.Command.TheVariants as commands
 use Rattle.mrb_tool.specs.Words as words
 
 abbrev pub command_meant : Command → words.Command
+command_meant (commands.Build source file) = words.build source.now file.now
 command_meant (commands.Exec steps source file) = words.exec steps source.now file.now
+command_meant (commands.List file) = words.list file.now
+command_meant (commands.Info file) = words.info file.now
 
 abbrev pub asked : Option Command → Option words.Command
 asked None = None

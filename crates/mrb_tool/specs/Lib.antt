@@ -4,6 +4,6 @@ pub mod Told
 pub mod Texts
 pub mod Writing
 pub mod Answer
+pub mod Showing
 pub mod Running
-pub mod RefusalText
 pub mod Status

@@ -1,24 +1,31 @@
 -- What the steps of exec do, and what they report.
-use Rattle.std.specs.Prelude.{◌≡◌, ℕ, ◌≤◌, List, [], Option, Some, None, Bool, Result, Ok, Err, Vec, length}
+use Rattle.std.specs.Prelude.{◌≡◌, ℕ, ◌≤◌, List, [], Option, Some, None, Bool, IsTrue, Result, Ok, Err, Vec, length}
 use Rattle.std.specs.declared.alloc.Global.{Global}
 use Rattle.rb_base.specs.Outside.{Rose, with_more, TookFront}
 use Rattle.rb_syntax.specs.Form.{Form}
-use Rattle.rite_code.specs.Code.{Program}
+use Rattle.rite_code.specs.Code.{Program, IsWhole}
 use Rattle.def_eval.specs.Seen.{Ended, Uncaught, Going, Over, Seen, output_of}
 use Rattle.path_front.specs.Language.{program_of}
-use Rattle.path_file.specs.File.{canonical}
+use Rattle.rite_file.specs.File.{Spells}
+use Rattle.rite_file.specs.Loaded.{loaded}
+use Rattle.rite_file.specs.declared.error.LoadError.{LoadError}
+use Rattle.rite_file.specs.declared.error.LoadError.TheVariants as load_errors
+use Rattle.code_verifier.specs.Verified.{IsVerified}
+use Rattle.code_verifier.specs.declared.error.VerifyError.{VerifyError}
+use Rattle.code_verifier.specs.declared.error.VerifyError.TheVariants as verify_errors
 use Rattle.path_machine.specs.Run.{seen_after}
 use Rattle.code_generator.specs.Implements.{Implements}
-use Rattle.mrb_tool.specs.Told.{Told}
+use Rattle.mrb_tool.specs.Told.{Told, SameFiles, SameFilesBut, NoFileFault, NothingOut, NoOutFault}
 use Rattle.mrb_tool.specs.Texts as texts
-use Rattle.mrb_tool.specs.Answer.{Built, IsRefused, Untouched, FileFailed}
-use Rattle.mrb_tool.specs.Writing.{Stream}
+use Rattle.mrb_tool.specs.Showing.{Untouched, IsFile, refusal_of}
+use Rattle.mrb_tool.specs.Answer.{IsSource, Built, IsRefused, FileFailed}
+use Rattle.code_listing.specs.Writing.{Stream}
 use Rattle.rb_base.specs.declared.outside.FileError.{FileError}
 use Rattle.rb_base.specs.declared.outside.FileError.TheVariants as file_errors
 use Rattle.rb_compile.specs.declared.error.CompileError.{CompileError}
 use Rattle.rb_compile.specs.declared.error.CompileError.TheVariants as compile_errors
-use Rattle.mrb_tool.specs.declared.refusal.Refusal.{Refusal}
-use Rattle.mrb_tool.specs.declared.refusal.Refusal.TheVariants as refusals
+use Rattle.code_listing.specs.declared.refusal.Refusal.{Refusal}
+use Rattle.code_listing.specs.declared.refusal.Refusal.TheVariants as refusals
 use Rattle.mrb_tool.specs.declared.rite.End.{End}
 use Rattle.mrb_tool.specs.declared.rite.End.TheVariants as ends
 use Rattle.mrb_tool.specs.declared.report.Report.{Report}
@@ -74,12 +81,20 @@ abbrev pub Builds : Told → Told → List ℕ → List ℕ → Result Program R
 Builds before after source file (Ok code) = Built before after source file code
 Builds before after source file (Err report) = NotBuilt before after source file report
 
--- bytes that are the file of code which implements the text
-pub record Encodes (text : List ℕ) (code : Program) (bytes : List ℕ) : Type 0 where
+-- the same for the file alone
+abbrev pub Makes : Told → Told → List ℕ → List ℕ → Result Unit Report → Type 0
+Makes before after source file (Ok done) = (code : Program) × Built before after source file code
+Makes before after source file (Err report) = NotBuilt before after source file report
+
+-- bytes that are a file of verified code which implements the text
+pub record Encodes (text bytes : List ℕ) : Type 0 where
+  pub code : Program
   pub form : Form
   pub program : program_of text ≡ Some form
   pub implements : Implements code form
-  pub bytes_are : bytes ≡ canonical code
+  pub whole : IsWhole code
+  pub verified : IsVerified code
+  pub spelled : Spells bytes code
 
 -- why a text is refused: it isn't in the language, and there is no other cause
 abbrev pub RefusesText : List ℕ → Refusal → Type 0
@@ -105,9 +120,61 @@ NotEncoded text reports.Usage = ⊥
 NotEncoded text reports.FileFault = ⊥
 NotEncoded text reports.OutputFault = ⊥
 
-abbrev pub EncodesAs : List ℕ → Result (Program × Vec ℕ Global) Report → Type 0
-EncodesAs text (Ok pair) = Encodes text pair.0 pair.1.items
+abbrev pub EncodesAs : List ℕ → Result (Vec ℕ Global) Report → Type 0
+EncodesAs text (Ok bytes) = Encodes text bytes.items
 EncodesAs text (Err report) = NotEncoded text report
+
+-- the bytes of the file of a source, and nothing done
+abbrev pub Prepares : Told → Told → List ℕ → Result (Vec ℕ Global) Report → Type 0
+Prepares before after source (Ok bytes) = (text : List ℕ) × IsSource before source text × Encodes text bytes.items × Untouched before after
+Prepares before after source (Err (reports.Refused r)) = IsRefused before after source r
+Prepares before after source (Err reports.FileFault) = Rose (before.load_faults source) (after.load_faults source) × SameFiles before after × NothingOut before after × NoOutFault before after
+Prepares before after source (Err reports.NoMemory) = Untouched before after
+Prepares before after source (Err (reports.Ended k)) = ⊥
+Prepares before after source (Err (reports.Uncaught f)) = ⊥
+Prepares before after source (Err (reports.Spent n)) = ⊥
+Prepares before after source (Err reports.Usage) = ⊥
+Prepares before after source (Err reports.OutputFault) = ⊥
+
+-- a file gets these bytes, or the store failed
+abbrev pub Stores : Told → Told → List ℕ → List ℕ → Result Unit Report → Type 0
+Stores before after file bytes (Ok done) =
+    (IsTrue before.tells → after.file file ≡ Some bytes) × SameFilesBut file before after × NoFileFault before after × NothingOut before after × NoOutFault before after
+Stores before after file bytes (Err report) =
+    (report ≡ reports.FileFault) × Rose (before.store_faults file) (after.store_faults file) × SameFilesBut file before after × NothingOut before after × NoOutFault before after
+
+-- this program, or want of memory
+abbrev pub Checks : Program → Result Program Report → Type 0
+Checks p (Ok verified) = verified ≡ p
+Checks p (Err report) = report ≡ reports.NoMemory
+
+-- why no bytes of a file were read
+abbrev pub NotRead : Told → Told → List ℕ → Report → Type 0
+NotRead before after file reports.FileFault = Rose (before.load_faults file) (after.load_faults file) × SameFiles before after × NothingOut before after × NoOutFault before after
+NotRead before after file reports.NoMemory = Untouched before after
+NotRead before after file (reports.Refused r) = ⊥
+NotRead before after file (reports.Ended k) = ⊥
+NotRead before after file (reports.Uncaught f) = ⊥
+NotRead before after file (reports.Spent n) = ⊥
+NotRead before after file reports.Usage = ⊥
+NotRead before after file reports.OutputFault = ⊥
+
+-- the bytes of a file
+abbrev pub Reads : Told → Told → List ℕ → Result (Vec ℕ Global) Report → Type 0
+Reads before after file (Ok bytes) = IsFile before file bytes.items × Untouched before after
+Reads before after file (Err report) = NotRead before after file report
+
+-- the program of a file
+abbrev pub Loads : Told → Told → List ℕ → Result Program Report → Type 0
+Loads before after file (Ok p) = (bytes : List ℕ) × IsFile before file bytes × (loaded bytes ≡ Ok p) × Untouched before after
+Loads before after file (Err (reports.Refused r)) = (bytes : List ℕ) × (e : LoadError) × IsFile before file bytes × (loaded bytes ≡ Err e) × (refusal_of e ≡ Some r) × Untouched before after
+Loads before after file (Err reports.FileFault) = NotRead before after file reports.FileFault
+Loads before after file (Err reports.NoMemory) = Untouched before after
+Loads before after file (Err (reports.Ended k)) = ⊥
+Loads before after file (Err (reports.Uncaught f)) = ⊥
+Loads before after file (Err (reports.Spent n)) = ⊥
+Loads before after file (Err reports.Usage) = ⊥
+Loads before after file (Err reports.OutputFault) = ⊥
 
 -- the report of a text that isn't compiled
 abbrev pub of_compile_error : CompileError → Report
@@ -121,6 +188,19 @@ of_compile_error compile_errors.NoMemory = reports.NoMemory
 abbrev pub of_file_error : FileError → Report
 of_file_error file_errors.Failed = reports.FileFault
 of_file_error file_errors.NoMemory = reports.NoMemory
+
+-- the report of bytes that aren't loaded, and that of code that isn't verified
+abbrev pub of_load_error : LoadError → Report
+of_load_error load_errors.NotRite = reports.Refused refusals.NotRite
+of_load_error (load_errors.Foreign name) = reports.Refused (refusals.Foreign name)
+of_load_error (load_errors.Truncated at) = reports.Refused (refusals.Truncated at)
+of_load_error (load_errors.BadSection at) = reports.Refused (refusals.BadSection at)
+of_load_error (load_errors.BadRecord at) = reports.Refused (refusals.BadRecord at)
+of_load_error load_errors.NoMemory = reports.NoMemory
+
+abbrev pub of_verify_error : VerifyError → Report
+of_verify_error (verify_errors.Bad irep at cause) = reports.Refused (refusals.Bad irep at cause)
+of_verify_error verify_errors.NoMemory = reports.NoMemory
 
 -- every input shows this after n turns, and the output went out whole
 pub record RanWhole (code : Program) (n : ℕ) (before after : Stream) (seen : Seen) : Type 0 where

@@ -2,8 +2,14 @@
 use Rattle.std.specs.Prelude.{ℕ, ◌+◌, ◌*◌, ◌-◌, List, [], ◌∷◌, Option, Some, None, Bool, true, false, codes, bytes_eq, nat_le, nat_eq, if◌then◌else◌, ◌&&◌, not, take}
 
 pub data Command : Type 0 where
+  -- the code of the source in the first file goes into the second
+  build : List ℕ → List ℕ → Command
   -- at most so many turns of the source in the first file, whose code goes into the second
   exec : ℕ → List ℕ → List ℕ → Command
+  -- the listing of the code in the file
+  list : List ℕ → Command
+  -- the header and the sections of the file
+  info : List ℕ → Command
 
 -- the greatest number of turns that can be asked for, which is meant where none is named
 abbrev pub most_turns : ℕ
@@ -35,12 +41,29 @@ abbrev pub is_name : List ℕ → Bool
 is_name [] = false
 is_name (c ∷ cs) = not (bytes_eq (take 2 (c ∷ cs)) (codes "--"))
 
+-- the names of so many files and nothing else
+abbrev pub one_file : List (List ℕ) → Option (List ℕ)
+one_file [] = None
+one_file (file ∷ []) = if is_name file then Some file else None
+one_file (file ∷ (other ∷ words)) = None
+
+abbrev pub two_files : List (List ℕ) → Option (List ℕ × List ℕ)
+two_files [] = None
+two_files (source ∷ []) = None
+two_files (source ∷ (code ∷ [])) = if is_name source && is_name code then Some (source, code) else None
+two_files (source ∷ (code ∷ (other ∷ words))) = None
+
+abbrev pub of_one : (List ℕ → Command) → Option (List ℕ) → Option Command
+of_one command None = None
+of_one command (Some file) = Some (command file)
+
+abbrev pub of_two : (List ℕ → List ℕ → Command) → Option (List ℕ × List ℕ) → Option Command
+of_two command None = None
+of_two command (Some files) = Some (command files.0 files.1)
+
 -- the two files behind the options
 abbrev pub exec_files : ℕ → List (List ℕ) → Option Command
-exec_files n [] = None
-exec_files n (source ∷ []) = None
-exec_files n (source ∷ (code ∷ [])) = if is_name source && is_name code then Some (exec n source code) else None
-exec_files n (source ∷ (code ∷ (other ∷ words))) = None
+exec_files n words = of_two (exec n) (two_files words)
 
 abbrev pub exec_steps : Option ℕ → List (List ℕ) → Option Command
 exec_steps None words = None
@@ -55,4 +78,9 @@ exec_of (word ∷ (next ∷ words)) =
 
 abbrev pub command_of : List (List ℕ) → Option Command
 command_of [] = None
-command_of (word ∷ words) = if bytes_eq word (codes "exec") then exec_of words else None
+command_of (word ∷ words) =
+    if bytes_eq word (codes "exec") then exec_of words
+    else if bytes_eq word (codes "build") then of_two build (two_files words)
+    else if bytes_eq word (codes "list") then of_one list (one_file words)
+    else if bytes_eq word (codes "info") then of_one info (one_file words)
+    else None

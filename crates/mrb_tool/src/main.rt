@@ -1,10 +1,11 @@
 //! The program `rite`.
 #![tactic(auto)]
 
+mod building;
 mod exec;
-mod refusal;
 mod report;
 mod rite;
+mod showing;
 mod texts;
 mod words;
 

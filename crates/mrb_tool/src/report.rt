@@ -1,12 +1,14 @@
 //! What a command did, before it is told.
 ghost use Rattle.std.specs.Prelude.{◌≡◌};
 
-use crate::refusal::Refusal;
 use crate::rite::End;
 use crate::texts;
+use code_listing::Refusal;
+use code_verifier::VerifyError;
 use rb_base::{Failed, FileError, Sink};
 use rb_compile::CompileError;
 use rb_value::Failure;
+use rite_file::LoadError;
 use std::alloc::AllocError;
 
 /// What a command did.
@@ -25,7 +27,8 @@ pub enum Report {
 
 impl Report {
     ghost use Rattle.mrb_tool.specs.Running.{end_of, text_of};
-    ghost use Rattle.mrb_tool.specs.Writing.{Says, IsAnswer};
+    ghost use Rattle.code_listing.specs.Writing.{Says};
+    ghost use Rattle.mrb_tool.specs.Writing.{IsAnswer};
 
     /// Tells it, and gives the answer: `OutputFault` where its line couldn't be written.
     pub fn answer<E: Sink>(self, err: &mut E) -> End
@@ -100,6 +103,38 @@ impl From<FileError> for Report {
         match error {
             FileError::Failed => Report::FileFault,
             FileError::NoMemory => Report::NoMemory,
+        }
+    }
+}
+
+impl From<LoadError> for Report {
+    ghost use Rattle.mrb_tool.specs.Running.{of_load_error};
+
+    ghost from_gives = { λ error r. r ≡ of_load_error error };
+
+    fn from(error: LoadError) -> Report {
+        match error {
+            LoadError::NotRite => Report::Refused(Refusal::NotRite),
+            LoadError::Foreign { name } => Report::Refused(Refusal::Foreign { name }),
+            LoadError::Truncated { at } => Report::Refused(Refusal::Truncated { at }),
+            LoadError::BadSection { at } => Report::Refused(Refusal::BadSection { at }),
+            LoadError::BadRecord { at } => Report::Refused(Refusal::BadRecord { at }),
+            LoadError::NoMemory => Report::NoMemory,
+        }
+    }
+}
+
+impl From<VerifyError> for Report {
+    ghost use Rattle.mrb_tool.specs.Running.{of_verify_error};
+
+    ghost from_gives = { λ error r. r ≡ of_verify_error error };
+
+    fn from(error: VerifyError) -> Report {
+        match error {
+            VerifyError::Bad { irep, at, cause } => {
+                Report::Refused(Refusal::Bad { irep, at, cause })
+            }
+            VerifyError::NoMemory => Report::NoMemory,
         }
     }
 }

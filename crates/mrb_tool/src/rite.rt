@@ -5,10 +5,12 @@ ghost use Rattle.mrb_tool.specs.Told.{Told};
 ghost use Rattle.mrb_tool.specs.Answer.{Answers, Reports};
 ghost use Rattle.mrb_tool.specs.Running.{end_of, text_of};
 
+use crate::building::build;
 use crate::exec::exec;
-use crate::refusal::Refusal;
 use crate::report::Report;
+use crate::showing::{info, list};
 use crate::words::{Command, read_words};
+use code_listing::Refusal;
 use rb_base::{Files, Sink, Source};
 use std::alloc::Global;
 
@@ -120,6 +122,7 @@ fn perform<F: Files, O: Sink>(alloc: Global, words: &[String], files: &mut F, ou
         (end_of result) (text_of result) }
 {
     match read_words(words) {
+        Some(Command::Build { source, file }) => build(alloc, files, out, source, file),
         Some(
             Command::Exec {
                 steps,
@@ -127,6 +130,8 @@ fn perform<F: Files, O: Sink>(alloc: Global, words: &[String], files: &mut F, ou
                 file,
             },
         ) => exec(alloc, files, out, steps, source, file),
+        Some(Command::List { file }) => list(alloc, files, out, file),
+        Some(Command::Info { file }) => info(alloc, files, out, file),
         None => Report::Usage,
     }
 }

@@ -1,26 +1,47 @@
 //! What the words after the program's name mean.
 ghost use Rattle.std.specs.Prelude.{◌≡◌, true, nat_le, if◌then◌else◌, map, string_bytes};
-ghost use Rattle.mrb_tool.specs.Words.{is_digit, are_digits, is_numeral, value_after, most_turns, number_of, is_name, exec_files, exec_of, command_of};
+ghost use Rattle.mrb_tool.specs.Words.{is_digit, are_digits, is_numeral, value_after, most_turns, number_of, is_name, two_files, one_file, exec_files, exec_of, command_of};
 ghost use Rattle.mrb_tool.specs.Asked.{asked};
+ghost use Rattle.std.specs.Option.{option_map};
 
 /// What the words ask for.
 #[derive(Clone, Copy, Debug)]
 pub enum Command<'a> {
+    /// The code of the source in the first file goes into the second.
+    Build { source: &'a str, file: &'a str },
     /// At most `steps` turns of the source in the first file, whose code goes into the second.
     Exec {
         steps: u64,
         source: &'a str,
         file: &'a str,
     },
+    /// The listing of the code in the file.
+    List { file: &'a str },
+    /// The header and the sections of the file.
+    Info { file: &'a str },
 }
 
 /// The command that the words are, if they are one.
 pub fn read_words(words: &[String]) -> Option<Command<'_>>
     ensures { asked result ≡ command_of (map string_bytes words.now) }
 {
-    match words {
-        [word, rest @ ..] if word.as_bytes() == b"exec".as_slice() => exec(rest),
-        _ => None,
+    let [word, rest @ ..] = words else {
+        return None;
+    };
+    let name = word.as_bytes();
+    if name == b"exec".as_slice() {
+        exec(rest)
+    } else if name == b"build".as_slice() {
+        let (source, file) = two_files(rest)?;
+        Some(Command::Build { source, file })
+    } else if name == b"list".as_slice() {
+        let file = one_file(rest)?;
+        Some(Command::List { file })
+    } else if name == b"info".as_slice() {
+        let file = one_file(rest)?;
+        Some(Command::Info { file })
+    } else {
+        None
     }
 }
 
@@ -39,14 +60,32 @@ fn exec(words: &[String]) -> Option<Command<'_>>
 fn exec_files(steps: u64, words: &[String]) -> Option<Command<'_>>
     ensures { asked result ≡ exec_files steps (map string_bytes words.now) }
 {
+    let (source, file) = two_files(words)?;
+    Some(Command::Exec {
+        steps,
+        source,
+        file,
+    })
+}
+
+// The names of two files and nothing else.
+fn two_files(words: &[String]) -> Option<(&str, &str)>
+    ensures { option_map (λ files. (files.0.now, files.1.now)) result ≡ two_files (map string_bytes words.now) }
+{
     match words {
         [source, file] if is_name(source.as_bytes()) && is_name(file.as_bytes()) => {
-            Some(Command::Exec {
-                steps,
-                source: source.as_str(),
-                file: file.as_str(),
-            })
+            Some((source.as_str(), file.as_str()))
         }
+        _ => None,
+    }
+}
+
+// The name of a file and nothing else.
+fn one_file(words: &[String]) -> Option<&str>
+    ensures { option_map (λ file. file.now) result ≡ one_file (map string_bytes words.now) }
+{
+    match words {
+        [file] if is_name(file.as_bytes()) => Some(file.as_str()),
         _ => None,
     }
 }

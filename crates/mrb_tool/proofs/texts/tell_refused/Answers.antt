@@ -1,7 +1,7 @@
 use Rattle.std.proofs.Common.{ap, sym, ◌∙◌}
 use Rattle.mrb_tool.specs.Texts as texts
-use Rattle.mrb_tool.specs.declared.refusal.Refusal.TheVariants.{Syntax}
-use Rattle.mrb_tool.proofs.Writing.{says_same}
+use Rattle.code_listing.specs.declared.refusal.Refusal.TheVariants.{Syntax}
+use Rattle.code_listing.proofs.Writing.{says_same}
 use Rattle.mrb_tool.proofs.texts.tell_refused.Goals as goal
 
 pub returns-in-Syntax : goal.returns-in-Syntax
