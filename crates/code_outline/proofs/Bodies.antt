@@ -7,6 +7,7 @@ use Rattle.std.proofs.lemmas.Option.{none-some, same_Some}
 use Rattle.rite_code.specs.declared.code.Irep.{Irep}
 use Rattle.rite_code.specs.Code.{IsForest, none, node}
 use Rattle.code_outline.specs.declared.layout.Layout.{Layout}
+use Rattle.code_outline.specs.Laws.{IsWithin}
 use Rattle.code_outline.specs.Outlined.{LaysOut, AreLaidOut}
 
 -- there is a layout for each body
@@ -25,9 +26,6 @@ laid_out-at version (a ∷ bs) (m ∷ ls) zero b l h lt = h.0
 laid_out-at version (a ∷ bs) (m ∷ ls) (suc k) b l h lt = laid_out-at version bs ls k b l h.1 (omega arith)
 
 -- the roots of a forest are among its bodies, and so are the children of each, behind it
-abbrev pub IsWithin : ℕ → ℕ → ℕ → Type 0
-IsWithin low high j = (low ≤ j) × (j < high)
-
 all_left : (P : ℕ → Type 0) (xs ys : List ℕ) → All P (xs ++ ys) → All P xs
 all_left P xs ys h = All-same P xs (take (length xs) (xs ++ ys)) (sym (take_at xs ys (length xs) refl)) (All-take P (length xs) (xs ++ ys) h)
 
