@@ -1,0 +1,22 @@
+use Rattle.std.proofs.Common.{◌≡◌, refl, sym, inr, subst, ◌++◌, ℕ, List, [], ◌∷◌, arith, length}
+use Rattle.std.specs.Prelude.{All}
+use Rattle.std.proofs.lemmas.List.Elements.{All-nil, All-cons}
+use Rattle.rite_code.specs.declared.code.Irep.{Irep}
+use Rattle.rite_code.specs.Code.{program, IsBody, IsForest, none, node, IsWhole}
+use Rattle.code_outline.proofs.tests.nested.Goals as goal
+
+forest : (b c : Irep) → b.children ≡ 1 ∷ [] → c.children ≡ [] → IsForest 0 (b ∷ (c ∷ [])) (0 ∷ [])
+forest b c e f =
+    let P : List ℕ → Type 0 = λ roots. IsForest 1 (c ∷ []) (roots ++ []) in
+    let Q : List ℕ → Type 0 = λ roots. IsForest 2 [] (roots ++ []) in
+    let inner : Q c.children = subst Q (sym f) none in
+    let main : P b.children = subst P (sym e) (node inner) in
+    node main
+
+whole : (b c : Irep) → IsBody 2 b → IsBody 2 c → b.children ≡ 1 ∷ [] → c.children ≡ [] → IsWhole (program 2 (b ∷ (c ∷ [])))
+whole b c x y e f = record {
+  version = inr refl;
+  count = omega arith;
+  each = All-cons (IsBody 2) b (c ∷ []) x (All-cons (IsBody 2) c [] y (All-nil (IsBody 2)));
+  tree = forest b c e f;
+}
