@@ -1,4 +1,4 @@
-use Rattle.std.proofs.Common.{◌≡◌, refl, sym, inr, subst, ◌++◌, ℕ, List, [], ◌∷◌, arith, length}
+use Rattle.std.proofs.Common.{◌≡◌, refl, sym, ap, ◌∙◌, inr, subst, ◌++◌, ℕ, List, [], ◌∷◌, arith, length}
 use Rattle.std.specs.Prelude.{All}
 use Rattle.std.proofs.lemmas.List.Elements.{All-nil, All-cons}
 use Rattle.rite_code.specs.declared.code.Irep.{Irep}
@@ -20,3 +20,11 @@ whole b c x y e f = record {
   each = All-cons (IsBody 2) b (c ∷ []) x (All-cons (IsBody 2) c [] y (All-nil (IsBody 2)));
   tree = forest b c e f;
 }
+
+pub new-requires-2 : goal.new-requires-2
+new-requires-2 c =
+    let main = c.in_ok-body.field-0 in
+    let inner = c.in_ok-body-2.field-0 in
+    let some : main.children ≡ 1 ∷ [] = c.in_ok-body.ensures.children ∙ c.in_ok-push.ensures.ok ∙ ap (λ (xs : List ℕ). xs ++ 1 ∷ []) c.new-children.ensures in
+    let none' : inner.children ≡ [] = c.in_ok-body-2.ensures.children ∙ c.new.ensures in
+    rw (c.in_ok-push-3.ensures.ok, c.in_ok-push-2.ensures.ok, c.new-bodies.ensures) (whole main inner c.in_ok-body.ensures.body c.in_ok-body-2.ensures.body some none')
