@@ -1,5 +1,5 @@
 -- The maker of a body makes it.
-use Rattle.std.proofs.Common.{◌≡◌, refl, sym, ap, ◌∙◌, subst, ℕ, zero, suc, ◌+◌, ◌<◌, ◌≤◌, List, [], ◌∷◌, ◌++◌, length, Bool, true, false, arith, Contains}
+use Rattle.std.proofs.Common.{◌≡◌, refl, sym, ℕ, suc, ◌+◌, List, [], ◌∷◌, true, false, arith, Contains}
 use Rattle.std.specs.Prelude.{Option, None, Some, nat_eq, if◌then◌else◌, All, slice_get}
 use Rattle.std.proofs.lemmas.Bool.{eqb-true}
 use Rattle.std.proofs.lemmas.List.Elements.{All-nil, All-cons, All-head, All-tail, All-append, All-contains_itself}

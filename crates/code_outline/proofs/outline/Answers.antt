@@ -1,5 +1,5 @@
-use Rattle.std.proofs.Common.{◌≡◌, ◌+◌, ◌∙◌, sym, ap, rules, replicate, None, length, take, drop, map, ◌++◌}
-use Rattle.std.proofs.lemmas.List.{length-replicate, take_at, take_all}
+use Rattle.std.proofs.Common.{◌≡◌, ◌∙◌, sym, rules, replicate, None, length, take, drop, map, ◌++◌}
+use Rattle.std.proofs.lemmas.List.{length-replicate, take_at}
 use Rattle.code_outline.specs.Outlined.{seen, AreLaidOut, LaysOut}
 use Rattle.code_outline.specs.Makers.{made_in, made_from}
 use Rattle.code_outline.specs.Making.{AreMarked}
