@@ -1,5 +1,6 @@
 pub mod Bodies
 pub mod Ends
+pub mod Kept
 pub mod Layouts
 pub mod Made
 pub mod Makes
