@@ -4,4 +4,5 @@ pub mod Firsts
 pub mod InOrder
 pub mod Known
 pub mod Parts
+pub mod Passing
 pub mod Starts
