@@ -1,2 +1,10 @@
+pub mod Bodies
+pub mod Ends
+pub mod Kept
+pub mod Layouts
+pub mod Made
+pub mod Makes
+pub mod Marks
 pub mod Places
+pub mod Rows
 pub mod Scopes

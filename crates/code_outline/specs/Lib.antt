@@ -1,3 +1,7 @@
+pub mod Laws
 pub mod Layout
 pub mod Makers
+pub mod Makes
+pub mod Making
 pub mod Outlined
+pub mod Rows

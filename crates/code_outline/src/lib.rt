@@ -2,17 +2,25 @@
 //! read, with the place of each instruction, the index of the instruction at each place, and for each body the
 //! first instruction that uses it.
 //!
-//! Types: [`Standing`], [`Layout`], [`Purpose`], [`Maker`], [`Outline`]. Call: [`outline`].
+//! Types: [`Standing`], [`Layout`], [`Purpose`], [`Maker`], [`Outline`]. Call: [`outline`]. Law: [`laws_of_outlines`].
 #![tactic(auto)]
 
-ghost use Rattle.std.specs.Prelude.{IfOk};
+ghost use Rattle.std.specs.Prelude.{ℕ, IfOk};
+ghost use Rattle.std.specs.Prelude as prelude;
+ghost use Rattle.rite_code.specs.Code.{Program};
+ghost use Rattle.code_outline.specs.Laws.{Lays, Nests};
 ghost use Rattle.code_outline.specs.Outlined.{Outlines};
 
 pub mod layout;
+mod laying;
 pub mod maker;
+mod making;
 
 pub use layout::{Layout, Outline, Standing};
 pub use maker::{Maker, Purpose};
+use crate::laying::layout;
+use crate::making::put_makers;
+use rb_base::List;
 use rite_code::Code;
 use std::alloc::{AllocError, Global};
 
@@ -20,5 +28,28 @@ use std::alloc::{AllocError, Global};
 pub fn outline(alloc: Global, code: &Code) -> Result<Outline, AllocError>
     ensures { IfOk result (λ o. Outlines code.now o) }
 {
-    Err(AllocError)
+    let bodies = code.bodies();
+    let mut layouts = List::new(alloc);
+    let mut makers = vec![in alloc; None; bodies.len()]?;
+    for (number, body) in bodies.iter().enumerate() {
+        let layout = layout(alloc, code.version(), body.code.as_slice())?;
+        put_makers(
+            &mut makers,
+            number as u32,
+            body,
+            layout.instructions.as_slice(),
+        );
+        layouts.push(layout)?;
+    }
+    Ok(Outline {
+        layouts,
+        makers: List::from_vec(makers),
+    })
 }
+
+/// What every layout and every program keeps: instructions stand one behind the other and are found by their
+/// places, and makers, scopes and children are bodies of the program.
+pub fn laws_of_outlines()
+    ensures lays { (version : ℕ) (code : prelude.List ℕ) → Lays version code }
+    ensures nests { (p : Program) → Nests p }
+{}

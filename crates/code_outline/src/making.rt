@@ -1,0 +1,63 @@
+//! Who makes each body.
+ghost use Rattle.std.specs.Prelude.{◌≡◌, ◌∷◌, []};
+ghost use Rattle.code_outline.specs.Makers as made;
+ghost use Rattle.code_outline.specs.Making.{listed, AreMarked};
+ghost use Rattle.code_outline.specs.Outlined.{seen};
+ghost use Rattle.std.specs.Prelude as prelude;
+
+use crate::layout::Standing;
+use crate::maker::{Maker, Purpose};
+use rite_code::{Irep, Operation};
+
+/// The index among the children and the purpose, where the instruction uses a child.
+fn use_in(operation: Operation) -> Option<(u16, Purpose)>
+    ensures { result ≡ made.use_in operation }
+{
+    match operation {
+        Operation::Lambda { a: _, b } => Some((b, Purpose::Lambda)),
+        Operation::Block { a: _, b } => Some((b, Purpose::Block)),
+        Operation::Exec { a: _, b } => Some((b, Purpose::ClassBody)),
+        Operation::Def { a: _, b: _, c } => Some((c, Purpose::Method)),
+        _ => None,
+    }
+}
+
+/// The number of the child that an instruction of a body uses, and the maker that it is of it.
+fn made_by(number: u32, body: &Irep, standing: Standing) -> Option<(u32, Maker)>
+    ensures { listed result ≡ made.made_by number body.now (seen standing) }
+{
+    let (index, purpose) = use_in(standing.instr.operation())?;
+    let child = *body.children.as_slice().get(index as usize)?;
+    let maker = Maker {
+        body: number,
+        at: standing.at,
+        purpose,
+    };
+    Some((child, maker))
+}
+
+/// Puts down the maker of a body that has none.
+fn put_maker(makers: &mut [Option<Maker>], child: u32, maker: Maker)
+    ensures { AreMarked (listed (Some (child, maker))) makers.old makers.new }
+{
+    let child = child as usize;
+    if child < makers.len() && makers[child].is_none() {
+        makers[child] = Some(maker);
+    }
+}
+
+/// Puts down the makers that stand in a body, of each body that has none yet.
+pub fn put_makers(
+    makers: &mut [Option<Maker>],
+    number: u32,
+    body: &Irep,
+    instructions: &[Standing],
+)
+    ensures { AreMarked (made.made_in number body.now (prelude.map seen instructions.now)) makers.old makers.new }
+{
+    for standing in instructions {
+        if let Some((child, maker)) = made_by(number, body, *standing) {
+            put_maker(makers, child, maker);
+        }
+    }
+}
