@@ -1,17 +1,20 @@
 -- In verified code every check holds.
 use Rattle.std.proofs.Common.{◌≡◌, refl, sym, ap, ◌∙◌, ℕ, zero, suc, ◌+◌, ◌<◌, List, [], ◌∷◌, ◌++◌, length, map, arith, Bool, true, false}
-use Rattle.std.specs.Prelude.{None, Some, Option, slice_get, nat_eq, if◌then◌else◌}
+use Rattle.std.specs.Prelude.{None, Some, Option, slice_get, nat_eq, nat_lt, ◌||◌, if◌then◌else◌}
 use Rattle.std.proofs.lemmas.Option.{none-some, same_Some}
-use Rattle.std.proofs.lemmas.Bool.{eqb-true}
+use Rattle.std.proofs.lemmas.Bool.{eqb-true, ltb-true}
 use Rattle.rite_code.specs.declared.cause.Cause.{Cause}
 use Rattle.rite_code.specs.declared.cause.Cause.TheVariants as cause
 use Rattle.rite_code.specs.declared.code.Irep.{Irep}
 use Rattle.rite_code.specs.declared.code.CatchEntry.{CatchEntry}
 use Rattle.rite_code.specs.Code.{Program}
 use Rattle.code_outline.specs.Layout.{Standing, layout, end_of}
+use Rattle.code_outline.specs.Rows.{StandInRow}
+use Rattle.code_outline.proofs.Rows.{row-layout}
+use Rattle.code_verifier.specs.Needs.{leaves}
 use Rattle.code_verifier.specs.Checks.{Bad, first, bad, unless, cause_of, instructions_bad, end_bad, catches_bad, read_whole, body_bad, bodies_bad, first_bad, catch_holds}
 use Rattle.code_verifier.specs.Verified.{IsVerified}
-use Rattle.code_verifier.specs.Holds.{PassesAll, PassesBody}
+use Rattle.code_verifier.specs.Holds.{PassesAll, PassesBody, StandsNext}
 
 -- where the first of several is none, each is none
 none_head : {A : Type 0} (x : Option A) (xs : List (Option A)) → first (x ∷ xs) ≡ None → (x ≡ None) × (first xs ≡ None)
@@ -89,6 +92,21 @@ without_cause p k b i s h at =
     let parts = none_parts (instructions_bad p k b ss ss) (end_bad p k b (end_of 0 ss) ∷ catches_bad k b ss b.catches) h in
     none_bad k s.at _ (none_each (λ (t : Standing). bad k t.at (cause_of p k b ss t)) ss i s parts.0 at)
 
+-- where the code goes on behind an instruction, the next one stands there
+next_in_row : (limit at : ℕ) (ss : List Standing) (i : ℕ) (s : Standing) → StandInRow limit at ss → slice_get ss i ≡ Some s → s.next < end_of at ss → StandsNext ss i s
+unfolding StandInRow end_of
+next_in_row limit at [] i s row here lt = absurd (none-some _ here)
+next_in_row limit at (x ∷ []) zero s row here lt = absurd (omega (arith, lt, ap (λ (t : Standing). t.next) (same_Some _ _ here)))
+next_in_row limit at (x ∷ y ∷ ys) zero s row here lt = record { next = y; stands = refl; place = row.2.0 ∙ ap (λ (t : Standing). t.next) (same_Some _ _ here) }
+next_in_row limit at (x ∷ xs) (suc i) s row here lt =
+    let r = next_in_row limit x.next xs i s row.2 here lt in
+    let e : suc i + 1 ≡ suc (i + 1) = omega arith in
+    record { next = r.next; stands = rw e r.stands; place = r.place }
+
+goes_on : (leaving inside : Bool) → (leaving || inside) ≡ true → leaving ≡ false → inside ≡ true
+goes_on true inside h stays = absurd cc
+goes_on false inside h stays = h
+
 pub passes_body : (p : Program) (k : ℕ) (b : Irep) → body_bad p k b ≡ None → PassesBody p k b
 unfolding body_bad
 passes_body p k b h =
@@ -100,6 +118,10 @@ passes_body p k b h =
       instructions = λ i s at. passes_all p k b ss s (without_cause p k b i s h at);
       begun = read_begun p.version b.code (end_of 0 ss) whole;
       ended = read_ended p.version b.code (end_of 0 ss) whole;
+      goes_on = λ i s at stays.
+        let passes = passes_all p k b ss s (without_cause p k b i s h at) in
+        let inside = ltb-true s.next (length b.code) (goes_on (leaves s.instruction.operation) (nat_lt s.next (length b.code)) passes.fall stays) in
+        next_in_row (length b.code) 0 ss i s (row-layout p.version b.code) at (omega (arith, inside, read_ended p.version b.code (end_of 0 ss) whole));
       catches = λ i e at. true_unless _ cause.Catch (none_bad k e.begin _ (none_each (λ (f : CatchEntry). bad k f.begin (unless (catch_holds (length b.code) ss f) cause.Catch)) b.catches i e rest.1 at))
     }
 
