@@ -5,4 +5,5 @@ pub mod InOrder
 pub mod Known
 pub mod Parts
 pub mod Passing
+pub mod Samples
 pub mod Starts
