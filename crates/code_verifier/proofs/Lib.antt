@@ -4,4 +4,6 @@ pub mod Firsts
 pub mod InOrder
 pub mod Known
 pub mod Parts
+pub mod Passing
+pub mod Samples
 pub mod Starts

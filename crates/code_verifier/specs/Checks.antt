@@ -188,7 +188,7 @@ causes p k b ss s =
     ∷ unless (enter_holds (takes_arguments m) s.at b (drop 1 ss) (parameters_of o)) cause.Enter
     ∷ unless (place_holds k m o) cause.Place
     ∷ unless (makes_once p k s.at (made_by k b s) && is_used p k s.at) cause.Use
-    ∷ unless (leaves o || is_start ss s.next) cause.Fall
+    ∷ unless (leaves o || nat_lt s.next (length b.code)) cause.Fall
     ∷ []
 
 unfoldable pub cause_of : Program → ℕ → Irep → List Standing → Standing → Option Cause

@@ -3,3 +3,4 @@ pub mod Checks
 pub mod Verified
 pub mod Known
 pub mod Answers
+pub mod Holds

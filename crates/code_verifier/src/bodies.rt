@@ -1,5 +1,5 @@
 //! The checks of a body: its instructions, the place where reading ends, its catch entries; and of all bodies.
-ghost use Rattle.std.specs.Prelude.{◌≡◌, ◌<◌, ◌^◌, drop, length, map};
+ghost use Rattle.std.specs.Prelude.{◌≡◌, ◌<◌, ◌≤◌, ◌^◌, length, map};
 ghost use Rattle.code_outline.specs.Layout as laid;
 ghost use Rattle.code_outline.specs.Outlined.{LaysOut, Outlines, seen};
 ghost use Rattle.code_verifier.specs.Answers.{answer, outcome};
@@ -46,14 +46,9 @@ fn end_of(list: &[Standing]) -> u32
     }
 }
 
-fn rest_from(code: &[u8], at: u32) -> &[u8]
-    ensures { result.now ≡ drop at code.now }
-{
-    code.get(at as usize..).unwrap_or(&[])
-}
-
 /// The code is read to its end, and has an instruction.
 fn check_end(version: u8, code: &[u8], end: u32) -> Result<(), Cause>
+    requires { end ≤ length code.now }
     ensures { result ≡ outcome (checks.read_whole version code.now end) }
 {
     if code.is_empty() {
@@ -62,7 +57,7 @@ fn check_end(version: u8, code: &[u8], end: u32) -> Result<(), Cause>
     if end as usize == code.len() {
         return Ok(());
     }
-    Err(unread(version, rest_from(code, end)))
+    Err(unread(version, &code[end as usize..]))
 }
 
 fn check_catches(version: u8, number: u32, body: &Irep, layout: &Layout) -> Result<(), VerifyError>

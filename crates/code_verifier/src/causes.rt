@@ -53,5 +53,5 @@ pub fn check_instruction(
     check(place_holds(number, maker, operation), Cause::Place)?;
     let is_sole = makes_once(code, outline, number, body, at, operation);
     check(is_sole && is_used(code, outline, number, at), Cause::Use)?;
-    check(leaves(operation) || layout.is_start(next), Cause::Fall)
+    check(leaves(operation) || (next as usize) < body.code.len(), Cause::Fall)
 }

@@ -1,7 +1,7 @@
 //! The verifier: code that passes it can't go wrong later. Each check, in the order in which it is made, stands in
 //! specs/Checks.antt and in docs/formats.md.
 //!
-//! Types: [`Verified`], [`VerifyError`]. Call: [`verify`].
+//! Types: [`Verified`], [`VerifyError`]. Call: [`verify`]. Law: [`every_check_holds`].
 #![tactic(auto)]
 
 ghost use Rattle.std.specs.Prelude.{◌≡◌, IfOk, IfErr};
@@ -12,6 +12,7 @@ mod bodies;
 mod causes;
 mod checks;
 pub mod error;
+pub mod laws;
 mod needs;
 mod unread;
 pub mod verified;
@@ -19,6 +20,7 @@ pub mod verified;
 use crate::bodies::check_bodies;
 use code_outline::outline;
 pub use error::VerifyError;
+pub use laws::every_check_holds;
 use rite_code::Code;
 use std::alloc::Global;
 pub use verified::Verified;
@@ -33,3 +35,6 @@ pub fn verify(alloc: Global, code: Code) -> Result<Verified, VerifyError>
     check_bodies(&code, &found)?;
     Ok(Verified::new(code, found))
 }
+
+#[cfg(test)]
+mod tests;

@@ -1,11 +1,19 @@
-use Rattle.std.proofs.Common.{◌≡◌, ap, ◌∙◌, map, List, ℕ}
+use Rattle.std.proofs.Common.{◌≡◌, ap, ◌∙◌, map, length, List, ℕ, arith}
 use Rattle.code_outline.specs.Layout.{end_of, layout}
 use Rattle.code_outline.specs.Outlined.{seen}
 use Rattle.code_outline.specs.declared.layout.Standing.{Standing}
 use Rattle.code_verifier.specs.Checks.{first, catches_bad}
 use Rattle.code_verifier.specs.Answers.{answer}
+use Rattle.code_outline.proofs.Rows.{row-layout, row-end}
 use Rattle.code_verifier.proofs.Parts.{in_end, in_catches}
 use Rattle.code_verifier.proofs.bodies.check_body.Goals as goal
+
+pub check_end-requires : goal.check_end-requires
+check_end-requires c =
+    let end = c.end_of-end.ensures ∙ (ap (λ (xs : List Standing). end_of 0 (map seen xs)) c.as_slice.ensures ∙ ap (end_of 0) c.requires.laid.instructions) in
+    let row = row-layout c.args.code.now.version c.args.body.now.code in
+    let within = row-end (length c.args.body.now.code) 0 (layout c.args.code.now.version c.args.body.now.code) row in
+    omega (arith, end, within.1, ap length c.as_slice-2.ensures)
 
 pub returns-in-Err : goal.returns-in-Err
 returns-in-Err c =
