@@ -1,8 +1,13 @@
 //! What a file holds, as text, and why a source or a file is refused.
 //!
-//! Types: [`Refusal`].
+//! Types: [`Refusal`]. Calls: [`refusal_text`], and [`write_pieces`], which writes a text given in pieces. None of
+//! them takes memory.
 #![tactic(auto)]
 
+pub mod pieces;
 pub mod refusal;
+pub mod refusal_texts;
 
+pub use pieces::write_pieces;
 pub use refusal::Refusal;
+pub use refusal_texts::refusal_text;
