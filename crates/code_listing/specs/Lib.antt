@@ -1,2 +1,4 @@
 pub mod Writing
 pub mod RefusalText
+pub mod Inspect
+pub mod Listing

@@ -4,10 +4,12 @@
 //! them takes memory.
 #![tactic(auto)]
 
+pub mod inspecting;
 pub mod pieces;
 pub mod refusal;
 pub mod refusal_texts;
 
+pub use inspecting::write_inspected;
 pub use pieces::write_pieces;
 pub use refusal::Refusal;
 pub use refusal_texts::refusal_text;

@@ -17,3 +17,14 @@ pub fn write_pieces<O: Sink>(out: &mut O, pieces: &[&[u8]]) -> Result<(), Failed
     }
     Ok(())
 }
+
+/// Writes a text.
+///
+/// `Failed` where a call failed: then a front of it went out.
+pub fn write_text<O: Sink>(out: &mut O, text: &[u8]) -> Result<(), Failed>
+    ensures { Says text.now
+        (record { taken = O.taken out.old; faults = O.faults out.old })
+        (record { taken = O.taken out.new; faults = O.faults out.new }) result }
+{
+    write_all(out, text)
+}
