@@ -1,2 +1,4 @@
 pub mod Writing
 pub mod Progress
+pub mod Numbered
+pub mod CodeLines

@@ -22,9 +22,12 @@ use Rattle.code_listing.specs.Inspect.{inspected}
 abbrev pub line : List ℕ → List ℕ
 line text = text ++ 10 ∷ []
 
--- five digits at least, with zeros in front
+-- the zeros in front of so many digits, so that there are five
+abbrev pub zeros_before : ℕ → List ℕ
+zeros_before digits = replicate (5 - digits) 48
+
 unfoldable pub address : ℕ → List ℕ
-address at = replicate (5 - length (decimal at)) 48 ++ decimal at
+address at = zeros_before (length (decimal at)) ++ decimal at
 
 -- each after a space
 abbrev pub number : ℕ → List ℕ
@@ -56,9 +59,12 @@ numbers_shown W o by = pos (word_of o.parameters) ∷ []
 abbrev pub operands_shown : ℕ → Operation → List ℤ
 operands_shown next o = numbers_shown (shape_of (opcode_in o)) (operands_in o) (signed_shown next (opcode_in o) (operands_in o).by)
 
--- a wide instruction stands behind its prefix
+-- a wide instruction shows its prefix
+abbrev pub prefix : Bool → List ℕ
+prefix wide = if wide then codes " EXT " else codes " "
+
 abbrev pub mnemonic : Bool → Opcode → List ℕ
-mnemonic wide o = (if wide then codes " EXT " else codes " ") ++ name_of o
+mnemonic wide o = prefix wide ++ name_of o
 
 unfoldable pub instruction_line : Standing → List ℕ
 instruction_line s = line (address s.at ++ (mnemonic s.instruction.wide (opcode_in s.instruction.operation) ++ flat_map signed_number (operands_shown s.next s.instruction.operation)))

@@ -5,6 +5,7 @@
 #![tactic(auto)]
 
 pub mod inspecting;
+pub mod instructions;
 pub mod pieces;
 pub mod refusal;
 pub mod refusal_texts;
