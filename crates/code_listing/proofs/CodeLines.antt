@@ -8,12 +8,8 @@ use Rattle.code_outline.specs.Layout.{Standing, standing, standings, begun, end_
 use Rattle.code_listing.specs.Listing.{lines_from, instruction_line, unreadable_line, code_lines, address}
 
 -- at most so many instructions are read from a place on
-pub lines_at : ℕ → ℕ → List ℕ → ℕ → List ℕ
+unfoldable pub lines_at : ℕ → ℕ → List ℕ → ℕ → List ℕ
 lines_at most version code at = lines_from code at (standings most version code at)
-
-pub all_lines : (version : ℕ) (code : List ℕ) → code_lines version code ≡ lines_at (length code) version code 0
-unfolding code_lines layout lines_at
-all_lines version code = refl
 
 -- an instruction can be read
 pub next_line : (most version : ℕ) (code : List ℕ) (at next : ℕ) (i : Instruction) → at < length code → length code - at ≤ most → decode version code at ≡ Some (i, next) → at < next → (m : ℕ) × ((length code - next ≤ m) × (lines_at most version code at ≡ instruction_line (standing at (i, next)) ++ lines_at m version code next))
