@@ -85,12 +85,19 @@ reach rescue = if rescue then codes "rescue" else codes "ensure"
 unfoldable pub catch_line : CatchEntry → List ℕ
 catch_line c = line (codes "catch " ++ (reach c.rescue ++ (number c.begin ++ (number c.end ++ number c.target))))
 
+-- the end of a line: a text in quotes, and an integer
+unfoldable pub text_end : List ℕ → List ℕ
+text_end text = line (inspected text)
+
+abbrev pub integer_end : ℤ → List ℕ
+integer_end z = line (signed_decimal z)
+
 unfoldable pub pool_line : ℕ → PoolItem → List ℕ
-pool_line n (Int z) = line (codes "pool " ++ (decimal n ++ (codes " int " ++ signed_decimal z)))
-pool_line n (Text bytes) = line (codes "pool " ++ (decimal n ++ (codes " str " ++ inspected bytes)))
+pool_line n (Int z) = (codes "pool " ++ (decimal n ++ codes " int ")) ++ integer_end z
+pool_line n (Text bytes) = (codes "pool " ++ (decimal n ++ codes " str ")) ++ text_end bytes
 
 unfoldable pub symbol_line : ℕ → List ℕ → List ℕ
-symbol_line n name = line (codes "sym " ++ (decimal n ++ (codes " " ++ inspected name)))
+symbol_line n name = (codes "sym " ++ (decimal n ++ codes " ")) ++ text_end name
 
 unfoldable pub head_line : ℕ → Irep → List ℕ
 head_line n b = line (codes "irep " ++ (decimal n ++ (codes " locals " ++ (decimal b.locals ++ (codes " registers " ++ (decimal b.registers ++ (codes " children " ++ decimal (length b.children))))))))

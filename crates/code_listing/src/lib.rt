@@ -1,15 +1,17 @@
 //! What a file holds, as text, and why a source or a file is refused.
 //!
-//! Types: [`Refusal`]. Calls: [`refusal_text`], and [`write_pieces`], which writes a text given in pieces. None of
+//! Types: [`Refusal`]. Calls: [`list`], [`refusal_text`], and [`write_pieces`], which writes a text given in pieces. None of
 //! them takes memory.
 #![tactic(auto)]
 
+pub mod bodies;
 pub mod inspecting;
 pub mod instructions;
 pub mod pieces;
 pub mod refusal;
 pub mod refusal_texts;
 
+pub use bodies::list;
 pub use inspecting::write_inspected;
 pub use pieces::write_pieces;
 pub use refusal::Refusal;
