@@ -10,11 +10,11 @@ next_mapped f xs i d h = rw (add-one, drop-cons xs i d)
 pub none_mapped : {A : Type 0} (f : A → List ℕ) (xs : List A) (i : ℕ) → length xs ≤ i → flat_map f (drop i xs) ≡ []
 none_mapped f xs i h = ap (flat_map f) (drop_all i xs h)
 
-pub next_numbered : {A : Type 0} (f : ℕ → A → List ℕ) (xs : List A) (i : ℕ) (d : A) → i < length xs → numbered f i (drop i xs) ≡ f i (get_or xs i d) ++ numbered f (i + 1) (drop (i + 1) xs)
+pub next_numbered : {A : Type 0} (f : ℕ → A → List ℕ) (xs : List A) (i : ℕ) (x d : A) → x ≡ get_or xs i d → i < length xs → numbered f i (drop i xs) ≡ f i x ++ numbered f (i + 1) (drop (i + 1) xs)
 unfolding numbered
-next_numbered f xs i d h =
+next_numbered f xs i x d is h =
     let first : drop i xs ≡ get_or xs i d ∷ drop (i + 1) xs = rw (add-one, drop-cons xs i d) in
-    ap (numbered f i) first
+    rw is (ap (numbered f i) first)
 
 pub none_numbered : {A : Type 0} (f : ℕ → A → List ℕ) (xs : List A) (i : ℕ) → length xs ≤ i → numbered f i (drop i xs) ≡ []
 unfolding numbered
