@@ -1,0 +1,4 @@
+pub mod Listing
+pub mod SectionSteps
+pub mod Forests
+pub mod Walking

@@ -1,0 +1,5 @@
+pub mod File
+pub mod Gives
+pub mod Front
+pub mod Record
+pub mod Loaded
