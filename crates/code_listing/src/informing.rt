@@ -51,7 +51,10 @@ fn write_sections<O: Sink>(out: &mut O, sections: &mut Sections) -> Result<(), F
         (record { taken = O.taken out.old; faults = O.faults out.old })
         (record { taken = O.taken out.new; faults = O.faults out.new }) result }
 {
-    'sections: while let Some(Ok(section)) = sections.next() {
+    'sections: while let Some(next) = sections.next() {
+        let Ok(section) = next else {
+            return Ok(());
+        };
         write_section(out, section)?;
     }
     Ok(())

@@ -10,4 +10,6 @@ unfolding texts.header_line
 parts h size name version e f k = rw (e, f, k) (simp append_assoc)
 
 pub returns : goal.returns
-returns g c = ?
+returns g c =
+    let size : c.as_bytes.result.now ≡ decimal c.args.header.size = cc in
+    says_same _ _ _ _ _ (parts c.args.header _ _ _ size c.visible_name.ensures c.visible_name-2.ensures) c.write_pieces.ensures
