@@ -4,7 +4,6 @@ use Rattle.rite_file.specs.declared.error.LoadError.{LoadError}
 use Rattle.rite_file.specs.declared.front.Section.{Section}
 use Rattle.code_listing.specs.Info.{fitting, first_error, section_line}
 
-
 pub one_fits : (xs rest : List (Result Section LoadError)) (s : Section) → Some (Ok s) ≡ slice_get xs 0 → rest ≡ drop 1 xs → flat_map section_line (fitting xs) ≡ section_line s ++ flat_map section_line (fitting rest)
 unfolding fitting
 one_fits [] rest s e f = cc

@@ -55,7 +55,12 @@ fn write_catches<O: Sink>(out: &mut O, entries: &[CatchEntry]) -> Result<(), Fai
 }
 
 // Writes a kind of entry, its number, and what stands behind it.
-fn write_numbered<O: Sink>(out: &mut O, kind: &'static [u8], number: usize, behind: &'static [u8]) -> Result<(), Failed>
+fn write_numbered<O: Sink>(
+    out: &mut O,
+    kind: &'static [u8],
+    number: usize,
+    behind: &'static [u8],
+) -> Result<(), Failed>
     ensures { Says (kind.now ++ (decimal number ++ behind.now))
         (record { taken = O.taken out.old; faults = O.faults out.old })
         (record { taken = O.taken out.new; faults = O.faults out.new }) result }

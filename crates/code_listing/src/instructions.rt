@@ -38,7 +38,12 @@ fn zeros_before(digits: usize) -> &'static [u8]
 
 // Writes an address, and what follows it up to the operands.
 #[tactic(auto, unfolding(crate::specs::Listing::address))]
-fn write_address<O: Sink>(out: &mut O, at: usize, prefix: &'static [u8], name: &'static [u8]) -> Result<(), Failed>
+fn write_address<O: Sink>(
+    out: &mut O,
+    at: usize,
+    prefix: &'static [u8],
+    name: &'static [u8],
+) -> Result<(), Failed>
     ensures { Says (texts.address at ++ (prefix.now ++ name.now))
         (record { taken = O.taken out.old; faults = O.faults out.old })
         (record { taken = O.taken out.new; faults = O.faults out.new }) result }
@@ -133,7 +138,12 @@ fn prefix(wide: bool) -> &'static [u8]
 }
 
 // Writes the line of an instruction at a place, with the place behind it.
-fn write_instruction<O: Sink>(out: &mut O, at: usize, next: usize, instr: Instr) -> Result<(), Failed>
+fn write_instruction<O: Sink>(
+    out: &mut O,
+    at: usize,
+    next: usize,
+    instr: Instr,
+) -> Result<(), Failed>
     requires { next < 2 ^ 32 }
     ensures { Says (texts.instruction_line (standing at (instr, next)))
         (record { taken = O.taken out.old; faults = O.faults out.old })

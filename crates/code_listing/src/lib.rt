@@ -20,3 +20,6 @@ pub use inspecting::write_inspected;
 pub use pieces::write_pieces;
 pub use refusal::Refusal;
 pub use refusal_texts::refusal_text;
+
+#[cfg(test)]
+mod tests;

@@ -3,8 +3,8 @@ ghost use Rattle.std.specs.Prelude.{◌≡◌, ◌++◌, codes, decimal};
 ghost use Rattle.code_listing.specs.RefusalText as texts;
 ghost use Rattle.code_listing.specs.Writing.{Says};
 
-use crate::refusal::Refusal;
 use crate::pieces::write_pieces;
+use crate::refusal::Refusal;
 use itoa::Buffer;
 use rb_base::{Failed, Sink};
 use rb_syntax::{Count, Outside};
