@@ -1,11 +1,11 @@
 -- The lines of code, one by one.
-use Rattle.std.proofs.Common.{◌≡◌, ℕ, zero, suc, ◌+◌, ◌-◌, ◌<◌, ◌≤◌, Bool, true, false, List, [], ◌∷◌, ◌++◌, Option, Some, None, length, drop, refl, ap, ◌∙◌, arith, append_assoc, flat_map, nat_eq, nat_lt, if◌then◌else◌}
+use Rattle.std.proofs.Common.{◌≡◌, ℕ, zero, suc, ◌-◌, ◌<◌, ◌≤◌, Bool, true, false, List, [], ◌++◌, Option, Some, None, length, ap, ◌∙◌, arith, append_assoc, nat_eq, nat_lt, if◌then◌else◌}
 use Rattle.std.proofs.lemmas.List.{drop_all}
 use Rattle.std.proofs.lemmas.Bool.Decides.{nat_tests}
 use Rattle.rite_code.specs.Instruction.{Instruction}
 use Rattle.rite_code.specs.Spelling.{decode, decode_at, decode_wide_at, narrow_front, front}
-use Rattle.code_outline.specs.Layout.{Standing, standing, standings, begun, end_of, layout}
-use Rattle.code_listing.specs.Listing.{lines_from, instruction_line, unreadable_line, code_lines, address}
+use Rattle.code_outline.specs.Layout.{standing, standings, begun, end_of}
+use Rattle.code_listing.specs.Listing.{lines_from, instruction_line, unreadable_line}
 
 -- at most so many instructions are read from a place on
 unfoldable pub lines_at : ℕ → ℕ → List ℕ → ℕ → List ℕ

@@ -1,8 +1,8 @@
 -- A text that is written part by part.
-use Rattle.std.proofs.Common.{◌≡◌, ℕ, List, [], ◌++◌, refl, ap, sym, ◌∙◌, append_assoc, Option, Some, None, Result, Ok, Err, take}
+use Rattle.std.proofs.Common.{◌≡◌, ℕ, List, [], ◌++◌, refl, ap, sym, ◌∙◌, append_assoc, Result, Ok, Err}
 use Rattle.std.proofs.lemmas.List.{append-nil}
-use Rattle.std.specs.Result.{IsErr, IsOk}
-use Rattle.rb_base.specs.Outside.{with_more, TookFront, Rose}
+use Rattle.std.specs.Result.{IsErr}
+use Rattle.rb_base.specs.Outside.{with_more}
 use Rattle.rb_base.specs.declared.outside.Failed.{Failed}
 use Rattle.code_listing.specs.Writing.{Stream, Says}
 use Rattle.code_listing.proofs.Writing.{more_twice, more_nothing, front_of_whole, rose_since}

@@ -1,5 +1,5 @@
 -- Lists of sections from their front.
-use Rattle.std.proofs.Common.{◌≡◌, ℕ, List, [], ◌∷◌, ◌++◌, Option, Some, None, Result, Ok, Err, drop, refl, sym, ap, ◌∙◌, slice_get, flat_map}
+use Rattle.std.proofs.Common.{◌≡◌, List, [], ◌∷◌, ◌++◌, Some, None, Result, Ok, Err, drop, refl, slice_get, flat_map}
 use Rattle.rite_file.specs.declared.error.LoadError.{LoadError}
 use Rattle.rite_file.specs.declared.front.Section.{Section}
 use Rattle.code_listing.specs.Info.{fitting, first_error, section_line}

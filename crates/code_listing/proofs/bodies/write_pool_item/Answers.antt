@@ -1,4 +1,4 @@
-use Rattle.std.proofs.Common.{◌≡◌, ℤ, List, ℕ, ◌++◌, codes, decimal, ap, sym, ◌∙◌, refl, rules, w64, FitsSigned}
+use Rattle.std.proofs.Common.{◌≡◌, ℤ, List, ℕ, ◌++◌, codes, decimal, refl, rules, w64, FitsSigned}
 use Rattle.std.proofs.lemmas.Int.{to_z-of_z}
 use Rattle.rite_code.specs.declared.code.PoolItem.{PoolItem}
 use Rattle.rite_code.specs.declared.code.PoolItem.TheVariants.{Int, Text}

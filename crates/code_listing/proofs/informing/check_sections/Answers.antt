@@ -1,4 +1,4 @@
-use Rattle.std.proofs.Common.{◌≡◌, ◌∙◌, sym, ap, Some, None, Ok, Err, slice_get, rules}
+use Rattle.std.proofs.Common.{◌≡◌, ◌∙◌, sym, ap, Some, Err, rules}
 use Rattle.code_listing.proofs.SectionLists.{fits_on, fits_not, all_fit}
 use Rattle.code_listing.proofs.informing.check_sections.Goals as goal
 

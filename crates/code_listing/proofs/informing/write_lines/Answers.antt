@@ -1,5 +1,4 @@
-use Rattle.std.proofs.Common.{◌≡◌, List, ◌++◌, flat_map, ap, sym, refl}
-use Rattle.rite_file.specs.Front.{sections_of}
+use Rattle.std.proofs.Common.{flat_map, ap, sym, refl}
 use Rattle.code_listing.specs.Info as texts
 use Rattle.code_listing.proofs.Progress.{started, went_on, stopped, ended}
 use Rattle.code_listing.proofs.informing.write_lines.Goals as goal

@@ -1,4 +1,4 @@
-use Rattle.std.proofs.Common.{◌≡◌, ◌∙◌, sym, ap, flat_map, Some}
+use Rattle.std.proofs.Common.{◌∙◌, sym, ap, flat_map, Some}
 use Rattle.code_listing.specs.Info.{section_line}
 use Rattle.code_listing.proofs.SectionLists.{one_fits, none_fits, none_left}
 use Rattle.code_listing.proofs.Progress.{started, went_on, stopped, finished}

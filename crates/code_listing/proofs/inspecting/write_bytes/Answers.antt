@@ -1,7 +1,7 @@
-use Rattle.std.proofs.Common.{◌≡◌, ℕ, ◌+◌, ◌<◌, ◌≤◌, Bool, List, ◌++◌, ◌∷◌, ◌-◌, arith, take, drop, add-one, drop-cons, get_or, length, ap}
+use Rattle.std.proofs.Common.{◌≡◌, ℕ, ◌+◌, ◌<◌, ◌≤◌, Bool, List, ◌++◌, ◌-◌, arith, take, drop, add-one, drop-cons, get_or, length, ap}
 use Rattle.std.proofs.lemmas.List.{drop_all, take_rest}
 use Rattle.code_listing.specs.Inspect as texts
-use Rattle.code_listing.proofs.Progress.{Progress, started, went_on, stopped, finished}
+use Rattle.code_listing.proofs.Progress.{started, went_on, stopped, finished}
 use Rattle.code_listing.proofs.inspecting.write_bytes.Goals as goal
 
 first_byte : (text : List ℕ) (at : ℕ) (inserts : Bool) → at < length text → inserts ≡ texts.begins_insertion (take (length text - (at + 1)) (drop (at + 1) text)) → texts.inspected_bytes (drop at text) ≡ texts.inspected_byte (get_or text at 0) inserts ++ texts.inspected_bytes (drop (at + 1) text)

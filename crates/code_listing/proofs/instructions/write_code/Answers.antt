@@ -1,4 +1,4 @@
-use Rattle.std.proofs.Common.{◌≡◌, ◌<◌, List, ℕ, [], ◌∷◌, ◌++◌, None, length, refl, arith, sym, ◌∙◌, append_assoc}
+use Rattle.std.proofs.Common.{◌≡◌, ℕ, [], ◌∷◌, ◌++◌, None, length, arith, sym, ◌∙◌, append_assoc}
 use Rattle.rite_code.specs.Spelling.{decode}
 use Rattle.code_outline.specs.Layout.{layout}
 use Rattle.code_listing.specs.Listing as texts
