@@ -1,5 +1,5 @@
 //! Texts that are written out by hand.
-ghost use Rattle.std.specs.Prelude.{◌≡◌, ◌⊎◌, ◌<◌, ◌^◌, ℕ, length, All, IfOk};
+ghost use Rattle.std.specs.Prelude.{◌≡◌, ◌⊎◌, ◌<◌, ◌^◌, ℕ, [], length, All, IfOk};
 ghost use Rattle.rite_code.specs.Code.{IsBody, IsItem, IsText, AreDistinct};
 
 use crate::{InfoFault, Refusal, info, list, refusal_text};
