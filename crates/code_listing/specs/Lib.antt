@@ -1,0 +1,5 @@
+pub mod Writing
+pub mod RefusalText
+pub mod Inspect
+pub mod Listing
+pub mod Info
