@@ -4,3 +4,4 @@ pub mod Forests
 pub mod Walking
 pub mod Fields
 pub mod Parts
+pub mod Counted
