@@ -5,3 +5,5 @@ pub mod Walking
 pub mod Fields
 pub mod Parts
 pub mod Counted
+pub mod RecordFields
+pub mod Bodies
