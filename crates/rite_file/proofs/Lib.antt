@@ -7,3 +7,5 @@ pub mod Parts
 pub mod Counted
 pub mod RecordFields
 pub mod Bodies
+pub mod SectionFields
+pub mod Law
