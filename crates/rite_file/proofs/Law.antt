@@ -134,3 +134,162 @@ records_are version bytes s rs are long within e =
         sym (drop-take (s.at + 12) (s.size - 12) bytes) ∙ ap (λ (n : ℕ). drop (s.at + 12) (take n bytes)) (sym len) ∙ t.2.takes.parts ∙ ap (λ (x : List ℕ). flat_map spelled_record t.0 ++ x) rest ∙ append-nil (flat_map spelled_record t.0) in
     let here : HoldsRecords version bytes s t.0 = record { contents = parts; few = t.2.few; each = t.2.each; awaits = t.2.awaits } in
     subst (HoldsRecords version bytes s) same here
+
+-- ---- the whole that is read
+
+take_behind : (p q : List ℕ) (n m : ℕ) → n ≡ length p + m → take n (p ++ q) ≡ p ++ take m q
+take_behind [] q n m e = ap (λ (k : ℕ). take k q) (omega (arith, e))
+take_behind (x ∷ p) q n m e =
+    let k : n ≡ suc (length p + m) = omega (arith, e) in
+    rw k (ap (λ (t : List ℕ). x ∷ t) (take_behind p q (length p + m) m refl))
+
+contents_are : (bytes : List ℕ) (s : Section) → s ≡ section_at bytes s.at → 12 ≤ s.size → four_at bytes (s.at + 8) ≡ codes "0300" → contents_at bytes s.at ≡ codes "0300" ++ take (s.size - 12) (drop (s.at + 12) bytes)
+unfolding four_at
+contents_are bytes s is long version =
+    let size : (section_at bytes s.at).size ≡ s.size = sym (ap (λ (t : Section). t.size) is) in
+    let inside : drop (s.at + 8) bytes ≡ codes "0300" ++ drop (s.at + 12) bytes = parts_of 4 bytes (s.at + 8) ∙ ap (λ (t : List ℕ). t ++ drop (s.at + 8 + 4) bytes) version ∙ ap (λ (k : ℕ). codes "0300" ++ drop k bytes) (omega arith) in
+    ap (λ (n : ℕ). take (n - 8) (drop (s.at + 8) bytes)) size ∙ ap (take (s.size - 8)) inside ∙ take_behind (codes "0300") (drop (s.at + 12) bytes) (s.size - 8) (s.size - 12) (omega (arith, long))
+
+-- the bodies of records that one was awaited of are one tree
+one_root : (rs : List Record) → Awaits 1 rs → length (numbered 0 rs).1 ≡ 1 → (numbered 0 rs).1 ≡ 0 ∷ []
+unfolding numbered
+one_root [] awaits e = absurd awaits
+one_root (r ∷ rs) awaits e =
+    let others : List ℕ = drop r.children (numbered 1 rs).1 in
+    let nothing : others ≡ [] = nil_from_length others (omega (arith, e)) in
+    ap (λ (t : List ℕ). 0 ∷ t) nothing
+
+pub record IsLoaded (bytes : List ℕ) (p : Program) : Type 0 where
+  pub spells : Spells bytes p
+  pub whole : IsWhole p
+
+program_is : (bytes : List ℕ) (v : ℕ) (s : Section) (rs : List Record) → IsBytes bytes → IsFile bytes v → irep_in bytes None (sections_of bytes) ≡ Ok s → records_in v bytes s ≡ Ok rs → IsLoaded bytes (program v (numbered 0 rs).0)
+unfolding sections_of
+program_is bytes v s rs are file irep records =
+    let f = found (length bytes) bytes 20 are s file.long irep in
+    let holds = records_are v bytes s rs are f.long f.within records in
+    let n = numbered_are v 0 rs 1 holds.each holds.awaits in
+    let bodies : List Irep = (numbered 0 rs).0 in
+    let contents : contents_at bytes s.at ≡ codes "0300" ++ flat_map record_of bodies = contents_are bytes s f.section f.long f.version ∙ ap (λ (t : List ℕ). codes "0300" ++ t) (holds.contents ∙ sym n.spelled) in
+    let parts : drop 20 bytes ≡ f.before ++ (irep_section bodies ++ (f.behind.skipped ++ end_section)) =
+        f.parts ∙ ap (λ (t : List ℕ). f.before ++ (section irep_name t ++ drop (s.at + s.size) bytes)) contents ∙ ap (λ (t : List ℕ). f.before ++ (irep_section bodies ++ t)) f.behind.parts in
+    record {
+      spells = record {
+        before = f.before;
+        behind = f.behind.skipped;
+        before_skipped = f.are;
+        behind_skipped = f.behind.are;
+        same = file.parts ∙ ap (file_of v) parts;
+        size = file.small;
+        held = All-from_recursion IsHeld bodies n.held;
+      };
+      whole = record {
+        version = file.known;
+        count = omega (arith, n.many, holds.few);
+        each = All-from_recursion (IsBody v) bodies n.each;
+        tree = subst (λ (roots : List ℕ). IsForest 0 bodies roots) (one_root rs holds.awaits n.count) n.forest;
+      };
+    }
+
+-- what is loaded, step by step
+pub record IsRead (bytes : List ℕ) (p : Program) : Type 0 where
+  pub version : ℕ
+  pub section : Section
+  pub records : List Record
+  pub file : IsFile bytes version
+  pub irep : irep_in bytes None (sections_of bytes) ≡ Ok section
+  pub read : records_in version bytes section ≡ Ok records
+  pub same : program version (numbered 0 records).0 ≡ p
+
+read_steps : (bytes : List ℕ) (p : Program) → IsBytes bytes → loaded bytes ≡ Ok p → IsRead bytes p
+unfolding loaded program_in
+read_steps bytes p are e =
+    let third : ℕ → Header → Result Program LoadError = λ v x. irep_in bytes None (sections_of bytes) >>= program_in v bytes in
+    let second : Header → ℕ → Result Program LoadError = λ h v. sized bytes h >>= third v in
+    let first : Header → Result Program LoadError = λ h. version_of h >>= second h in
+    let h = bind_ok (front_of bytes) first p e in
+    let v = bind_ok (version_of h.0) (second h.0) p h.2 in
+    let x = bind_ok (sized bytes h.0) (third v.0) p v.2 in
+    let s = bind_ok (irep_in bytes None (sections_of bytes)) (program_in v.0 bytes) p x.2 in
+    let rs = bind_ok (records_in v.0 bytes s.0) (λ rs. Ok (program v.0 (numbered 0 rs).0)) p s.2 in
+    record { version = v.0; section = s.0; records = rs.0; file = file_is bytes h.0 x.0 v.0 are h.1 v.1 x.1; irep = s.1; read = rs.1; same = ok_is (program v.0 (numbered 0 rs.0).0) p rs.2 }
+
+pub loaded_is : (bytes : List ℕ) (p : Program) → IsBytes bytes → loaded bytes ≡ Ok p → IsLoaded bytes p
+loaded_is bytes p are e =
+    let r = read_steps bytes p are e in
+    subst (IsLoaded bytes) r.same (program_is bytes r.version r.section r.records are r.file r.irep r.read)
+
+-- ---- the whole that was written
+
+header_of_file : ℕ → List ℕ → Header
+header_of_file v sections = record { size = length sections + 20; name = codes "RBWN"; version = version_name v }
+
+length-file : (v : ℕ) (sections : List ℕ) → length (file_of v sections) ≡ length sections + 20
+length-file v sections = omega arith
+
+front_again : (v : ℕ) (sections : List ℕ) → length sections + 20 < 2 ^ 32 → front_of (file_of v sections) ≡ Ok (header_of_file v sections)
+unfolding front_of four_at header_of_file
+front_again v sections small =
+    let long : ltb (length (file_of v sections)) 20 ≡ false = le-ltb _ 20 (omega (arith, length-file v sections)) in
+    rw (long, wide32.again (length sections + 20) small) refl
+
+version_again : (v : ℕ) (sections : List ℕ) → (v ≡ 1) ⊎ (v ≡ 2) → version_of (header_of_file v sections) ≡ Ok v
+unfolding version_of header_of_file
+version_again v sections (inl e) = rw e refl
+version_again v sections (inr e) = rw e refl
+
+sized_again : (v : ℕ) (sections : List ℕ) → sized (file_of v sections) (header_of_file v sections) ≡ Ok (header_of_file v sections)
+unfolding sized header_of_file
+sized_again v sections =
+    let less : ltb (length (file_of v sections)) (length sections + 20) ≡ false = le-ltb _ _ (omega (arith, length-file v sections)) in
+    let more : ltb (length sections + 20) (length (file_of v sections)) ≡ false = le-ltb _ _ (omega (arith, length-file v sections)) in
+    rw (less, more) refl
+
+same_place : (n m : ℕ) → n ≡ m → eqb n m ≡ true
+same_place n m e = search rules
+
+-- the records of a section that holds them
+records_known : (v : ℕ) (bytes : List ℕ) (at : ℕ) (bodies : List Irep) (rest : List ℕ) → length bytes < 2 ^ 32 → length bodies ≤ 65536 → AllByRecursion (IsBody v) bodies → AllByRecursion IsHeld bodies → IsForest 0 bodies (0 ∷ [])
+    → drop at bytes ≡ irep_section bodies ++ rest → records_in v bytes (section_at bytes at) ≡ Ok (records_from bodies)
+unfolding records_in section_at
+records_known v bytes at bodies rest small few each held tree e =
+    let records : List ℕ = flat_map record_of bodies in
+    let st = stands bytes at irep_name (codes "0300" ++ records) rest small refl e in
+    let size : (section_at bytes at).size ≡ length records + 12 = omega (arith, st.size) in
+    let behind : drop (at + 12) bytes ≡ records ++ rest = ap (λ (k : ℕ). drop k bytes) (omega arith) ∙ rest_at bytes (at + 8) (codes "0300") (records ++ rest) st.behind in
+    let inside : List ℕ = take (at + (section_at bytes at).size) bytes in
+    let end : at + (section_at bytes at).size ≡ at + 12 + length records = omega (arith, size) in
+    let parts : drop (at + 12) inside ≡ records = ap (λ (n : ℕ). drop (at + 12) (take n bytes)) end ∙ drop-take (at + 12) (length records) bytes ∙ ap (take (length records)) behind ∙ take_at records rest (length records) refl in
+    let spelled : drop (at + 12) inside ≡ flat_map spelled_record (records_from bodies) ++ [] = parts ∙ records_spelled bodies ∙ sym (append-nil (flat_map spelled_record (records_from bodies))) in
+    let room : at + 12 + length records ≤ length bytes = omega (arith, st.inside) in
+    let fit = records_fit v bodies each held (omega (arith, room, small)) in
+    let r = records_again 65536 v (records_from bodies) [] 1 inside (at + 12) [] (omega (arith, few, length-records bodies)) fit (records_await 0 bodies (0 ∷ []) tree) spelled in
+    let len : length inside ≡ at + 12 + length (flat_map spelled_record (records_from bodies)) = omega (arith, length-take (at + (section_at bytes at).size) bytes, end, room, ap length (records_spelled bodies)) in
+    rw (r, same_place (at + 12 + length (flat_map spelled_record (records_from bodies))) (length inside) (sym len)) refl
+
+abbrev sections_in : Program → List ℕ → List ℕ → List ℕ
+sections_in p before behind = before ++ (irep_section p.bodies ++ (behind ++ end_section))
+
+pub loaded_again : (p : Program) (before behind : List ℕ) → IsWhole p → All IsHeld p.bodies → AreSkipped before → AreSkipped behind → length (file_of p.version (sections_in p before behind)) < 2 ^ 32 → loaded (file_of p.version (sections_in p before behind)) ≡ Ok p
+unfolding loaded program_in sections_of
+loaded_again p before behind whole held b d small =
+    let sections : List ℕ = sections_in p before behind in
+    let bytes : List ℕ = file_of p.version sections in
+    let f = front_again p.version sections (omega (arith, small, length-file p.version sections)) in
+    let v = version_again p.version sections whole.version in
+    let z = sized_again p.version sections in
+    let irep = irep_known bytes before behind (flat_map record_of p.bodies) 20 b d small refl in
+    let place : drop (20 + length before) bytes ≡ irep_section p.bodies ++ (behind ++ end_section) = rest_at bytes 20 before (irep_section p.bodies ++ (behind ++ end_section)) refl in
+    let records = records_known p.version bytes (20 + length before) p.bodies (behind ++ end_section) small whole.count (recursion_from_All (IsBody p.version) p.bodies whole.each) (recursion_from_All IsHeld p.bodies held) whole.tree place in
+    rw (f, v, z, irep, records, numbered_again 0 p.bodies (0 ∷ []) whole.tree) refl
+
+pub spells_loads : (bytes : List ℕ) (p : Program) → IsWhole p → Spells bytes p → loaded bytes ≡ Ok p
+spells_loads bytes p whole s =
+    ap loaded s.same ∙ loaded_again p s.before s.behind whole s.held s.before_skipped s.behind_skipped (subst (λ (b : List ℕ). length b < 2 ^ 32) s.same s.size)
+
+pub one_program : (bytes : List ℕ) (p q : Program) → IsWhole p → IsWhole q → Spells bytes p → Spells bytes q → p ≡ q
+one_program bytes p q wp wq sp sq = ok_is p q (sym (spells_loads bytes p wp sp) ∙ spells_loads bytes q wq sq)
+
+pub canonical_is : (p : Program) → All IsHeld p.bodies → length (canonical p) < 2 ^ 32 → Spells (canonical p) p
+unfolding canonical
+canonical_is p held small = record { before = []; behind = []; before_skipped = none; behind_skipped = none; same = refl; size = small; held = held }
