@@ -17,9 +17,9 @@ use Rattle.rite_file.specs.declared.front.Section.{Section}
 use Rattle.rite_file.specs.declared.records.Record.{Record}
 use Rattle.rite_file.specs.File.{section, irep_name, irep_section, end_section, record_of, version_name, file_of, canonical, IsHeld, Spells, AreSkipped, none}
 use Rattle.rite_file.specs.Front.{four_at, front_of, sized, version_of, section_at, sections_of}
-use Rattle.rite_file.specs.Gives.{◌>>=◌}
+use Rattle.rite_file.specs.Gives.{◌>>=◌, Gives}
 use Rattle.rite_file.specs.Record.{records_at}
-use Rattle.rite_file.specs.Loaded.{irep_in, numbered, records_in, program_in, loaded}
+use Rattle.rite_file.specs.Loaded.{irep_in, numbered, records_in, program_in, checked, loaded}
 use Rattle.rite_file.proofs.Fields.{IsBytes, IsBytes-drop, IsBytes-take, bind_ok, ok_is, Takes, rest_at, wide32}
 use Rattle.rite_file.proofs.RecordFields.{FitsRecord, spelled_record, Awaits, records_take, records_again}
 use Rattle.rite_file.proofs.Bodies.{numbered_are, records_from, records_spelled, length-records, records_await, numbered_again, records_fit}
@@ -191,33 +191,55 @@ program_is bytes v s rs are file irep records =
       };
     }
 
--- what is loaded, step by step
-pub record IsRead (bytes : List ℕ) (p : Program) : Type 0 where
-  pub version : ℕ
-  pub section : Section
-  pub records : List Record
+-- what is known of the sections
+pub record AreSections (bytes : List ℕ) (version : ℕ) (s : Section) : Type 0 where
   pub file : IsFile bytes version
-  pub irep : irep_in bytes None (sections_of bytes) ≡ Ok section
-  pub read : records_in version bytes section ≡ Ok records
-  pub same : program version (numbered 0 records).0 ≡ p
+  pub irep : irep_in bytes None (sections_of bytes) ≡ Ok s
 
-read_steps : (bytes : List ℕ) (p : Program) → IsBytes bytes → loaded bytes ≡ Ok p → IsRead bytes p
+abbrev Checked : List ℕ → ℕ × Section → Type 0
+Checked bytes x = AreSections bytes x.0 x.1
+
+pub sections_are : (bytes : List ℕ) (found : ℕ × Section) → IsBytes bytes → checked bytes ≡ Ok found → AreSections bytes found.0 found.1
+unfolding checked
+sections_are bytes found are e =
+    let fourth : ℕ → Section → Result (ℕ × Section) LoadError = λ v s. Ok (v, s) in
+    let third : ℕ → Header → Result (ℕ × Section) LoadError = λ v x. irep_in bytes None (sections_of bytes) >>= fourth v in
+    let second : Header → ℕ → Result (ℕ × Section) LoadError = λ h v. sized bytes h >>= third v in
+    let first : Header → Result (ℕ × Section) LoadError = λ h. version_of h >>= second h in
+    let h = bind_ok (front_of bytes) first found e in
+    let v = bind_ok (version_of h.0) (second h.0) found h.2 in
+    let x = bind_ok (sized bytes h.0) (third v.0) found v.2 in
+    let s = bind_ok (irep_in bytes None (sections_of bytes)) (fourth v.0) found x.2 in
+    subst (Checked bytes) (ok_is (v.0, s.0) found s.2) (record { file = file_is bytes h.0 x.0 v.0 are h.1 v.1 x.1; irep = s.1 })
+
+-- where the records of a section stand
+pub record IsRoom (bytes : List ℕ) (s : Section) : Type 0 where
+  pub long : 12 ≤ s.size
+  pub within : s.at + s.size ≤ length bytes
+
+pub room_is : (bytes : List ℕ) (found : ℕ × Section) → IsBytes bytes → checked bytes ≡ Ok found → IsRoom bytes found.1
+unfolding sections_of
+room_is bytes x are e =
+    let a = sections_are bytes x are e in
+    let f = found (length bytes) bytes 20 are x.1 a.file.long a.irep in
+    record { long = f.long; within = f.within }
+
+pub loaded_from : (bytes : List ℕ) (found : ℕ × Section) (rs : List Record) → IsBytes bytes → checked bytes ≡ Ok found → records_in found.0 bytes found.1 ≡ Ok rs → IsLoaded bytes (program found.0 (numbered 0 rs).0)
+loaded_from bytes found rs are e records =
+    let a = sections_are bytes found are e in
+    program_is bytes found.0 found.1 rs are a.file a.irep records
+
+pub loaded_steps : (bytes : List ℕ) (found : ℕ × Section) (rs : List Record) → checked bytes ≡ Ok found → records_in found.0 bytes found.1 ≡ Ok rs → loaded bytes ≡ Ok (program found.0 (numbered 0 rs).0)
 unfolding loaded program_in
-read_steps bytes p are e =
-    let third : ℕ → Header → Result Program LoadError = λ v x. irep_in bytes None (sections_of bytes) >>= program_in v bytes in
-    let second : Header → ℕ → Result Program LoadError = λ h v. sized bytes h >>= third v in
-    let first : Header → Result Program LoadError = λ h. version_of h >>= second h in
-    let h = bind_ok (front_of bytes) first p e in
-    let v = bind_ok (version_of h.0) (second h.0) p h.2 in
-    let x = bind_ok (sized bytes h.0) (third v.0) p v.2 in
-    let s = bind_ok (irep_in bytes None (sections_of bytes)) (program_in v.0 bytes) p x.2 in
-    let rs = bind_ok (records_in v.0 bytes s.0) (λ rs. Ok (program v.0 (numbered 0 rs).0)) p s.2 in
-    record { version = v.0; section = s.0; records = rs.0; file = file_is bytes h.0 x.0 v.0 are h.1 v.1 x.1; irep = s.1; read = rs.1; same = ok_is (program v.0 (numbered 0 rs.0).0) p rs.2 }
+loaded_steps bytes found rs e records = rw (e, records) refl
 
-pub loaded_is : (bytes : List ℕ) (p : Program) → IsBytes bytes → loaded bytes ≡ Ok p → IsLoaded bytes p
-loaded_is bytes p are e =
-    let r = read_steps bytes p are e in
-    subst (IsLoaded bytes) r.same (program_is bytes r.version r.section r.records are r.file r.irep r.read)
+pub checks_fail : (bytes : List ℕ) (e : LoadError) → checked bytes ≡ Err e → loaded bytes ≡ Err e
+unfolding loaded
+checks_fail bytes e h = rw h refl
+
+pub records_fail : (bytes : List ℕ) (found : ℕ × Section) (e : LoadError) → checked bytes ≡ Ok found → records_in found.0 bytes found.1 ≡ Err e → loaded bytes ≡ Err e
+unfolding loaded program_in
+records_fail bytes found e h records = rw (h, records) refl
 
 -- ---- the whole that was written
 
@@ -271,7 +293,7 @@ abbrev sections_in : Program → List ℕ → List ℕ → List ℕ
 sections_in p before behind = before ++ (irep_section p.bodies ++ (behind ++ end_section))
 
 pub loaded_again : (p : Program) (before behind : List ℕ) → IsWhole p → All IsHeld p.bodies → AreSkipped before → AreSkipped behind → length (file_of p.version (sections_in p before behind)) < 2 ^ 32 → loaded (file_of p.version (sections_in p before behind)) ≡ Ok p
-unfolding loaded program_in sections_of
+unfolding loaded checked program_in sections_of
 loaded_again p before behind whole held b d small =
     let sections : List ℕ = sections_in p before behind in
     let bytes : List ℕ = file_of p.version sections in
@@ -293,3 +315,16 @@ one_program bytes p q wp wq sp sq = ok_is p q (sym (spells_loads bytes p wp sp) 
 pub canonical_is : (p : Program) → All IsHeld p.bodies → length (canonical p) < 2 ^ 32 → Spells (canonical p) p
 unfolding canonical
 canonical_is p held small = record { before = []; behind = []; before_skipped = none; behind_skipped = none; same = refl; size = small; held = held }
+
+-- what gives the program of a file gives each program that it spells
+pub only : {bytes : List ℕ} (r : Result Program LoadError) → Gives r (loaded bytes) → (p : Program) → IsWhole p → Spells bytes p → Gives r (Ok p)
+only {bytes} r h p whole s = subst (λ (w : Result Program LoadError). Gives r w) (spells_loads bytes p whole s) h
+
+pub checked_from : (bytes : List ℕ) (h x : Header) (v : ℕ) (s : Section) → front_of bytes ≡ Ok h → version_of h ≡ Ok v → sized bytes h ≡ Ok x → irep_in bytes None (sections_of bytes) ≡ Ok s → checked bytes ≡ Ok (v, s)
+unfolding checked
+checked_from bytes h x v s front version size irep = rw (front, version, size, irep) refl
+
+pub records_few : (bytes : List ℕ) (found : ℕ × Section) (rs : List Record) → IsBytes bytes → checked bytes ≡ Ok found → records_in found.0 bytes found.1 ≡ Ok rs → length rs ≤ 65536
+records_few bytes found rs are e records =
+    let room = room_is bytes found are e in
+    (records_are found.0 bytes found.1 rs are room.long room.within records).few

@@ -24,8 +24,7 @@ pub use error::LoadError;
 pub use front::{Header, Section};
 pub use opening::{header, sections};
 pub use section_list::Sections;
-use crate::front::{front_of, sized};
-use crate::loading::{irep_in, records_in, version_of};
+use crate::loading::{checked, records_in};
 use crate::numbering::numbered;
 use rite_code::Code;
 use std::alloc::{AllocError, Global};
@@ -43,10 +42,7 @@ pub fn load(alloc: Global, bytes: &[u8]) -> Result<Code, LoadError>
     ensures spelled { IfOk result (λ code. Spells bytes.now code) }
     ensures only { (p : Program) → IsWhole p → Spells bytes.now p → Gives result (Ok p) }
 {
-    let header = front_of(bytes)?;
-    let version = version_of(&header)?;
-    sized(bytes, header)?;
-    let section = irep_in(bytes)?;
+    let (version, section) = checked(bytes)?;
     let records = records_in(alloc, version, bytes, &section)?;
     let bodies = numbered(alloc, records)?;
     Ok(Code::new(version, bodies))
