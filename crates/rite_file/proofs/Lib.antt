@@ -4,3 +4,8 @@ pub mod Forests
 pub mod Walking
 pub mod Fields
 pub mod Parts
+pub mod Counted
+pub mod RecordFields
+pub mod Bodies
+pub mod SectionFields
+pub mod Law

@@ -18,7 +18,7 @@ fits-from left size false true c p q r h = absurd cc
 fits-from left size false false true p q r h = absurd cc
 fits-from left size false false false p q r h = (ltb-false _ _ (sym q), ltb-false _ _ (sym r))
 
-fits-is : (bytes : List ℕ) (at : ℕ) → fits_at bytes at ≡ true → Fits bytes at
+pub fits-is : (bytes : List ℕ) (at : ℕ) → fits_at bytes at ≡ true → Fits bytes at
 unfolding fits_at
 fits-is bytes at h =
     let f = fits-from (length bytes - at) (section_at bytes at).size (ltb (length bytes - at) 8) (ltb (section_at bytes at).size 8) (ltb (length bytes - at) (section_at bytes at).size) refl refl refl h in

@@ -67,9 +67,14 @@ records_in version bytes s =
 unfoldable pub program_in : ℕ → List ℕ → Section → Result Program LoadError
 program_in version bytes s = records_in version bytes s >>= λ rs. Ok (program version (numbered 0 rs).0)
 
-unfoldable pub loaded : List ℕ → Result Program LoadError
-loaded bytes =
+-- the version of the program, and the section of its records
+unfoldable pub checked : List ℕ → Result (ℕ × Section) LoadError
+checked bytes =
     front_of bytes >>= λ h.
     version_of h >>= λ version.
     sized bytes h >>= λ whole.
-    irep_in bytes None (sections_of bytes) >>= program_in version bytes
+    irep_in bytes None (sections_of bytes) >>= λ s.
+    Ok (version, s)
+
+unfoldable pub loaded : List ℕ → Result Program LoadError
+loaded bytes = checked bytes >>= λ found. program_in found.0 bytes found.1

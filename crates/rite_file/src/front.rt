@@ -42,7 +42,8 @@ pub fn array_at<const N: usize>(bytes: &[u8], at: usize) -> [u8; N]
 /// What the first 20 bytes say, whatever the file's size is.
 #[tactic(auto, unfolding(crate::specs::Front::front_of, crate::specs::Front::four_at))]
 pub fn front_of(bytes: &[u8]) -> Result<Header, LoadError>
-    ensures { result ≡ specs.front_of bytes.now }
+    ensures value { result ≡ specs.front_of bytes.now }
+    ensures long { IfOk result (λ _. 20 ≤ length bytes.now) }
 {
     if !bytes.starts_with(b"RITE0300") {
         return Err(LoadError::NotRite);
@@ -61,7 +62,8 @@ pub fn front_of(bytes: &[u8]) -> Result<Header, LoadError>
 /// The header, where its size is that of the bytes.
 #[tactic(auto, unfolding(crate::specs::Front::sized))]
 pub fn sized(bytes: &[u8], header: Header) -> Result<Header, LoadError>
-    ensures { result ≡ specs.sized bytes.now header }
+    ensures value { result ≡ specs.sized bytes.now header }
+    ensures size { IfOk result (λ _. length bytes.now ≡ header.size) }
 {
     if bytes.len() < header.size as usize {
         let at = bytes.len() as u64;

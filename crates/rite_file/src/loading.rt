@@ -1,13 +1,17 @@
 //! The checks of a whole file, in their order.
-ghost use Rattle.std.specs.Prelude.{◌≡◌, ◌≤◌, ◌<◌, ◌^◌, ◌+◌, None, length, codes};
+ghost use Rattle.std.specs.Prelude.{◌≡◌, ◌≤◌, ◌<◌, ◌^◌, ◌+◌, None, length, codes, IfOk};
 ghost use Rattle.std.specs.Str.{bytes_eq};
 ghost use Rattle.rite_file.specs.Front as front;
 ghost use Rattle.rite_file.specs.Gives.{Gives};
 ghost use Rattle.rite_file.specs.Loaded as specs;
 
 use crate::error::LoadError;
-use crate::front::{Header, Section};
+use crate::front::{Header, Section, front_of, sized};
+use crate::reading::bad;
+use crate::records::{Record, records_at};
 use crate::section_list::Sections;
+use rb_base::List;
+use std::alloc::Global;
 
 /// The version of the programs of a header's compiler. `Foreign`: it is another compiler.
 #[tactic(auto, unfolding(crate::specs::Front::version_of))]
@@ -98,4 +102,40 @@ pub fn irep_in(bytes: &[u8]) -> Result<Section, LoadError>
     }
     let at = bytes.len() as u64;
     Err(LoadError::BadSection { at })
+}
+
+/// The version of the program and the section of its records, where the header and all sections are right.
+#[tactic(auto, unfolding(crate::specs::Loaded::checked))]
+pub fn checked(bytes: &[u8]) -> Result<(u8, Section), LoadError>
+    ensures value { result ≡ specs.checked bytes.now }
+    ensures long { IfOk result (λ x. 12 ≤ x.1.size) }
+    ensures within { IfOk result (λ x. x.1.at + x.1.size ≤ length bytes.now) }
+{
+    let header = front_of(bytes)?;
+    let version = version_of(&header)?;
+    sized(bytes, header)?;
+    let section = irep_in(bytes)?;
+    Ok((version, section))
+}
+
+/// The records of a section: they end where it ends.
+#[tactic(auto, unfolding(crate::specs::Loaded::records_in))]
+pub fn records_in(
+    alloc: Global,
+    version: u8,
+    bytes: &[u8],
+    section: &Section,
+) -> Result<List<Record>, LoadError>
+    requires long { 12 ≤ section.now.size }
+    requires within { section.now.at + section.now.size ≤ length bytes.now }
+    ensures { Gives result (specs.records_in version bytes.now section.now) }
+{
+    let start = section.at as usize;
+    let end = start + section.size as usize;
+    let inside = &bytes[..end];
+    let (records, next) = records_at(alloc, version, inside, start + 12)?;
+    if next != inside.len() {
+        return Err(bad(next));
+    }
+    Ok(records)
 }
