@@ -1,7 +1,0 @@
-use Rattle.std.proofs.Common.{◌≡◌, ◌++◌, take}
-use Rattle.std.specs.List.{flat_map}
-use Rattle.path_file.specs.File.{text}
-use Rattle.path_file.proofs.writing.put_texts.Given as goal
-
-abbrev pub invariant-loop-bytes : goal.invariant-loop-bytes
-invariant-loop-bytes l = l.out.items ≡ l.fn.out.items ++ flat_map text (take l.bytes-index l.texts)

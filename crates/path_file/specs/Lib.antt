@@ -1,4 +1,0 @@
-pub mod File
-pub mod Frame
-pub mod Loaded
-pub mod Reading
