@@ -44,4 +44,6 @@ fn given_words(rt: &HostRuntime) -> Result<Vec<String>, Report> {
 }
 
 #[cfg(test)]
+mod file_tests;
+#[cfg(test)]
 mod tests;

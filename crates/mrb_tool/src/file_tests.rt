@@ -1,0 +1,147 @@
+//! The commands that build a file and show what one holds, over files and streams in memory.
+use crate::rite::{End, rite};
+use code_listing::Refusal;
+use rb_base::{MemoryFiles, MemorySink, MemorySource};
+use std::alloc::Global;
+use std::process::Abort;
+use std::test::Fail;
+
+/// What a call left behind.
+#[derive(Drop)]
+struct Left {
+    end: End,
+    files: MemoryFiles,
+    out: MemorySink,
+    err: MemorySink,
+}
+
+/// Calls the program with these words over one file `given`; the output's calls of the numbers `fails` fail.
+fn call(alloc: Global, words: &[&str], given: &[u8], fails: Vec<u64>) -> Result<Left, Fail> {
+    let mut texts = Vec::new(alloc);
+    for word in words {
+        texts.push(String::from_str(alloc, word)?)?;
+    }
+    let mut files = MemoryFiles::new(alloc, Vec::new(alloc));
+    files.put("given", given)?;
+    let mut input = MemorySource::new(Vec::new(alloc), Vec::new(alloc));
+    let mut out = MemorySink::new(alloc, 7, fails);
+    let mut err = MemorySink::new(alloc, 5, Vec::new(alloc));
+    let end = rite(alloc, &texts, &mut files, &mut input, &mut out, &mut err);
+    Ok(Left {
+        end,
+        files,
+        out,
+        err,
+    })
+}
+
+/// A file of version 1 whose one instruction is STOP.
+const STOP: [u8; 61] = *b"RITE0300\x00\x00\x00\x3dRBWN0001IREP\x00\x00\x00\x210300\
+    \x00\x00\x00\x15\x00\x01\x00\x01\x00\x00\x00\x00\x00\x00\x00\x01\x48\x00\x00\x00\x00END\x00\x00\x00\x00\x08";
+
+/// The answer to `list` and `info` is this text.
+fn shows(rt: &impl Abort, alloc: Global, command: &str, given: &[u8], text: &str) -> Result<(), Fail> {
+    let left = call(alloc, &[command, "given"], given, Vec::new(alloc))?;
+    assert_eq!(rt; left.end, End::Ended(0));
+    assert_eq!(rt; left.out.bytes(), text.as_bytes());
+    assert_eq!(rt; left.err.bytes().len(), 0);
+    assert!(rt; left.files.get("given") == Some(given));
+    Ok(())
+}
+
+/// The answer is a refusal with this text, and nothing goes out.
+fn refuses(rt: &impl Abort, alloc: Global, command: &str, given: &[u8], text: &str) -> Result<(), Fail> {
+    let left = call(alloc, &[command, "given"], given, Vec::new(alloc))?;
+    assert!(rt; matches!(left.end, End::Refused(_)));
+    assert_eq!(rt; left.end.status(), 121);
+    assert_eq!(rt; left.out.bytes().len(), 0);
+    assert_eq!(rt; left.err.bytes(), text.as_bytes());
+    Ok(())
+}
+
+#[test]
+fn builds_the_empty_source(rt: HostRuntime) -> Result<(), Fail> {
+    let alloc = rt.alloc();
+    let left = call(alloc, &["build", "given", "one.mrb"], b"", Vec::new(alloc))?;
+    assert_eq!(rt; left.end, End::Ended(0));
+    assert_eq!(rt; left.out.bytes().len(), 0);
+    assert_eq!(rt; left.err.bytes().len(), 0);
+    let mut second = STOP;
+    second[19] = b'2';
+    assert!(rt; left.files.get("one.mrb") == Some(second.as_slice()));
+    Ok(())
+}
+
+#[test]
+fn builds_nothing_of_a_wrong_source(rt: HostRuntime) -> Result<(), Fail> {
+    let alloc = rt.alloc();
+    let words = ["build", "given", "one.mrb"];
+    let left = call(alloc, &words, b"puts (1", Vec::new(alloc))?;
+    assert!(rt; matches!(left.end, End::Refused(Refusal::Syntax { .. })));
+    assert!(rt; left.files.get("one.mrb").is_none());
+    Ok(())
+}
+
+#[test]
+fn shows_a_stop(rt: HostRuntime) -> Result<(), Fail> {
+    let alloc = rt.alloc();
+    let listing = "irep 0 locals 1 registers 1 children 0\n00000 STOP\n";
+    shows(&rt, alloc, "list", &STOP, listing)?;
+    let text = "RITE 0300 size 61 compiler RBWN 0001\nIREP 33\nEND 8\n";
+    shows(&rt, alloc, "info", &STOP, text)?;
+    let mut foreign = STOP;
+    foreign[12..20].copy_from_slice(b"MATZ0000");
+    let text = "RITE 0300 size 61 compiler MATZ 0000\nIREP 33\nEND 8\n";
+    shows(&rt, alloc, "info", &foreign, text)?;
+    refuses(&rt, alloc, "list", &foreign, "refused: Foreign MATZ\n")
+}
+
+#[test]
+fn shows_what_was_built(rt: HostRuntime) -> Result<(), Fail> {
+    let alloc = rt.alloc();
+    let words = ["build", "given", "one.mrb"];
+    let built = call(alloc, &words, b"puts 1 + 2", Vec::new(alloc))?;
+    let file = built.files.get("one.mrb").unwrap_or_default();
+    let listing = "irep 0 locals 1 registers 4 children 0\n\
+        00000 LOADI 2 1\n00003 LOADI 3 2\n00006 ADD 2\n00008 SSEND 1 0 1\n00012 STOP\nsym 0 \"puts\"\n";
+    shows(&rt, alloc, "list", file, listing)
+}
+
+#[test]
+fn refuses_files_in_order(rt: HostRuntime) -> Result<(), Fail> {
+    let alloc = rt.alloc();
+    refuses(&rt, alloc, "list", &STOP[..60], "refused: Truncated at 60\n")?;
+    refuses(&rt, alloc, "info", &STOP[..60], "refused: Truncated at 60\n")?;
+    refuses(&rt, alloc, "list", b"RITE0299", "refused: NotRite\n")?;
+    refuses(&rt, alloc, "list", b"RITE0300", "refused: Truncated at 8\n")?;
+    let mut longer = [0u8; 62];
+    longer[..61].copy_from_slice(&STOP);
+    refuses(&rt, alloc, "list", &longer, "refused: BadSection at 61\n")?;
+    refuses(&rt, alloc, "info", &longer, "refused: BadSection at 61\n")
+}
+
+#[test]
+fn stops_where_the_output_fails(rt: HostRuntime) -> Result<(), Fail> {
+    let alloc = rt.alloc();
+    let first = vec![in alloc; 1u64]?;
+    let left = call(alloc, &["list", "given"], &STOP, first)?;
+    assert_eq!(rt; left.end, End::OutputFault);
+    assert_eq!(rt; left.out.bytes().len(), 0);
+    let second = vec![in alloc; 2u64]?;
+    let left = call(alloc, &["info", "given"], &STOP, second)?;
+    assert_eq!(rt; left.end, End::OutputFault);
+    assert_eq!(rt; left.out.bytes(), b"RITE 03".as_slice());
+    assert_eq!(rt; left.err.bytes().len(), 0);
+    Ok(())
+}
+
+#[test]
+fn finds_no_file(rt: HostRuntime) -> Result<(), Fail> {
+    let alloc = rt.alloc();
+    for command in ["list", "info"] {
+        let left = call(alloc, &[command, "other"], b"", Vec::new(alloc))?;
+        assert_eq!(rt; left.end, End::FileFault);
+        assert_eq!(rt; left.err.bytes(), b"file fault\n".as_slice());
+    }
+    Ok(())
+}
