@@ -5,7 +5,7 @@ use Rattle.std.specs.Int.{to_be_bytes, w16, w32}
 use Rattle.rb_syntax.specs.Form.{Form}
 use Rattle.rb_syntax.specs.Limits.{IsWithin}
 use Rattle.rb_syntax.specs.Names.{names_of}
-use Rattle.rite_code.specs.Code.{Program}
+use Rattle.rite_code.specs.Code.{Program, IsWhole}
 use Rattle.rite_code.specs.declared.code.Irep.{Irep}
 use Rattle.rite_code.specs.declared.operation.Operation.TheVariants.{Stop}
 use Rattle.rite_file.specs.File.{canonical, record_of}
@@ -13,7 +13,7 @@ use Rattle.code_verifier.specs.Verified.{IsVerified}
 use Rattle.code_generator.specs.Gen.{code_of, gen, len, width, operations_of, first_free, symbols_of, calls_puts}
 use Rattle.code_generator.specs.Implements.{Implements}
 use Rattle.code_generator.proofs.Bounds.{within_code}
-use Rattle.code_generator.proofs.Bodies.{length_code}
+use Rattle.code_generator.proofs.Bodies.{length_code, code_is_whole}
 use Rattle.code_generator.proofs.Verified.{code_verified}
 use Rattle.code_generator.proofs.Compiled.{compiled, bytes_of}
 
@@ -40,6 +40,10 @@ pub implements_of : (o : Option Form) (c : Program) → MatchOption o ⊥ IsWith
 implements_of None c w e = w
 implements_of (Some f) c w e = subst (λ (d : Program). Implements d f) (sym e) (compiled f w)
 
+pub whole_of : (o : Option Form) (c : Program) → MatchOption o ⊥ IsWithin → MatchOption o ⊥ (λ f. c ≡ code_of f) → IsWhole c
+whole_of None c w e = absurd w
+whole_of (Some f) c w e = subst IsWhole (sym e) (code_is_whole f w)
+
 pub verified_of : (o : Option Form) (c : Program) → MatchOption o ⊥ IsWithin → MatchOption o ⊥ (λ f. c ≡ code_of f) → IsVerified c
 verified_of None c w e = absurd w
 verified_of (Some f) c w e = subst IsVerified (sym e) (code_verified f w)
@@ -48,4 +52,4 @@ pub short_of : (o : Option Form) (c : Program) → MatchOption o ⊥ IsWithin �
 short_of None c w e = absurd w
 short_of (Some f) c w e = subst (λ (d : Program). length (canonical d) < 2 ^ 32) (sym e) (short_code f w)
 
-pub ruleset compiled_laws = (implements_of, verified_of, short_of)
+pub ruleset compiled_laws = (implements_of, whole_of, verified_of, short_of)

@@ -7,6 +7,7 @@ ghost use Rattle.std.specs.Prelude.{◌<◌, ◌^◌, length, IfOk, IfErr, Match
 ghost use Rattle.path_front.specs.Language.{program_of};
 ghost use Rattle.rite_file.specs.File.{canonical};
 ghost use Rattle.code_verifier.specs.Verified.{IsVerified};
+ghost use Rattle.rite_code.specs.Code.{IsWhole};
 ghost use Rattle.code_generator.specs.Implements.{Implements};
 ghost use Rattle.rb_compile.specs.Compiled.{Refuses};
 
@@ -21,6 +22,7 @@ use std::alloc::Global;
 #[tactic(auto, using(crate::proofs::Compiled::compiled_laws))]
 pub fn compile(alloc: Global, text: &[u8]) -> Result<Code, CompileError>
     ensures implements { IfOk result (λ code. MatchOption (program_of text.now) ⊥ (Implements code)) }
+    ensures whole { IfOk result IsWhole }
     ensures verified { IfOk result IsVerified }
     ensures fits { IfOk result (λ code. length (canonical code) < 2 ^ 32) }
     ensures refused { IfErr result (Refuses text.now) }
