@@ -24,7 +24,8 @@ use rb_base::List;
 use rite_code::Code;
 use std::alloc::{AllocError, Global};
 
-/// The layout of each body and the maker of each, in the order of the bodies.
+/// The layout of each body and the maker of each, in the order of the bodies. An `Err` only where memory runs
+/// out.
 pub fn outline(alloc: Global, code: &Code) -> Result<Outline, AllocError>
     ensures { IfOk result (λ o. Outlines code.now o) }
 {
