@@ -1,6 +1,6 @@
 -- The bodies, one at a time.
 use Rattle.std.proofs.Common.{◌≡◌, refl, sym, ap, subst, ◌∙◌, ℕ, zero, suc, ◌+◌, ◌<◌, ◌≤◌, List, [], ◌∷◌, length, get_or, drop, arith}
-use Rattle.std.specs.Prelude.{None, Some, Option, Ok, Err}
+use Rattle.std.specs.Prelude.{Ok, Err}
 use Rattle.std.proofs.lemmas.List.{at_drop_more, at_drop_all}
 use Rattle.rite_code.specs.declared.code.Irep.{Irep}
 use Rattle.rite_code.specs.Code.{Program}

@@ -1,12 +1,12 @@
 -- The parts of a body in their order: its instructions, the place where reading ends, its catch entries.
-use Rattle.std.proofs.Common.{◌≡◌, refl, sym, ap, ◌∙◌, ℕ, List, [], ◌∷◌, ◌++◌, arith}
-use Rattle.std.specs.Prelude.{None, Some, Option, Ok, Err}
+use Rattle.std.proofs.Common.{◌≡◌, sym, ap, ◌∙◌, ℕ, List, ◌∷◌}
+use Rattle.std.specs.Prelude.{Ok, Err}
 use Rattle.rite_code.specs.declared.cause.Cause.{Cause}
 use Rattle.rite_code.specs.declared.code.Irep.{Irep}
 use Rattle.rite_code.specs.Code.{Program}
 use Rattle.code_outline.specs.Layout.{layout, end_of}
 use Rattle.code_verifier.specs.Answers.{answer, outcome}
-use Rattle.code_verifier.specs.Checks.{Bad, first, bad, instructions_bad, end_bad, catches_bad, read_whole, body_bad}
+use Rattle.code_verifier.specs.Checks.{first, instructions_bad, end_bad, catches_bad, read_whole, body_bad}
 use Rattle.code_verifier.specs.declared.error.VerifyError.{VerifyError}
 use Rattle.code_verifier.specs.declared.error.VerifyError.TheVariants as error
 use Rattle.code_verifier.proofs.Firsts.{past, before, head_past, head_before, broken, unbroken}
@@ -32,7 +32,7 @@ in_end p k b version code end c e f g on h =
     let whole = ap outcome (same_end version p.version code b.code end (end_of 0 ss) e f g) in
     ap (λ (n : ℕ). Err (error.Bad k n c)) g
     ∙ sym (past (instructions_bad p k b ss ss) (end_bad p k b (end_of 0 ss) ∷ catches_bad k b ss b.catches) on
-      ∙ head_before (end_bad p k b (end_of 0 ss)) (catches_bad k b ss b.catches) (error.Bad k (end_of 0 ss) c) (broken k (end_of 0 ss) (read_whole p.version b.code (end_of 0 ss)) c (h ∙ whole)))
+    ∙ head_before (end_bad p k b (end_of 0 ss)) (catches_bad k b ss b.catches) (error.Bad k (end_of 0 ss) c) (broken k (end_of 0 ss) (read_whole p.version b.code (end_of 0 ss)) c (h ∙ whole)))
 
 pub in_catches : (p : Program) (k : ℕ) (b : Irep) (version : ℕ) (code : List ℕ) (end : ℕ) → version ≡ p.version → code ≡ b.code → end ≡ end_of 0 (layout p.version b.code)
     → GoOn p k b → Ok tt ≡ outcome (read_whole version code end) → answer (first (catches_bad k b (layout p.version b.code) b.catches)) ≡ answer (body_bad p k b)
@@ -41,4 +41,4 @@ in_catches p k b version code end e f g on h =
     let ss = layout p.version b.code in
     let whole = ap outcome (same_end version p.version code b.code end (end_of 0 ss) e f g) in
     sym (past (instructions_bad p k b ss ss) (end_bad p k b (end_of 0 ss) ∷ catches_bad k b ss b.catches) on
-      ∙ head_past (end_bad p k b (end_of 0 ss)) (catches_bad k b ss b.catches) (unbroken k (end_of 0 ss) (read_whole p.version b.code (end_of 0 ss)) (h ∙ whole)))
+    ∙ head_past (end_bad p k b (end_of 0 ss)) (catches_bad k b ss b.catches) (unbroken k (end_of 0 ss) (read_whole p.version b.code (end_of 0 ss)) (h ∙ whole)))

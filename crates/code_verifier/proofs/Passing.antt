@@ -12,7 +12,7 @@ use Rattle.code_outline.specs.Layout.{Standing, layout, end_of}
 use Rattle.code_outline.specs.Rows.{StandInRow}
 use Rattle.code_outline.proofs.Rows.{row-layout}
 use Rattle.code_verifier.specs.Needs.{leaves}
-use Rattle.code_verifier.specs.Checks.{Bad, first, bad, unless, cause_of, instructions_bad, end_bad, catches_bad, read_whole, body_bad, bodies_bad, first_bad, catch_holds}
+use Rattle.code_verifier.specs.Checks.{first, bad, unless, cause_of, instructions_bad, end_bad, catches_bad, read_whole, body_bad, bodies_bad, first_bad, catch_holds}
 use Rattle.code_verifier.specs.Verified.{IsVerified}
 use Rattle.code_verifier.specs.Holds.{PassesAll, PassesBody, StandsNext}
 
@@ -119,10 +119,10 @@ passes_body p k b h =
       begun = read_begun p.version b.code (end_of 0 ss) whole;
       ended = read_ended p.version b.code (end_of 0 ss) whole;
       goes_on = λ i s at stays.
-        let passes = passes_all p k b ss s (without_cause p k b i s h at) in
-        let inside = ltb-true s.next (length b.code) (goes_on (leaves s.instruction.operation) (nat_lt s.next (length b.code)) passes.fall stays) in
-        next_in_row (length b.code) 0 ss i s (row-layout p.version b.code) at (omega (arith, inside, read_ended p.version b.code (end_of 0 ss) whole));
-      catches = λ i e at. true_unless _ cause.Catch (none_bad k e.begin _ (none_each (λ (f : CatchEntry). bad k f.begin (unless (catch_holds (length b.code) ss f) cause.Catch)) b.catches i e rest.1 at))
+          let passes = passes_all p k b ss s (without_cause p k b i s h at) in
+          let inside = ltb-true s.next (length b.code) (goes_on (leaves s.instruction.operation) (nat_lt s.next (length b.code)) passes.fall stays) in
+          next_in_row (length b.code) 0 ss i s (row-layout p.version b.code) at (omega (arith, inside, read_ended p.version b.code (end_of 0 ss) whole));
+      catches = λ i e at. true_unless _ cause.Catch (none_bad k e.begin _ (none_each (λ (f : CatchEntry). bad k f.begin (unless (catch_holds (length b.code) ss f) cause.Catch)) b.catches i e rest.1 at));
     }
 
 pub verified_body : (p : Program) (k : ℕ) (b : Irep) → IsVerified p → slice_get p.bodies k ≡ Some b → body_bad p k b ≡ None

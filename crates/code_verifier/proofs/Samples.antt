@@ -1,5 +1,5 @@
 -- The programs that are tried are whole: a main program alone, or with one child.
-use Rattle.std.proofs.Common.{◌≡◌, refl, sym, inl, inr, subst, ◌++◌, ◌+◌, ℕ, List, [], ◌∷◌, length, arith}
+use Rattle.std.proofs.Common.{◌≡◌, refl, sym, inl, subst, ◌++◌, ◌+◌, ℕ, List, [], ◌∷◌, arith}
 use Rattle.std.specs.Prelude.{◌⊎◌}
 use Rattle.std.proofs.lemmas.List.Elements.{All-nil, All-cons}
 use Rattle.rite_code.specs.declared.code.Irep.{Irep}

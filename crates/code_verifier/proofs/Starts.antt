@@ -1,12 +1,12 @@
 -- No instruction starts past the end of the code.
 use Rattle.std.proofs.Common.{◌≡◌, refl, sym, ap, ◌∙◌, ℕ, ◌≤◌, ◌<◌, ℤ, pos, negsuc, List, length, get_or, false, arith, inl, inr}
-use Rattle.std.specs.Prelude.{None, Option}
+use Rattle.std.specs.Prelude.{None}
 use Rattle.std.specs.Option.{is_some}
 use Rattle.std.specs.Int.{FitsUnsignedBits}
 use Rattle.std.proofs.lemmas.List.{get_or_past}
 use Rattle.std.proofs.lemmas.Bool.{cases_lt}
 use Rattle.code_outline.specs.Layout.{layout, is_start}
-use Rattle.code_outline.specs.Outlined.{LaysOut, index_from}
+use Rattle.code_outline.specs.Outlined.{LaysOut}
 use Rattle.code_outline.specs.declared.layout.Layout.{Layout}
 use Rattle.code_outline.proofs.Places.{is_some-index_from}
 use Rattle.code_verifier.specs.Checks.{leads_to_start}

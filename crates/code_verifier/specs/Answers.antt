@@ -1,6 +1,5 @@
 -- What the checks answer: nothing, or the first failure.
 use Rattle.std.specs.Prelude.{Option, Some, None, Result, Ok, Err}
-use Rattle.rite_code.specs.declared.cause.Cause.{Cause}
 use Rattle.code_verifier.specs.Checks.{Bad}
 use Rattle.code_verifier.specs.declared.error.VerifyError.{VerifyError}
 use Rattle.code_verifier.specs.declared.error.VerifyError.TheVariants as error

@@ -1,6 +1,6 @@
 -- Where the checks of the verifier fail, in their order (docs/formats.md).
-use Rattle.std.specs.Prelude.{ℕ, zero, suc, pred, ◌+◌, ℤ, pos, negsuc, ◌+ℤ◌, List, [], ◌∷◌, ◌++◌, length, map, take, drop, Option, Some, None, Bool, true, false, not, ◌&&◌, ◌||◌, nat_eq, nat_lt, nat_le, slice_get, slice_index, if◌then◌else◌, flat_map}
-use Rattle.std.specs.List.{list_any, list_all}
+use Rattle.std.specs.Prelude.{ℕ, ◌+◌, ℤ, pos, negsuc, ◌+ℤ◌, List, [], ◌∷◌, ◌++◌, length, map, take, drop, Option, Some, None, Bool, true, false, not, ◌&&◌, ◌||◌, nat_eq, nat_lt, nat_le, slice_get, if◌then◌else◌}
+use Rattle.std.specs.List.{list_all}
 use Rattle.rite_code.specs.declared.cause.Cause.{Cause}
 use Rattle.rite_code.specs.declared.cause.Cause.TheVariants as cause
 use Rattle.rite_code.specs.declared.code.Irep.{Irep}
@@ -14,7 +14,7 @@ use Rattle.rite_code.specs.declared.operation.Operation.TheVariants as operation
 use Rattle.rite_code.specs.Code.{Program}
 use Rattle.rite_code.specs.Instruction.{Instruction}
 use Rattle.rite_code.specs.Table.{opcode_of, shape_of}
-use Rattle.rite_code.specs.Shape.{operand_size, grows}
+use Rattle.rite_code.specs.Shape.{operand_size}
 use Rattle.rite_code.specs.Spelling.{ext, bit}
 use Rattle.code_outline.specs.Layout.{Standing, layout, end_of, is_start}
 use Rattle.code_outline.specs.Makers.{Made, made_by, maker_of, is_function, scope_out}

@@ -1,8 +1,6 @@
 -- Code in which nothing can go wrong.
-use Rattle.std.specs.Prelude.{◌≡◌, ◌⊎◌, Option, Some, None, List, ℕ}
-use Rattle.rite_code.specs.Code.{Program, IsWhole}
-use Rattle.code_outline.specs.declared.layout.Outline.{Outline}
-use Rattle.code_outline.specs.Outlined.{Outlines}
+use Rattle.std.specs.Prelude.{◌≡◌, Option, Some, None}
+use Rattle.rite_code.specs.Code.{Program}
 use Rattle.code_verifier.specs.Checks.{Bad, first_bad}
 use Rattle.code_verifier.specs.declared.error.VerifyError.{VerifyError}
 use Rattle.code_verifier.specs.declared.error.VerifyError.TheVariants as error

@@ -30,7 +30,11 @@ fn check_instructions(
     for standing in layout.instructions.as_slice() {
         let at = standing.at;
         if let Err(cause) = check_instruction(code, outline, number, body, layout, standing) {
-            return Err(VerifyError::Bad { irep: number, at, cause });
+            return Err(VerifyError::Bad {
+                irep: number,
+                at,
+                cause,
+            });
         }
     }
     Ok(())
@@ -67,7 +71,11 @@ fn check_catches(version: u8, number: u32, body: &Irep, layout: &Layout) -> Resu
     for entry in body.catches.as_slice() {
         if !catch_holds(body.code.len(), layout, entry) {
             let at = entry.begin;
-            return Err(VerifyError::Bad { irep: number, at, cause: Cause::Catch });
+            return Err(VerifyError::Bad {
+                irep: number,
+                at,
+                cause: Cause::Catch,
+            });
         }
     }
     Ok(())
@@ -93,7 +101,11 @@ fn check_body(
     let version = code.version();
     let end = end_of(layout.instructions.as_slice());
     if let Err(cause) = check_end(version, body.code.as_slice(), end) {
-        return Err(VerifyError::Bad { irep: number, at: end, cause });
+        return Err(VerifyError::Bad {
+            irep: number,
+            at: end,
+            cause,
+        });
     }
     check_catches(version, number, body, layout)
 }
@@ -107,7 +119,13 @@ pub fn check_bodies(code: &Code, outline: &Outline) -> Result<(), VerifyError>
     let bodies = code.bodies();
     let layouts = outline.layouts.as_slice();
     for number in 0..bodies.len() {
-        check_body(code, outline, number as u32, &bodies[number], &layouts[number])?;
+        check_body(
+            code,
+            outline,
+            number as u32,
+            &bodies[number],
+            &layouts[number],
+        )?;
     }
     Ok(())
 }

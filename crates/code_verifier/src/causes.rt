@@ -7,8 +7,8 @@ ghost use Rattle.code_verifier.specs.Checks as checks;
 ghost use Rattle.code_verifier.specs.Known.{KnowsMakers};
 
 use crate::checks::{
-    catch_holds, child_holds, count_holds, enter_holds, entry_holds, is_used, jump_holds, makes_once,
-    place_holds, takes_arguments, variable_holds,
+    catch_holds, child_holds, count_holds, enter_holds, entry_holds, is_used, jump_holds,
+    makes_once, place_holds, takes_arguments, variable_holds,
 };
 use crate::needs::{leaves, registers_of, symbols_hold};
 use code_outline::{Layout, Outline, Standing};
@@ -43,15 +43,27 @@ pub fn check_instruction(
     let maker = outline.maker(number);
     let list = layout.instructions.as_slice();
     check(count_holds(&instr), Cause::Extended)?;
-    check(registers_of(operation) <= u32::from(body.registers), Cause::Register)?;
+    check(
+        registers_of(operation) <= u32::from(body.registers),
+        Cause::Register,
+    )?;
     check(entry_holds(body.pool.as_slice(), operation), Cause::Pool)?;
     check(symbols_hold(body.symbols.len(), operation), Cause::Symbol)?;
     check(child_holds(body, operation), Cause::Child)?;
     check(jump_holds(layout, next, operation), Cause::Jump)?;
-    check(variable_holds(code, outline, number, operation), Cause::Upvar)?;
-    check(enter_holds(takes_arguments(maker), at, body, list, operation), Cause::Enter)?;
+    check(
+        variable_holds(code, outline, number, operation),
+        Cause::Upvar,
+    )?;
+    check(
+        enter_holds(takes_arguments(maker), at, body, list, operation),
+        Cause::Enter,
+    )?;
     check(place_holds(number, maker, operation), Cause::Place)?;
     let is_sole = makes_once(code, outline, number, body, at, operation);
     check(is_sole && is_used(code, outline, number, at), Cause::Use)?;
-    check(leaves(operation) || (next as usize) < body.code.len(), Cause::Fall)
+    check(
+        leaves(operation) || (next as usize) < body.code.len(),
+        Cause::Fall,
+    )
 }

@@ -149,12 +149,20 @@ fn behind_first(list: &[Standing]) -> &[Standing]
 }
 
 /// ENTER stands at the start of a body that takes arguments, and nowhere else.
-pub fn enter_holds(takes: bool, at: u32, body: &Irep, list: &[Standing], operation: Operation) -> bool
+pub fn enter_holds(
+    takes: bool,
+    at: u32,
+    body: &Irep,
+    list: &[Standing],
+    operation: Operation,
+) -> bool
     ensures { result ≡ checks.enter_holds takes at body.now (drop 1 (map seen list.now)) (needs.parameters_of operation) }
 {
     match parameters_of(operation) {
         None => !(takes && at == 0),
-        Some(parameters) => takes && at == 0 && parameters_hold(body, behind_first(list), parameters),
+        Some(parameters) => takes
+            && at == 0
+            && parameters_hold(body, behind_first(list), parameters),
     }
 }
 
@@ -190,7 +198,14 @@ fn is_maker(number: u32, at: u32, maker: Option<Maker>) -> bool
 }
 
 /// The instruction is the first that uses the child that it uses.
-pub fn makes_once(code: &Code, outline: &Outline, number: u32, body: &Irep, at: u32, operation: Operation) -> bool
+pub fn makes_once(
+    code: &Code,
+    outline: &Outline,
+    number: u32,
+    body: &Irep,
+    at: u32,
+    operation: Operation,
+) -> bool
     requires { KnowsMakers code.now outline.now }
     ensures { result ≡ checks.makes_once code.now number at (child_made number body.now at (use_in operation)) }
 {

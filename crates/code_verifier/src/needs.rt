@@ -28,7 +28,9 @@ pub fn registers_of(operation: Operation) -> u32
     ensures { result ≡ needs.registers_of operation }
 {
     match operation {
-        Operation::Move { a, b } | Operation::Rescue { a, b } => (u32::from(a) + 1).max(u32::from(b) + 1),
+        Operation::Move { a, b } | Operation::Rescue { a, b } => (u32::from(a) + 1).max(
+            u32::from(b) + 1,
+        ),
         Operation::ARef { a, b, .. } => (u32::from(a) + 1).max(u32::from(b) + 1),
         Operation::LoadNil { a }
         | Operation::LoadSelf { a }
@@ -84,7 +86,9 @@ pub fn registers_of(operation: Operation) -> u32
         | Operation::RangeExc { a } => u32::from(a) + 2,
         Operation::SSend { a, c, .. } => u32::from(a) + 1 + self_arguments(c),
         Operation::Send { a, c, .. } => u32::from(a) + 1 + arguments(c),
-        Operation::SSendB { a, c, .. } | Operation::SendB { a, c, .. } => u32::from(a) + 2 + arguments(c),
+        Operation::SSendB { a, c, .. } | Operation::SendB { a, c, .. } => u32::from(a)
+            + 2
+            + arguments(c),
         Operation::Call { a, b } => u32::from(a) + 1 + arguments(b),
         Operation::Super { a, b } => u32::from(a) + 2 + arguments(b),
         Operation::Array { a, b } => (u32::from(a) + 1).max(u32::from(a) + u32::from(b)),
@@ -170,7 +174,10 @@ pub fn leaves(operation: Operation) -> bool
     match operation {
         Operation::Jmp { .. } => true,
         Operation::JmpUw { .. } => true,
-        Operation::Return { .. } | Operation::ReturnBlk { .. } | Operation::Break { .. } | Operation::Stop => true,
+        Operation::Return { .. }
+        | Operation::ReturnBlk { .. }
+        | Operation::Break { .. }
+        | Operation::Stop => true,
         _ => false,
     }
 }

@@ -174,8 +174,12 @@ fn uses_children_once(rt: HostRuntime) {
     assert!(rt; nested(alloc, &twice, &[0x22, 0, 0, 0, 0x24, 1]) == bad(0, 3, Cause::Use));
     assert!(rt; nested(alloc, &[0x41, 1, 0, 0x48], &[0x24, 1]) == Ok(()));
     assert!(rt; nested(alloc, &LAMBDA, &[0x22, 0, 0, 0, 0x13, 1, 2, 0, 0x24, 1]) == Ok(()));
-    assert!(rt; nested(alloc, &LAMBDA, &[0x22, 0, 0, 0, 0x13, 1, 3, 0, 0x24, 1]) == bad(1, 4, Cause::Upvar));
-    assert!(rt; nested(alloc, &LAMBDA, &[0x22, 0, 0, 0, 0x13, 1, 2, 1, 0x24, 1]) == bad(1, 4, Cause::Upvar));
+    assert!(rt;
+        nested(alloc, &LAMBDA, &[0x22, 0, 0, 0, 0x13, 1, 3, 0, 0x24, 1]) == bad(1, 4, Cause::Upvar)
+    );
+    assert!(rt;
+        nested(alloc, &LAMBDA, &[0x22, 0, 0, 0, 0x13, 1, 2, 1, 0x24, 1]) == bad(1, 4, Cause::Upvar)
+    );
     let method = [0x42, 1, 0, 0, 0x48];
     assert!(rt; nested(alloc, &method, &[0x22, 0, 0, 0, 0x25, 1]) == bad(1, 4, Cause::Place));
 }
@@ -184,11 +188,15 @@ fn uses_children_once(rt: HostRuntime) {
 fn binds_parameters(rt: HostRuntime) {
     let alloc = rt.alloc();
     assert!(rt; nested(alloc, &LAMBDA, &[0x24, 1]) == bad(1, 0, Cause::Enter));
-    assert!(rt; nested(alloc, &LAMBDA, &[0x22, 0, 0, 0, 0x22, 0, 0, 0, 0x24, 1]) == bad(1, 4, Cause::Enter));
+    assert!(rt;
+        nested(alloc, &LAMBDA, &[0x22, 0, 0, 0, 0x22, 0, 0, 0, 0x24, 1]) == bad(1, 4, Cause::Enter)
+    );
     assert!(rt; nested(alloc, &LAMBDA, &[0x22, 0, 0, 1, 0x24, 1]) == bad(1, 0, Cause::Enter));
     assert!(rt; nested(alloc, &LAMBDA, &[0x22, 2, 0, 0, 0x24, 1]) == Ok(()));
     assert!(rt; nested(alloc, &LAMBDA, &[0x22, 4, 0, 0, 0x24, 1]) == bad(1, 0, Cause::Enter));
     let jumps = [0x22, 0, 4, 0, 0x15, 0, 3, 0x15, 0, 0, 0x24, 1];
     assert!(rt; nested(alloc, &LAMBDA, &jumps) == Ok(()));
-    assert!(rt; nested(alloc, &LAMBDA, &[0x22, 0, 4, 0, 0x15, 0, 0, 0x24, 1]) == bad(1, 0, Cause::Enter));
+    assert!(rt;
+        nested(alloc, &LAMBDA, &[0x22, 0, 4, 0, 0x15, 0, 0, 0x24, 1]) == bad(1, 0, Cause::Enter)
+    );
 }

@@ -1,4 +1,4 @@
-use Rattle.std.proofs.Common.{◌≡◌, ap, ◌∙◌, map, length, List, ℕ, arith}
+use Rattle.std.proofs.Common.{ap, ◌∙◌, map, length, List, ℕ, arith}
 use Rattle.code_outline.specs.Layout.{end_of, layout}
 use Rattle.code_outline.specs.Outlined.{seen}
 use Rattle.code_outline.specs.declared.layout.Standing.{Standing}

@@ -1,4 +1,4 @@
-use Rattle.std.proofs.Common.{◌≡◌, sym, ap, ◌∙◌, true, false, length, get_or, map, List}
+use Rattle.std.proofs.Common.{sym, ap, ◌∙◌, map, List}
 use Rattle.std.specs.Prelude.{Option}
 use Rattle.std.proofs.lemmas.Simd.{map-map}
 use Rattle.code_outline.specs.Layout.{layout}
@@ -6,7 +6,7 @@ use Rattle.code_outline.specs.Layout as laid
 use Rattle.code_outline.specs.Outlined.{seen}
 use Rattle.code_outline.specs.declared.layout.Standing.{Standing}
 use Rattle.code_verifier.specs.Answers.{answer}
-use Rattle.code_verifier.specs.Checks.{Bad, bad, cause_of, first, instructions_bad}
+use Rattle.code_verifier.specs.Checks.{Bad, bad, cause_of, first}
 use Rattle.code_verifier.proofs.Firsts.{step_past, step_before, all_past, broken, unbroken}
 use Rattle.code_verifier.proofs.bodies.check_instructions.Goals as goal
 

@@ -1,4 +1,4 @@
-use Rattle.std.proofs.Common.{◌≡◌, ◌-◌, ◌+◌, length, arith}
+use Rattle.std.proofs.Common.{◌-◌, length, arith}
 use Rattle.code_verifier.proofs.Ends.{end_last, end_none}
 use Rattle.code_verifier.proofs.bodies.end_of.Goals as goal
 
