@@ -9,3 +9,4 @@ pub mod RecordFields
 pub mod Bodies
 pub mod SectionFields
 pub mod Law
+pub mod Pieces
