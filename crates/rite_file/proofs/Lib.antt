@@ -10,3 +10,4 @@ pub mod Bodies
 pub mod SectionFields
 pub mod Law
 pub mod Pieces
+pub mod CanonicalParts
