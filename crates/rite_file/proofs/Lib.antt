@@ -9,3 +9,5 @@ pub mod RecordFields
 pub mod Bodies
 pub mod SectionFields
 pub mod Law
+pub mod Pieces
+pub mod CanonicalParts

@@ -3,3 +3,4 @@ pub mod Gives
 pub mod Front
 pub mod Record
 pub mod Loaded
+pub mod Written

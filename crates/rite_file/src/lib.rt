@@ -20,12 +20,15 @@ pub mod reading;
 pub mod records;
 pub mod section_list;
 
+mod writing;
+
 pub use error::LoadError;
 pub use front::{Header, Section};
 pub use opening::{header, sections};
 pub use section_list::Sections;
 use crate::loading::{checked, records_in};
 use crate::numbering::numbered;
+use crate::writing::{END, put_front, put_records};
 use rite_code::Code;
 use std::alloc::{AllocError, Global};
 
@@ -56,10 +59,21 @@ pub fn files_spell_programs()
     ensures again { (bytes : List ℕ) (p : Program) → IsWhole p → Spells bytes p → loaded bytes ≡ Ok p }
 {}
 
-/// The one file of the program without sections to skip.
+/// The one file of the program without sections to skip. It is a file that [`load`] takes.
 pub fn write(alloc: Global, code: &Code) -> Result<Vec<u8>, AllocError>
     requires { length (canonical code.now) < 2 ^ 32 }
-    ensures { IfOk result (λ bytes. bytes.items ≡ canonical code.now) }
+    ensures value { IfOk result (λ bytes. bytes.items ≡ canonical code.now) }
+    ensures spelled { IfOk result (λ bytes. Spells bytes.items code.now) }
 {
-    Err(AllocError)
+    let version = code.version();
+    let mut records = Vec::new(alloc);
+    put_records(alloc, &mut records, version, code.bodies())?;
+    let mut out = Vec::new(alloc);
+    put_front(&mut out, version, records.len() as u32)?;
+    out.extend_from_slice(&records)?;
+    out.extend_from_slice(&END)?;
+    Ok(out)
 }
+
+#[cfg(test)]
+mod tests;
