@@ -1,8 +1,8 @@
 -- No check of the verifier fails in the code of a form.
-use Rattle.std.proofs.Common.{◌≡◌, ℕ, suc, ◌+◌, ◌<◌, ◌≤◌, List, [], ◌∷◌, ◌++◌, refl, sym, ◌∙◌, ap, subst, arith, Bool, true, false, length, map, drop, Option, Some, None, ◌||◌, nat_eq, cond, get_or, append_assoc}
+use Rattle.std.proofs.Common.{◌≡◌, ℕ, suc, ◌+◌, ◌<◌, ◌≤◌, List, [], ◌∷◌, ◌++◌, refl, sym, ◌∙◌, ap, subst, arith, Bool, true, false, length, map, drop, Option, Some, None, ◌||◌, nat_eq, nat_lt, cond, get_or, append_assoc}
 use Rattle.std.specs.Prelude.{codes}
 use Rattle.std.proofs.lemmas.List.{append-nil}
-use Rattle.std.proofs.lemmas.Bool.{eq-eqb, le-leb}
+use Rattle.std.proofs.lemmas.Bool.{eq-eqb, eqb-true, le-leb, lt-ltb}
 use Rattle.rb_syntax.specs.Form.{Form}
 use Rattle.rb_syntax.specs.Names.{names_of}
 use Rattle.rb_syntax.specs.Limits.{IsWithin}
@@ -35,7 +35,7 @@ started (x ∷ before) s rest = later (nat_eq x.at s.at) (started before s rest)
     later true e = refl
     later false e = e
 
-begins_placed : (ss before : List Standing) (at : ℕ) (is : List Operation) → ss ≡ before ++ placed_from at is → Begin ss 0 0 at is
+begins_placed : (ss before : List Standing) (at : ℕ) (is : List Operation) → ss ≡ before ++ placed_from at is → Begin ss 0 0 0 at is
 begins_placed ss before at [] e = tt
 begins_placed ss before at (i ∷ is) e =
     let s : Standing = record { at = at; next = at + size_of i; instruction = narrow i } in
@@ -44,12 +44,21 @@ begins_placed ss before at (i ∷ is) e =
       begins_placed ss (before ++ s ∷ []) (at + size_of i) is (e ∙ sym (append_assoc before (s ∷ []) rest)),
     )
 
+-- what starts, starts before the end
+starts_within : (from at : ℕ) (is : List Operation) → is_start (placed_from from is) at ≡ true → at < from + total is
+starts_within from at [] h = absurd (cc)
+starts_within from at (i ∷ is) h = by (nat_eq from at) refl (starts_within (from + size_of i) at is)
+  where
+    by : (b : Bool) → nat_eq from at ≡ b → (is_start (placed_from (from + size_of i) is) at ≡ true → at < from + size_of i + total is) → at < from + (size_of i + total is)
+    by true e later = omega (arith, eqb-true from at e)
+    by false e later = omega (arith, later (ap (λ (c : Bool). c || is_start (placed_from (from + size_of i) is) at) (sym e) ∙ h))
+
 -- an instruction that passes has no cause
-cause_none : (p : Program) (b : Irep) (ss : List Standing) (at : ℕ) (o : Operation) → maker_of p 0 ≡ None → Passes ss b.registers (length b.symbols) (at + size_of o) o → cause_of p 0 b ss (record { at = at; next = at + size_of o; instruction = narrow o }) ≡ None
+cause_none : (p : Program) (b : Irep) (ss : List Standing) (at : ℕ) (o : Operation) → maker_of p 0 ≡ None → Passes ss b.registers (length b.symbols) (length b.code) (at + size_of o) o → cause_of p 0 b ss (record { at = at; next = at + size_of o; instruction = narrow o }) ≡ None
 unfolding cause_of first
 cause_none p b ss at o none h = rw (none, h.counted, h.within, h.entry, h.named, h.child, h.jump, h.variable, h.enter, h.place, h.fall) refl
 
-none_fails : (p : Program) (b : Irep) (ss : List Standing) (at : ℕ) (is : List Operation) (others : List (Option Bad)) → maker_of p 0 ≡ None → AllPass ss b.registers (length b.symbols) at is → first (instructions_bad p 0 b ss (placed_from at is) ++ others) ≡ first others
+none_fails : (p : Program) (b : Irep) (ss : List Standing) (at : ℕ) (is : List Operation) (others : List (Option Bad)) → maker_of p 0 ≡ None → AllPass ss b.registers (length b.symbols) (length b.code) at is → first (instructions_bad p 0 b ss (placed_from at is) ++ others) ≡ first others
 unfolding first
 none_fails p b ss at [] others none h = refl
 none_fails p b ss at (i ∷ is) others none h =
@@ -57,11 +66,11 @@ none_fails p b ss at (i ∷ is) others none h =
     ∙ none_fails p b ss (at + size_of i) is others none h.1
 
 -- nothing makes a body
-makes_none : (b : Irep) (ss : List Standing) (registers symbols at : ℕ) (is : List Operation) → AllPass ss registers symbols at is → made_in 0 b (placed_from at is) ≡ []
+makes_none : (b : Irep) (ss : List Standing) (registers symbols size at : ℕ) (is : List Operation) → AllPass ss registers symbols size at is → made_in 0 b (placed_from at is) ≡ []
 unfolding made_in
-makes_none b ss registers symbols at [] h = refl
-makes_none b ss registers symbols at (i ∷ is) h =
-    ap (λ u. child_made 0 b at u ++ made_in 0 b (placed_from (at + size_of i) is)) h.0.child ∙ makes_none b ss registers symbols (at + size_of i) is h.1
+makes_none b ss registers symbols size at [] h = refl
+makes_none b ss registers symbols size at (i ∷ is) h =
+    ap (λ u. child_made 0 b at u ++ made_in 0 b (placed_from (at + size_of i) is)) h.0.child ∙ makes_none b ss registers symbols size (at + size_of i) is h.1
 
 read_all : (code : List ℕ) (end : ℕ) → 0 < length code → end ≡ length code → read_whole 2 code end ≡ None
 read_all [] end some e = absurd (omega (arith, some))
@@ -85,26 +94,29 @@ module _ (f : Form) (w : IsWithin f) where
   laid : layout 2 b.code ≡ ss
   laid = layout_is (code_of f) 0 (operations_of f) (has_code f w) size
 
-  begins : Begin ss 0 0 0 (operations_of f)
+  inside : (at : ℕ) → is_start ss at ≡ true → nat_lt at (length b.code) ≡ true
+  inside at h = lt-ltb at (length b.code) (omega (arith, starts_within 0 at (operations_of f) h, size))
+
+  begins : Begin ss 0 0 0 0 (operations_of f)
   begins = begins_placed ss [] 0 (operations_of f) refl
 
-  stop_starts : Begin ss 0 0 (0 + len f) (Stop ∷ [])
-  stop_starts = begin_back ss 0 0 0 (len f) (gen (names_of f) f (first_free f) 0) (Stop ∷ []) (gen_len (names_of f) f (first_free f) 0) begins
+  stop_starts : Begin ss 0 0 0 (0 + len f) (Stop ∷ [])
+  stop_starts = begin_back ss 0 0 0 0 (len f) (gen (names_of f) f (first_free f) 0) (Stop ∷ []) (gen_len (names_of f) f (first_free f) 0) begins
 
-  stop_passes : Passes ss b.registers (length b.symbols) (0 + len f + 1) Stop
+  stop_passes : Passes ss b.registers (length b.symbols) (length b.code) (0 + len f + 1) Stop
   stop_passes = record { counted = refl; within = le-leb 0 b.registers (omega arith); entry = refl; named = refl; child = refl; jump = refl; variable = refl; enter = refl; place = refl; fall = refl }
 
-  all_pass : AllPass ss b.registers (length b.symbols) 0 (operations_of f)
+  all_pass : AllPass ss b.registers (length b.symbols) (length b.code) 0 (operations_of f)
   all_pass =
-      let parts = form_passes ss b.registers (length b.symbols) (code_of f) 0 (names_of f) (omega arith) (some_symbol b.symbols) f (first_free f) 0 (fine_code f w) (omega arith) (begin_front ss 0 0 0 (gen (names_of f) f (first_free f) 0) (Stop ∷ []) begins) stop_starts.0 in
-      pass_append ss b.registers (length b.symbols) 0 (gen (names_of f) f (first_free f) 0) (Stop ∷ []) parts
-        (subst (λ (n : ℕ). AllPass ss b.registers (length b.symbols) n (Stop ∷ [])) (omega (arith, gen_len (names_of f) f (first_free f) 0)) (stop_passes, tt))
+      let parts = form_passes ss b.registers (length b.symbols) (length b.code) inside (code_of f) 0 (names_of f) (omega arith) (some_symbol b.symbols) f (first_free f) 0 (fine_code f w) (omega arith) (begin_front ss 0 0 0 0 (gen (names_of f) f (first_free f) 0) (Stop ∷ []) begins) stop_starts.0 in
+      pass_append ss b.registers (length b.symbols) (length b.code) 0 (gen (names_of f) f (first_free f) 0) (Stop ∷ []) parts
+        (subst (λ (n : ℕ). AllPass ss b.registers (length b.symbols) (length b.code) n (Stop ∷ [])) (omega (arith, gen_len (names_of f) f (first_free f) 0)) (stop_passes, tt))
 
   no_maker : maker_of (code_of f) 0 ≡ None
   unfolding maker_of made_from first_maker
   no_maker =
       ap (λ (xs : List Standing). first_maker 0 (made_in 0 b xs ++ [])) laid
-      ∙ ap (λ (ms : List Made). first_maker 0 (ms ++ [])) (makes_none b ss b.registers (length b.symbols) 0 (operations_of f) all_pass)
+      ∙ ap (λ (ms : List Made). first_maker 0 (ms ++ [])) (makes_none b ss b.registers (length b.symbols) (length b.code) 0 (operations_of f) all_pass)
 
   body_holds : body_bad (code_of f) 0 b ≡ None
   unfolding body_bad first
