@@ -1,6 +1,6 @@
 -- The layout of each body, and the bounds of its children.
-use Rattle.std.proofs.Common.{inl, inr, ◌≡◌, refl, sym, ap, ◌∙◌, ℕ, zero, suc, ◌+◌, ◌<◌, ◌≤◌, List, [], ◌∷◌, ◌++◌, length, get_or, take, drop, arith}
-use Rattle.std.specs.Prelude.{Option, None, Some, All, slice_get}
+use Rattle.std.proofs.Common.{◌≡◌, refl, sym, ap, ℕ, zero, suc, ◌+◌, ◌<◌, List, [], ◌∷◌, ◌++◌, length, get_or, take, drop, arith}
+use Rattle.std.specs.Prelude.{Some, All, slice_get}
 use Rattle.std.proofs.lemmas.List.Elements.{All-nil, All-cons, All-same, All-take, All-drop, All-weaker}
 use Rattle.std.proofs.lemmas.List.{take_at, drop_at}
 use Rattle.std.proofs.lemmas.Option.{none-some, same_Some}
@@ -36,14 +36,14 @@ pub roots-within : {at : ℕ} {bs : List Irep} {roots : List ℕ} → IsForest a
 roots-within (none {at}) = All-nil (IsWithin at (at + 0))
 roots-within (node {at} {b} {bs} {others} f) =
     All-cons (IsWithin at (at + length (b ∷ bs))) at others (omega arith, omega arith)
-      (All-weaker (IsWithin (at + 1) (at + 1 + length bs)) (IsWithin at (at + length (b ∷ bs))) (λ j h. (omega (arith, h.0), omega (arith, h.1))) others
-        (all_right (IsWithin (at + 1) (at + 1 + length bs)) b.children others (roots-within f)))
+    (All-weaker (IsWithin (at + 1) (at + 1 + length bs)) (IsWithin at (at + length (b ∷ bs))) (λ j h. (omega (arith, h.0), omega (arith, h.1))) others
+    (all_right (IsWithin (at + 1) (at + 1 + length bs)) b.children others (roots-within f)))
 
 pub children-within : {at : ℕ} {bs : List Irep} {roots : List ℕ} (k : ℕ) (b : Irep) → IsForest at bs roots → slice_get bs k ≡ Some b → All (IsWithin (at + k + 1) (at + length bs)) b.children
 children-within k b none e = absurd (none-some b e)
 children-within zero d (node {at} {b} {bs} {others} f) e =
     let c = all_left (IsWithin (at + 1) (at + 1 + length bs)) b.children others (roots-within f) in
     All-weaker (IsWithin (at + 1) (at + 1 + length bs)) (IsWithin (at + 0 + 1) (at + length (b ∷ bs))) (λ j h. (omega (arith, h.0), omega (arith, h.1))) d.children
-      (rw (← same_Some b d e) c)
+    (rw (← same_Some b d e) c)
 children-within (suc k) d (node {at} {b} {bs} {others} f) e =
     All-weaker (IsWithin (at + 1 + k + 1) (at + 1 + length bs)) (IsWithin (at + suc k + 1) (at + length (b ∷ bs))) (λ j h. (omega (arith, h.0), omega (arith, h.1))) d.children (children-within k d f e)

@@ -1,5 +1,5 @@
 -- What users of an outline may rely on.
-use Rattle.std.proofs.Common.{◌≡◌, refl, ap, sym, ℕ, ◌+◌, ◌-◌, List, length, arith, All, Contains}
+use Rattle.std.proofs.Common.{◌≡◌, ℕ, ◌+◌, ◌-◌, List, length, arith, All}
 use Rattle.std.specs.Prelude.{Some, slice_get}
 use Rattle.std.proofs.lemmas.List.Elements.{All-weaker}
 use Rattle.rite_code.specs.declared.code.Irep.{Irep}
@@ -24,12 +24,12 @@ at_place version code place k e =
 
 pub lays : (version : ℕ) (code : List ℕ) → Lays version code
 lays version code = record {
-      row = row-layout version code;
-      read = read-layout version code;
-      ends = end-layout version code;
-      by_place = by_place version code;
-      at_place = at_place version code
-    }
+  row = row-layout version code;
+  read = read-layout version code;
+  ends = end-layout version code;
+  by_place = by_place version code;
+  at_place = at_place version code;
+}
 
 children : (p : Program) → IsWhole p → (k : ℕ) (b : Irep) → slice_get p.bodies k ≡ Some b → All (IsWithin (k + 1) (length p.bodies)) b.children
 children p w k b e = All-weaker (IsWithin (0 + k + 1) (0 + length p.bodies)) (IsWithin (k + 1) (length p.bodies)) (λ j h. (omega (arith, h.0), omega (arith, h.1))) b.children (children-within k b w.tree e)

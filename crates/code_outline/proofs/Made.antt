@@ -1,6 +1,6 @@
 -- What one instruction or one body more makes, and how it is laid out.
-use Rattle.std.proofs.Common.{◌≡◌, refl, sym, ap, subst, ◌∙◌, ℕ, zero, suc, ◌+◌, ◌<◌, ◌≤◌, List, [], ◌∷◌, ◌++◌, length, get_or, take, map, append_assoc, arith, replicate}
-use Rattle.std.specs.Prelude.{Option, None, Some}
+use Rattle.std.proofs.Common.{◌≡◌, refl, sym, ap, subst, ◌∙◌, ℕ, ◌+◌, ◌<◌, ◌≤◌, List, [], ◌∷◌, ◌++◌, length, get_or, take, map, append_assoc, arith, replicate}
+use Rattle.std.specs.Prelude.{Option, None}
 use Rattle.std.specs.Option.{option_or}
 use Rattle.std.proofs.lemmas.List.{append-nil, map-append, take_more, take_all, get_or-replicate, length-replicate, length-take-le}
 use Rattle.rite_code.specs.declared.code.Irep.{Irep}
@@ -38,7 +38,7 @@ made_from-append version k [] cs = let e : k + 0 ≡ k = omega arith in rw e ref
 made_from-append version k (b ∷ bs) cs =
     let e : k + length (b ∷ bs) ≡ k + 1 + length bs = omega arith in
     rw e (ap (λ x. made_in k b (layout version b.code) ++ x) (made_from-append version (k + 1) bs cs)
-      ∙ sym (append_assoc (made_in k b (layout version b.code)) (made_from version (k + 1) bs) (made_from version (k + 1 + length bs) cs)))
+    ∙ sym (append_assoc (made_in k b (layout version b.code)) (made_from version (k + 1) bs) (made_from version (k + 1 + length bs) cs)))
 
 made_from-alone : (version k : ℕ) (b : Irep) → made_from version k (b ∷ []) ≡ made_in k b (layout version b.code)
 unfolding made_from
@@ -83,10 +83,10 @@ Reaches p bs n o = (length bs ≤ n) × AreLaidOut p.version (take n bs) o.layou
 
 outlined-whole : (p : Program) (n : ℕ) (o : Outline) → Reaches p p.bodies n o → Outlines p o
 outlined-whole p n o h = record {
-      layouts = rw (← take_all n p.bodies h.0) h.1;
-      count = h.2;
-      makers = marked-all p n o.makers h.0 h.3
-    }
+  layouts = rw (← take_all n p.bodies h.0) h.1;
+  count = h.2;
+  makers = marked-all p n o.makers h.0 h.3;
+}
 
 pub outlined : (p : Program) (bs : List Irep) (n : ℕ) (o : Outline) → bs ≡ p.bodies → Reaches p bs n o → Outlines p o
 outlined p bs n o e = subst (λ (x : List Irep). Reaches p x n o → Outlines p o) (sym e) (outlined-whole p n o)

@@ -1,5 +1,5 @@
 -- The maker of a body makes it.
-use Rattle.std.proofs.Common.{◌≡◌, refl, sym, ap, ◌∙◌, subst, ℕ, zero, suc, ◌+◌, ◌<◌, ◌≤◌, List, [], ◌∷◌, ◌++◌, length, Bool, true, false, arith, Contains}
+use Rattle.std.proofs.Common.{◌≡◌, refl, sym, ℕ, suc, ◌+◌, List, [], ◌∷◌, true, false, arith, Contains}
 use Rattle.std.specs.Prelude.{Option, None, Some, nat_eq, if◌then◌else◌, All, slice_get}
 use Rattle.std.proofs.lemmas.Bool.{eqb-true}
 use Rattle.std.proofs.lemmas.List.Elements.{All-nil, All-cons, All-head, All-tail, All-append, All-contains_itself}
@@ -29,8 +29,8 @@ unfolding made_in
 makes-in p k b [] h l = All-nil (IsMade p)
 makes-in p k b (s ∷ ss) h l =
     All-append (IsMade p) (made_by k b s) (made_in k b ss)
-      (makes-child p k b s (use_in s.instruction.operation) h (All-head (Contains (layout p.version b.code)) s ss l) refl)
-      (makes-in p k b ss h (All-tail (Contains (layout p.version b.code)) s ss l))
+    (makes-child p k b s (use_in s.instruction.operation) h (All-head (Contains (layout p.version b.code)) s ss l) refl)
+    (makes-in p k b ss h (All-tail (Contains (layout p.version b.code)) s ss l))
 
 makes-from : (p : Program) (k : ℕ) (bs : List Irep) → ((i : ℕ) → slice_get bs i ≡ slice_get p.bodies (k + i)) → All (IsMade p) (made_from p.version k bs)
 unfolding made_from
@@ -40,16 +40,16 @@ makes-from p k (b ∷ bs) h =
     let here : slice_get p.bodies k ≡ Some b = rw (← z) (sym (h 0)) in
     let behind : (i : ℕ) → slice_get bs i ≡ slice_get p.bodies (k + 1 + i) = λ i. let n : k + 1 + i ≡ k + suc i = omega arith in rw n (h (suc i)) in
     All-append (IsMade p) (made_in k b (layout p.version b.code)) (made_from p.version (k + 1) bs)
-      (makes-in p k b (layout p.version b.code) here (All-contains_itself (layout p.version b.code)))
-      (makes-from p (k + 1) bs behind)
+    (makes-in p k b (layout p.version b.code) here (All-contains_itself (layout p.version b.code)))
+    (makes-from p (k + 1) bs behind)
 
 first_maker-makes : (p : Program) (j : ℕ) (ms : List Made) (m : Maker) → All (IsMade p) ms → first_maker j ms ≡ Some m → Makes p m j
 unfolding first_maker
 first_maker-makes p j [] m a e = absurd (none-some m e)
 first_maker-makes p j (x ∷ ms) m a e = elim (nat_eq x.child j) as (λ b. nat_eq x.child j ≡ b → (if b then Some x.maker else first_maker j ms) ≡ Some m → Makes p m j) [
-      true ↦ λ t f. let g : x.maker ≡ m = same_Some _ _ f in let h : x.child ≡ j = eqb-true x.child j t in rw (← g, ← h) (All-head (IsMade p) x ms a)
-    | false ↦ λ t f. first_maker-makes p j ms m (All-tail (IsMade p) x ms a) f
-    ] refl e
+  | true ↦ λ t f. let g : x.maker ≡ m = same_Some _ _ f in let h : x.child ≡ j = eqb-true x.child j t in rw (← g, ← h) (All-head (IsMade p) x ms a)
+  | false ↦ λ t f. first_maker-makes p j ms m (All-tail (IsMade p) x ms a) f
+] refl e
 
 pub maker_of-makes : (p : Program) (j : ℕ) (m : Maker) → maker_of p j ≡ Some m → Makes p m j
 unfolding maker_of

@@ -1,5 +1,5 @@
 -- What users of an outline may rely on.
-use Rattle.std.specs.Prelude.{◌≡◌, ◌<◌, ◌≤◌, ℕ, ◌+◌, List, All, Contains, Some, None, length, slice_get}
+use Rattle.std.specs.Prelude.{◌≡◌, ◌<◌, ◌≤◌, ℕ, ◌+◌, List, All, Some, None, length, slice_get}
 use Rattle.rite_code.specs.declared.code.Irep.{Irep}
 use Rattle.rite_code.specs.Code.{Program, IsWhole}
 use Rattle.rite_code.specs.Spelling.{decode}

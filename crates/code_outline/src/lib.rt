@@ -11,20 +11,21 @@ ghost use Rattle.rite_code.specs.Code.{Program};
 ghost use Rattle.code_outline.specs.Laws.{Lays, Nests};
 ghost use Rattle.code_outline.specs.Outlined.{Outlines};
 
-pub mod layout;
 mod laying;
+pub mod layout;
 pub mod maker;
 mod making;
 
-pub use layout::{Layout, Outline, Standing};
-pub use maker::{Maker, Purpose};
 use crate::laying::layout;
 use crate::making::put_makers;
+pub use layout::{Layout, Outline, Standing};
+pub use maker::{Maker, Purpose};
 use rb_base::List;
 use rite_code::Code;
 use std::alloc::{AllocError, Global};
 
-/// The layout of each body and the maker of each, in the order of the bodies.
+/// The layout of each body and the maker of each, in the order of the bodies. An `Err` only where memory runs
+/// out.
 pub fn outline(alloc: Global, code: &Code) -> Result<Outline, AllocError>
     ensures { IfOk result (λ o. Outlines code.now o) }
 {
@@ -53,3 +54,6 @@ pub fn laws_of_outlines()
     ensures lays { (version : ℕ) (code : prelude.List ℕ) → Lays version code }
     ensures nests { (p : Program) → Nests p }
 {}
+
+#[cfg(test)]
+mod tests;

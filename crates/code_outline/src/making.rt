@@ -47,12 +47,7 @@ fn put_maker(makers: &mut [Option<Maker>], child: u32, maker: Maker)
 }
 
 /// Puts down the makers that stand in a body, of each body that has none yet.
-pub fn put_makers(
-    makers: &mut [Option<Maker>],
-    number: u32,
-    body: &Irep,
-    instructions: &[Standing],
-)
+pub fn put_makers(makers: &mut [Option<Maker>], number: u32, body: &Irep, instructions: &[Standing])
     ensures { AreMarked (made.made_in number body.now (prelude.map seen instructions.now)) makers.old makers.new }
 {
     for standing in instructions {

@@ -1,5 +1,5 @@
-use Rattle.std.proofs.Common.{◌≡◌, ◌+◌, ◌∙◌, sym, ap, rules, replicate, None, length, take, drop, map, ◌++◌}
-use Rattle.std.proofs.lemmas.List.{length-replicate, take_at, take_all}
+use Rattle.std.proofs.Common.{◌≡◌, ◌∙◌, sym, rules, replicate, None, length, take, drop, map, ◌++◌}
+use Rattle.std.proofs.lemmas.List.{length-replicate, take_at}
 use Rattle.code_outline.specs.Outlined.{seen, AreLaidOut, LaysOut}
 use Rattle.code_outline.specs.Makers.{made_in, made_from}
 use Rattle.code_outline.specs.Making.{AreMarked}
@@ -31,7 +31,7 @@ loop-number-preserved c =
     rw (e, c.in_ok-push.ensures.ok) (record {
       layouts = laid_out-more v bs c.loop-number.layouts i b l c.loop-number-test.true c.index-bodies-number.is c.loop-number.invariant.layouts laid;
       count = n ∙ c.loop-number.makers.ok.0 ∙ count;
-      makers = marked-more v bs i b l.instructions (replicate (length bs) None) old new c.loop-number-test.true c.index-bodies-number.is laid.instructions (count ∙ sym (length-replicate (length bs) None)) c.loop-number.invariant.makers marked
+      makers = marked-more v bs i b l.instructions (replicate (length bs) None) old new c.loop-number-test.true c.index-bodies-number.is laid.instructions (count ∙ sym (length-replicate (length bs) None)) c.loop-number.invariant.makers marked;
     })
 
 pub returns : goal.returns

@@ -7,6 +7,6 @@ returns-then-is_none c = marks-new c.args.makers.now c.args.child c.args.maker c
 
 pub returns-else-child-makers : goal.returns-else-child-makers
 returns-else-child-makers c = elim c.else-child-makers.branch [
-      else-child-makers-via-then-child-makers+else-is_none w ↦ marks-kept c.args.makers.now c.args.child c.args.maker w.if-is_none.ensures
-    | else-child-makers-via-else-child-makers w ↦ marks-past c.args.makers.now c.args.child c.args.maker w.if-child-makers.false
-    ]
+  | else-child-makers-via-then-child-makers+else-is_none w ↦ marks-kept c.args.makers.now c.args.child c.args.maker w.if-is_none.ensures
+  | else-child-makers-via-else-child-makers w ↦ marks-past c.args.makers.now c.args.child c.args.maker w.if-child-makers.false
+]
