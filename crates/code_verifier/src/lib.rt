@@ -25,7 +25,9 @@ use rite_code::Code;
 use std::alloc::Global;
 pub use verified::Verified;
 
-/// The same code, where no check fails; else the first that does.
+/// The same code, where no check fails. `Bad` is the first check that fails: bodies in their order, in each its
+/// instructions by their places, the place where reading ends, then its catch entries. `NoMemory` where memory
+/// runs out.
 #[tactic(auto, using(crate::proofs::Faults::is_fault, crate::proofs::Faults::no_fault))]
 pub fn verify(alloc: Global, code: Code) -> Result<Verified, VerifyError>
     ensures verified { IfOk result (λ v. (v ≡ code) × IsVerified code) }
