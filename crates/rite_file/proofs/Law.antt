@@ -92,8 +92,8 @@ file_is bytes h x v are front version size =
     let s : from_be_bytes w32 (take 4 (drop 8 bytes)) ≡ length bytes = ap (λ (y : Header). y.size) f.1.1 ∙ sym n in
     let sized-bytes : IsBytes (take 4 (drop 8 bytes)) = IsBytes-take 4 (drop 8 bytes) (IsBytes-drop 8 bytes are) in
     let number : take 4 (drop 8 bytes) ≡ to_be_bytes w32 (length (drop 20 bytes) + 20) =
-        sym (wide32.back (take 4 (drop 8 bytes)) (omega (arith, f.1.0, length-take 4 (drop 8 bytes), length-drop 8 bytes)) sized-bytes)
-        ∙ ap (to_be_bytes w32) (s ∙ omega (arith, f.1.0, length-drop 20 bytes)) in
+    sym (wide32.back (take 4 (drop 8 bytes)) (omega (arith, f.1.0, length-take 4 (drop 8 bytes), length-drop 8 bytes)) sized-bytes)
+    ∙ ap (to_be_bytes w32) (s ∙ omega (arith, f.1.0, length-drop 20 bytes)) in
     let name : take 4 (drop 12 bytes) ≡ codes "RBWN" = ap (λ (y : Header). y.name) f.1.1 ∙ k.name in
     let name' : take 4 (drop 16 bytes) ≡ version_name v = ap (λ (y : Header). y.version) f.1.1 ∙ k.version_is in
     let e16 : drop 16 bytes ≡ version_name v ++ drop 20 bytes = parts_of 4 bytes 16 ∙ ap (λ (t : List ℕ). t ++ drop 20 bytes) name' in
@@ -131,7 +131,7 @@ records_are version bytes s rs are long within e =
     let rest : drop b.0.1 inside ≡ [] = drop_all b.0.1 inside (omega (arith, g.0)) in
     let len : s.at + s.size ≡ s.at + 12 + (s.size - 12) = omega (arith, long) in
     let parts : take (s.size - 12) (drop (s.at + 12) bytes) ≡ flat_map spelled_record t.0 =
-        sym (drop-take (s.at + 12) (s.size - 12) bytes) ∙ ap (λ (n : ℕ). drop (s.at + 12) (take n bytes)) (sym len) ∙ t.2.takes.parts ∙ ap (λ (x : List ℕ). flat_map spelled_record t.0 ++ x) rest ∙ append-nil (flat_map spelled_record t.0) in
+    sym (drop-take (s.at + 12) (s.size - 12) bytes) ∙ ap (λ (n : ℕ). drop (s.at + 12) (take n bytes)) (sym len) ∙ t.2.takes.parts ∙ ap (λ (x : List ℕ). flat_map spelled_record t.0 ++ x) rest ∙ append-nil (flat_map spelled_record t.0) in
     let here : HoldsRecords version bytes s t.0 = record { contents = parts; few = t.2.few; each = t.2.each; awaits = t.2.awaits } in
     subst (HoldsRecords version bytes s) same here
 
@@ -172,7 +172,7 @@ program_is bytes v s rs are file irep records =
     let bodies : List Irep = (numbered 0 rs).0 in
     let contents : contents_at bytes s.at ≡ codes "0300" ++ flat_map record_of bodies = contents_are bytes s f.section f.long f.version ∙ ap (λ (t : List ℕ). codes "0300" ++ t) (holds.contents ∙ sym n.spelled) in
     let parts : drop 20 bytes ≡ f.before ++ (irep_section bodies ++ (f.behind.skipped ++ end_section)) =
-        f.parts ∙ ap (λ (t : List ℕ). f.before ++ (section irep_name t ++ drop (s.at + s.size) bytes)) contents ∙ ap (λ (t : List ℕ). f.before ++ (irep_section bodies ++ t)) f.behind.parts in
+    f.parts ∙ ap (λ (t : List ℕ). f.before ++ (section irep_name t ++ drop (s.at + s.size) bytes)) contents ∙ ap (λ (t : List ℕ). f.before ++ (irep_section bodies ++ t)) f.behind.parts in
     record {
       spells = record {
         before = f.before;

@@ -88,7 +88,7 @@ fields_again version bytes at r rest fit e =
     let e4 : drop (at + length counts + length code + length catches + length pool) bytes ≡ symbols ++ rest = rest_at bytes (at + length counts + length code + length catches) pool _ e3 in
     let s = symbols_field.again bytes (at + length counts + length code + length catches + length pool) r.body.symbols rest fit.symbols e4 in
     let end : at + length counts + length code + length catches + length pool + length symbols ≡ at + length (spelled_fields r) =
-        omega (arith, length-append code (catches ++ (pool ++ symbols)), length-append catches (pool ++ symbols), length-append pool symbols) in
+    omega (arith, length-append code (catches ++ (pool ++ symbols)), length-append catches (pool ++ symbols), length-append pool symbols) in
     rw (c, t, k, p, s) (ap (λ (n : ℕ). Ok (with_no_children r [], n)) end ∙ ap (λ (none : List ℕ). Ok (with_no_children r none, at + length (spelled_fields r))) (sym fit.childless))
 
 pub fields_field : (version : ℕ) → IsField spelled_fields (IsRecord version) (fields_at version)

@@ -39,7 +39,7 @@ section_parts bytes at are fits =
     let next : at + 8 + (size - 8) ≡ at + size = omega (arith, long) in
     let third : drop (at + 8) bytes ≡ take (size - 8) (drop (at + 8) bytes) ++ drop (at + size) bytes = parts_of (size - 8) bytes (at + 8) ∙ ap (λ (k : ℕ). take (size - 8) (drop (at + 8) bytes) ++ drop k bytes) next in
     let second : drop (at + 4) bytes ≡ to_be_bytes w32 (length (take (size - 8) (drop (at + 8) bytes)) + 8) ++ drop (at + 8) bytes =
-        parts_of 4 bytes (at + 4) ∙ ap (λ (t : List ℕ). t ++ drop (at + 4 + 4) bytes) (sym number ∙ ap (to_be_bytes w32) (sym len)) ∙ ap (λ (k : ℕ). to_be_bytes w32 (length (take (size - 8) (drop (at + 8) bytes)) + 8) ++ drop k bytes) (omega arith) in
+    parts_of 4 bytes (at + 4) ∙ ap (λ (t : List ℕ). t ++ drop (at + 4 + 4) bytes) (sym number ∙ ap (to_be_bytes w32) (sym len)) ∙ ap (λ (k : ℕ). to_be_bytes w32 (length (take (size - 8) (drop (at + 8) bytes)) + 8) ++ drop k bytes) (omega arith) in
     parts_of 4 bytes at
     ∙ ap (λ (t : List ℕ). take 4 (drop at bytes) ++ t) (second ∙ ap (λ (t : List ℕ). to_be_bytes w32 (length (take (size - 8) (drop (at + 8) bytes)) + 8) ++ t) third)
     ∙ sym (append_assoc (take 4 (drop at bytes)) (to_be_bytes w32 (length (take (size - 8) (drop (at + 8) bytes)) + 8) ++ take (size - 8) (drop (at + 8) bytes)) (drop (at + size) bytes))
@@ -190,7 +190,7 @@ found_later bytes at s are fits k later =
     let name = skipped_name (section_at bytes at) k in
     let inside : List ℕ = section irep_name (contents_at bytes s.at) ++ drop (s.at + s.size) bytes in
     let parts : drop at bytes ≡ (section (four_at bytes at) (contents_at bytes at) ++ later.before) ++ inside =
-        section_parts bytes at are fits ∙ ap (λ (t : List ℕ). section (four_at bytes at) (contents_at bytes at) ++ t) later.parts ∙ sym (append_assoc (section (four_at bytes at) (contents_at bytes at)) later.before inside) in
+    section_parts bytes at are fits ∙ ap (λ (t : List ℕ). section (four_at bytes at) (contents_at bytes at) ++ t) later.parts ∙ sym (append_assoc (section (four_at bytes at) (contents_at bytes at)) later.before inside) in
     record {
       before = section (four_at bytes at) (contents_at bytes at) ++ later.before;
       are = skips (four_at bytes at) (contents_at bytes at) later.before name later.are;

@@ -48,7 +48,7 @@ enough (suc m) zero bytes at h k = nothing_left (suc m) bytes at (omega (arith, 
 enough (suc m) (suc n) bytes at h k =
     let next = at + (section_at bytes at).size in
     same_step bytes at (ltb at (length bytes)) (fits_at bytes at) (sections_from m bytes next) (sections_from n bytes next)
-        (λ p q. let f = (fits-is bytes at q).size in enough m n bytes next (omega (arith, h, f)) (omega (arith, k, f)))
+    (λ p q. let f = (fits-is bytes at q).size in enough m n bytes next (omega (arith, h, f)) (omega (arith, k, f)))
 
 at_most : (n : ℕ) (bytes : List ℕ) (at : ℕ) → length bytes ≤ at + n → at < length bytes → fits_at bytes at ≡ true
     → sections_from n bytes at ≡ Ok (section_at bytes at) ∷ sections_from (length bytes) bytes (at + (section_at bytes at).size)

@@ -56,8 +56,8 @@ unfoldable pub sections_from : ℕ → List ℕ → ℕ → List (Result Section
 sections_from zero bytes at = []
 sections_from (suc most) bytes at =
     if nat_lt at (length bytes) then (
-        if fits_at bytes at then Ok (section_at bytes at) ∷ sections_from most bytes (at + (section_at bytes at).size)
-        else Err (BadSection at) ∷ []
+    if fits_at bytes at then Ok (section_at bytes at) ∷ sections_from most bytes (at + (section_at bytes at).size)
+    else Err (BadSection at) ∷ []
     ) else []
 
 -- there are fewer sections than bytes

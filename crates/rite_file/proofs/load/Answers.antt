@@ -19,8 +19,8 @@ pub returns-in_err-records-clause-exact : goal.returns-in_err-records-clause-exa
 returns-in_err-records-clause-exact c =
     let p = err_from_is_err_and c.from_residual-in_err-records.result c.from_residual-in_err-records.ensures.1 in
     let fail = fails_with c.in_err-records.field-0.0 (records_in c.in_ok-version.version c.args.bytes.now c.in_ok-version.section) (loaded c.args.bytes.now)
-        (λ e. records_fail c.args.bytes.now (c.in_ok-version.version, c.in_ok-version.section) c.in_err-records.field-0.0 (sym c.in_ok-version.ensures.value) e)
-        c.in_err-records.ensures in
+    (λ e. records_fail c.args.bytes.now (c.in_ok-version.version, c.in_ok-version.section) c.in_err-records.field-0.0 (sym c.in_ok-version.ensures.value) e)
+    c.in_err-records.ensures in
     rw (p.1, p.2) fail
 
 pub returns-in_err-records-clause-only : goal.returns-in_err-records-clause-only
