@@ -328,3 +328,10 @@ pub records_few : (bytes : List ℕ) (found : ℕ × Section) (rs : List Record)
 records_few bytes found rs are e records =
     let room = room_is bytes found are e in
     (records_are found.0 bytes found.1 rs are room.long room.within records).few
+
+-- a file is no shorter than the one without sections to skip
+pub canonical_fits : (bytes : List ℕ) (p : Program) → Spells bytes p → length (canonical p) < 2 ^ 32
+unfolding canonical
+canonical_fits bytes p s =
+    let irep : List ℕ = irep_section p.bodies in
+    omega (arith, s.size, ap length s.same, length-file p.version (sections_in p s.before s.behind), length-file p.version (irep ++ end_section), length-append s.before (irep ++ (s.behind ++ end_section)), length-append irep (s.behind ++ end_section), length-append s.behind end_section, length-append irep end_section)

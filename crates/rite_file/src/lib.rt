@@ -42,6 +42,7 @@ use std::alloc::{AllocError, Global};
 pub fn load(alloc: Global, bytes: &[u8]) -> Result<Code, LoadError>
     ensures exact { Gives result (loaded bytes.now) }
     ensures spelled { IfOk result (λ code. Spells bytes.now code) }
+    ensures small { IfOk result (λ code. length (canonical code) < 2 ^ 32) }
     ensures only { (p : Program) → IsWhole p → Spells bytes.now p → Gives result (Ok p) }
 {
     let (version, section) = checked(bytes)?;

@@ -4,7 +4,7 @@ use Rattle.rite_code.specs.Code.{program, IsWhole}
 use Rattle.rite_file.specs.Gives.{Fails, Gives}
 use Rattle.rite_file.specs.Loaded.{checked, records_in, loaded, numbered}
 use Rattle.rite_file.proofs.Listing.{fails_as, fails_with}
-use Rattle.rite_file.proofs.Law.{IsLoaded, checks_fail, records_fail, records_few, loaded_from, loaded_steps, only}
+use Rattle.rite_file.proofs.Law.{IsLoaded, checks_fail, records_fail, records_few, loaded_from, loaded_steps, only, canonical_fits}
 use Rattle.rite_file.proofs.load.Goals as goal
 
 pub returns-in_err-version-clause-exact : goal.returns-in_err-version-clause-exact
@@ -46,3 +46,6 @@ returns-clause-spelled c =
 
 pub returns-clause-only : goal.returns-clause-only
 returns-clause-only c = only (Ok c.new.result) (returns-clause-exact c)
+
+pub returns-clause-small : goal.returns-clause-small
+returns-clause-small c = canonical_fits c.args.bytes.now c.new.result (returns-clause-spelled c)
