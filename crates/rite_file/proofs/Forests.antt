@@ -1,7 +1,7 @@
 -- Numbering bodies from the last to the first.
-use Rattle.std.proofs.Common.{◌≡◌, ℕ, zero, suc, ◌+◌, ◌-◌, ◌≤◌, ◌<◌, List, [], ◌∷◌, ◌++◌, length, take, drop, reverse, refl, sym, ap, ◌∙◌, arith, inl, inr}
+use Rattle.std.proofs.Common.{◌≡◌, ℕ, ◌+◌, ◌-◌, ◌≤◌, List, [], ◌∷◌, ◌++◌, length, take, drop, reverse, refl, sym, ap, ◌∙◌, arith, inl, inr}
 use Rattle.std.proofs.lemmas.Bool.{cases_lt}
-use Rattle.std.proofs.lemmas.List.{reverse-append, length-reverse, take-append-drop, take_at, drop_at, take_all, drop_all, length-drop, length-take}
+use Rattle.std.proofs.lemmas.List.{reverse-append, length-reverse, take-append-drop, take_at, drop_at, take_all, drop_all, length-drop}
 use Rattle.rite_code.specs.declared.code.Irep.{Irep}
 use Rattle.rite_file.specs.declared.records.Record.{Record}
 use Rattle.rite_file.specs.Loaded.{Forest, planted, numbered, with_children}

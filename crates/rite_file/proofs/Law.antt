@@ -1,11 +1,11 @@
 -- A file that is read is the file that was written, and what was written is read again.
-use Rattle.std.proofs.Common.{◌≡◌, ◌≢◌, ℕ, zero, suc, ◌+◌, ◌-◌, ◌^◌, ◌<◌, ◌≤◌, Bool, true, false, cond, ltb, eqb, List, [], ◌∷◌, ◌++◌, length, take, drop, refl, sym, ap, subst, ◌∙◌, append_assoc, arith, inl, inr, rules}
-use Rattle.std.specs.Prelude.{not, ◌⊎◌, Option, Some, None, Result, Ok, Err, codes, flat_map, All}
+use Rattle.std.proofs.Common.{◌≡◌, ℕ, suc, ◌+◌, ◌-◌, ◌^◌, ◌<◌, ◌≤◌, Bool, true, false, cond, ltb, eqb, List, [], ◌∷◌, ◌++◌, length, take, drop, refl, sym, ap, subst, ◌∙◌, arith, inl, inr, rules}
+use Rattle.std.specs.Prelude.{not, ◌⊎◌, None, Result, Ok, Err, codes, flat_map, All}
 use Rattle.std.specs.List.{AllByRecursion}
 use Rattle.std.specs.Str.{bytes_eq}
 use Rattle.std.specs.Int.{w32, from_be_bytes, to_be_bytes}
-use Rattle.std.proofs.lemmas.Bool.{cases_lt, lt-ltb, le-ltb, ltb-true, ltb-false, eqb-true}
-use Rattle.std.proofs.lemmas.List.{length-append, length-take, length-drop, take-append-drop, take_at, take_all, drop_at, drop-drop, drop-take, drop_all, append-nil, nil_from_length}
+use Rattle.std.proofs.lemmas.Bool.{le-ltb, ltb-false, eqb-true}
+use Rattle.std.proofs.lemmas.List.{length-append, length-take, length-drop, take-append-drop, take_at, drop-drop, drop-take, drop_all, append-nil, nil_from_length}
 use Rattle.std.proofs.lemmas.List.Elements.{All-from_recursion, recursion_from_All}
 use Rattle.std.proofs.lemmas.Slice.Eq.{bytes_eq-Decides}
 use Rattle.rite_code.specs.Code.{Program, program, IsWhole, IsBody, IsForest}
@@ -20,7 +20,7 @@ use Rattle.rite_file.specs.Front.{four_at, front_of, sized, version_of, section_
 use Rattle.rite_file.specs.Gives.{◌>>=◌, Gives}
 use Rattle.rite_file.specs.Record.{records_at}
 use Rattle.rite_file.specs.Loaded.{irep_in, numbered, records_in, program_in, checked, loaded}
-use Rattle.rite_file.proofs.Fields.{IsBytes, IsBytes-drop, IsBytes-take, bind_ok, ok_is, Takes, rest_at, wide32}
+use Rattle.rite_file.proofs.Fields.{IsBytes, IsBytes-drop, IsBytes-take, bind_ok, ok_is, rest_at, wide32}
 use Rattle.rite_file.proofs.RecordFields.{FitsRecord, spelled_record, Awaits, records_take, records_again}
 use Rattle.rite_file.proofs.Bodies.{numbered_are, records_from, records_spelled, length-records, records_await, numbered_again, records_fit}
 use Rattle.rite_file.proofs.SectionFields.{contents_at, found, stands, irep_known}

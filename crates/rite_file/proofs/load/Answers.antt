@@ -1,10 +1,9 @@
-use Rattle.std.proofs.Common.{◌≡◌, ◌∙◌, ap, sym, arith, Ok}
+use Rattle.std.proofs.Common.{◌∙◌, ap, sym, arith, Ok}
 use Rattle.std.proofs.lemmas.Result.{err_from_is_err_and}
-use Rattle.rite_code.specs.Code.{program, IsWhole}
-use Rattle.rite_file.specs.Gives.{Fails, Gives}
-use Rattle.rite_file.specs.Loaded.{checked, records_in, loaded, numbered}
+use Rattle.rite_code.specs.Code.{program}
+use Rattle.rite_file.specs.Loaded.{records_in, loaded}
 use Rattle.rite_file.proofs.Listing.{fails_as, fails_with}
-use Rattle.rite_file.proofs.Law.{IsLoaded, checks_fail, records_fail, records_few, loaded_from, loaded_steps, only, canonical_fits}
+use Rattle.rite_file.proofs.Law.{checks_fail, records_fail, records_few, loaded_from, loaded_steps, only, canonical_fits}
 use Rattle.rite_file.proofs.load.Goals as goal
 
 pub returns-in_err-version-clause-exact : goal.returns-in_err-version-clause-exact

@@ -1,6 +1,6 @@
-use Rattle.std.proofs.Common.{◌≡◌, ◌<◌, ◌^◌, ◌+◌, ◌++◌, ◌∙◌, All, ap, sym, subst, arith, length}
+use Rattle.std.proofs.Common.{◌≡◌, ◌<◌, ◌^◌, ◌++◌, ◌∙◌, All, ap, sym, subst, arith, length}
 use Rattle.std.specs.List.{flat_map}
-use Rattle.rite_file.specs.File.{record_of, end_section, canonical, Spells, IsHeld}
+use Rattle.rite_file.specs.File.{record_of, end_section, Spells, IsHeld}
 use Rattle.rite_file.specs.Written.{front}
 use Rattle.rite_file.proofs.CanonicalParts.{length-canonical, canonical_parts}
 use Rattle.rite_file.proofs.Law.{canonical_is}

@@ -1,4 +1,4 @@
-use Rattle.std.proofs.Common.{◌≡◌, ◌-◌, ◌∙◌, sym, ap, refl, arith, length, reverse, take, drop}
+use Rattle.std.proofs.Common.{◌≡◌, ◌-◌, ◌∙◌, ap, arith, length, reverse, drop}
 use Rattle.std.proofs.lemmas.List.{take_all, length-drop}
 use Rattle.rite_file.proofs.Forests.{last_of}
 use Rattle.rite_file.proofs.numbering.take_roots.Goals as goal
