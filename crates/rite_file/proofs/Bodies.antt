@@ -1,23 +1,20 @@
 -- Records and the bodies that they hold.
-use Rattle.std.proofs.Common.{◌≡◌, ◌≢◌, ℕ, zero, suc, ◌+◌, ◌-◌, ◌^◌, ◌<◌, ◌≤◌, Bool, true, false, ltb, eqb, List, [], ◌∷◌, ◌++◌, length, take, drop, refl, sym, ap, subst, ◌∙◌, arith, inl, inr, rules}
-use Rattle.std.specs.Prelude.{not, ◌&&◌, ◌||◌, flat_map, All}
+use Rattle.std.proofs.Common.{◌≡◌, ℕ, zero, suc, ◌+◌, ◌^◌, ◌<◌, ◌≤◌, Bool, true, false, ltb, eqb, List, [], ◌∷◌, ◌++◌, length, take, drop, refl, sym, ap, subst, ◌∙◌, arith}
+use Rattle.std.specs.Prelude.{not, ◌&&◌, ◌||◌, flat_map}
 use Rattle.std.specs.List.{AllByRecursion}
-use Rattle.std.specs.Int.{w32, to_be_bytes}
-use Rattle.std.proofs.lemmas.Bool.{lt-ltb, le-ltb, ltb-true, ltb-false, eqb-true, and_parts, and_from}
-use Rattle.std.proofs.lemmas.List.{length-append, length-take, length-drop, take-append-drop, take_at, drop_at, nil_from_length}
+use Rattle.std.proofs.lemmas.Bool.{lt-ltb, le-ltb, ltb-true, ltb-false, eqb-true}
+use Rattle.std.proofs.lemmas.List.{length-append, length-take, length-drop, take-append-drop, take_at, drop_at}
 use Rattle.std.proofs.lemmas.List.Concat.{flat_map-cons}
 use Rattle.std.proofs.lemmas.List.Elements.{All-from_recursion, recursion_from_All}
-use Rattle.rite_code.specs.Code.{IsBody, IsItem, IsText, IsForest, AreDistinct, none, node}
+use Rattle.rite_code.specs.Code.{IsBody, IsItem, IsText, IsForest, none, node}
 use Rattle.rite_code.specs.declared.code.Irep.{Irep}
 use Rattle.rite_code.specs.declared.code.PoolItem.{PoolItem}
 use Rattle.rite_code.specs.declared.code.PoolItem.TheVariants.{Int, Text}
 use Rattle.rite_file.specs.declared.records.Record.{Record}
-use Rattle.rite_file.specs.File.{fields, record_of, IsHeld, IsHeldItem}
+use Rattle.rite_file.specs.File.{record_of, IsHeld, IsHeldItem}
 use Rattle.rite_file.specs.Record.{are_registers}
 use Rattle.rite_file.specs.Loaded.{with_children, numbered}
-use Rattle.rite_file.proofs.Fields.{IsShort, not-true}
-use Rattle.rite_file.proofs.Parts.{FitsItem, AreCounts}
-use Rattle.rite_file.proofs.Counted.{AreCounted}
+use Rattle.rite_file.proofs.Parts.{FitsItem}
 use Rattle.rite_file.proofs.RecordFields.{IsRecord, FitsRecord, spelled_fields, spelled_record, Awaits}
 
 -- ---- one body

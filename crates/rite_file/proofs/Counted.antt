@@ -1,10 +1,9 @@
 -- Lists of fields: what is read is what was written, and what was written is read again.
-use Rattle.std.proofs.Common.{◌≡◌, ◌≢◌, ℕ, ℤ, zero, suc, ◌+◌, ◌-◌, ◌^◌, ◌<◌, ◌≤◌, Bool, true, false, cond, List, [], ◌∷◌, ◌++◌, length, drop, refl, sym, ap, subst, ◌∙◌, append_assoc, arith}
-use Rattle.std.specs.Prelude.{not, ◌||◌, Result, Ok, Err, All, flat_map}
+use Rattle.std.proofs.Common.{◌≡◌, ◌≢◌, ℕ, zero, suc, ◌+◌, ◌^◌, ◌<◌, Bool, true, false, List, [], ◌∷◌, ◌++◌, length, drop, refl, sym, ap, subst, ◌∙◌, append_assoc, arith}
+use Rattle.std.specs.Prelude.{not, ◌||◌, Result, Ok, flat_map}
 use Rattle.std.specs.Bool.{Decides}
 use Rattle.std.specs.List.{list_any, AllByRecursion}
 use Rattle.std.specs.Str.{bytes_eq}
-use Rattle.std.specs.Ordering.{int_eq}
 use Rattle.std.specs.Int.{w16, to_be_bytes}
 use Rattle.std.proofs.lemmas.Bool.Decides.{not_from_Decides, Decides-int_eq}
 use Rattle.std.proofs.lemmas.Slice.Eq.{bytes_eq-Decides}
@@ -13,7 +12,6 @@ use Rattle.std.proofs.lemmas.List.Concat.{flat_map-cons}
 use Rattle.std.proofs.lemmas.List.Elements.{All-from_recursion, recursion_from_All}
 use Rattle.rite_code.specs.Code.{AreDistinct}
 use Rattle.rite_code.specs.declared.code.CatchEntry.{CatchEntry}
-use Rattle.rite_code.specs.declared.code.PoolItem.{PoolItem}
 use Rattle.rite_code.specs.declared.code.PoolItem.TheVariants.{Int, Text}
 use Rattle.rite_file.specs.declared.error.LoadError.{LoadError}
 use Rattle.rite_file.specs.File.{text, catch_entry, pool_item, counted, IsHeldEntry}

@@ -1,5 +1,5 @@
 -- A field that is read is the field that was written, and what was written is read again.
-use Rattle.std.proofs.Common.{◌≡◌, ℕ, zero, suc, ◌+◌, ◌-◌, ◌^◌, ◌<◌, ◌≤◌, Bool, true, false, ltb, List, [], ◌∷◌, ◌++◌, length, get_or, take, drop, refl, sym, ap, subst, ◌∙◌, append_assoc, arith, inl, inr}
+use Rattle.std.proofs.Common.{◌≡◌, ℕ, ◌+◌, ◌-◌, ◌^◌, ◌<◌, ◌≤◌, Bool, true, false, ltb, List, [], ◌∷◌, ◌++◌, length, get_or, take, drop, refl, sym, ap, subst, ◌∙◌, append_assoc, arith, inl, inr}
 use Rattle.std.specs.Prelude.{not, Result, Ok, Err, ℤ, pos, negsuc}
 use Rattle.std.specs.Int.{Width, w8, w16, w32, w64, byte_len, from_be_bytes, to_be_bytes, cast_signed, cast_unsigned}
 use Rattle.std.proofs.lemmas.Bool.{cases_lt, ltb-false, lt-ltb, le-ltb}
@@ -8,7 +8,6 @@ use Rattle.std.proofs.lemmas.Nat.{be_bytes_2, be_bytes_4, be_bytes_8, from_be_by
 use Rattle.std.proofs.lemmas.Int.{to_z-of_z, of_z-to_z}
 use mir.Val.{SFits}
 use Rattle.rite_file.specs.declared.error.LoadError.{LoadError}
-use Rattle.rite_file.specs.declared.error.LoadError.TheVariants.{BadRecord}
 use Rattle.rite_file.specs.File.{text, IsInteger}
 use Rattle.rite_file.specs.Gives.{◌>>=◌}
 use Rattle.rite_file.specs.Record.{Reader, guarded, bytes_at, number_at, tested_at, text_at, int_at}

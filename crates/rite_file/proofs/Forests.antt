@@ -1,7 +1,7 @@
 -- Numbering bodies from the last to the first.
-use Rattle.std.proofs.Common.{◌≡◌, ℕ, zero, suc, ◌+◌, ◌-◌, ◌≤◌, ◌<◌, List, [], ◌∷◌, ◌++◌, length, take, drop, reverse, refl, sym, ap, ◌∙◌, arith, inl, inr}
+use Rattle.std.proofs.Common.{◌≡◌, ℕ, ◌+◌, ◌-◌, ◌≤◌, List, [], ◌∷◌, ◌++◌, length, take, drop, reverse, refl, sym, ap, ◌∙◌, arith, inl, inr}
 use Rattle.std.proofs.lemmas.Bool.{cases_lt}
-use Rattle.std.proofs.lemmas.List.{reverse-append, length-reverse, take-append-drop, take_at, drop_at, take_all, drop_all, length-drop, length-take}
+use Rattle.std.proofs.lemmas.List.{reverse-append, length-reverse, take-append-drop, take_at, drop_at, take_all, drop_all, length-drop}
 use Rattle.rite_code.specs.declared.code.Irep.{Irep}
 use Rattle.rite_file.specs.declared.records.Record.{Record}
 use Rattle.rite_file.specs.Loaded.{Forest, planted, numbered, with_children}
@@ -41,9 +41,9 @@ last_all n xs h =
 -- the last of a list, taken and left
 pub last_of : {A : Type 0} (n : ℕ) (xs : List A) → Last n (length xs - n) xs
 last_of n xs = elim (cases_lt (length xs) n) [
-    | inl lt ↦ let z : length xs - n ≡ 0 = omega (arith, lt) in rw z (last_all n xs (omega (arith, lt)))
-    | inr le ↦ last_some n (length xs - n) xs (omega (arith, le)) (omega arith)
-  ]
+  | inl lt ↦ let z : length xs - n ≡ 0 = omega (arith, lt) in rw z (last_all n xs (omega (arith, lt)))
+  | inr le ↦ last_some n (length xs - n) xs (omega (arith, le)) (omega arith)
+]
 
 reverse_push : {A : Type 0} (xs : List A) (x : A) → reverse (xs ++ x ∷ []) ≡ x ∷ reverse xs
 reverse_push xs x = reverse-append xs (x ∷ [])
@@ -55,7 +55,7 @@ pub plants : (left more : List Record) (r : Record) (bodies bodies' : List Irep)
     → onto 0 left (reverse bodies, reverse roots) ≡ total → onto 0 more (reverse bodies', reverse roots') ≡ total
 plants left more r bodies bodies' roots taken roots' children total e kids others b n so_far =
     let forest : planted (length more) r (reverse bodies, reverse roots) ≡ (reverse bodies', reverse roots') =
-        rw (b, n, reverse_push bodies (with_children r.body children), reverse_push taken (length more), others, kids) refl in
+    rw (b, n, reverse_push bodies (with_children r.body children), reverse_push taken (length more), others, kids) refl in
     let split : onto 0 left (reverse bodies, reverse roots) ≡ onto 0 more (planted (length more) r (reverse bodies, reverse roots)) =
-        ap (λ (rs : List Record). onto 0 rs (reverse bodies, reverse roots)) e ∙ onto_last 0 more r (reverse bodies, reverse roots) ∙ ap (λ (k : ℕ). onto 0 more (planted k r (reverse bodies, reverse roots))) (omega arith) in
+    ap (λ (rs : List Record). onto 0 rs (reverse bodies, reverse roots)) e ∙ onto_last 0 more r (reverse bodies, reverse roots) ∙ ap (λ (k : ℕ). onto 0 more (planted k r (reverse bodies, reverse roots))) (omega arith) in
     ap (onto 0 more) (sym forest) ∙ sym split ∙ so_far

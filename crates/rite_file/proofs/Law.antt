@@ -1,11 +1,11 @@
 -- A file that is read is the file that was written, and what was written is read again.
-use Rattle.std.proofs.Common.{◌≡◌, ◌≢◌, ℕ, zero, suc, ◌+◌, ◌-◌, ◌^◌, ◌<◌, ◌≤◌, Bool, true, false, cond, ltb, eqb, List, [], ◌∷◌, ◌++◌, length, take, drop, refl, sym, ap, subst, ◌∙◌, append_assoc, arith, inl, inr, rules}
-use Rattle.std.specs.Prelude.{not, ◌⊎◌, Option, Some, None, Result, Ok, Err, codes, flat_map, All}
+use Rattle.std.proofs.Common.{◌≡◌, ℕ, suc, ◌+◌, ◌-◌, ◌^◌, ◌<◌, ◌≤◌, Bool, true, false, cond, ltb, eqb, List, [], ◌∷◌, ◌++◌, length, take, drop, refl, sym, ap, subst, ◌∙◌, arith, inl, inr, rules}
+use Rattle.std.specs.Prelude.{not, ◌⊎◌, None, Result, Ok, Err, codes, flat_map, All}
 use Rattle.std.specs.List.{AllByRecursion}
 use Rattle.std.specs.Str.{bytes_eq}
 use Rattle.std.specs.Int.{w32, from_be_bytes, to_be_bytes}
-use Rattle.std.proofs.lemmas.Bool.{cases_lt, lt-ltb, le-ltb, ltb-true, ltb-false, eqb-true}
-use Rattle.std.proofs.lemmas.List.{length-append, length-take, length-drop, take-append-drop, take_at, take_all, drop_at, drop-drop, drop-take, drop_all, append-nil, nil_from_length}
+use Rattle.std.proofs.lemmas.Bool.{le-ltb, ltb-false, eqb-true}
+use Rattle.std.proofs.lemmas.List.{length-append, length-take, length-drop, take-append-drop, take_at, drop-drop, drop-take, drop_all, append-nil, nil_from_length}
 use Rattle.std.proofs.lemmas.List.Elements.{All-from_recursion, recursion_from_All}
 use Rattle.std.proofs.lemmas.Slice.Eq.{bytes_eq-Decides}
 use Rattle.rite_code.specs.Code.{Program, program, IsWhole, IsBody, IsForest}
@@ -20,7 +20,7 @@ use Rattle.rite_file.specs.Front.{four_at, front_of, sized, version_of, section_
 use Rattle.rite_file.specs.Gives.{◌>>=◌, Gives}
 use Rattle.rite_file.specs.Record.{records_at}
 use Rattle.rite_file.specs.Loaded.{irep_in, numbered, records_in, program_in, checked, loaded}
-use Rattle.rite_file.proofs.Fields.{IsBytes, IsBytes-drop, IsBytes-take, bind_ok, ok_is, Takes, rest_at, wide32}
+use Rattle.rite_file.proofs.Fields.{IsBytes, IsBytes-drop, IsBytes-take, bind_ok, ok_is, rest_at, wide32}
 use Rattle.rite_file.proofs.RecordFields.{FitsRecord, spelled_record, Awaits, records_take, records_again}
 use Rattle.rite_file.proofs.Bodies.{numbered_are, records_from, records_spelled, length-records, records_await, numbered_again, records_fit}
 use Rattle.rite_file.proofs.SectionFields.{contents_at, found, stands, irep_known}
@@ -92,8 +92,8 @@ file_is bytes h x v are front version size =
     let s : from_be_bytes w32 (take 4 (drop 8 bytes)) ≡ length bytes = ap (λ (y : Header). y.size) f.1.1 ∙ sym n in
     let sized-bytes : IsBytes (take 4 (drop 8 bytes)) = IsBytes-take 4 (drop 8 bytes) (IsBytes-drop 8 bytes are) in
     let number : take 4 (drop 8 bytes) ≡ to_be_bytes w32 (length (drop 20 bytes) + 20) =
-        sym (wide32.back (take 4 (drop 8 bytes)) (omega (arith, f.1.0, length-take 4 (drop 8 bytes), length-drop 8 bytes)) sized-bytes)
-        ∙ ap (to_be_bytes w32) (s ∙ omega (arith, f.1.0, length-drop 20 bytes)) in
+    sym (wide32.back (take 4 (drop 8 bytes)) (omega (arith, f.1.0, length-take 4 (drop 8 bytes), length-drop 8 bytes)) sized-bytes)
+    ∙ ap (to_be_bytes w32) (s ∙ omega (arith, f.1.0, length-drop 20 bytes)) in
     let name : take 4 (drop 12 bytes) ≡ codes "RBWN" = ap (λ (y : Header). y.name) f.1.1 ∙ k.name in
     let name' : take 4 (drop 16 bytes) ≡ version_name v = ap (λ (y : Header). y.version) f.1.1 ∙ k.version_is in
     let e16 : drop 16 bytes ≡ version_name v ++ drop 20 bytes = parts_of 4 bytes 16 ∙ ap (λ (t : List ℕ). t ++ drop 20 bytes) name' in
@@ -131,7 +131,7 @@ records_are version bytes s rs are long within e =
     let rest : drop b.0.1 inside ≡ [] = drop_all b.0.1 inside (omega (arith, g.0)) in
     let len : s.at + s.size ≡ s.at + 12 + (s.size - 12) = omega (arith, long) in
     let parts : take (s.size - 12) (drop (s.at + 12) bytes) ≡ flat_map spelled_record t.0 =
-        sym (drop-take (s.at + 12) (s.size - 12) bytes) ∙ ap (λ (n : ℕ). drop (s.at + 12) (take n bytes)) (sym len) ∙ t.2.takes.parts ∙ ap (λ (x : List ℕ). flat_map spelled_record t.0 ++ x) rest ∙ append-nil (flat_map spelled_record t.0) in
+    sym (drop-take (s.at + 12) (s.size - 12) bytes) ∙ ap (λ (n : ℕ). drop (s.at + 12) (take n bytes)) (sym len) ∙ t.2.takes.parts ∙ ap (λ (x : List ℕ). flat_map spelled_record t.0 ++ x) rest ∙ append-nil (flat_map spelled_record t.0) in
     let here : HoldsRecords version bytes s t.0 = record { contents = parts; few = t.2.few; each = t.2.each; awaits = t.2.awaits } in
     subst (HoldsRecords version bytes s) same here
 
@@ -172,7 +172,7 @@ program_is bytes v s rs are file irep records =
     let bodies : List Irep = (numbered 0 rs).0 in
     let contents : contents_at bytes s.at ≡ codes "0300" ++ flat_map record_of bodies = contents_are bytes s f.section f.long f.version ∙ ap (λ (t : List ℕ). codes "0300" ++ t) (holds.contents ∙ sym n.spelled) in
     let parts : drop 20 bytes ≡ f.before ++ (irep_section bodies ++ (f.behind.skipped ++ end_section)) =
-        f.parts ∙ ap (λ (t : List ℕ). f.before ++ (section irep_name t ++ drop (s.at + s.size) bytes)) contents ∙ ap (λ (t : List ℕ). f.before ++ (irep_section bodies ++ t)) f.behind.parts in
+    f.parts ∙ ap (λ (t : List ℕ). f.before ++ (section irep_name t ++ drop (s.at + s.size) bytes)) contents ∙ ap (λ (t : List ℕ). f.before ++ (irep_section bodies ++ t)) f.behind.parts in
     record {
       spells = record {
         before = f.before;
@@ -328,3 +328,10 @@ pub records_few : (bytes : List ℕ) (found : ℕ × Section) (rs : List Record)
 records_few bytes found rs are e records =
     let room = room_is bytes found are e in
     (records_are found.0 bytes found.1 rs are room.long room.within records).few
+
+-- a file is no shorter than the one without sections to skip
+pub canonical_fits : (bytes : List ℕ) (p : Program) → Spells bytes p → length (canonical p) < 2 ^ 32
+unfolding canonical
+canonical_fits bytes p s =
+    let irep : List ℕ = irep_section p.bodies in
+    omega (arith, s.size, ap length s.same, length-file p.version (sections_in p s.before s.behind), length-file p.version (irep ++ end_section), length-append s.before (irep ++ (s.behind ++ end_section)), length-append irep (s.behind ++ end_section), length-append s.behind end_section, length-append irep end_section)

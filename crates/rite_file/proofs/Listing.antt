@@ -1,9 +1,9 @@
 -- Reading values one after the other, as a loop does.
-use Rattle.std.proofs.Common.{◌≡◌, ℕ, zero, suc, ◌-◌, ◌+◌, ◌≤◌, ◌<◌, Bool, true, false, List, [], ◌∷◌, ◌++◌, refl, sym, ap, ◌∙◌, arith}
+use Rattle.std.proofs.Common.{◌≡◌, ℕ, suc, ◌-◌, ◌+◌, ◌≤◌, ◌<◌, Bool, true, false, List, [], ◌∷◌, ◌++◌, refl, sym, ◌∙◌, arith}
 use Rattle.std.specs.Prelude.{Result, Ok, Err}
 use Rattle.rite_file.specs.declared.error.LoadError.{LoadError}
 use Rattle.rite_file.specs.declared.error.LoadError.TheVariants.{NotRite, Foreign, Truncated, BadSection, BadRecord, NoMemory}
-use Rattle.rite_file.specs.Gives.{Fails, Gives}
+use Rattle.rite_file.specs.Gives.{Fails}
 use Rattle.rite_file.specs.Record.{Reader, list_at}
 
 pub list_done : {A : Type 0} (fits : List A → A → Bool) (read : Reader A) (seen : List A) (n k : ℕ) (bytes : List ℕ) (at : ℕ) → n ≤ k → list_at fits read seen (n - k) bytes at ≡ Ok (seen, at)

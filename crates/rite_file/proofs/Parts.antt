@@ -1,9 +1,8 @@
 -- The parts of a record: what is read is what was written, and what was written is read again.
-use Rattle.std.proofs.Common.{◌≡◌, ◌≢◌, ℕ, ℤ, zero, suc, ◌+◌, ◌-◌, ◌^◌, ◌<◌, ◌≤◌, Bool, true, false, cond, ltb, eqb, List, [], ◌∷◌, ◌++◌, length, drop, refl, sym, ap, subst, ◌∙◌, append_assoc, arith, inl, inr}
-use Rattle.std.specs.Prelude.{not, ◌&&◌, ◌||◌, Result, Ok, Err}
+use Rattle.std.proofs.Common.{◌≡◌, ℕ, ℤ, zero, suc, ◌+◌, ◌^◌, ◌<◌, Bool, true, false, cond, ltb, eqb, List, [], ◌∷◌, ◌++◌, length, drop, refl, sym, ap, subst, ◌∙◌, arith}
+use Rattle.std.specs.Prelude.{Result, Ok}
 use Rattle.std.specs.Int.{w8, w16, w32, to_be_bytes}
-use Rattle.std.proofs.lemmas.Bool.{cases_lt, ltb-true, ltb-false, lt-ltb, le-ltb, eqb-true}
-use Rattle.std.proofs.lemmas.List.{length-append}
+use Rattle.std.proofs.lemmas.Bool.{ltb-true, eqb-true}
 use Rattle.rite_code.specs.declared.code.CatchEntry.{CatchEntry}
 use Rattle.rite_code.specs.declared.code.PoolItem.{PoolItem}
 use Rattle.rite_code.specs.declared.code.PoolItem.TheVariants.{Int, Text}
@@ -11,8 +10,8 @@ use Rattle.rite_file.specs.declared.error.LoadError.{LoadError}
 use Rattle.rite_file.specs.declared.counts.Counts.{Counts}
 use Rattle.rite_file.specs.File.{text, kind, catch_entry, pool_item, IsInteger, IsHeldEntry}
 use Rattle.rite_file.specs.Gives.{◌>>=◌}
-use Rattle.rite_file.specs.Record.{Reader, guarded, number_at, tested_at, text_at, int_at, are_registers, counts_at, catch_at, item_at}
-use Rattle.rite_file.proofs.Fields.{IsBytes, bind_ok, guard_ok, ok_is, Takes, Takes-then, rest_at, IsField, wide8, wide16, wide32, number_field, IsTested, tested_field, IsShort, text_field, integer, int_field}
+use Rattle.rite_file.specs.Record.{number_at, tested_at, text_at, int_at, are_registers, counts_at, catch_at, item_at}
+use Rattle.rite_file.proofs.Fields.{IsBytes, bind_ok, ok_is, Takes, Takes-then, rest_at, IsField, wide8, wide16, wide32, number_field, IsTested, tested_field, IsShort, text_field, integer, int_field}
 
 abbrev two : IsField (to_be_bytes w16) (λ n. n < 2 ^ 16) (number_at w16)
 two = number_field w16 (2 ^ 16) wide16

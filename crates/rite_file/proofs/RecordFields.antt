@@ -1,8 +1,8 @@
 -- Records: what is read is what was written, and what was written is read again.
-use Rattle.std.proofs.Common.{◌≡◌, ◌≢◌, ℕ, ℤ, zero, suc, ◌+◌, ◌-◌, ◌^◌, ◌<◌, ◌≤◌, Bool, true, false, cond, eqb, List, [], ◌∷◌, ◌++◌, length, drop, refl, sym, ap, subst, ◌∙◌, append_assoc, arith, rules}
-use Rattle.std.specs.Prelude.{Result, Ok, Err, flat_map}
+use Rattle.std.proofs.Common.{◌≡◌, ℕ, zero, suc, ◌+◌, ◌^◌, ◌<◌, ◌≤◌, true, false, eqb, List, [], ◌∷◌, ◌++◌, length, drop, refl, sym, ap, subst, ◌∙◌, append_assoc, arith, rules}
+use Rattle.std.specs.Prelude.{Result, Ok, flat_map}
 use Rattle.std.specs.List.{AllByRecursion}
-use Rattle.std.specs.Int.{w16, w32, to_be_bytes}
+use Rattle.std.specs.Int.{w32, to_be_bytes}
 use Rattle.std.proofs.lemmas.Bool.{eqb-true}
 use Rattle.std.proofs.lemmas.List.{append-nil, length-append}
 use Rattle.std.proofs.lemmas.List.Concat.{flat_map-cons}
@@ -88,7 +88,7 @@ fields_again version bytes at r rest fit e =
     let e4 : drop (at + length counts + length code + length catches + length pool) bytes ≡ symbols ++ rest = rest_at bytes (at + length counts + length code + length catches) pool _ e3 in
     let s = symbols_field.again bytes (at + length counts + length code + length catches + length pool) r.body.symbols rest fit.symbols e4 in
     let end : at + length counts + length code + length catches + length pool + length symbols ≡ at + length (spelled_fields r) =
-        omega (arith, length-append code (catches ++ (pool ++ symbols)), length-append catches (pool ++ symbols), length-append pool symbols) in
+    omega (arith, length-append code (catches ++ (pool ++ symbols)), length-append catches (pool ++ symbols), length-append pool symbols) in
     rw (c, t, k, p, s) (ap (λ (n : ℕ). Ok (with_no_children r [], n)) end ∙ ap (λ (none : List ℕ). Ok (with_no_children r none, at + length (spelled_fields r))) (sym fit.childless))
 
 pub fields_field : (version : ℕ) → IsField spelled_fields (IsRecord version) (fields_at version)

@@ -1,10 +1,10 @@
 -- Sections: what is read is what was written, and what was written is read again.
-use Rattle.std.proofs.Common.{◌≡◌, ◌≢◌, ℕ, zero, suc, ◌+◌, ◌-◌, ◌^◌, ◌<◌, ◌≤◌, Bool, true, false, cond, ltb, eqb, List, [], ◌∷◌, ◌++◌, length, take, drop, refl, sym, ap, subst, ◌∙◌, append_assoc, arith, inl, inr, rules}
-use Rattle.std.specs.Prelude.{not, ◌⊎◌, ◌&&◌, ◌||◌, Option, Some, None, Result, Ok, Err, codes}
+use Rattle.std.proofs.Common.{◌≡◌, ℕ, zero, suc, ◌+◌, ◌-◌, ◌^◌, ◌<◌, ◌≤◌, Bool, true, false, cond, ltb, eqb, List, [], ◌∷◌, ◌++◌, length, take, drop, refl, sym, ap, subst, ◌∙◌, append_assoc, arith, inl, inr, rules}
+use Rattle.std.specs.Prelude.{not, ◌⊎◌, ◌&&◌, Option, Some, None, Result, Ok, Err, codes}
 use Rattle.std.specs.Str.{bytes_eq}
 use Rattle.std.specs.Int.{w32, from_be_bytes, to_be_bytes}
-use Rattle.std.proofs.lemmas.Bool.{cases_lt, lt-ltb, le-ltb, ltb-true, ltb-false, eqb-true, and_parts}
-use Rattle.std.proofs.lemmas.List.{length-append, length-take, length-drop, take-append-drop, take_at, drop_at, drop-drop, take-take, nil_from_length}
+use Rattle.std.proofs.lemmas.Bool.{le-ltb, ltb-true, ltb-false, eqb-true}
+use Rattle.std.proofs.lemmas.List.{length-append, length-take, length-drop, take-append-drop, take_at, drop-drop, nil_from_length}
 use Rattle.std.proofs.lemmas.Slice.Eq.{bytes_eq-Decides}
 use Rattle.rite_file.specs.declared.error.LoadError.{LoadError}
 use Rattle.rite_file.specs.declared.error.LoadError.TheVariants.{BadSection}
@@ -13,7 +13,7 @@ use Rattle.rite_file.specs.File.{section, irep_name, end_name, debug_name, local
 use Rattle.rite_file.specs.Front.{four_at, section_at, fits_at, sections_from}
 use Rattle.rite_file.specs.Loaded.{is_skipped, is_irep, is_end, irep_in}
 use Rattle.rite_file.proofs.Fields.{IsBytes, IsBytes-drop, IsBytes-take, not-true, rest_at, wide32}
-use Rattle.rite_file.proofs.SectionSteps.{Fits, fits-is, goes_on}
+use Rattle.rite_file.proofs.SectionSteps.{fits-is, goes_on}
 
 -- ---- one section that is read
 
@@ -39,7 +39,7 @@ section_parts bytes at are fits =
     let next : at + 8 + (size - 8) ≡ at + size = omega (arith, long) in
     let third : drop (at + 8) bytes ≡ take (size - 8) (drop (at + 8) bytes) ++ drop (at + size) bytes = parts_of (size - 8) bytes (at + 8) ∙ ap (λ (k : ℕ). take (size - 8) (drop (at + 8) bytes) ++ drop k bytes) next in
     let second : drop (at + 4) bytes ≡ to_be_bytes w32 (length (take (size - 8) (drop (at + 8) bytes)) + 8) ++ drop (at + 8) bytes =
-        parts_of 4 bytes (at + 4) ∙ ap (λ (t : List ℕ). t ++ drop (at + 4 + 4) bytes) (sym number ∙ ap (to_be_bytes w32) (sym len)) ∙ ap (λ (k : ℕ). to_be_bytes w32 (length (take (size - 8) (drop (at + 8) bytes)) + 8) ++ drop k bytes) (omega arith) in
+    parts_of 4 bytes (at + 4) ∙ ap (λ (t : List ℕ). t ++ drop (at + 4 + 4) bytes) (sym number ∙ ap (to_be_bytes w32) (sym len)) ∙ ap (λ (k : ℕ). to_be_bytes w32 (length (take (size - 8) (drop (at + 8) bytes)) + 8) ++ drop k bytes) (omega arith) in
     parts_of 4 bytes at
     ∙ ap (λ (t : List ℕ). take 4 (drop at bytes) ++ t) (second ∙ ap (λ (t : List ℕ). to_be_bytes w32 (length (take (size - 8) (drop (at + 8) bytes)) + 8) ++ t) third)
     ∙ sym (append_assoc (take 4 (drop at bytes)) (to_be_bytes w32 (length (take (size - 8) (drop (at + 8) bytes)) + 8) ++ take (size - 8) (drop (at + 8) bytes)) (drop (at + size) bytes))
@@ -190,7 +190,7 @@ found_later bytes at s are fits k later =
     let name = skipped_name (section_at bytes at) k in
     let inside : List ℕ = section irep_name (contents_at bytes s.at) ++ drop (s.at + s.size) bytes in
     let parts : drop at bytes ≡ (section (four_at bytes at) (contents_at bytes at) ++ later.before) ++ inside =
-        section_parts bytes at are fits ∙ ap (λ (t : List ℕ). section (four_at bytes at) (contents_at bytes at) ++ t) later.parts ∙ sym (append_assoc (section (four_at bytes at) (contents_at bytes at)) later.before inside) in
+    section_parts bytes at are fits ∙ ap (λ (t : List ℕ). section (four_at bytes at) (contents_at bytes at) ++ t) later.parts ∙ sym (append_assoc (section (four_at bytes at) (contents_at bytes at)) later.before inside) in
     record {
       before = section (four_at bytes at) (contents_at bytes at) ++ later.before;
       are = skips (four_at bytes at) (contents_at bytes at) later.before name later.are;

@@ -1,7 +1,7 @@
 -- The limit of the sections is never reached.
-use Rattle.std.proofs.Common.{◌≡◌, ℕ, zero, suc, ◌+◌, ◌-◌, ◌≤◌, ◌<◌, Bool, true, false, cond, ltb, List, [], ◌∷◌, length, refl, sym, ap, ◌∙◌, arith, inl, inr}
+use Rattle.std.proofs.Common.{◌≡◌, ℕ, zero, suc, ◌+◌, ◌-◌, ◌≤◌, ◌<◌, Bool, true, false, cond, ltb, List, [], ◌∷◌, length, refl, sym, ap, ◌∙◌, arith}
 use Rattle.std.specs.Prelude.{not, Option, Some, None, Result, Ok, Err}
-use Rattle.std.proofs.lemmas.Bool.{cases_lt, lt-ltb, le-ltb, ltb-true, ltb-false}
+use Rattle.std.proofs.lemmas.Bool.{lt-ltb, le-ltb, ltb-false}
 use Rattle.rite_file.specs.declared.error.LoadError.{LoadError}
 use Rattle.rite_file.specs.declared.error.LoadError.TheVariants.{BadSection}
 use Rattle.rite_file.specs.declared.front.Section.{Section}
@@ -48,7 +48,7 @@ enough (suc m) zero bytes at h k = nothing_left (suc m) bytes at (omega (arith, 
 enough (suc m) (suc n) bytes at h k =
     let next = at + (section_at bytes at).size in
     same_step bytes at (ltb at (length bytes)) (fits_at bytes at) (sections_from m bytes next) (sections_from n bytes next)
-        (λ p q. let f = (fits-is bytes at q).size in enough m n bytes next (omega (arith, h, f)) (omega (arith, k, f)))
+    (λ p q. let f = (fits-is bytes at q).size in enough m n bytes next (omega (arith, h, f)) (omega (arith, k, f)))
 
 at_most : (n : ℕ) (bytes : List ℕ) (at : ℕ) → length bytes ≤ at + n → at < length bytes → fits_at bytes at ≡ true
     → sections_from n bytes at ≡ Ok (section_at bytes at) ∷ sections_from (length bytes) bytes (at + (section_at bytes at).size)

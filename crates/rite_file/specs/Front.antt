@@ -1,5 +1,5 @@
 -- The header of a file and its sections.
-use Rattle.std.specs.Prelude.{◌≡◌, ℕ, zero, suc, ◌+◌, ◌-◌, Bool, true, false, not, List, [], ◌∷◌, ◌++◌, length, take, drop, Option, Some, None, Result, Ok, Err, nat_lt, nat_eq, if◌then◌else◌, codes}
+use Rattle.std.specs.Prelude.{ℕ, zero, suc, ◌+◌, ◌-◌, Bool, false, not, List, [], ◌∷◌, length, take, drop, Result, Ok, Err, nat_lt, if◌then◌else◌, codes}
 use Rattle.std.specs.Int.{from_be_bytes, w32}
 use Rattle.std.specs.Str.{bytes_eq}
 use Rattle.rite_file.specs.declared.error.LoadError.{LoadError}
@@ -56,8 +56,8 @@ unfoldable pub sections_from : ℕ → List ℕ → ℕ → List (Result Section
 sections_from zero bytes at = []
 sections_from (suc most) bytes at =
     if nat_lt at (length bytes) then (
-        if fits_at bytes at then Ok (section_at bytes at) ∷ sections_from most bytes (at + (section_at bytes at).size)
-        else Err (BadSection at) ∷ []
+    if fits_at bytes at then Ok (section_at bytes at) ∷ sections_from most bytes (at + (section_at bytes at).size)
+    else Err (BadSection at) ∷ []
     ) else []
 
 -- there are fewer sections than bytes

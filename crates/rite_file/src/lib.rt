@@ -12,24 +12,23 @@ ghost use Rattle.rite_file.specs.Loaded.{loaded};
 pub mod counts;
 pub mod error;
 pub mod front;
-mod opening;
 mod lists;
 mod loading;
 mod numbering;
+mod opening;
 pub mod reading;
 pub mod records;
 pub mod section_list;
-
 mod writing;
 
-pub use error::LoadError;
-pub use front::{Header, Section};
-pub use opening::{header, sections};
-pub use section_list::Sections;
 use crate::loading::{checked, records_in};
 use crate::numbering::numbered;
 use crate::writing::{END, put_front, put_records};
+pub use error::LoadError;
+pub use front::{Header, Section};
+pub use opening::{header, sections};
 use rite_code::Code;
+pub use section_list::Sections;
 use std::alloc::{AllocError, Global};
 
 /// The program of a file (docs/formats.md). Without `NoMemory` the answer is that of the first check that fails:
@@ -43,6 +42,7 @@ use std::alloc::{AllocError, Global};
 pub fn load(alloc: Global, bytes: &[u8]) -> Result<Code, LoadError>
     ensures exact { Gives result (loaded bytes.now) }
     ensures spelled { IfOk result (λ code. Spells bytes.now code) }
+    ensures small { IfOk result (λ code. length (canonical code) < 2 ^ 32) }
     ensures only { (p : Program) → IsWhole p → Spells bytes.now p → Gives result (Ok p) }
 {
     let (version, section) = checked(bytes)?;

@@ -107,11 +107,7 @@ fn has_text(seen: &[Bytes], text: &Bytes) -> bool
 
 /// The pool: a count and so many entries, no two of them equal.
 #[tactic(auto, unfolding(crate::specs::Record::pool_at))]
-pub fn pool_at(
-    alloc: Global,
-    bytes: &[u8],
-    at: usize,
-) -> Result<(List<PoolItem>, usize), LoadError>
+pub fn pool_at(alloc: Global, bytes: &[u8], at: usize) -> Result<(List<PoolItem>, usize), LoadError>
     requires { at ≤ length bytes.now }
     ensures value { Gives result (specs.pool_at bytes.now at) }
     ensures within { IfOk result (λ x. x.1 ≤ length bytes.now) }
@@ -145,11 +141,7 @@ fn items_at(
 
 /// The symbols: a count and so many texts, no two of them equal.
 #[tactic(auto, unfolding(crate::specs::Record::symbols_at))]
-pub fn symbols_at(
-    alloc: Global,
-    bytes: &[u8],
-    at: usize,
-) -> Result<(List<Bytes>, usize), LoadError>
+pub fn symbols_at(alloc: Global, bytes: &[u8], at: usize) -> Result<(List<Bytes>, usize), LoadError>
     requires { at ≤ length bytes.now }
     ensures value { Gives result (specs.symbols_at bytes.now at) }
     ensures within { IfOk result (λ x. x.1 ≤ length bytes.now) }

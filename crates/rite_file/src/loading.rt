@@ -52,9 +52,7 @@ fn has_version(bytes: &[u8], at: usize) -> bool
 fn is_irep(bytes: &[u8], section: &Section) -> bool
     ensures { result ≡ specs.is_irep bytes.now section.now }
 {
-    section.id == *b"IREP"
-        && section.size >= 12
-        && has_version(bytes, section.at as usize + 8)
+    section.id == *b"IREP" && section.size >= 12 && has_version(bytes, section.at as usize + 8)
 }
 
 #[tactic(auto, unfolding(crate::specs::Loaded::is_end))]

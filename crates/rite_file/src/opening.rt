@@ -26,4 +26,3 @@ pub fn sections<'a>(bytes: &'a [u8], header: &Header) -> Sections<'a>
     let size = header.size as usize;
     Sections::new(&bytes[..size])
 }
-

@@ -1,3 +1,5 @@
+ghost use Rattle.std.specs.Prelude.{◌<◌};
+
 use crate::{Header, LoadError, Section, header, load, sections, write};
 use std::alloc::{AllocError, Global};
 
@@ -135,7 +137,10 @@ fn refuses_each_prefix(rt: HostRuntime) {
         } else {
             LoadError::Truncated { at: len as u64 }
         };
-        assert!(rt; refusal(alloc, &STOP[..len]) == Some(wanted), "of {len} bytes");
+        assert!(rt;
+            refusal(alloc, &STOP[..len]) == Some(wanted),
+            "of {len} bytes"
+        );
     }
 }
 

@@ -1,10 +1,9 @@
-use Rattle.std.proofs.Common.{◌≡◌, ◌∙◌, ap, sym, arith, Ok}
+use Rattle.std.proofs.Common.{◌∙◌, ap, sym, arith, Ok}
 use Rattle.std.proofs.lemmas.Result.{err_from_is_err_and}
-use Rattle.rite_code.specs.Code.{program, IsWhole}
-use Rattle.rite_file.specs.Gives.{Fails, Gives}
-use Rattle.rite_file.specs.Loaded.{checked, records_in, loaded, numbered}
+use Rattle.rite_code.specs.Code.{program}
+use Rattle.rite_file.specs.Loaded.{records_in, loaded}
 use Rattle.rite_file.proofs.Listing.{fails_as, fails_with}
-use Rattle.rite_file.proofs.Law.{IsLoaded, checks_fail, records_fail, records_few, loaded_from, loaded_steps, only}
+use Rattle.rite_file.proofs.Law.{checks_fail, records_fail, records_few, loaded_from, loaded_steps, only, canonical_fits}
 use Rattle.rite_file.proofs.load.Goals as goal
 
 pub returns-in_err-version-clause-exact : goal.returns-in_err-version-clause-exact
@@ -19,8 +18,8 @@ pub returns-in_err-records-clause-exact : goal.returns-in_err-records-clause-exa
 returns-in_err-records-clause-exact c =
     let p = err_from_is_err_and c.from_residual-in_err-records.result c.from_residual-in_err-records.ensures.1 in
     let fail = fails_with c.in_err-records.field-0.0 (records_in c.in_ok-version.version c.args.bytes.now c.in_ok-version.section) (loaded c.args.bytes.now)
-        (λ e. records_fail c.args.bytes.now (c.in_ok-version.version, c.in_ok-version.section) c.in_err-records.field-0.0 (sym c.in_ok-version.ensures.value) e)
-        c.in_err-records.ensures in
+    (λ e. records_fail c.args.bytes.now (c.in_ok-version.version, c.in_ok-version.section) c.in_err-records.field-0.0 (sym c.in_ok-version.ensures.value) e)
+    c.in_err-records.ensures in
     rw (p.1, p.2) fail
 
 pub returns-in_err-records-clause-only : goal.returns-in_err-records-clause-only
@@ -46,3 +45,6 @@ returns-clause-spelled c =
 
 pub returns-clause-only : goal.returns-clause-only
 returns-clause-only c = only (Ok c.new.result) (returns-clause-exact c)
+
+pub returns-clause-small : goal.returns-clause-small
+returns-clause-small c = canonical_fits c.args.bytes.now c.new.result (returns-clause-spelled c)

@@ -1,6 +1,6 @@
-use Rattle.std.proofs.Common.{◌≡◌, ◌<◌, ◌^◌, ◌+◌, ◌++◌, ◌∙◌, All, ap, sym, subst, arith, length}
+use Rattle.std.proofs.Common.{◌≡◌, ◌<◌, ◌^◌, ◌++◌, ◌∙◌, All, ap, sym, subst, arith, length}
 use Rattle.std.specs.List.{flat_map}
-use Rattle.rite_file.specs.File.{record_of, end_section, canonical, Spells, IsHeld}
+use Rattle.rite_file.specs.File.{record_of, end_section, Spells, IsHeld}
 use Rattle.rite_file.specs.Written.{front}
 use Rattle.rite_file.proofs.CanonicalParts.{length-canonical, canonical_parts}
 use Rattle.rite_file.proofs.Law.{canonical_is}
@@ -27,7 +27,7 @@ returns-clause-value c =
     let put : c.put_records.new.out.items ≡ flat_map record_of c.args.code.now.bodies = (rw c.new-records.ensures.items at c.in_ok-put_records.ensures.bytes) ∙ ap (flat_map record_of) c.bodies.ensures.value in
     let len : c.len.result ≡ length (flat_map record_of c.args.code.now.bodies) = omega (arith, c.len.ensures, ap length put) in
     let first : c.put_front.new.out.items ≡ front c.args.code.now.version (length (flat_map record_of c.args.code.now.bodies)) =
-        (rw c.new-out.ensures.items at c.in_ok-put_front.ensures) ∙ ap (λ v. front v c.len.result) c.version-version.ensures.value ∙ ap (front c.args.code.now.version) len in
+    (rw c.new-out.ensures.items at c.in_ok-put_front.ensures) ∙ ap (λ v. front v c.len.result) c.version-version.ensures.value ∙ ap (front c.args.code.now.version) len in
     let records : c.deref.result.now ≡ flat_map record_of c.args.code.now.bodies = c.deref.ensures.value ∙ put in
     c.in_ok-extend_from_slice-2.ensures.items
     ∙ ap (λ t. t ++ end_section) (c.in_ok-extend_from_slice.ensures.items ∙ ap (λ t. t ++ c.deref.result.now) first ∙ ap (λ t. front c.args.code.now.version (length (flat_map record_of c.args.code.now.bodies)) ++ t) records)

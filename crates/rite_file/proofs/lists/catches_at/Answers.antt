@@ -1,4 +1,4 @@
-use Rattle.std.proofs.Common.{◌≡◌, ◌∙◌, sym, refl, []}
+use Rattle.std.proofs.Common.{◌∙◌, sym, refl, []}
 use Rattle.std.proofs.lemmas.Result.{err_from_is_err_and}
 use Rattle.rite_file.specs.Record.{any, catch_at, catches_at, list_at}
 use Rattle.rite_file.proofs.Listing.{list_done, list_goes_on, list_fails, fails_as}

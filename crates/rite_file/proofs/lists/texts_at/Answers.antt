@@ -1,10 +1,10 @@
-use Rattle.std.proofs.Common.{◌≡◌, Bool, true, false, ◌∙◌, sym, ap, refl, []}
+use Rattle.std.proofs.Common.{◌≡◌, true, false, ◌∙◌, sym, ap, []}
 use Rattle.std.specs.Prelude.{not}
 use Rattle.std.specs.Str.{bytes_eq}
 use Rattle.std.specs.List.{list_any}
 use Rattle.std.proofs.lemmas.Result.{err_from_is_err_and}
 use Rattle.rite_file.specs.Record.{is_new, text_at, list_at}
-use Rattle.rite_file.proofs.Listing.{list_done, list_goes_on, list_fails, list_refuses, fails_as}
+use Rattle.rite_file.proofs.Listing.{list_done, list_goes_on, list_fails, list_refuses}
 use Rattle.rite_file.proofs.lists.texts_at.Goals as goal
 
 pub returns-in_err-text-clause-value : goal.returns-in_err-text-clause-value

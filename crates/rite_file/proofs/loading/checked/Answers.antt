@@ -1,5 +1,5 @@
-use Rattle.std.proofs.Common.{◌≡◌, sym, arith}
-use Rattle.rite_file.proofs.Law.{checked_from, room_is, IsRoom}
+use Rattle.std.proofs.Common.{sym, arith}
+use Rattle.rite_file.proofs.Law.{checked_from, room_is}
 use Rattle.rite_file.proofs.loading.checked.Goals as goal
 
 pub returns-clause-long : goal.returns-clause-long

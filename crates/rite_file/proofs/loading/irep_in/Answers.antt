@@ -1,4 +1,4 @@
-use Rattle.std.proofs.Common.{◌≡◌, ◌∙◌, sym, ap, refl, None, Ok, Err, Some, Option, Result, true, false}
+use Rattle.std.proofs.Common.{◌≡◌, ◌∙◌, sym, ap, None, Ok, Err, Some, Option, Result}
 use Rattle.std.specs.Prelude.{slice_get}
 use Rattle.std.proofs.lemmas.Result.{err_from_is_err_and}
 use Rattle.rite_file.specs.declared.front.Section.{Section}

@@ -1,4 +1,4 @@
-use Rattle.std.proofs.Common.{◌≡◌, ◌∙◌, ◌++◌, ◌∷◌, [], sym, ap, refl, arith, length, reverse, drop, add-zero, append-nil}
+use Rattle.std.proofs.Common.{◌≡◌, ◌∙◌, ◌++◌, ◌∷◌, [], ap, arith, length}
 use Rattle.rite_file.specs.Loaded as specs
 use Rattle.rite_file.specs.Loaded.{with_children}
 use Rattle.rite_file.proofs.Forests.{plants}

@@ -1,4 +1,4 @@
-use Rattle.std.proofs.Common.{◌≡◌, ◌≤◌, [], length, reverse}
+use Rattle.std.proofs.Common.{◌≡◌, ◌≤◌, length, reverse}
 use Rattle.rite_file.specs.Loaded as specs
 use Rattle.rite_file.proofs.Forests.{onto}
 use Rattle.rite_file.proofs.numbering.numbered.Given as goal

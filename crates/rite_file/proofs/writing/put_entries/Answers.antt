@@ -1,4 +1,4 @@
-use Rattle.std.proofs.Common.{◌≡◌, refl, get_or, false}
+use Rattle.std.proofs.Common.{refl, get_or, false}
 use Rattle.std.proofs.lemmas.List.Elements.{All-more}
 use Rattle.rite_code.specs.declared.code.CatchEntry.{CatchEntry}
 use Rattle.rite_file.specs.File.{catch_entry, IsHeldEntry}

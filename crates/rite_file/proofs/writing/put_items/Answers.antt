@@ -1,4 +1,4 @@
-use Rattle.std.proofs.Common.{◌≡◌, ap, subst}
+use Rattle.std.proofs.Common.{subst}
 use Rattle.std.proofs.lemmas.List.Elements.{All-more}
 use Rattle.rite_file.specs.File.{pool_item, IsHeldItem}
 use Rattle.rite_file.proofs.Pieces.{puts_more}

@@ -1,4 +1,4 @@
-use Rattle.std.proofs.Common.{◌≡◌, ◌<◌, ◌^◌, ap, subst, sym, length, get_or, arith}
+use Rattle.std.proofs.Common.{◌<◌, ◌^◌, subst, sym, length, get_or, arith}
 use Rattle.std.proofs.lemmas.List.Elements.{All-more}
 use Rattle.rite_file.specs.File.{record_of, IsHeld}
 use Rattle.rite_file.proofs.Pieces.{puts_more, piece}

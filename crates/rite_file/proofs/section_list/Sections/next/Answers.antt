@@ -1,4 +1,4 @@
-use Rattle.std.proofs.Common.{◌≡◌, ◌∙◌, sym, ap, arith}
+use Rattle.std.proofs.Common.{◌∙◌, sym, ap, arith}
 use Rattle.std.specs.Prelude.{slice_get}
 use Rattle.rite_file.proofs.SectionSteps.{goes_on}
 use Rattle.rite_file.proofs.section_list.Sections.next.Goals as goal
