@@ -8,7 +8,7 @@ use Rattle.rb_syntax.specs.Names.{names_of}
 use Rattle.rb_syntax.specs.Limits.{IsWithin}
 use Rattle.rite_code.specs.Code.{AreDistinct, IsText, IsItem, IsBody, IsForest, none, node, IsWhole}
 use Rattle.rite_code.specs.declared.operation.Operation.TheVariants.{Stop}
-use Rattle.code_generator.specs.Gen.{gen, len, first_free, width, symbols_of, calls_puts, operations_of, body_of, code_of}
+use Rattle.code_generator.specs.Gen.{gen, len, first_free, width, symbols_of, calls_puts, operations_of, full_body, full_code}
 use Rattle.code_generator.proofs.Bounds.{within_registers, within_code}
 use Rattle.code_generator.proofs.Pieces.{total, total_append, gen_len}
 use Rattle.code_generator.proofs.Compiled.{bytes_of, length_bytes}
@@ -28,7 +28,7 @@ symbols_apart : (b : Bool) → AreDistinct (if b then codes "puts" ∷ [] else [
 symbols_apart true = (All-nil _, tt)
 symbols_apart false = tt
 
-body_is : (f : Form) → IsWithin f → IsBody 2 (body_of f)
+body_is : (f : Form) → IsWithin f → IsBody 2 (full_body f)
 body_is f w = record {
   has_self = omega arith;
   locals = omega arith;
@@ -44,10 +44,10 @@ body_is f w = record {
   child_count = omega arith;
 }
 
-pub code_is_whole : (f : Form) → IsWithin f → IsWhole (code_of f)
-code_is_whole f w = record {
+pub full_is_whole : (f : Form) → IsWithin f → IsWhole (full_code f)
+full_is_whole f w = record {
   version = inr refl;
   count = omega arith;
-  each = All-cons (IsBody 2) (body_of f) [] (body_is f w) (All-nil (IsBody 2));
+  each = All-cons (IsBody 2) (full_body f) [] (body_is f w) (All-nil (IsBody 2));
   tree = node none;
 }

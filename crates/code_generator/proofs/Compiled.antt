@@ -16,7 +16,7 @@ use Rattle.rite_code.specs.Spelling.{encoding, encodings, decode_wide_at}
 use Rattle.rite_code.proofs.RoundTrip.{decode_encoded, length-encoding_narrow}
 use Rattle.def_machine.specs.State.{body_at}
 use Rattle.def_machine.specs.Turn.{fetch}
-use Rattle.code_generator.specs.Gen.{gen, len, register_of, is_puts, calls_puts, any_calls_puts, symbols_of, first_free, operations_of, code_of}
+use Rattle.code_generator.specs.Gen.{gen, len, register_of, is_puts, calls_puts, any_calls_puts, symbols_of, first_free, operations_of, full_code}
 use Rattle.code_generator.specs.Implements.{source_of, Implements}
 use Rattle.code_generator.proofs.Bounds.{has_operands, three_parts, within_registers, within_code}
 use Rattle.code_generator.proofs.Pieces.{HasAt, total, total_append, front, back, gen_len}
@@ -111,20 +111,20 @@ named_by f h = ap (λ (t : Bool). get_or (cond t (codes "puts" ∷ []) []) 0 [])
 none_within : (ns : List Name) → Within [] ns
 none_within ns = λ x h. absurd (cc)
 
-pub fine_code : (f : Form) → IsWithin f → Fine (code_of f) 0 (names_of f) f
-fine_code f w = fine_of (code_of f) 0 (names_of f) refl [] f (none_within (names_of f)) (assigned_own f) w.plain w.scoped (named_by f)
+pub fine_code : (f : Form) → IsWithin f → Fine (full_code f) 0 (names_of f) f
+fine_code f w = fine_of (full_code f) 0 (names_of f) refl [] f (none_within (names_of f)) (assigned_own f) w.plain w.scoped (named_by f)
 
 -- the instructions stand in the code one behind the other
-pub has_code : (f : Form) → IsWithin f → HasAt (code_of f) 0 0 (operations_of f)
+pub has_code : (f : Form) → IsWithin f → HasAt (full_code f) 0 0 (operations_of f)
 has_code f w =
     let registers = within_registers f w in
     let short = within_code f w in
-    let fit = AllFit-append (gen (names_of f) f (first_free f) 0) (Stop ∷ []) (gen_fits (code_of f) 0 (names_of f) (omega (arith, registers)) f (first_free f) 0 w.plain (fine_code f w) registers (omega (arith, short))) (refl, tt) in
-    has_from (code_of f) 0 [] (operations_of f) refl fit
+    let fit = AllFit-append (gen (names_of f) f (first_free f) 0) (Stop ∷ []) (gen_fits (full_code f) 0 (names_of f) (omega (arith, registers)) f (first_free f) 0 w.plain (fine_code f w) registers (omega (arith, short))) (refl, tt) in
+    has_from (full_code f) 0 [] (operations_of f) refl fit
 
-pub code_is : (f : Form) → IsWithin f → IsCodeOf (source_of f) (code_of f)
+pub code_is : (f : Form) → IsWithin f → IsCodeOf (source_of f) (full_code f)
 code_is f w =
-    let p = code_of f in
+    let p = full_code f in
     let ns = names_of f in
     let code = has_code f w in
     record {
@@ -135,6 +135,5 @@ code_is f w =
       stop = record { here = (back p 0 0 (len f) (gen ns f (first_free f) 0) (Stop ∷ []) (gen_len ns f (first_free f) 0) code).0 };
     }
 
--- the theorem
-pub compiled : (f : Form) → IsWithin f → Implements (code_of f) f
-compiled f w input = implements (source_of f) (code_of f) input (code_is f w)
+pub full_implements : (f : Form) → IsWithin f → Implements (full_code f) f
+full_implements f w input = implements (source_of f) (full_code f) input (code_is f w)

@@ -20,3 +20,5 @@ pub mod Bodies
 pub mod Checked
 pub mod Layouts
 pub mod Verified
+pub mod Nothing
+pub mod Programs

@@ -17,7 +17,7 @@ use Rattle.code_outline.specs.Layout.{Standing, layout, end_of, is_start}
 use Rattle.code_outline.specs.Makers.{Made, made_by, made_in, made_from, first_maker, maker_of, child_made}
 use Rattle.code_verifier.specs.Checks.{Bad, first, cause_of, bad, instructions_bad, end_bad, catches_bad, read_whole, body_bad, bodies_bad, first_bad}
 use Rattle.code_verifier.specs.Verified.{IsVerified}
-use Rattle.code_generator.specs.Gen.{len, gen, width, symbols_of, operations_of, body_of, code_of, first_free}
+use Rattle.code_generator.specs.Gen.{len, gen, width, symbols_of, operations_of, full_body, full_code, first_free}
 use Rattle.code_generator.proofs.Bounds.{within_registers}
 use Rattle.code_generator.proofs.Pieces.{HasAt, total, gen_len}
 use Rattle.code_generator.proofs.Generated.{Fine}
@@ -86,13 +86,13 @@ module _ (f : Form) (w : IsWithin f) where
   ss = placed_from 0 (operations_of f)
 
   abbrev b : Irep
-  b = body_of f
+  b = full_body f
 
   size : length (bytes_of (operations_of f)) ≡ total (operations_of f)
   size = length_bytes (operations_of f)
 
   laid : layout 2 b.code ≡ ss
-  laid = layout_is (code_of f) 0 (operations_of f) (has_code f w) size
+  laid = layout_is (full_code f) 0 (operations_of f) (has_code f w) size
 
   inside : (at : ℕ) → is_start ss at ≡ true → nat_lt at (length b.code) ≡ true
   inside at h = lt-ltb at (length b.code) (omega (arith, starts_within 0 at (operations_of f) h, size))
@@ -108,23 +108,23 @@ module _ (f : Form) (w : IsWithin f) where
 
   all_pass : AllPass ss b.registers (length b.symbols) (length b.code) 0 (operations_of f)
   all_pass =
-      let parts = form_passes ss b.registers (length b.symbols) (length b.code) inside (code_of f) 0 (names_of f) (omega arith) (some_symbol b.symbols) f (first_free f) 0 (fine_code f w) (omega arith) (begin_front ss 0 0 0 0 (gen (names_of f) f (first_free f) 0) (Stop ∷ []) begins) stop_starts.0 in
+      let parts = form_passes ss b.registers (length b.symbols) (length b.code) inside (full_code f) 0 (names_of f) (omega arith) (some_symbol b.symbols) f (first_free f) 0 (fine_code f w) (omega arith) (begin_front ss 0 0 0 0 (gen (names_of f) f (first_free f) 0) (Stop ∷ []) begins) stop_starts.0 in
       pass_append ss b.registers (length b.symbols) (length b.code) 0 (gen (names_of f) f (first_free f) 0) (Stop ∷ []) parts
         (subst (λ (n : ℕ). AllPass ss b.registers (length b.symbols) (length b.code) n (Stop ∷ [])) (omega (arith, gen_len (names_of f) f (first_free f) 0)) (stop_passes, tt))
 
-  no_maker : maker_of (code_of f) 0 ≡ None
+  no_maker : maker_of (full_code f) 0 ≡ None
   unfolding maker_of made_from first_maker
   no_maker =
       ap (λ (xs : List Standing). first_maker 0 (made_in 0 b xs ++ [])) laid
       ∙ ap (λ (ms : List Made). first_maker 0 (ms ++ [])) (makes_none b ss b.registers (length b.symbols) (length b.code) 0 (operations_of f) all_pass)
 
-  body_holds : body_bad (code_of f) 0 b ≡ None
+  body_holds : body_bad (full_code f) 0 b ≡ None
   unfolding body_bad first
   body_holds =
-      ap (λ (xs : List Standing). first (instructions_bad (code_of f) 0 b xs xs ++ end_bad (code_of f) 0 b (end_of 0 xs) ∷ [])) laid
-      ∙ (none_fails (code_of f) b ss 0 (operations_of f) (end_bad (code_of f) 0 b (end_of 0 ss) ∷ []) no_maker all_pass
+      ap (λ (xs : List Standing). first (instructions_bad (full_code f) 0 b xs xs ++ end_bad (full_code f) 0 b (end_of 0 xs) ∷ [])) laid
+      ∙ (none_fails (full_code f) b ss 0 (operations_of f) (end_bad (full_code f) 0 b (end_of 0 ss) ∷ []) no_maker all_pass
       ∙ ap (λ (c : Option _). first (bad 0 (end_of 0 ss) c ∷ [])) (read_all b.code (end_of 0 ss) (omega (arith, length_code f)) (end_is 0 (operations_of f) ∙ omega (arith, size))))
 
-  pub code_verified : IsVerified (code_of f)
+  pub full_verified : IsVerified (full_code f)
   unfolding first_bad bodies_bad first
-  code_verified = ap (λ (x : Option Bad). first (x ∷ [])) body_holds
+  full_verified = ap (λ (x : Option Bad). first (x ∷ [])) body_holds

@@ -156,9 +156,9 @@ first_free f = length (names_of f) + 1
 abbrev pub operations_of : Form → List Operation
 operations_of f = gen (names_of f) f (first_free f) 0 ++ Stop ∷ []
 
--- the body of a main program, and its code
-abbrev pub body_of : Form → Irep
-body_of f = record {
+-- the body of a main program
+abbrev pub full_body : Form → Irep
+full_body f = record {
   locals = first_free f;
   registers = first_free f + width f;
   code = encodings (map narrow (operations_of f));
@@ -168,5 +168,28 @@ body_of f = record {
   children = [];
 }
 
+abbrev pub full_code : Form → Program
+full_code f = record { version = 2; bodies = full_body f ∷ [] }
+
+-- a program without a line has no code but its end
+abbrev pub is_nothing : Form → Bool
+is_nothing (seq none) = true
+is_nothing f = false
+
+abbrev pub nothing_body : Irep
+nothing_body = record {
+  locals = 1;
+  registers = 1;
+  code = encodings (narrow Stop ∷ []);
+  catches = [];
+  pool = [];
+  symbols = [];
+  children = [];
+}
+
+abbrev pub nothing_code : Program
+nothing_code = record { version = 2; bodies = nothing_body ∷ [] }
+
+-- the code of a main program
 abbrev pub code_of : Form → Program
-code_of f = record { version = 2; bodies = body_of f ∷ [] }
+code_of f = if is_nothing f then nothing_code else full_code f

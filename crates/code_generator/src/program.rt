@@ -1,5 +1,6 @@
 //! The code of a main program.
-ghost use Rattle.std.specs.Prelude.{◌≡◌, IfOk, MatchOption};
+ghost use Rattle.std.specs.Prelude.{◌≡◌, [], ◌∷◌, IfOk, MatchOption};
+ghost use Rattle.rite_code.specs.Code.{IsWhole};
 ghost use Rattle.rb_syntax.specs.Limits.{IsWithin};
 ghost use Rattle.rb_syntax.specs.View.{form_of};
 ghost use Rattle.code_generator.specs.Gen.{any_calls_puts, code_of, symbols_of};
@@ -55,11 +56,50 @@ fn symbols(alloc: Global, tree: &Tree) -> Result<List<Bytes>, AllocError>
     Ok(symbols)
 }
 
-/// The code of a main program.
-#[tactic(auto, using(crate::proofs::Bounds::within_registers, crate::proofs::Bounds::within_code, crate::proofs::Numbers::within_numbers, crate::proofs::Bodies::code_is_whole))]
-fn main_program(alloc: Global, tree: &Tree) -> Result<Code, AllocError>
+/// Whether the program has no line.
+fn is_nothing(tree: &Tree) -> bool
+    ensures { result ≡ gen.is_nothing (form tree.now) }
+{
+    match tree {
+        Tree::Seq(list) => list.as_slice().is_empty(),
+        _ => false,
+    }
+}
+
+/// The program of one body.
+fn program(alloc: Global, body: Irep) -> Result<Code, AllocError>
+    requires { IsWhole (record { version = 2; bodies = body ∷ [] }) }
+    ensures { IfOk result (λ code. code ≡ record { version = 2; bodies = body ∷ [] }) }
+{
+    let mut bodies = List::new(alloc);
+    bodies.push(body)?;
+    Ok(Code::new(2, bodies))
+}
+
+/// The code of a program without a line: its end.
+#[tactic(auto, using(crate::proofs::Nothing::nothing_is_whole))]
+fn nothing(alloc: Global) -> Result<Code, AllocError>
+    ensures { IfOk result (λ code. code ≡ gen.nothing_code) }
+{
+    let mut code = Assembly::new(alloc);
+    code.put(Operation::Stop)?;
+    let body = Irep {
+        locals: 1,
+        registers: 1,
+        code: Bytes::from_vec(code.encode(alloc)?),
+        catches: List::new(alloc),
+        pool: List::new(alloc),
+        symbols: List::new(alloc),
+        children: List::new(alloc),
+    };
+    program(alloc, body)
+}
+
+/// The code of a program with lines.
+#[tactic(auto, using(crate::proofs::Bounds::within_registers, crate::proofs::Bounds::within_code, crate::proofs::Numbers::within_numbers, crate::proofs::Bodies::full_is_whole))]
+fn full(alloc: Global, tree: &Tree) -> Result<Code, AllocError>
     requires { IsWithin (form tree.now) }
-    ensures { IfOk result (λ code. code ≡ code_of (form tree.now)) }
+    ensures { IfOk result (λ code. code ≡ gen.full_code (form tree.now)) }
 {
     let mut names = Vec::new(alloc);
     collect(alloc, &mut names, tree)?;
@@ -76,9 +116,19 @@ fn main_program(alloc: Global, tree: &Tree) -> Result<Code, AllocError>
         symbols: symbols(alloc, tree)?,
         children: List::new(alloc),
     };
-    let mut bodies = List::new(alloc);
-    bodies.push(body)?;
-    Ok(Code::new(2, bodies))
+    program(alloc, body)
+}
+
+/// The code of a main program.
+fn main_program(alloc: Global, tree: &Tree) -> Result<Code, AllocError>
+    requires { IsWithin (form tree.now) }
+    ensures { IfOk result (λ code. code ≡ code_of (form tree.now)) }
+{
+    if is_nothing(tree) {
+        nothing(alloc)
+    } else {
+        full(alloc, tree)
+    }
 }
 
 /// The code of a core form that stands for a form within the limits. The error is that memory ran out.

@@ -108,8 +108,8 @@ fn encode(alloc: Global, text: &[u8]) -> Result<Vec<u8>, Report>
     Ok(bytes)
 }
 
-// The program of these bytes, loaded and verified. No file of a verified program is refused.
-fn check(alloc: Global, bytes: &[u8]) -> Result<Verified, Report>
+/// The program of these bytes, loaded and verified. No file of a verified program is refused.
+pub fn check(alloc: Global, bytes: &[u8]) -> Result<Verified, Report>
     ensures { (p : Program) → IsWhole p → IsVerified p → Spells bytes.now p → Checks p result }
 {
     let code = rite_file::load(alloc, bytes)?;

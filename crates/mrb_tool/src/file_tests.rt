@@ -1,8 +1,13 @@
 //! The commands that build a file and show what one holds, over files and streams in memory.
+ghost use Rattle.std.specs.Prelude.{◌<◌};
+
+use crate::building::check;
+use crate::report::Report;
 use crate::rite::{End, rite};
 use code_listing::Refusal;
 use rb_base::{MemoryFiles, MemorySink, MemorySource};
-use std::alloc::Global;
+use rite_code::Cause;
+use std::alloc::{AllocError, Global};
 use std::process::Abort;
 use std::test::Fail;
 
@@ -143,5 +148,95 @@ fn finds_no_file(rt: HostRuntime) -> Result<(), Fail> {
         assert_eq!(rt; left.end, End::FileFault);
         assert_eq!(rt; left.err.bytes(), b"file fault\n".as_slice());
     }
+    Ok(())
+}
+
+/// A file of version 1 whose jump leads past the end.
+const JUMP: [u8; 64] = *b"RITE0300\x00\x00\x00\x40RBWN0001IREP\x00\x00\x00\x240300\
+    \x00\x00\x00\x18\x00\x01\x00\x01\x00\x00\x00\x00\x00\x00\x00\x04\x15\x00\x01\x48\x00\x00\x00\x00END\x00\x00\x00\x00\x08";
+
+/// A file of version 2 with a wide load before its stop.
+const WIDE: [u8; 67] = *b"RITE0300\x00\x00\x00\x43RBWN0002IREP\x00\x00\x00\x270300\
+    \x00\x00\x00\x1b\x00\x01\x00\x01\x00\x00\x00\x00\x00\x00\x00\x07\x49\x03\x00\x00\x00\x05\x48\
+    \x00\x00\x00\x00END\x00\x00\x00\x00\x08";
+
+/// Why a file isn't a program that can be run.
+fn refusal(alloc: Global, given: &[u8]) -> Option<Refusal> {
+    match check(alloc, given) {
+        Err(Report::Refused(refusal)) => Some(refusal),
+        _ => None,
+    }
+}
+
+#[test]
+fn verifies_files(rt: HostRuntime) -> Result<(), Fail> {
+    let alloc = rt.alloc();
+    let bad = |cause| {
+        Some(Refusal::Bad {
+            irep: 0,
+            at: 0,
+            cause,
+        })
+    };
+    assert_eq!(rt; refusal(alloc, &STOP), None);
+    assert_eq!(rt; refusal(alloc, &JUMP), bad(Cause::Jump));
+    let mut next = JUMP;
+    next[50] = 0;
+    assert_eq!(rt; refusal(alloc, &next), None);
+    assert_eq!(rt; refusal(alloc, &WIDE), None);
+    let mut first = WIDE;
+    first[19] = b'1';
+    assert_eq!(rt; refusal(alloc, &first), bad(Cause::Opcode));
+    let mut stop = WIDE;
+    stop[49] = 0x48;
+    assert_eq!(rt; refusal(alloc, &stop), bad(Cause::Extended));
+    let mut unknown = STOP;
+    unknown[48] = 0xb7;
+    assert_eq!(rt; refusal(alloc, &unknown), bad(Cause::Opcode));
+    let mut registers = STOP;
+    registers[39] = 0xfe;
+    assert_eq!(rt; refusal(alloc, &registers), None);
+    Ok(())
+}
+
+#[test]
+fn lists_wide_instructions(rt: HostRuntime) -> Result<(), Fail> {
+    let listing = "irep 0 locals 1 registers 1 children 0\n00000 EXT LOADI 0 5\n00006 STOP\n";
+    shows(&rt, rt.alloc(), "list", &WIDE, listing)
+}
+
+/// A chain of bodies, each with STOP and, but for the last, one child.
+fn chain(alloc: Global, count: u32) -> Result<Vec<u8>, AllocError>
+    requires { count < 100000 }
+{
+    let mut bytes = Vec::new(alloc);
+    bytes.extend_from_slice(b"RITE0300")?;
+    bytes.extend_from_slice(&(21 * count + 40).to_be_bytes())?;
+    bytes.extend_from_slice(b"RBWN0001IREP")?;
+    bytes.extend_from_slice(&(21 * count + 12).to_be_bytes())?;
+    bytes.extend_from_slice(b"0300")?;
+    for number in 0..count {
+        let children = if number + 1 < count { 1u8 } else { 0u8 };
+        bytes.extend_from_slice(b"\x00\x00\x00\x15\x00\x01\x00\x01\x00")?;
+        bytes.push(children)?;
+        bytes.extend_from_slice(b"\x00\x00\x00\x00\x00\x01\x48\x00\x00\x00\x00")?;
+    }
+    bytes.extend_from_slice(b"END\x00\x00\x00\x00\x08")?;
+    Ok(bytes)
+}
+
+#[test]
+fn judges_long_chains(rt: HostRuntime) -> Result<(), AllocError> {
+    let alloc = rt.alloc();
+    let most = chain(alloc, 65536)?;
+    assert_eq!(rt; most.len(), 1376296);
+    let place = Refusal::Bad {
+        irep: 1,
+        at: 0,
+        cause: Cause::Place,
+    };
+    assert_eq!(rt; refusal(alloc, &most), Some(place));
+    let more = chain(alloc, 65537)?;
+    assert_eq!(rt; refusal(alloc, &more), Some(Refusal::BadRecord { at: 1376288 }));
     Ok(())
 }

@@ -1,4 +1,4 @@
-use Rattle.code_generator.proofs.Compiled.{compiled}
+use Rattle.code_generator.proofs.Programs.{compiled}
 use Rattle.code_generator.proofs.law.code_implements.Goals as goal
 
 pub returns : goal.returns
