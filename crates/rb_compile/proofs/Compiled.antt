@@ -10,12 +10,13 @@ use Rattle.rite_code.specs.declared.code.Irep.{Irep}
 use Rattle.rite_code.specs.declared.operation.Operation.TheVariants.{Stop}
 use Rattle.rite_file.specs.File.{canonical, record_of}
 use Rattle.code_verifier.specs.Verified.{IsVerified}
-use Rattle.code_generator.specs.Gen.{code_of, gen, len, width, operations_of, first_free, symbols_of, calls_puts}
+use Rattle.rite_code.specs.Spelling.{encoding}
+use Rattle.code_generator.specs.Gen.{code_of, nothing_code, gen, len, width, operations_of, first_free, symbols_of, calls_puts}
 use Rattle.code_generator.specs.Implements.{Implements}
 use Rattle.code_generator.proofs.Bounds.{within_code}
-use Rattle.code_generator.proofs.Bodies.{length_code, code_is_whole}
-use Rattle.code_generator.proofs.Verified.{code_verified}
-use Rattle.code_generator.proofs.Compiled.{compiled, bytes_of}
+use Rattle.code_generator.proofs.Bodies.{length_code}
+use Rattle.code_generator.proofs.Programs.{either, compiled, code_is_whole, code_verified}
+use Rattle.code_generator.proofs.Compiled.{bytes_of}
 
 -- the bytes of the code
 code_size : (f : Form) → IsWithin f → length (bytes_of (operations_of f)) < 32768
@@ -33,8 +34,12 @@ unfolding canonical record_of
 short_file true locals registers code lt = simp length-append (omega arith)
 short_file false locals registers code lt = simp length-append (omega arith)
 
+short_nothing : length (canonical nothing_code) < 2 ^ 32
+unfolding canonical record_of encoding
+short_nothing = omega arith
+
 pub short_code : (f : Form) → IsWithin f → length (canonical (code_of f)) < 2 ^ 32
-short_code f w = short_file (calls_puts f) (first_free f) (first_free f + width f) (bytes_of (operations_of f)) (code_size f w)
+short_code f w = either f (λ (c : Program). length (canonical c) < 2 ^ 32) short_nothing (short_file (calls_puts f) (first_free f) (first_free f + width f) (bytes_of (operations_of f)) (code_size f w))
 
 pub implements_of : (o : Option Form) (c : Program) → MatchOption o ⊥ IsWithin → MatchOption o ⊥ (λ f. c ≡ code_of f) → MatchOption o ⊥ (Implements c)
 implements_of None c w e = w
@@ -51,5 +56,3 @@ verified_of (Some f) c w e = subst IsVerified (sym e) (code_verified f w)
 pub short_of : (o : Option Form) (c : Program) → MatchOption o ⊥ IsWithin → MatchOption o ⊥ (λ f. c ≡ code_of f) → length (canonical c) < 2 ^ 32
 short_of None c w e = absurd w
 short_of (Some f) c w e = subst (λ (d : Program). length (canonical d) < 2 ^ 32) (sym e) (short_code f w)
-
-pub ruleset compiled_laws = (implements_of, whole_of, verified_of, short_of)

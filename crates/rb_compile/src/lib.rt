@@ -19,7 +19,6 @@ use std::alloc::Global;
 
 /// Code that implements the source, in which no check of the verifier fails and whose file has a size. `Syntax` comes exactly where the text isn't in the language, and the
 /// language has nothing that is refused for another cause.
-#[tactic(auto, using(crate::proofs::Compiled::compiled_laws))]
 pub fn compile(alloc: Global, text: &[u8]) -> Result<Code, CompileError>
     ensures implements { IfOk result (λ code. MatchOption (program_of text.now) ⊥ (Implements code)) }
     ensures whole { IfOk result IsWhole }
