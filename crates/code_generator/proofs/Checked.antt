@@ -194,8 +194,8 @@ module _ (ss : List Standing) (registers symbols size : ℕ) where
             let move = begin_back at (len e) (gen ns e r at) _ (gen_len ns e r at) begins in
             let end : is_start ss (M + 3) ≡ true = subst (λ (n : ℕ). is_start ss n ≡ true) (omega arith) ends in
             pass_behind at (len e) (gen ns e r at) _ (gen_len ns e r at)
-              (form_passes e r at fine.1 wide (begin_front at (gen ns e r at) _ begins) move.0)
-              (move_passes (M + 3) (register_of ns x) r (omega (arith, fine.0, below)) (omega (arith, wide, some_width e)) end, tt)
+            (form_passes e r at fine.1 wide (begin_front at (gen ns e r at) _ begins) move.0)
+            (move_passes (M + 3) (register_of ns x) r (omega (arith, fine.0, below)) (omega (arith, wide, some_width e)) end, tt)
         form_passes (seq es) r at fine wide begins ends = lines_pass es r at fine wide begins ends
         form_passes (cond_form q e f) r at fine wide begins ends =
             let T = at + len q in let A = T + 4 in let M = A + len e in let B = M + 3 in
@@ -204,11 +204,12 @@ module _ (ss : List Standing) (registers symbols size : ℕ) where
             let end : is_start ss (B + len f) ≡ true = subst (λ (n : ℕ). is_start ss n ≡ true) (omega arith) ends in
             let first = begin_front A (gen ns e r A) _ behind.1 in
             pass_behind at (len q) (gen ns q r at) _ (gen_len ns q r at)
-              (form_passes q r at fine.0 (omega (arith, wide)) (begin_front at (gen ns q r at) _ begins) behind.0)
-              (jump_not_passes A r B (omega (arith, wide, some_width q)) (form_begins f r B tail.1) (form_begins e r A first),
-                pass_behind A (len e) (gen ns e r A) _ (gen_len ns e r A)
+            (form_passes q r at fine.0 (omega (arith, wide)) (begin_front at (gen ns q r at) _ begins) behind.0) (
+              jump_not_passes A r B (omega (arith, wide, some_width q)) (form_begins f r B tail.1) (form_begins e r A first),
+              pass_behind A (len e) (gen ns e r A) _ (gen_len ns e r A)
                   (form_passes e r A fine.1 (omega (arith, wide)) first tail.0)
-                  (jump_passes B (B + len f) end, form_passes f r B fine.2 (omega (arith, wide)) tail.1 end))
+                  (jump_passes B (B + len f) end, form_passes f r B fine.2 (omega (arith, wide)) tail.1 end),
+            )
         form_passes (while_form q e) r at fine wide begins ends =
             let T = at + len q in let A = T + 4 in let M = A + len e in let U = M + 3 in
             let behind = begin_back at (len q) (gen ns q r at) _ (gen_len ns q r at) begins in
@@ -217,11 +218,12 @@ module _ (ss : List Standing) (registers symbols size : ℕ) where
             let test = begin_front at (gen ns q r at) _ begins in
             let first = begin_front A (gen ns e r A) _ behind.1 in
             pass_behind at (len q) (gen ns q r at) _ (gen_len ns q r at)
-              (form_passes q r at fine.0 (omega (arith, wide)) test behind.0)
-              (jump_not_passes A r U (omega (arith, wide)) tail.1.0 (form_begins e r A first),
-                pass_behind A (len e) (gen ns e r A) _ (gen_len ns e r A)
+            (form_passes q r at fine.0 (omega (arith, wide)) test behind.0) (
+              jump_not_passes A r U (omega (arith, wide)) tail.1.0 (form_begins e r A first),
+              pass_behind A (len e) (gen ns e r A) _ (gen_len ns e r A)
                   (form_passes e r A fine.1 (omega (arith, wide)) first tail.0)
-                  (jump_passes U at (form_begins q r at test), (nil_passes (U + 2) r (omega (arith, wide)) end, tt)))
+                  (jump_passes U at (form_begins q r at test), (nil_passes (U + 2) r (omega (arith, wide)) end, tt)),
+            )
 
         operands_pass : (a : Action) (es : Forms) (r n at : ℕ) → AllFine p b ns es → n + count es ≡ before_operands a + arity a → (is_puts a ≡ true → get_or (body_at p b).symbols 0 [] ≡ codes "puts") → r < registers → r + operands_width es n ≤ registers → Begin at (gen_operands ns a es r n at) → is_start ss (at + (len_rest es + action_size a)) ≡ true → AllPass at (gen_operands ns a es r n at)
         operands_pass a none r n at fine all named room wide begins ends =
@@ -232,8 +234,8 @@ module _ (ss : List Standing) (registers symbols size : ℕ) where
             let others = begin_back at (len e) (gen ns e (r + n) at) _ (gen_len ns e (r + n) at) begins in
             let end : is_start ss (M + (len_rest es + action_size a)) ≡ true = subst (λ (m : ℕ). is_start ss m ≡ true) (omega arith) ends in
             pass_behind at (len e) (gen ns e (r + n) at) _ (gen_len ns e (r + n) at)
-              (form_passes e (r + n) at fine.0 (omega (arith, wide)) (begin_front at (gen ns e (r + n) at) _ begins) (operands_begin a es r (n + 1) M others))
-              (operands_pass a es r (n + 1) M fine.1 (omega (arith, all)) named room (omega (arith, wide)) others end)
+            (form_passes e (r + n) at fine.0 (omega (arith, wide)) (begin_front at (gen ns e (r + n) at) _ begins) (operands_begin a es r (n + 1) M others))
+            (operands_pass a es r (n + 1) M fine.1 (omega (arith, all)) named room (omega (arith, wide)) others end)
 
         lines_pass : (es : Forms) (r at : ℕ) → AllFine p b ns es → r + all_width es ≤ registers → Begin at (gen_all ns es r at) → is_start ss (at + len_all es) ≡ true → AllPass at (gen_all ns es r at)
         lines_pass none r at fine wide begins ends = (nil_passes (at + 2) r (omega (arith, wide)) ends, tt)
@@ -242,8 +244,8 @@ module _ (ss : List Standing) (registers symbols size : ℕ) where
             let others = begin_back at (len e) (gen ns e r at) _ (gen_len ns e r at) begins in
             let end : is_start ss (M + len_rest es) ≡ true = subst (λ (m : ℕ). is_start ss m ≡ true) (omega arith) ends in
             pass_behind at (len e) (gen ns e r at) _ (gen_len ns e r at)
-              (form_passes e r at fine.0 (omega (arith, wide)) (begin_front at (gen ns e r at) _ begins) (rest_begin es r M others end))
-              (rest_pass es r M fine.1 (omega (arith, wide)) others end)
+            (form_passes e r at fine.0 (omega (arith, wide)) (begin_front at (gen ns e r at) _ begins) (rest_begin es r M others end))
+            (rest_pass es r M fine.1 (omega (arith, wide)) others end)
 
         rest_pass : (es : Forms) (r at : ℕ) → AllFine p b ns es → r + all_width es ≤ registers → Begin at (gen_rest ns es r at) → is_start ss (at + len_rest es) ≡ true → AllPass at (gen_rest ns es r at)
         rest_pass none r at fine wide begins ends = tt
@@ -252,8 +254,8 @@ module _ (ss : List Standing) (registers symbols size : ℕ) where
             let others = begin_back at (len e) (gen ns e r at) _ (gen_len ns e r at) begins in
             let end : is_start ss (M + len_rest es) ≡ true = subst (λ (m : ℕ). is_start ss m ≡ true) (omega arith) ends in
             pass_behind at (len e) (gen ns e r at) _ (gen_len ns e r at)
-              (form_passes e r at fine.0 (omega (arith, wide)) (begin_front at (gen ns e r at) _ begins) (rest_begin es r M others end))
-              (rest_pass es r M fine.1 (omega (arith, wide)) others end)
+            (form_passes e r at fine.0 (omega (arith, wide)) (begin_front at (gen ns e r at) _ begins) (rest_begin es r M others end))
+            (rest_pass es r M fine.1 (omega (arith, wide)) others end)
 
         -- what stands behind a part begins where an instruction starts
         operands_begin : (a : Action) (es : Forms) (r n at : ℕ) → Begin at (gen_operands ns a es r n at) → is_start ss at ≡ true

@@ -110,7 +110,7 @@ module _ (f : Form) (w : IsWithin f) where
   all_pass =
       let parts = form_passes ss b.registers (length b.symbols) (length b.code) inside (full_code f) 0 (names_of f) (omega arith) (some_symbol b.symbols) f (first_free f) 0 (fine_code f w) (omega arith) (begin_front ss 0 0 0 0 (gen (names_of f) f (first_free f) 0) (Stop ∷ []) begins) stop_starts.0 in
       pass_append ss b.registers (length b.symbols) (length b.code) 0 (gen (names_of f) f (first_free f) 0) (Stop ∷ []) parts
-        (subst (λ (n : ℕ). AllPass ss b.registers (length b.symbols) (length b.code) n (Stop ∷ [])) (omega (arith, gen_len (names_of f) f (first_free f) 0)) (stop_passes, tt))
+      (subst (λ (n : ℕ). AllPass ss b.registers (length b.symbols) (length b.code) n (Stop ∷ [])) (omega (arith, gen_len (names_of f) f (first_free f) 0)) (stop_passes, tt))
 
   no_maker : maker_of (full_code f) 0 ≡ None
   unfolding maker_of made_from first_maker

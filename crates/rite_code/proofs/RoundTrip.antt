@@ -87,12 +87,12 @@ parameters_again p h =
     let b = bit_small p.block in
     let s = bit_small p.spare in
     same_parameters
-      (omega (arith, k.required, k.optional, k.post, r, b, s))
-      (omega (arith, k.required, k.optional, k.post, r, b, s))
-      (bit_again p.rest _ (omega (arith, k.required, k.optional, k.post, r, b, s)))
-      (omega (arith, k.required, k.optional, k.post, r, b, s))
-      (bit_again p.block _ (omega (arith, k.required, k.optional, k.post, r, b, s)))
-      (bit_again p.spare _ (omega (arith, k.required, k.optional, k.post, r, b, s)))
+    (omega (arith, k.required, k.optional, k.post, r, b, s))
+    (omega (arith, k.required, k.optional, k.post, r, b, s))
+    (bit_again p.rest _ (omega (arith, k.required, k.optional, k.post, r, b, s)))
+    (omega (arith, k.required, k.optional, k.post, r, b, s))
+    (bit_again p.block _ (omega (arith, k.required, k.optional, k.post, r, b, s)))
+    (bit_again p.spare _ (omega (arith, k.required, k.optional, k.post, r, b, s)))
 
 word_again : (n : ℕ) (rest : List ℕ) → n < 16777216 → word_at (word_bytes n ++ rest) 0 ≡ n
 word_again n rest h = omega (arith, h)

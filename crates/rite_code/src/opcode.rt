@@ -248,8 +248,7 @@ impl Opcode {
         ensures { result ≡ table.shape_of self }
     {
         match self {
-            Opcode::Nop
-            | Opcode::Stop => Shape::Z,
+            Opcode::Nop | Opcode::Stop => Shape::Z,
             Opcode::LoadNil
             | Opcode::LoadSelf
             | Opcode::LoadT
@@ -314,11 +313,8 @@ impl Opcode {
             | Opcode::Def
             | Opcode::Defined => Shape::BBB,
             Opcode::ARef => Shape::BBI,
-            Opcode::Jmp
-            | Opcode::JmpUw => Shape::S,
-            Opcode::LoadI16
-            | Opcode::JmpIf
-            | Opcode::JmpNot => Shape::BS,
+            Opcode::Jmp | Opcode::JmpUw => Shape::S,
+            Opcode::LoadI16 | Opcode::JmpIf | Opcode::JmpNot => Shape::BS,
             Opcode::LoadI32 => Shape::BSS,
             Opcode::Enter => Shape::W,
         }

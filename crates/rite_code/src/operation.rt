@@ -356,7 +356,11 @@ impl Operation {
             | Operation::Class { a, b }
             | Operation::Module { a, b }
             | Operation::Exec { a, b }
-            | Operation::Alias { a, b } => Operands { a, b, ..NO_OPERANDS },
+            | Operation::Alias { a, b } => Operands {
+                a,
+                b,
+                ..NO_OPERANDS
+            },
             Operation::GetUpVar { a, b, c }
             | Operation::SetUpVar { a, b, c }
             | Operation::SSend { a, b, c }
@@ -365,15 +369,44 @@ impl Operation {
             | Operation::SendB { a, b, c }
             | Operation::APost { a, b, c }
             | Operation::Def { a, b, c }
-            | Operation::Defined { a, b, c } => Operands { a, b, c, ..NO_OPERANDS },
-            Operation::ARef { a, b, c } => Operands { a, b, by: c, ..NO_OPERANDS },
+            | Operation::Defined { a, b, c } => Operands {
+                a,
+                b,
+                c,
+                ..NO_OPERANDS
+            },
+            Operation::ARef { a, b, c } => Operands {
+                a,
+                b,
+                by: c,
+                ..NO_OPERANDS
+            },
             Operation::Jmp { by } => Operands { by, ..NO_OPERANDS },
             Operation::JmpUw { by } => Operands { by, ..NO_OPERANDS },
-            Operation::LoadI16 { a, b } => Operands { a, by: b, ..NO_OPERANDS },
-            Operation::JmpIf { a, by } => Operands { a, by, ..NO_OPERANDS },
-            Operation::JmpNot { a, by } => Operands { a, by, ..NO_OPERANDS },
-            Operation::LoadI32 { a, b } => Operands { a, by: b, ..NO_OPERANDS },
-            Operation::Enter { parameters } => Operands { parameters, ..NO_OPERANDS },
+            Operation::LoadI16 { a, b } => Operands {
+                a,
+                by: b,
+                ..NO_OPERANDS
+            },
+            Operation::JmpIf { a, by } => Operands {
+                a,
+                by,
+                ..NO_OPERANDS
+            },
+            Operation::JmpNot { a, by } => Operands {
+                a,
+                by,
+                ..NO_OPERANDS
+            },
+            Operation::LoadI32 { a, b } => Operands {
+                a,
+                by: b,
+                ..NO_OPERANDS
+            },
+            Operation::Enter { parameters } => Operands {
+                parameters,
+                ..NO_OPERANDS
+            },
         }
     }
 }
