@@ -9,7 +9,8 @@ use Rattle.mrb_tool.specs.Words.{Command, build, exec, list, info}
 use Rattle.mrb_tool.specs.Showing.{ShowReports, listed}
 use Rattle.mrb_tool.specs.Told.{Told}
 use Rattle.mrb_tool.specs.Answer.{Built, Shows, IsRefused, BuildReports, ExecReports, UsageReports, Reports, Answers}
-use Rattle.mrb_tool.specs.Writing.{Stream, IsAnswer}
+use Rattle.code_listing.specs.Writing.{Stream}
+use Rattle.mrb_tool.specs.Writing.{IsAnswer}
 use Rattle.mrb_tool.specs.Running.{end_of, text_of}
 use Rattle.code_listing.specs.declared.refusal.Refusal.{Refusal}
 use Rattle.code_listing.specs.declared.refusal.Refusal.TheVariants as refusals
@@ -64,7 +65,7 @@ exec_reports before after x y n source file ends.Usage text h = absurd h
 exec_reports before after x y n source file ends.InputFault text h = absurd h
 
 build_reports : (before after : Told) (x y : Stream) (source file : List ℕ) (end : End) (text : List ℕ) → BuildReports before after source file end text → BuildReports (with_err before x) (with_err after y) source file end text
-build_reports before after x y source file (ends.Ended k) text (zero, code, b, h) = (zero, code, built before after x y source file code b, h)
+build_reports before after x y source file (ends.Ended k) text (zero, code, b, nothing, faults, e) = (zero, code, built before after x y source file code b, nothing, faults, e)
 build_reports before after x y source file (ends.Refused r) text h = (refused before after x y source r h.0, h.1)
 build_reports before after x y source file ends.FileFault text h = h
 build_reports before after x y source file ends.NoMemory text h = h

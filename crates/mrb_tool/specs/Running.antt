@@ -126,7 +126,7 @@ EncodesAs text (Err report) = NotEncoded text report
 
 -- the bytes of the file of a source, and nothing done
 abbrev pub Prepares : Told → Told → List ℕ → Result (Vec ℕ Global) Report → Type 0
-Prepares before after source (Ok bytes) = (text : List ℕ) × IsSource before source text × Encodes text bytes.items × Untouched before after
+Prepares before after source (Ok bytes) = (text : List ℕ) × IsSource before source text × Encodes text bytes.items × Untouched before after × (after.tells ≡ before.tells)
 Prepares before after source (Err (reports.Refused r)) = IsRefused before after source r
 Prepares before after source (Err reports.FileFault) = Rose (before.load_faults source) (after.load_faults source) × SameFiles before after × NothingOut before after × NoOutFault before after
 Prepares before after source (Err reports.NoMemory) = Untouched before after

@@ -53,7 +53,12 @@ pub fn build<F: Files, O: Sink>(
 
 /// Compiles the source in the file `source` and puts its code into the file `file`. The program is what the bytes
 /// of that file give back.
-pub fn make<F: Files>(alloc: Global, files: &mut F, source: &str, file: &str) -> Result<Verified, Report>
+pub fn make<F: Files>(
+    alloc: Global,
+    files: &mut F,
+    source: &str,
+    file: &str,
+) -> Result<Verified, Report>
     ensures { Builds
         (files_alone (F.tells files.old) (F.file files.old) (F.load_faults files.old) (F.store_faults files.old))
         (files_alone (F.tells files.new) (F.file files.new) (F.load_faults files.new) (F.store_faults files.new))
@@ -67,7 +72,7 @@ pub fn make<F: Files>(alloc: Global, files: &mut F, source: &str, file: &str) ->
 
 // Compiles the source and stores its file.
 fn stored<F: Files>(alloc: Global, files: &mut F, source: &str, file: &str) -> Result<(), Report>
-    ensures { Stored
+    ensures { Makes
         (files_alone (F.tells files.old) (F.file files.old) (F.load_faults files.old) (F.store_faults files.old))
         (files_alone (F.tells files.new) (F.file files.new) (F.load_faults files.new) (F.store_faults files.new))
         source.now file.now result }

@@ -45,7 +45,13 @@ const STOP: [u8; 61] = *b"RITE0300\x00\x00\x00\x3dRBWN0001IREP\x00\x00\x00\x2103
     \x00\x00\x00\x15\x00\x01\x00\x01\x00\x00\x00\x00\x00\x00\x00\x01\x48\x00\x00\x00\x00END\x00\x00\x00\x00\x08";
 
 /// The answer to `list` and `info` is this text.
-fn shows(rt: &impl Abort, alloc: Global, command: &str, given: &[u8], text: &str) -> Result<(), Fail> {
+fn shows(
+    rt: &impl Abort,
+    alloc: Global,
+    command: &str,
+    given: &[u8],
+    text: &str,
+) -> Result<(), Fail> {
     let left = call(alloc, &[command, "given"], given, Vec::new(alloc))?;
     assert_eq!(rt; left.end, End::Ended(0));
     assert_eq!(rt; left.out.bytes(), text.as_bytes());
@@ -55,7 +61,13 @@ fn shows(rt: &impl Abort, alloc: Global, command: &str, given: &[u8], text: &str
 }
 
 /// The answer is a refusal with this text, and nothing goes out.
-fn refuses(rt: &impl Abort, alloc: Global, command: &str, given: &[u8], text: &str) -> Result<(), Fail> {
+fn refuses(
+    rt: &impl Abort,
+    alloc: Global,
+    command: &str,
+    given: &[u8],
+    text: &str,
+) -> Result<(), Fail> {
     let left = call(alloc, &[command, "given"], given, Vec::new(alloc))?;
     assert!(rt; matches!(left.end, End::Refused(_)));
     assert_eq!(rt; left.end.status(), 121);
@@ -115,8 +127,20 @@ fn shows_what_was_built(rt: HostRuntime) -> Result<(), Fail> {
 #[test]
 fn refuses_files_in_order(rt: HostRuntime) -> Result<(), Fail> {
     let alloc = rt.alloc();
-    refuses(&rt, alloc, "list", &STOP[..60], "refused: Truncated at 60\n")?;
-    refuses(&rt, alloc, "info", &STOP[..60], "refused: Truncated at 60\n")?;
+    refuses(
+        &rt,
+        alloc,
+        "list",
+        &STOP[..60],
+        "refused: Truncated at 60\n",
+    )?;
+    refuses(
+        &rt,
+        alloc,
+        "info",
+        &STOP[..60],
+        "refused: Truncated at 60\n",
+    )?;
     refuses(&rt, alloc, "list", b"RITE0299", "refused: NotRite\n")?;
     refuses(&rt, alloc, "list", b"RITE0300", "refused: Truncated at 8\n")?;
     let mut longer = [0u8; 62];
@@ -237,6 +261,9 @@ fn judges_long_chains(rt: HostRuntime) -> Result<(), AllocError> {
     };
     assert_eq!(rt; refusal(alloc, &most), Some(place));
     let more = chain(alloc, 65537)?;
-    assert_eq!(rt; refusal(alloc, &more), Some(Refusal::BadRecord { at: 1376288 }));
+    assert_eq!(rt;
+        refusal(alloc, &more),
+        Some(Refusal::BadRecord { at: 1376288 })
+    );
     Ok(())
 }

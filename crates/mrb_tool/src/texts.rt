@@ -3,6 +3,7 @@ ghost use Rattle.std.specs.Prelude.{◌≡◌};
 ghost use Rattle.mrb_tool.specs.Texts as texts;
 ghost use Rattle.code_listing.specs.Writing.{Says};
 
+use code_listing::pieces::write_text;
 use code_listing::{Refusal, refusal_text, write_pieces};
 use itoa::Buffer;
 use rb_base::{Failed, Sink, write_all};
@@ -82,7 +83,7 @@ pub fn tell_refused<E: Sink>(err: &mut E, refusal: Refusal) -> Result<(), Failed
         (record { taken = E.taken err.old; faults = E.faults err.old })
         (record { taken = E.taken err.new; faults = E.faults err.new }) result }
 {
-    write_all(err, b"refused: ")?;
+    write_text(err, b"refused: ")?;
     refusal_text(&refusal, err)?;
-    write_all(err, b"\n")
+    write_text(err, b"\n")
 }

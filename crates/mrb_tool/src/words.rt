@@ -8,7 +8,10 @@ ghost use Rattle.std.specs.Option.{option_map};
 #[derive(Clone, Copy, Debug)]
 pub enum Command<'a> {
     /// The code of the source in the first file goes into the second.
-    Build { source: &'a str, file: &'a str },
+    Build {
+        source: &'a str,
+        file: &'a str,
+    },
     /// At most `steps` turns of the source in the first file, whose code goes into the second.
     Exec {
         steps: u64,
@@ -16,9 +19,13 @@ pub enum Command<'a> {
         file: &'a str,
     },
     /// The listing of the code in the file.
-    List { file: &'a str },
+    List {
+        file: &'a str,
+    },
     /// The header and the sections of the file.
-    Info { file: &'a str },
+    Info {
+        file: &'a str,
+    },
 }
 
 /// The command that the words are, if they are one.
