@@ -10,7 +10,7 @@ pub mod context;
 pub mod keywords;
 pub mod marks;
 
-pub use context::Context;
+pub use context::{Context, after_keyword};
 pub use keywords::keyword_of;
 pub use marks::{Mark, mark_of, operator_name};
 

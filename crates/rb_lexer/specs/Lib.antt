@@ -1,0 +1,3 @@
+pub mod LexError
+pub mod State
+pub mod Scan
