@@ -1,0 +1,4 @@
+pub mod Kinds
+pub mod Integers
+pub mod Numbers
+pub mod Escaping
