@@ -68,3 +68,15 @@ interpolated s = record (left s) { inside = s.inside - 1 }
 -- one byte more of the literal, which stands at a place
 abbrev pub appended : State → ℕ → ℕ → State
 appended s at byte = record s { piece = s.piece ++ byte ∷ []; piece_at = if length s.piece == 0 then at else s.piece_at }
+
+-- some bytes more
+abbrev pub extended : State → ℕ → List ℕ → State
+extended s at bytes = record s { piece = s.piece ++ bytes; piece_at = if length s.piece == 0 then at else s.piece_at }
+
+-- the bytes of the literal so far are a token
+abbrev pub flushed : State → State
+flushed s = if length s.piece == 0 then s else record (pushed s s.piece_at (kinds.Piece s.piece) contexts.Operand) { piece = [] }
+
+-- the bytes of a list's element so far are a token
+abbrev pub flushed_word : State → State
+flushed_word s = if length s.piece == 0 then s else record (pushed s s.piece_at (kinds.Word s.piece) contexts.Operand) { piece = [] }

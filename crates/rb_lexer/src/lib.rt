@@ -3,20 +3,22 @@
 //! Types: [`LexError`]. Call: [`lex`].
 #![tactic(auto)]
 
-//mod code;
+pub mod code;
 pub mod error;
-//pub mod lexer;
-//mod marks;
+pub mod heads;
+pub mod lexer;
 pub mod mode;
-//mod names;
-//mod outside;
+pub mod names;
+pub mod outside;
+pub mod reach;
 pub mod scan;
+pub mod signs;
 pub mod state;
-//mod strings;
-//mod trivia;
+pub mod strings;
+pub mod trivia;
 
 pub use error::LexError;
-//pub use lexer::lex;
+pub use lexer::lex;
 
-//#[cfg(test)]
-//mod tests;
+#[cfg(test)]
+mod tests;

@@ -1,11 +1,11 @@
 //! What a place of the text is inside of.
 
-/// How a literal ends. Equal `open` and `close` don't nest.
+/// How a literal ends. Equal `opener` and `closer` don't nest.
 #[derive(Clone, Copy, Debug, PartialEq, Eq)]
 pub struct Delimiters {
-    pub open: u8,
-    pub close: u8,
-    /// How many `open` wait for their `close`.
+    pub opener: u8,
+    pub closer: u8,
+    /// How many openers wait for their closers.
     pub depth: usize,
     /// Whether it has the escapes of double quotes and interpolation.
     pub double: bool,

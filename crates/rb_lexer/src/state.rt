@@ -2,9 +2,11 @@
 use crate::error::LexError;
 use crate::mode::Mode;
 use rb_base::Bytes;
+use rb_literals::Escaped;
 use rb_syntax::{Keyword, Token, TokenKind};
 use rb_words::{Context, after_keyword};
 use std::alloc::Global;
+use std::mem;
 
 /// What was read so far.
 #[derive(Drop)]
@@ -24,11 +26,12 @@ pub struct Lexer {
     /// The bytes of a literal that are no token yet.
     pub piece: Vec<u8>,
     /// Where they begin.
-    pub piece_at: usize,
+    pub piece_at: u32,
 }
 
 impl Lexer {
     ghost use Rattle.std.specs.Prelude.{◌≡◌, ◌<◌, OnOk, IfErr};
+    ghost use Rattle.rb_literals.specs.Escaping.{bytes_of};
     ghost use Rattle.rb_lexer.specs.State as state;
     ghost use Rattle.rb_lexer.specs.State.{state_of};
     ghost use Rattle.rb_lexer.specs.declared.error.LexError.TheVariants as errors;
@@ -160,13 +163,53 @@ impl Lexer {
 
     /// One byte more of the literal, which stands at a place.
     pub fn add_byte(&mut self, at: usize, byte: u8) -> Result<(), LexError>
+        requires { at < 4294967296 }
         ensures ok { OnOk result (state_of self.new ≡ state.appended (state_of self.old) at byte) }
         ensures err { IfErr result (λ e. e ≡ errors.NoMemory) }
     {
         if self.piece.is_empty() {
-            self.piece_at = at;
+            self.piece_at = at as u32;
         }
         self.piece.push(byte)?;
         Ok(())
+    }
+
+    /// What an escape stands for, which is at a place of the literal.
+    pub fn add_escaped(&mut self, at: usize, escaped: Escaped) -> Result<(), LexError>
+        requires { at < 4294967296 }
+        ensures ok { OnOk result (state_of self.new ≡ state.extended (state_of self.old) at (bytes_of escaped)) }
+        ensures err { IfErr result (λ e. e ≡ errors.NoMemory) }
+    {
+        if self.piece.is_empty() {
+            self.piece_at = at as u32;
+        }
+        escaped.push_to(&mut self.piece)?;
+        Ok(())
+    }
+
+    /// The bytes of the literal so far are a token.
+    pub fn flush(&mut self, alloc: Global) -> Result<(), LexError>
+        ensures ok { OnOk result (state_of self.new ≡ state.flushed (state_of self.old)) }
+        ensures err { IfErr result (λ e. e ≡ errors.NoMemory) }
+    {
+        if self.piece.is_empty() {
+            return Ok(());
+        }
+        let bytes = mem::replace(&mut self.piece, Vec::new(alloc));
+        let at = self.piece_at as usize;
+        self.push(at, TokenKind::Piece(Bytes::from_vec(bytes)), Context::Operand)
+    }
+
+    /// The bytes of a list's element so far are a token.
+    pub fn flush_word(&mut self, alloc: Global) -> Result<(), LexError>
+        ensures ok { OnOk result (state_of self.new ≡ state.flushed_word (state_of self.old)) }
+        ensures err { IfErr result (λ e. e ≡ errors.NoMemory) }
+    {
+        if self.piece.is_empty() {
+            return Ok(());
+        }
+        let bytes = mem::replace(&mut self.piece, Vec::new(alloc));
+        let at = self.piece_at as usize;
+        self.push(at, TokenKind::Word(Bytes::from_vec(bytes)), Context::Operand)
     }
 }

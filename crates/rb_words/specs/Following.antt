@@ -360,3 +360,21 @@ is_cut_off c k = is_jump c && can_modify k
 -- whether a value is expected at a keyword
 abbrev pub expects_value_at : Context → Keyword → Bool
 expects_value_at c k = expects_value c && not (is_cut_off c k)
+
+-- the ? of a conditional stands before
+abbrev pub is_question : Context → Bool
+is_question contexts.Start = false
+is_question contexts.Question = true
+is_question contexts.Block = false
+is_question contexts.Value = false
+is_question contexts.Jump = false
+is_question contexts.Name = false
+is_question contexts.Operand = false
+is_question contexts.Def = false
+is_question contexts.DefName = false
+is_question contexts.DefDot = false
+is_question contexts.Dot = false
+is_question contexts.Alias = false
+is_question contexts.AliasName = false
+is_question contexts.Undef = false
+is_question contexts.UndefName = false

@@ -130,6 +130,13 @@ impl Context {
         self == Context::Block
     }
 
+    /// Whether the `?` of a conditional stands before.
+    pub fn is_question(self) -> bool
+        ensures { result ≡ following.is_question self }
+    {
+        self == Context::Question
+    }
+
     /// What stands behind a name here.
     pub fn after_name(self) -> Context
         ensures { result ≡ following.after_name self }

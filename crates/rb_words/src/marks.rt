@@ -1,5 +1,5 @@
 //! Marks by longest match.
-ghost use Rattle.std.specs.Prelude.{◌≡◌};
+ghost use Rattle.std.specs.Prelude.{◌≡◌, ◌<◌, ◌≤◌, IfSome};
 ghost use Rattle.rb_words.specs.Marks as marks;
 
 use rb_syntax::Punctuator;
@@ -19,7 +19,10 @@ fn mark_with(punctuator: Punctuator, length: usize) -> Mark
 
 #[tactic(auto, unfolding(crate::specs::Marks::plus_mark))]
 fn plus_mark(second: u8) -> Mark
-    ensures { result ≡ marks.plus_mark second }
+    ensures value { result ≡ marks.plus_mark second }
+    ensures some { 0 < result.length }
+    ensures two { 1 < result.length → 0 < second }
+    ensures short { result.length < 3 }
 {
     if second == b'=' {
         mark_with(Punctuator::PlusAssign, 2)
@@ -30,7 +33,10 @@ fn plus_mark(second: u8) -> Mark
 
 #[tactic(auto, unfolding(crate::specs::Marks::minus_mark))]
 fn minus_mark(second: u8) -> Mark
-    ensures { result ≡ marks.minus_mark second }
+    ensures value { result ≡ marks.minus_mark second }
+    ensures some { 0 < result.length }
+    ensures two { 1 < result.length → 0 < second }
+    ensures short { result.length < 3 }
 {
     if second == b'>' {
         mark_with(Punctuator::LambdaArrow, 2)
@@ -43,7 +49,11 @@ fn minus_mark(second: u8) -> Mark
 
 #[tactic(auto, unfolding(crate::specs::Marks::star_mark))]
 fn star_mark(second: u8, third: u8) -> Mark
-    ensures { result ≡ marks.star_mark second third }
+    ensures value { result ≡ marks.star_mark second third }
+    ensures some { 0 < result.length }
+    ensures two { 1 < result.length → 0 < second }
+    ensures three { 2 < result.length → 0 < third }
+    ensures few { result.length ≤ 3 }
 {
     if second == b'*' && third == b'=' {
         mark_with(Punctuator::StarStarAssign, 3)
@@ -58,7 +68,10 @@ fn star_mark(second: u8, third: u8) -> Mark
 
 #[tactic(auto, unfolding(crate::specs::Marks::slash_mark))]
 fn slash_mark(second: u8) -> Mark
-    ensures { result ≡ marks.slash_mark second }
+    ensures value { result ≡ marks.slash_mark second }
+    ensures some { 0 < result.length }
+    ensures two { 1 < result.length → 0 < second }
+    ensures short { result.length < 3 }
 {
     if second == b'=' {
         mark_with(Punctuator::SlashAssign, 2)
@@ -69,7 +82,10 @@ fn slash_mark(second: u8) -> Mark
 
 #[tactic(auto, unfolding(crate::specs::Marks::percent_mark))]
 fn percent_mark(second: u8) -> Mark
-    ensures { result ≡ marks.percent_mark second }
+    ensures value { result ≡ marks.percent_mark second }
+    ensures some { 0 < result.length }
+    ensures two { 1 < result.length → 0 < second }
+    ensures short { result.length < 3 }
 {
     if second == b'=' {
         mark_with(Punctuator::PercentAssign, 2)
@@ -80,7 +96,10 @@ fn percent_mark(second: u8) -> Mark
 
 #[tactic(auto, unfolding(crate::specs::Marks::caret_mark))]
 fn caret_mark(second: u8) -> Mark
-    ensures { result ≡ marks.caret_mark second }
+    ensures value { result ≡ marks.caret_mark second }
+    ensures some { 0 < result.length }
+    ensures two { 1 < result.length → 0 < second }
+    ensures short { result.length < 3 }
 {
     if second == b'=' {
         mark_with(Punctuator::CaretAssign, 2)
@@ -91,7 +110,11 @@ fn caret_mark(second: u8) -> Mark
 
 #[tactic(auto, unfolding(crate::specs::Marks::equal_mark))]
 fn equal_mark(second: u8, third: u8) -> Mark
-    ensures { result ≡ marks.equal_mark second third }
+    ensures value { result ≡ marks.equal_mark second third }
+    ensures some { 0 < result.length }
+    ensures two { 1 < result.length → 0 < second }
+    ensures three { 2 < result.length → 0 < third }
+    ensures few { result.length ≤ 3 }
 {
     if second == b'=' && third == b'=' {
         mark_with(Punctuator::CaseEqual, 3)
@@ -108,7 +131,10 @@ fn equal_mark(second: u8, third: u8) -> Mark
 
 #[tactic(auto, unfolding(crate::specs::Marks::not_mark))]
 fn not_mark(second: u8) -> Mark
-    ensures { result ≡ marks.not_mark second }
+    ensures value { result ≡ marks.not_mark second }
+    ensures some { 0 < result.length }
+    ensures two { 1 < result.length → 0 < second }
+    ensures short { result.length < 3 }
 {
     if second == b'=' {
         mark_with(Punctuator::NotEqual, 2)
@@ -121,7 +147,11 @@ fn not_mark(second: u8) -> Mark
 
 #[tactic(auto, unfolding(crate::specs::Marks::less_mark))]
 fn less_mark(second: u8, third: u8) -> Mark
-    ensures { result ≡ marks.less_mark second third }
+    ensures value { result ≡ marks.less_mark second third }
+    ensures some { 0 < result.length }
+    ensures two { 1 < result.length → 0 < second }
+    ensures three { 2 < result.length → 0 < third }
+    ensures few { result.length ≤ 3 }
 {
     if second == b'=' && third == b'>' {
         mark_with(Punctuator::Compare, 3)
@@ -138,7 +168,11 @@ fn less_mark(second: u8, third: u8) -> Mark
 
 #[tactic(auto, unfolding(crate::specs::Marks::greater_mark))]
 fn greater_mark(second: u8, third: u8) -> Mark
-    ensures { result ≡ marks.greater_mark second third }
+    ensures value { result ≡ marks.greater_mark second third }
+    ensures some { 0 < result.length }
+    ensures two { 1 < result.length → 0 < second }
+    ensures three { 2 < result.length → 0 < third }
+    ensures few { result.length ≤ 3 }
 {
     if second == b'=' {
         mark_with(Punctuator::GreaterEqual, 2)
@@ -153,7 +187,11 @@ fn greater_mark(second: u8, third: u8) -> Mark
 
 #[tactic(auto, unfolding(crate::specs::Marks::ampersand_mark))]
 fn ampersand_mark(second: u8, third: u8) -> Mark
-    ensures { result ≡ marks.ampersand_mark second third }
+    ensures value { result ≡ marks.ampersand_mark second third }
+    ensures some { 0 < result.length }
+    ensures two { 1 < result.length → 0 < second }
+    ensures three { 2 < result.length → 0 < third }
+    ensures few { result.length ≤ 3 }
 {
     if second == b'&' && third == b'=' {
         mark_with(Punctuator::AndAndAssign, 3)
@@ -170,7 +208,11 @@ fn ampersand_mark(second: u8, third: u8) -> Mark
 
 #[tactic(auto, unfolding(crate::specs::Marks::bar_mark))]
 fn bar_mark(second: u8, third: u8) -> Mark
-    ensures { result ≡ marks.bar_mark second third }
+    ensures value { result ≡ marks.bar_mark second third }
+    ensures some { 0 < result.length }
+    ensures two { 1 < result.length → 0 < second }
+    ensures three { 2 < result.length → 0 < third }
+    ensures few { result.length ≤ 3 }
 {
     if second == b'|' && third == b'=' {
         mark_with(Punctuator::OrOrAssign, 3)
@@ -185,7 +227,11 @@ fn bar_mark(second: u8, third: u8) -> Mark
 
 #[tactic(auto, unfolding(crate::specs::Marks::dot_mark))]
 fn dot_mark(second: u8, third: u8) -> Mark
-    ensures { result ≡ marks.dot_mark second third }
+    ensures value { result ≡ marks.dot_mark second third }
+    ensures some { 0 < result.length }
+    ensures two { 1 < result.length → 0 < second }
+    ensures three { 2 < result.length → 0 < third }
+    ensures few { result.length ≤ 3 }
 {
     if second == b'.' && third == b'.' {
         mark_with(Punctuator::DotDotDot, 3)
@@ -198,7 +244,10 @@ fn dot_mark(second: u8, third: u8) -> Mark
 
 #[tactic(auto, unfolding(crate::specs::Marks::colon_mark))]
 fn colon_mark(second: u8) -> Mark
-    ensures { result ≡ marks.colon_mark second }
+    ensures value { result ≡ marks.colon_mark second }
+    ensures some { 0 < result.length }
+    ensures two { 1 < result.length → 0 < second }
+    ensures short { result.length < 3 }
 {
     if second == b':' {
         mark_with(Punctuator::ColonColon, 2)
@@ -209,7 +258,8 @@ fn colon_mark(second: u8) -> Mark
 
 #[tactic(auto, unfolding(crate::specs::Marks::single_mark))]
 fn single_mark(first: u8) -> Option<Mark>
-    ensures { result ≡ marks.single_mark first }
+    ensures value { result ≡ marks.single_mark first }
+    ensures one { IfSome result (λ m. m.length ≡ 1) }
 {
     match first {
         b'~' => Some(mark_with(Punctuator::Tilde, 1)),
@@ -229,7 +279,11 @@ fn single_mark(first: u8) -> Option<Mark>
 /// no mark begins with the first.
 #[tactic(auto, unfolding(crate::specs::Marks::mark_of))]
 pub fn mark_of(first: u8, second: u8, third: u8) -> Option<Mark>
-    ensures { result ≡ marks.mark_of first second third }
+    ensures value { result ≡ marks.mark_of first second third }
+    ensures some { IfSome result (λ m. 0 < m.length) }
+    ensures two { IfSome result (λ m. 1 < m.length → 0 < second) }
+    ensures three { IfSome result (λ m. 2 < m.length → 0 < third) }
+    ensures few { IfSome result (λ m. m.length ≤ 3) }
 {
     match first {
         b'+' => Some(plus_mark(second)),
@@ -295,7 +349,11 @@ fn one_more(is_longer: bool) -> usize
 /// How many bytes the name of an operator's method has that begins with these three bytes; 0 where none does.
 #[tactic(auto, unfolding(crate::specs::Marks::operator_name))]
 pub fn operator_name(first: u8, second: u8, third: u8) -> usize
-    ensures { result ≡ marks.operator_name first second third }
+    ensures value { result ≡ marks.operator_name first second third }
+    ensures one { 0 < result → 0 < first }
+    ensures two { 1 < result → 0 < second }
+    ensures three { 2 < result → 0 < third }
+    ensures few { result ≤ 3 }
 {
     match first {
         b'+' | b'-' => one_more(second == b'@'),

@@ -1,0 +1,297 @@
+//! The insides of literals.
+ghost use Rattle.std.specs.Prelude.{◌≡◌, ◌≤◌, ◌<◌, ◌+◌, length, IfOk};
+ghost use Rattle.rb_lexer.specs.LexError.{Gives};
+ghost use Rattle.rb_lexer.specs.State.{state_of};
+ghost use Rattle.rb_lexer.specs.Strings as strings;
+
+use crate::error::LexError;
+use crate::mode::{Delimiters, Mode};
+use crate::names::{is_colon, push_variable};
+use crate::scan::byte_at;
+use crate::state::Lexer;
+use rb_literals::full_escape;
+use rb_syntax::{Outside, TokenKind};
+use rb_words::Context;
+use rb_words::bytes::{is_name_start, is_white};
+use std::alloc::Global;
+
+/// A byte that stands for itself, or the one behind a backslash.
+fn byte_step(lexer: &mut Lexer, at: usize, byte: u8, end: usize) -> Result<usize, LexError>
+    requires { at < 4294967296 }
+    ensures place { IfOk result (λ e. e ≡ end) }
+    ensures value { Gives (λ e. (state_of lexer.new, e)) result (strings.byte_step at byte end (state_of lexer.old)) }
+{
+    lexer.add_byte(at, byte)?;
+    Ok(end)
+}
+
+/// An escape behind the backslash at a place.
+#[tactic(auto, unfolding(crate::specs::Strings::escape_step))]
+fn escape_step(lexer: &mut Lexer, text: &[u8], at: usize) -> Result<usize, LexError>
+    requires place { at < length text.now }
+    requires small { length text.now < 4294967296 }
+    ensures within { IfOk result (λ e. (at < e) × (e ≤ length text.now)) }
+    ensures value { Gives (λ e. (state_of lexer.new, e)) result (strings.escape_step text.now at (state_of lexer.old)) }
+{
+    match full_escape(text, at + 1) {
+        Ok(escape) => {
+            lexer.add_escaped(at, escape.stands_for)?;
+            Ok(escape.end)
+        }
+        Err(fault) => Err(LexError::Syntax {
+            at: fault.at as u32,
+        }),
+    }
+}
+
+/// The `#{` at a place.
+fn open_interpolation(
+    alloc: Global,
+    lexer: &mut Lexer,
+    at: usize,
+) -> Result<usize, LexError>
+    requires { at < 4294967294 }
+    ensures place { IfOk result (λ e. e ≡ at + 2) }
+    ensures value { Gives (λ e. (state_of lexer.new, e)) result (strings.open_interpolation at (state_of lexer.old)) }
+{
+    lexer.flush(alloc)?;
+    lexer.push(at, TokenKind::InterpolationBegin, Context::Start)?;
+    lexer.enter_interpolation()?;
+    Ok(at + 2)
+}
+
+/// A `#`: an interpolation, or the byte.
+#[tactic(auto, unfolding(crate::specs::Strings::hash_step))]
+fn hash_step(
+    alloc: Global,
+    lexer: &mut Lexer,
+    text: &[u8],
+    at: usize,
+) -> Result<usize, LexError>
+    requires place { at < length text.now }
+    requires small { length text.now < 4294967296 }
+    ensures within { IfOk result (λ e. (at < e) × (e ≤ length text.now)) }
+    ensures value { Gives (λ e. (state_of lexer.new, e)) result (strings.hash_step text.now at (state_of lexer.old)) }
+{
+    let next = byte_at(text, at + 1);
+    if next == b'{' {
+        open_interpolation(alloc, lexer, at)
+    } else if (next == b'@' || next == b'$') && is_name_start(byte_at(text, at + 2)) {
+        lexer.flush(alloc)?;
+        push_variable(alloc, lexer, text, at + 1)
+    } else {
+        byte_step(lexer, at, text[at], at + 1)
+    }
+}
+
+/// A byte of a literal with escapes and interpolation that is no delimiter.
+#[tactic(auto, unfolding(crate::specs::Strings::double_step))]
+fn double_step(
+    alloc: Global,
+    lexer: &mut Lexer,
+    text: &[u8],
+    at: usize,
+) -> Result<usize, LexError>
+    requires place { at < length text.now }
+    requires small { length text.now < 4294967296 }
+    ensures within { IfOk result (λ e. (at < e) × (e ≤ length text.now)) }
+    ensures value { Gives (λ e. (state_of lexer.new, e)) result (strings.double_step text.now at (state_of lexer.old)) }
+{
+    match text[at] {
+        b'\\' => escape_step(lexer, text, at),
+        b'#' => hash_step(alloc, lexer, text, at),
+        byte => byte_step(lexer, at, byte, at + 1),
+    }
+}
+
+/// Whether a backslash before the byte stands for it in a literal without the other escapes.
+fn is_plain_escape(delimiters: Delimiters, byte: u8) -> bool
+    ensures { result ≡ strings.is_plain_escape delimiters byte }
+{
+    byte == delimiters.opener || byte == delimiters.closer || byte == b'\\'
+}
+
+/// A byte of a literal without interpolation that is no delimiter.
+#[tactic(auto, unfolding(crate::specs::Strings::single_step))]
+fn single_step(
+    lexer: &mut Lexer,
+    delimiters: Delimiters,
+    text: &[u8],
+    at: usize,
+) -> Result<usize, LexError>
+    requires place { at < length text.now }
+    requires small { length text.now < 4294967296 }
+    ensures within { IfOk result (λ e. (at < e) × (e ≤ length text.now)) }
+    ensures value { Gives (λ e. (state_of lexer.new, e)) result (strings.single_step delimiters text.now at (state_of lexer.old)) }
+{
+    if text[at] == b'\\' && at + 1 < text.len() && is_plain_escape(delimiters, text[at + 1]) {
+        byte_step(lexer, at, text[at + 1], at + 2)
+    } else {
+        byte_step(lexer, at, text[at], at + 1)
+    }
+}
+
+/// The end of a string at a place; a colon behind it makes it a key.
+#[tactic(auto, unfolding(crate::specs::Strings::end_step))]
+fn end_step(
+    alloc: Global,
+    lexer: &mut Lexer,
+    key: Option<u32>,
+    text: &[u8],
+    at: usize,
+) -> Result<usize, LexError>
+    requires place { at < length text.now }
+    requires small { length text.now < 4294967296 }
+    ensures within { IfOk result (λ e. (at < e) × (e ≤ length text.now)) }
+    ensures value { Gives (λ e. (state_of lexer.new, e)) result (strings.end_step key text.now at (state_of lexer.old)) }
+{
+    lexer.flush(alloc)?;
+    if let Some(begin) = key {
+        if is_colon(text, at + 1) {
+            let kind = TokenKind::Outside(Outside::QuotedLabel);
+            lexer.push(begin as usize, kind, Context::Value)?;
+            lexer.leave();
+            return Ok(at + 2);
+        }
+    }
+    lexer.push(at, TokenKind::LiteralEnd, Context::Operand)?;
+    lexer.leave();
+    Ok(at + 1)
+}
+
+/// The literal with one more or one fewer opener delimiter.
+fn with_depth(delimiters: Delimiters, depth: usize) -> Delimiters
+    ensures { result ≡ strings.with_depth delimiters depth }
+{
+    Delimiters {
+        opener: delimiters.opener,
+        closer: delimiters.closer,
+        depth,
+        double: delimiters.double,
+        key: delimiters.key,
+    }
+}
+
+/// A delimiter at a place that nests.
+fn nest_step(lexer: &mut Lexer, mode: Mode, at: usize, byte: u8) -> Result<usize, LexError>
+    requires { at < 4294967295 }
+    ensures place { IfOk result (λ e. e ≡ at + 1) }
+    ensures value { Gives (λ e. (state_of lexer.new, e)) result (strings.nest_step mode at byte (state_of lexer.old)) }
+{
+    lexer.leave();
+    lexer.enter(mode)?;
+    byte_step(lexer, at, byte, at + 1)
+}
+
+/// One opener delimiter more; a number of them that doesn't fit is want of memory.
+fn deeper(delimiters: Delimiters) -> Result<Delimiters, LexError>
+    ensures { Gives (λ d. d) result (strings.deeper delimiters) }
+{
+    match delimiters.depth.checked_add(1) {
+        Some(depth) => Ok(with_depth(delimiters, depth)),
+        None => Err(LexError::NoMemory),
+    }
+}
+
+/// A step in a string.
+#[tactic(auto, unfolding(crate::specs::Strings::text_step))]
+pub fn text_step(
+    alloc: Global,
+    lexer: &mut Lexer,
+    delimiters: Delimiters,
+    text: &[u8],
+    at: usize,
+) -> Result<usize, LexError>
+    requires place { at < length text.now }
+    requires small { length text.now < 4294967296 }
+    ensures within { IfOk result (λ e. (at < e) × (e ≤ length text.now)) }
+    ensures value { Gives (λ e. (state_of lexer.new, e)) result (strings.text_step delimiters text.now at (state_of lexer.old)) }
+{
+    let byte = text[at];
+    if byte == delimiters.closer {
+        if delimiters.depth == 0 {
+            return end_step(alloc, lexer, delimiters.key, text, at);
+        }
+        let mode = Mode::Text(with_depth(delimiters, delimiters.depth - 1));
+        return nest_step(lexer, mode, at, byte);
+    }
+    if byte == delimiters.opener {
+        let mode = Mode::Text(deeper(delimiters)?);
+        return nest_step(lexer, mode, at, byte);
+    }
+    if delimiters.double {
+        double_step(alloc, lexer, text, at)
+    } else {
+        single_step(lexer, delimiters, text, at)
+    }
+}
+
+/// A step in a list of words.
+#[tactic(auto, unfolding(crate::specs::Strings::words_step))]
+pub fn words_step(
+    alloc: Global,
+    lexer: &mut Lexer,
+    delimiters: Delimiters,
+    text: &[u8],
+    at: usize,
+) -> Result<usize, LexError>
+    requires place { at < length text.now }
+    requires small { length text.now < 4294967296 }
+    ensures within { IfOk result (λ e. (at < e) × (e ≤ length text.now)) }
+    ensures value { Gives (λ e. (state_of lexer.new, e)) result (strings.words_step delimiters text.now at (state_of lexer.old)) }
+{
+    let byte = text[at];
+    if is_white(byte) {
+        lexer.flush_word(alloc)?;
+        return Ok(at + 1);
+    }
+    if byte == delimiters.closer {
+        if delimiters.depth == 0 {
+            return words_end_step(alloc, lexer, at);
+        }
+        let mode = Mode::Words(with_depth(delimiters, delimiters.depth - 1));
+        return nest_step(lexer, mode, at, byte);
+    }
+    if byte == delimiters.opener {
+        let mode = Mode::Words(deeper(delimiters)?);
+        return nest_step(lexer, mode, at, byte);
+    }
+    if byte == b'\\' && is_white(byte_at(text, at + 1)) {
+        byte_step(lexer, at, byte_at(text, at + 1), at + 2)
+    } else {
+        single_step(lexer, delimiters, text, at)
+    }
+}
+
+/// The end of a list of words.
+fn words_end_step(alloc: Global, lexer: &mut Lexer, at: usize) -> Result<usize, LexError>
+    requires { at < 4294967295 }
+    ensures place { IfOk result (λ e. e ≡ at + 1) }
+    ensures value { Gives (λ e. (state_of lexer.new, e)) result (strings.words_end_step at (state_of lexer.old)) }
+{
+    lexer.flush_word(alloc)?;
+    lexer.push(at, TokenKind::LiteralEnd, Context::Operand)?;
+    lexer.leave();
+    Ok(at + 1)
+}
+
+/// A step in the body of a heredoc.
+#[tactic(auto, unfolding(crate::specs::Strings::body_step))]
+pub fn body_step(
+    alloc: Global,
+    lexer: &mut Lexer,
+    double: bool,
+    text: &[u8],
+    at: usize,
+) -> Result<usize, LexError>
+    requires place { at < length text.now }
+    requires small { length text.now < 4294967296 }
+    ensures within { IfOk result (λ e. (at < e) × (e ≤ length text.now)) }
+    ensures value { Gives (λ e. (state_of lexer.new, e)) result (strings.body_step double text.now at (state_of lexer.old)) }
+{
+    if double {
+        double_step(alloc, lexer, text, at)
+    } else {
+        byte_step(lexer, at, text[at], at + 1)
+    }
+}
