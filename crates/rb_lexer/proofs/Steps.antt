@@ -1,5 +1,5 @@
 -- Steps of reading, one after the other.
-use Rattle.std.proofs.Common.{◌≡◌, ℕ, zero, suc, ◌+◌, ◌≤◌, ◌<◌, List, arith, refl, sym, ap, ◌∙◌, Option, Some, None, Result, Ok, Err, length}
+use Rattle.std.proofs.Common.{◌≡◌, ℕ, zero, suc, ◌+◌, ◌≤◌, ◌<◌, List, arith, refl, sym, ap, ◌∙◌, Option, Some, None, Result, Ok, Err, length, subst, IfSome}
 use Rattle.rb_lexer.specs.declared.error.LexError.{LexError}
 use Rattle.rb_lexer.specs.declared.error.LexError.TheVariants.{NoMemory, Syntax}
 use Rattle.rb_lexer.specs.declared.reach.Reach.{Reach}
@@ -30,10 +30,14 @@ step_from : (n : ℕ) (text : List ℕ) (s after : State) (r next : Reach) (unre
 step_from zero text s after r next unread left all more same is less = absurd (omega arith)
 step_from (suc n) text s after r next unread left all more same is less = record { steps = n; more = omega arith; same = sym (run_step n text s after r next is) ∙ same }
 
+pub kept : (P : Reach → Type 0) (o : Option Reach) (next : Reach) → o ≡ Some next → IfSome o P → P next
+kept P o next some holds = subst (λ (x : Option Reach). IfSome x P) some holds
+
 -- a step leaves enough steps
-pub goes_on : (text : List ℕ) (s after : State) (r next : Reach) (unread left : ℕ) (all : Result State ℕ) → Enough text unread s r all
-    → advance text s r ≡ Ok (after, Some next) → left < unread → Enough text left after next all
-goes_on text s after r next unread left all e is less = step_from e.steps text s after r next unread left all e.more e.same is less
+pub goes_on : (text : List ℕ) (s after : State) (r next : Reach) (o : Option Reach) (unread left : ℕ) (all : Result State ℕ) → Enough text unread s r all
+    → advance text s r ≡ Ok (after, o) → o ≡ Some next → left < unread → Enough text left after next all
+goes_on text s after r next o unread left all e is some less =
+    step_from e.steps text s after r next unread left all e.more e.same (subst (λ (x : Option Reach). advance text s r ≡ Ok (after, x)) some is) less
 
 ends_from : (n : ℕ) (text : List ℕ) (s after : State) (r : Reach) (unread : ℕ) (all : Result State ℕ) → unread < n → run n text s r ≡ all
     → advance text s r ≡ Ok (after, None) → all ≡ Ok after
@@ -41,9 +45,9 @@ ends_from zero text s after r unread all more same is = absurd (omega arith)
 ends_from (suc n) text s after r unread all more same is = sym same ∙ run_ends n text s after r is
 
 -- the last step ends all
-pub ends : (text : List ℕ) (s after : State) (r : Reach) (unread : ℕ) (all : Result State ℕ) → Enough text unread s r all
-    → advance text s r ≡ Ok (after, None) → all ≡ Ok after
-ends text s after r unread all e is = ends_from e.steps text s after r unread all e.more e.same is
+pub ends : (text : List ℕ) (s after : State) (r : Reach) (o : Option Reach) (unread : ℕ) (all : Result State ℕ) → Enough text unread s r all
+    → advance text s r ≡ Ok (after, o) → o ≡ None → all ≡ Ok after
+ends text s after r o unread all e is none = ends_from e.steps text s after r unread all e.more e.same (subst (λ (x : Option Reach). advance text s r ≡ Ok (after, x)) none is)
 
 stops_from : (n : ℕ) (text : List ℕ) (s : State) (r : Reach) (place unread : ℕ) (all : Result State ℕ) → unread < n → run n text s r ≡ all
     → advance text s r ≡ Err place → all ≡ Err place

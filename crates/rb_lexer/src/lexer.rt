@@ -1,5 +1,5 @@
 //! The tokens of a text.
-ghost use Rattle.std.specs.Prelude.{◌≡◌, ◌≤◌, ◌<◌, ◌+◌, length, IfOk, IfErr, IfSome};
+ghost use Rattle.std.specs.Prelude.{◌≡◌, ◌≤◌, ◌<◌, ◌+◌, ◌-◌, ℕ, length, IfOk, IfErr, IfSome};
 ghost use Rattle.rb_lexer.specs.LexError.{Gives};
 ghost use Rattle.rb_lexer.specs.State.{state_of};
 ghost use Rattle.rb_lexer.specs.Lexing as lexing;
@@ -63,6 +63,7 @@ fn bodies_from(text: &[u8], reach: Reach, at: usize) -> Option<(usize, usize)>
     requires within { at ≤ reach.stop }
     ensures value { result ≡ lexing.bodies_from text.now reach at }
     ensures order { IfSome result (λ p. (at ≤ p.1) × (p.0 ≤ length text.now) × (p.1 ≤ length text.now)) }
+    ensures room { reach.at + 2 < at → IfSome result (λ p. (length text.now - p.0) + 2 + (p.1 - at) < lexing.unread (length text.now) reach) }
 {
     match reach.region {
         Region::Plain => {
@@ -91,6 +92,8 @@ fn enter_body(
 ) -> Result<Reach, LexError>
     requires { at < 4294967296 }
     ensures value { Gives (λ r. (state_of lexer.new, r)) result (lexing.enter_body at head from end line next (state_of lexer.old)) }
+    ensures fits { IfOk result (λ r. (n : ℕ) → head.end ≤ line → line ≤ n → from ≤ end → end ≤ n → next ≤ n → lexing.Fits n r) }
+    ensures room { IfOk result (λ r. (n : ℕ) → lexing.unread n r ≤ (end - from) + 2 + (line - head.end) + (n - next)) }
 {
     if head.dash == b'~' {
         let kind = TokenKind::Outside(Outside::SquigglyHeredoc);
@@ -143,7 +146,8 @@ fn heredoc_step(
     let Some((end, next)) = body_at(alloc, text, from, head)? else {
         return Err(LexError::Syntax { at: at as u32 });
     };
-    enter_body(lexer, at, head, from, end, line, next)
+    let entered = enter_body(lexer, at, head, from, end, line, next)?;
+    Ok(entered)
 }
 
 /// The end of a stretch; None at the text's end.
