@@ -1,5 +1,5 @@
 -- How large a value of few digits is.
-use Rattle.std.proofs.Common.{◌≡◌, ℕ, suc, zero, ◌+◌, ◌-◌, ◌*◌, ◌^◌, ◌<◌, ◌≤◌, arith, refl, List, ◌∷◌, [], length, drop, drop-cons, add-one, get_or, cond, eqb, leb}
+use Rattle.std.proofs.Common.{◌≡◌, ℕ, suc, ◌+◌, ◌-◌, ◌*◌, ◌^◌, ◌<◌, ◌≤◌, arith, refl, List, ◌∷◌, length, drop, drop-cons, add-one, get_or, cond, eqb, leb}
 use Rattle.std.proofs.Math.Nat.{pow-suc, pow-le-pow_right}
 use Rattle.std.proofs.lemmas.Nat.{mul-le}
 use Rattle.rb_literals.specs.Kinds.{digit_value}

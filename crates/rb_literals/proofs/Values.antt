@@ -1,7 +1,6 @@
 -- What was scanned has the value of its digits, where that is narrow.
-use Rattle.std.proofs.Common.{◌≡◌, ℕ, ◌≤◌, refl, sym, ap, ◌∙◌, arith, true, false, leb, Option, Some, None, Result, Ok, Err}
+use Rattle.std.proofs.Common.{◌≡◌, ℕ, ◌≤◌, refl, ap, arith, Option, Some, None, Result, Ok, Err}
 use Rattle.std.specs.Prelude.{SomeIff, MatchResult}
-use Rattle.std.proofs.lemmas.Bool.{le-leb}
 use Rattle.rb_literals.specs.declared.fault.Fault.{Fault}
 use Rattle.rb_literals.specs.declared.integers.Scanned.{Scanned}
 use Rattle.rb_literals.specs.Integers.{◌>>=◌, narrow}

@@ -1,5 +1,5 @@
 -- The escapes of string literals.
-use Rattle.std.specs.Prelude.{ℕ, ◌+◌, ◌-◌, ◌*◌, ◌%◌, List, [], ◌∷◌, length, drop, slice_index, ◌==◌, nat_lt, nat_le, if◌then◌else◌, Bool, not, ◌||◌, ◌&&◌, Result, Ok, Err, encode_utf8}
+use Rattle.std.specs.Prelude.{ℕ, ◌+◌, ◌-◌, ◌*◌, ◌%◌, List, [], ◌∷◌, length, drop, slice_index, ◌==◌, nat_lt, nat_le, if◌then◌else◌, Bool, not, ◌||◌, ◌&&◌, Result, Ok, encode_utf8}
 use Rattle.rb_literals.specs.declared.fault.Fault.{Fault}
 use Rattle.rb_literals.specs.declared.escaped.Escape.{Escape}
 use Rattle.rb_literals.specs.declared.escaped.Escaped.{Escaped}

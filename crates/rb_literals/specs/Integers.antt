@@ -1,5 +1,5 @@
 -- Integer literals.
-use Rattle.std.specs.Prelude.{ℕ, ◌+◌, ◌*◌, List, [], ◌∷◌, drop, slice_index, ◌==◌, nat_lt, nat_le, if◌then◌else◌, Bool, true, false, not, ◌||◌, ◌&&◌, Option, Some, None, Result, Ok, Err}
+use Rattle.std.specs.Prelude.{ℕ, ◌+◌, ◌*◌, List, [], ◌∷◌, drop, slice_index, ◌==◌, nat_lt, nat_le, if◌then◌else◌, Bool, true, false, not, ◌||◌, Option, Some, None, Result, Ok, Err}
 use Rattle.rb_literals.specs.declared.fault.Fault.{Fault}
 use Rattle.rb_literals.specs.declared.integers.Scanned.{Scanned}
 use Rattle.rb_literals.specs.Kinds.{is_digit, digit_value}

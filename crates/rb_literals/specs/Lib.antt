@@ -2,3 +2,4 @@ pub mod Kinds
 pub mod Integers
 pub mod Numbers
 pub mod Escaping
+pub mod PlainEscapes

@@ -1,5 +1,5 @@
 -- Numeric literals: integers and what may stand behind them.
-use Rattle.std.specs.Prelude.{ℕ, ◌+◌, List, drop, slice_index, ◌==◌, if◌then◌else◌, Bool, true, not, ◌||◌, ◌&&◌, Option, Result, Ok}
+use Rattle.std.specs.Prelude.{ℕ, ◌+◌, List, drop, slice_index, ◌==◌, if◌then◌else◌, Bool, true, not, ◌||◌, ◌&&◌, Result, Ok}
 use Rattle.rb_literals.specs.declared.fault.Fault.{Fault}
 use Rattle.rb_literals.specs.declared.numbers.Number.{Number}
 use Rattle.rb_literals.specs.declared.numbers.Tail.{Tail}

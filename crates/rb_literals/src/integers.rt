@@ -60,8 +60,14 @@ fn with_digit(value: Option<u64>, base: u8, digit: u8) -> Option<u64>
     ensures { (n : ℕ) → SomeIff value (n ≤ 9223372036854775808) n
         → SomeIff result (n * base + digit ≤ 9223372036854775808) (n * base + digit) }
 {
-    let longer = value?.checked_mul(u64::from(base))?.checked_add(u64::from(digit))?;
-    if longer <= GREATEST { Some(longer) } else { None }
+    let longer = value?
+        .checked_mul(u64::from(base))?
+        .checked_add(u64::from(digit))?;
+    if longer <= GREATEST {
+        Some(longer)
+    } else {
+        None
+    }
 }
 
 /// The digits of a base that begin at a place, with single `_` between them.

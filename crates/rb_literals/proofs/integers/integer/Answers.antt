@@ -1,4 +1,4 @@
-use Rattle.std.proofs.Common.{◌≡◌, sym}
+use Rattle.std.proofs.Common.{sym}
 use Rattle.rb_literals.specs.Integers.{integer_at}
 use Rattle.rb_literals.proofs.Values.{scanned_is}
 use Rattle.rb_literals.proofs.integers.integer.Goals as goal
