@@ -3,8 +3,8 @@ use Rattle.std.specs.Prelude.{ℕ, ◌+◌, ◌==◌, not, Bool, ◌||◌, ◌&&
 use Rattle.rb_words.specs.ByteClass.{is_capital, is_name_start}
 use Rattle.rb_words.specs.Following.{expects_value, is_name, wants_name}
 use Rattle.rb_lexer.specs.declared.heads.HeadPlace.{HeadPlace}
-use Rattle.rb_lexer.specs.Scan.{name_end}
-use Rattle.rb_lexer.specs.State.{State}
+use Rattle.lex_state.specs.Scan.{name_end}
+use Rattle.lex_state.specs.State.{State}
 
 abbrev pub ends_quoted : ℕ → ℕ → Bool
 ends_quoted quote b = (b == quote) || (b == 10)

@@ -1,10 +1,3 @@
-pub mod LexError
-pub mod State
-pub mod Scan
-pub mod Trivia
-pub mod Names
-pub mod Closed
-pub mod Signs
 pub mod Strings
 pub mod Code
 pub mod Heads

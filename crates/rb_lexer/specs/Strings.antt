@@ -2,16 +2,18 @@
 use Rattle.std.specs.Prelude.{ℕ, ◌+◌, ◌-◌, ◌==◌, nat_lt, Bool, true, false, ◌||◌, ◌&&◌, if◌then◌else◌, List, length, Option, Some, None, Result, Ok, Err, slice_index}
 use Rattle.rb_literals.specs.declared.fault.Fault.{Fault}
 use Rattle.rb_literals.specs.declared.escaped.Escape.{Escape}
+use Rattle.rb_literals.specs.declared.plain_escapes.Delimiters.{Delimiters}
 use Rattle.rb_literals.specs.Escaping.{bytes_of, full_escape_at}
+use Rattle.rb_literals.specs.PlainEscapes.{plain_escape_at, word_escape_at}
 use Rattle.rb_syntax.specs.declared.outside.Outside.TheVariants as outsides
 use Rattle.rb_syntax.specs.declared.token.TokenKind.TheVariants as kinds
 use Rattle.rb_words.specs.declared.context.Context.TheVariants as contexts
 use Rattle.rb_words.specs.ByteClass.{is_name_start, is_white}
-use Rattle.rb_lexer.specs.declared.mode.Delimiters.{Delimiters}
-use Rattle.rb_lexer.specs.declared.mode.Mode.{Mode}
-use Rattle.rb_lexer.specs.declared.mode.Mode.TheVariants.{Text, Words}
-use Rattle.rb_lexer.specs.Names.{is_colon, variable_of}
-use Rattle.rb_lexer.specs.State.{State, pushed, entered, left, appended, extended, flushed, flushed_word, interpolating}
+use Rattle.lex_state.specs.declared.mode.Literal.{Literal}
+use Rattle.lex_state.specs.declared.mode.Mode.{Mode}
+use Rattle.lex_state.specs.declared.mode.Mode.TheVariants.{Text, Words}
+use Rattle.lex_words.specs.Names.{is_colon, variable_of}
+use Rattle.lex_state.specs.State.{State, pushed, entered, left, appended, extended, flushed, flushed_word, interpolating}
 
 -- a byte that stands for itself, or the one behind a backslash
 abbrev pub byte_step : ℕ → ℕ → ℕ → State → Result (State × ℕ) ℕ
@@ -44,15 +46,19 @@ double_step text at s =
     else if b == 35 then hash_step text at s
     else byte_step at b (at + 1) s
 
--- a backslash before a delimiter or a backslash stands for it
-abbrev pub is_plain_escape : Delimiters → ℕ → Bool
-is_plain_escape d b = (b == d.opener) || (b == d.closer) || (b == 92)
+abbrev pub plainly_escaped : Escape → ℕ → State → Result (State × ℕ) ℕ
+plainly_escaped e at s = Ok (extended s at (bytes_of e.stands_for), e.end)
 
 -- a byte of a literal without interpolation that is no delimiter
 unfoldable pub single_step : Delimiters → List ℕ → ℕ → State → Result (State × ℕ) ℕ
 single_step d text at s =
-    if (slice_index text at == 92) && nat_lt (at + 1) (length text) && is_plain_escape d (slice_index text (at + 1))
-    then byte_step at (slice_index text (at + 1)) (at + 2) s
+    if slice_index text at == 92 then plainly_escaped (plain_escape_at text (at + 1) d) at s
+    else byte_step at (slice_index text at) (at + 1) s
+
+-- a byte of a list of words that is no white space and no delimiter
+unfoldable pub word_byte_step : Delimiters → List ℕ → ℕ → State → Result (State × ℕ) ℕ
+word_byte_step d text at s =
+    if slice_index text at == 92 then plainly_escaped (word_escape_at text (at + 1) d) at s
     else byte_step at (slice_index text at) (at + 1) s
 
 abbrev pub end_literal : ℕ → State → Result (State × ℕ) ℕ
@@ -68,37 +74,36 @@ end_key (Some begin) text at s =
 unfoldable pub end_step : Option ℕ → List ℕ → ℕ → State → Result (State × ℕ) ℕ
 end_step key text at s = end_key key text at (flushed s)
 
-abbrev pub with_depth : Delimiters → ℕ → Delimiters
+abbrev pub with_depth : Literal → ℕ → Literal
 with_depth d depth = record d { depth = depth }
 
 -- a delimiter that nests
 abbrev pub nest_step : Mode → ℕ → ℕ → State → Result (State × ℕ) ℕ
 nest_step mode at byte s = byte_step at byte (at + 1) (entered (left s) mode)
 
-abbrev pub deeper : Delimiters → Result Delimiters ℕ
+abbrev pub deeper : Literal → Result Literal ℕ
 deeper d = Ok (with_depth d (d.depth + 1))
 
 -- a step in a string
-unfoldable pub text_step : Delimiters → List ℕ → ℕ → State → Result (State × ℕ) ℕ
+unfoldable pub text_step : Literal → List ℕ → ℕ → State → Result (State × ℕ) ℕ
 text_step d text at s =
     let b = slice_index text at in
-    if b == d.closer then (if d.depth == 0 then end_step d.key text at s else nest_step (Text (with_depth d (d.depth - 1))) at b s)
-    else if b == d.opener then nest_step (Text (with_depth d (d.depth + 1))) at b s
+    if b == d.delimiters.close then (if d.depth == 0 then end_step d.key text at s else nest_step (Text (with_depth d (d.depth - 1))) at b s)
+    else if b == d.delimiters.open then nest_step (Text (with_depth d (d.depth + 1))) at b s
     else if d.double then double_step text at s
-    else single_step d text at s
+    else single_step d.delimiters text at s
 
 abbrev pub words_end_step : ℕ → State → Result (State × ℕ) ℕ
 words_end_step at s = end_literal at (flushed_word s)
 
--- a step in a list of words; a backslash before white space stands for it
-unfoldable pub words_step : Delimiters → List ℕ → ℕ → State → Result (State × ℕ) ℕ
+-- a step in a list of words
+unfoldable pub words_step : Literal → List ℕ → ℕ → State → Result (State × ℕ) ℕ
 words_step d text at s =
     let b = slice_index text at in
     if is_white b then Ok (flushed_word s, at + 1)
-    else if b == d.closer then (if d.depth == 0 then words_end_step at s else nest_step (Words (with_depth d (d.depth - 1))) at b s)
-    else if b == d.opener then nest_step (Words (with_depth d (d.depth + 1))) at b s
-    else if (b == 92) && is_white (slice_index text (at + 1)) then byte_step at (slice_index text (at + 1)) (at + 2) s
-    else single_step d text at s
+    else if b == d.delimiters.close then (if d.depth == 0 then words_end_step at s else nest_step (Words (with_depth d (d.depth - 1))) at b s)
+    else if b == d.delimiters.open then nest_step (Words (with_depth d (d.depth + 1))) at b s
+    else word_byte_step d.delimiters text at s
 
 -- a step in the body of a heredoc
 unfoldable pub body_step : Bool → List ℕ → ℕ → State → Result (State × ℕ) ℕ

@@ -1,18 +1,18 @@
 //! One step of reading: outside of literals, and in what the place is inside of.
-ghost use Rattle.std.specs.Prelude.{◌≡◌, ◌≤◌, ◌<◌, length, IfOk};
-ghost use Rattle.rb_lexer.specs.LexError.{Gives};
-ghost use Rattle.rb_lexer.specs.State.{state_of, top};
+ghost use Rattle.std.specs.Prelude.{◌≡◌, ◌≤◌, ◌<◌, length, IfOk, IfErr};
+ghost use Rattle.lex_state.specs.LexError.{Gives, IsWithin};
+ghost use Rattle.lex_state.specs.State.{state_of, top};
 ghost use Rattle.rb_lexer.specs.Code as code;
 
-use crate::error::LexError;
-use crate::mode::Mode;
-use crate::names::{
+use lex_state::error::LexError;
+use lex_state::mode::Mode;
+use lex_words::names::{
     is_end_marker, operator_end, push_operator, push_wide, variable_step, word_step,
 };
-use crate::signs::sign_step;
-use crate::state::Lexer;
+use lex_words::signs::sign_step;
+use lex_state::state::Lexer;
 use crate::strings::{body_step, text_step, words_step};
-use crate::trivia::{is_trivia, trivia_step};
+use lex_state::trivia::{is_trivia, trivia_step};
 use rb_words::bytes::{is_name_start, is_wide};
 use std::alloc::Global;
 
@@ -27,6 +27,7 @@ fn word_or_end_step(
     requires small { length text.now < 4294967296 }
     ensures within { IfOk result (λ e. (at < e) × (e ≤ length text.now)) }
     ensures value { Gives (λ e. (state_of lexer.new, e)) result (code.word_or_end_step text.now at (state_of lexer.old)) }
+    ensures fault { IfErr result (λ e. IsWithin (length text.now) e) }
 {
     if is_end_marker(text, at) {
         Ok(text.len())
@@ -47,6 +48,7 @@ fn other_step(
     requires small { length text.now < 4294967296 }
     ensures within { IfOk result (λ e. (at < e) × (e ≤ length text.now)) }
     ensures value { Gives (λ e. (state_of lexer.new, e)) result (code.other_step text.now at (state_of lexer.old)) }
+    ensures fault { IfErr result (λ e. IsWithin (length text.now) e) }
 {
     let first = text[at];
     if first == b'@' || first == b'$' {
@@ -73,6 +75,7 @@ fn code_step(
     requires small { length text.now < 4294967296 }
     ensures within { IfOk result (λ e. (at < e) × (e ≤ length text.now)) }
     ensures value { Gives (λ e. (state_of lexer.new, e)) result (code.code_step text.now at (state_of lexer.old)) }
+    ensures fault { IfErr result (λ e. IsWithin (length text.now) e) }
 {
     if is_trivia(text, at) {
         return trivia_step(lexer, text, at);
@@ -98,10 +101,11 @@ pub fn step(
     requires small { length text.now < 4294967296 }
     ensures within { IfOk result (λ e. (at < e) × (e ≤ length text.now)) }
     ensures value { Gives (λ e. (state_of lexer.new, e)) result (code.step_in (top (state_of lexer.old)) text.now at (state_of lexer.old)) }
+    ensures fault { IfErr result (λ e. IsWithin (length text.now) e) }
 {
     match lexer.top() {
-        Some(Mode::Text(delimiters)) => text_step(alloc, lexer, delimiters, text, at),
-        Some(Mode::Words(delimiters)) => words_step(alloc, lexer, delimiters, text, at),
+        Some(Mode::Text(literal)) => text_step(alloc, lexer, literal, text, at),
+        Some(Mode::Words(literal)) => words_step(alloc, lexer, literal, text, at),
         Some(Mode::Body(double)) => body_step(alloc, lexer, double, text, at),
         _ => code_step(alloc, lexer, text, at),
     }

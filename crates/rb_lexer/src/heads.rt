@@ -1,10 +1,10 @@
 //! Heads of heredocs.
 ghost use Rattle.std.specs.Prelude.{◌≡◌, ◌≤◌, ◌<◌, ◌+◌, length, drop, IfSome};
-ghost use Rattle.rb_lexer.specs.State.{state_of};
+ghost use Rattle.lex_state.specs.State.{state_of};
 ghost use Rattle.rb_lexer.specs.Heads as heads;
 
-use crate::scan::{byte_at, name_end};
-use crate::state::Lexer;
+use lex_state::scan::{byte_at, name_end};
+use lex_state::state::Lexer;
 use rb_words::bytes::{is_capital, is_name_start};
 
 /// A head of a heredoc in the text.

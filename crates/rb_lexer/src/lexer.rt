@@ -1,18 +1,18 @@
 //! The tokens of a text.
 ghost use Rattle.std.specs.Prelude.{◌≡◌, ◌≤◌, ◌<◌, ◌+◌, ◌-◌, ℕ, length, IfOk, IfErr, IfSome};
-ghost use Rattle.rb_lexer.specs.LexError.{Gives};
-ghost use Rattle.rb_lexer.specs.State.{state_of};
+ghost use Rattle.lex_state.specs.LexError.{Gives, IsWithin};
+ghost use Rattle.lex_state.specs.State.{state_of};
 ghost use Rattle.rb_lexer.specs.Lexing as lexing;
-ghost use Rattle.rb_lexer.specs.declared.error.LexError.TheVariants as errors;
+ghost use Rattle.lex_state.specs.declared.error.LexError.TheVariants as errors;
 
 use crate::code::step;
-use crate::error::LexError;
+use lex_state::error::LexError;
 use crate::heads::{HeadPlace, begins_heredoc, is_indented};
-use crate::mode::Mode;
+use lex_state::mode::Mode;
 use crate::reach::{Reach, Region};
-use crate::scan::line_end;
-use crate::state::Lexer;
-use crate::trivia::newline_step;
+use lex_state::scan::line_end;
+use lex_state::state::Lexer;
+use lex_state::trivia::newline_step;
 use rb_base::Bytes;
 use rb_heredoc::{Head, bodies};
 use rb_syntax::{Outside, Token, TokenKind};
@@ -92,6 +92,7 @@ fn enter_body(
 ) -> Result<Reach, LexError>
     requires { at < 4294967296 }
     ensures value { Gives (λ r. (state_of lexer.new, r)) result (lexing.enter_body at head from end line next (state_of lexer.old)) }
+    ensures fault { IfErr result (λ e. e ≡ errors.NoMemory) }
     ensures fits { IfOk result (λ r. (n : ℕ) → head.end ≤ line → line ≤ n → from ≤ end → end ≤ n → next ≤ n → lexing.Fits n r) }
     ensures room { IfOk result (λ r. (n : ℕ) → lexing.unread n r ≤ (end - from) + 2 + (line - head.end) + (n - next)) }
 {
@@ -133,6 +134,7 @@ fn heredoc_step(
     requires forward { reach.at + 2 < head.end }
     requires within { head.end ≤ reach.stop }
     ensures value { Gives (λ r. (state_of lexer.new, r)) result (lexing.heredoc_step text.now reach head (state_of lexer.old)) }
+    ensures fault { IfErr result (λ e. IsWithin (length text.now) e) }
     ensures fits { IfOk result (λ r. lexing.Fits (length text.now) r) }
     ensures smaller { IfOk result (λ r. lexing.unread (length text.now) r < lexing.unread (length text.now) reach) }
 {
@@ -161,6 +163,7 @@ fn stretch_end(
     requires fits { lexing.Fits (length text.now) reach }
     requires end { reach.stop ≤ reach.at }
     ensures value { Gives (λ r. (state_of lexer.new, r)) result (lexing.stretch_end text.now reach (state_of lexer.old)) }
+    ensures fault { IfErr result (λ e. IsWithin (length text.now) e) }
     ensures fits { IfOk result (λ next. IfSome next (λ r. lexing.Fits (length text.now) r)) }
     ensures smaller { IfOk result (λ next. IfSome next (λ r. lexing.unread (length text.now) r < lexing.unread (length text.now) reach)) }
 {
@@ -237,6 +240,7 @@ fn code_reach(
     requires fits { lexing.Fits (length text.now) reach }
     requires before { reach.at < reach.stop }
     ensures value { Gives (λ r. (state_of lexer.new, r)) result (lexing.code_reach text.now reach (state_of lexer.old)) }
+    ensures fault { IfErr result (λ e. IsWithin (length text.now) e) }
     ensures fits { IfOk result (λ r. lexing.Fits (length text.now) r) }
     ensures smaller { IfOk result (λ r. lexing.unread (length text.now) r < lexing.unread (length text.now) reach) }
 {
@@ -265,6 +269,7 @@ fn step_reach(
     requires fits { lexing.Fits (length text.now) reach }
     requires before { reach.at < reach.stop }
     ensures value { Gives (λ r. (state_of lexer.new, r)) result (lexing.step_reach text.now reach (state_of lexer.old)) }
+    ensures fault { IfErr result (λ e. IsWithin (length text.now) e) }
     ensures fits { IfOk result (λ r. lexing.Fits (length text.now) r) }
     ensures smaller { IfOk result (λ r. lexing.unread (length text.now) r < lexing.unread (length text.now) reach) }
 {
@@ -287,6 +292,7 @@ fn advance(
     requires small { length text.now < 4294967296 }
     requires fits { lexing.Fits (length text.now) reach }
     ensures value { Gives (λ r. (state_of lexer.new, r)) result (lexing.advance text.now (state_of lexer.old) reach) }
+    ensures fault { IfErr result (λ e. IsWithin (length text.now) e) }
     ensures fits { IfOk result (λ next. IfSome next (λ r. lexing.Fits (length text.now) r)) }
     ensures smaller { IfOk result (λ next. IfSome next (λ r. lexing.unread (length text.now) r < lexing.unread (length text.now) reach)) }
 {
@@ -304,7 +310,8 @@ fn advance(
 /// The tokens of a text that ended, which has `len` bytes.
 fn finish(lexer: Lexer, len: usize) -> Result<Vec<Token>, LexError>
     requires { len < 4294967296 }
-    ensures { Gives (λ v. v.items) result (lexing.finished len (state_of lexer)) }
+    ensures value { Gives (λ v. v.items) result (lexing.finished len (state_of lexer)) }
+    ensures fault { IfErr result (λ e. IsWithin len e) }
 {
     if lexer.inside > 0 || is_literal(lexer.top()) {
         Err(LexError::Syntax { at: len as u32 })
@@ -322,7 +329,8 @@ fn finish(lexer: Lexer, len: usize) -> Result<Vec<Token>, LexError>
 #[tactic(auto, unfolding(crate::specs::Lexing::tokens_of))]
 pub fn lex(alloc: Global, text: &[u8]) -> Result<Vec<Token>, LexError>
     requires { length text.now < 4294967296 }
-    ensures { Gives (λ v. v.items) result (lexing.tokens_of text.now) }
+    ensures value { Gives (λ v. v.items) result (lexing.tokens_of text.now) }
+    ensures fault { IfErr result (λ e. IsWithin (length text.now) e) }
 {
     let mut lexer = Lexer::new(alloc);
     let mut reach = Reach {

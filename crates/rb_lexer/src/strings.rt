@@ -1,15 +1,16 @@
 //! The insides of literals.
-ghost use Rattle.std.specs.Prelude.{◌≡◌, ◌≤◌, ◌<◌, ◌+◌, length, IfOk};
-ghost use Rattle.rb_lexer.specs.LexError.{Gives};
-ghost use Rattle.rb_lexer.specs.State.{state_of};
+ghost use Rattle.std.specs.Prelude.{◌≡◌, ◌≤◌, ◌<◌, ◌+◌, length, IfOk, IfErr};
+ghost use Rattle.lex_state.specs.declared.error.LexError.TheVariants.{NoMemory};
+ghost use Rattle.lex_state.specs.LexError.{Gives, IsWithin};
+ghost use Rattle.lex_state.specs.State.{state_of};
 ghost use Rattle.rb_lexer.specs.Strings as strings;
 
-use crate::error::LexError;
-use crate::mode::{Delimiters, Mode};
-use crate::names::{is_colon, push_variable};
-use crate::scan::byte_at;
-use crate::state::Lexer;
-use rb_literals::full_escape;
+use lex_state::error::LexError;
+use lex_state::mode::{Literal, Mode};
+use lex_words::names::{is_colon, push_variable};
+use lex_state::scan::byte_at;
+use lex_state::state::Lexer;
+use rb_literals::{Delimiters, full_escape, plain_escape, word_escape};
 use rb_syntax::{Outside, TokenKind};
 use rb_words::Context;
 use rb_words::bytes::{is_name_start, is_white};
@@ -20,6 +21,7 @@ fn byte_step(lexer: &mut Lexer, at: usize, byte: u8, end: usize) -> Result<usize
     requires { at < 4294967296 }
     ensures place { IfOk result (λ e. e ≡ end) }
     ensures value { Gives (λ e. (state_of lexer.new, e)) result (strings.byte_step at byte end (state_of lexer.old)) }
+    ensures fault { IfErr result (λ e. e ≡ NoMemory) }
 {
     lexer.add_byte(at, byte)?;
     Ok(end)
@@ -32,6 +34,7 @@ fn escape_step(lexer: &mut Lexer, text: &[u8], at: usize) -> Result<usize, LexEr
     requires small { length text.now < 4294967296 }
     ensures within { IfOk result (λ e. (at < e) × (e ≤ length text.now)) }
     ensures value { Gives (λ e. (state_of lexer.new, e)) result (strings.escape_step text.now at (state_of lexer.old)) }
+    ensures fault { IfErr result (λ e. IsWithin (length text.now) e) }
 {
     match full_escape(text, at + 1) {
         Ok(escape) => {
@@ -53,6 +56,7 @@ fn open_interpolation(
     requires { at < 4294967294 }
     ensures place { IfOk result (λ e. e ≡ at + 2) }
     ensures value { Gives (λ e. (state_of lexer.new, e)) result (strings.open_interpolation at (state_of lexer.old)) }
+    ensures fault { IfErr result (λ e. e ≡ NoMemory) }
 {
     lexer.flush(alloc)?;
     lexer.push(at, TokenKind::InterpolationBegin, Context::Start)?;
@@ -72,6 +76,7 @@ fn hash_step(
     requires small { length text.now < 4294967296 }
     ensures within { IfOk result (λ e. (at < e) × (e ≤ length text.now)) }
     ensures value { Gives (λ e. (state_of lexer.new, e)) result (strings.hash_step text.now at (state_of lexer.old)) }
+    ensures fault { IfErr result (λ e. IsWithin (length text.now) e) }
 {
     let next = byte_at(text, at + 1);
     if next == b'{' {
@@ -96,19 +101,13 @@ fn double_step(
     requires small { length text.now < 4294967296 }
     ensures within { IfOk result (λ e. (at < e) × (e ≤ length text.now)) }
     ensures value { Gives (λ e. (state_of lexer.new, e)) result (strings.double_step text.now at (state_of lexer.old)) }
+    ensures fault { IfErr result (λ e. IsWithin (length text.now) e) }
 {
     match text[at] {
         b'\\' => escape_step(lexer, text, at),
         b'#' => hash_step(alloc, lexer, text, at),
         byte => byte_step(lexer, at, byte, at + 1),
     }
-}
-
-/// Whether a backslash before the byte stands for it in a literal without the other escapes.
-fn is_plain_escape(delimiters: Delimiters, byte: u8) -> bool
-    ensures { result ≡ strings.is_plain_escape delimiters byte }
-{
-    byte == delimiters.opener || byte == delimiters.closer || byte == b'\\'
 }
 
 /// A byte of a literal without interpolation that is no delimiter.
@@ -123,12 +122,36 @@ fn single_step(
     requires small { length text.now < 4294967296 }
     ensures within { IfOk result (λ e. (at < e) × (e ≤ length text.now)) }
     ensures value { Gives (λ e. (state_of lexer.new, e)) result (strings.single_step delimiters text.now at (state_of lexer.old)) }
+    ensures fault { IfErr result (λ e. IsWithin (length text.now) e) }
 {
-    if text[at] == b'\\' && at + 1 < text.len() && is_plain_escape(delimiters, text[at + 1]) {
-        byte_step(lexer, at, text[at + 1], at + 2)
-    } else {
-        byte_step(lexer, at, text[at], at + 1)
+    if text[at] != b'\\' {
+        return byte_step(lexer, at, text[at], at + 1);
     }
+    let escape = plain_escape(text, at + 1, delimiters);
+    lexer.add_escaped(at, escape.stands_for)?;
+    Ok(escape.end)
+}
+
+/// A byte of a list of words that is no white space and no delimiter.
+#[tactic(auto, unfolding(crate::specs::Strings::word_byte_step))]
+fn word_byte_step(
+    lexer: &mut Lexer,
+    delimiters: Delimiters,
+    text: &[u8],
+    at: usize,
+) -> Result<usize, LexError>
+    requires place { at < length text.now }
+    requires small { length text.now < 4294967296 }
+    ensures within { IfOk result (λ e. (at < e) × (e ≤ length text.now)) }
+    ensures value { Gives (λ e. (state_of lexer.new, e)) result (strings.word_byte_step delimiters text.now at (state_of lexer.old)) }
+    ensures fault { IfErr result (λ e. IsWithin (length text.now) e) }
+{
+    if text[at] != b'\\' {
+        return byte_step(lexer, at, text[at], at + 1);
+    }
+    let escape = word_escape(text, at + 1, delimiters);
+    lexer.add_escaped(at, escape.stands_for)?;
+    Ok(escape.end)
 }
 
 /// The end of a string at a place; a colon behind it makes it a key.
@@ -144,6 +167,7 @@ fn end_step(
     requires small { length text.now < 4294967296 }
     ensures within { IfOk result (λ e. (at < e) × (e ≤ length text.now)) }
     ensures value { Gives (λ e. (state_of lexer.new, e)) result (strings.end_step key text.now at (state_of lexer.old)) }
+    ensures fault { IfErr result (λ e. IsWithin (length text.now) e) }
 {
     lexer.flush(alloc)?;
     if let Some(begin) = key {
@@ -159,16 +183,15 @@ fn end_step(
     Ok(at + 1)
 }
 
-/// The literal with one more or one fewer opener delimiter.
-fn with_depth(delimiters: Delimiters, depth: usize) -> Delimiters
-    ensures { result ≡ strings.with_depth delimiters depth }
+/// The literal with so many open delimiters.
+fn with_depth(literal: Literal, depth: usize) -> Literal
+    ensures { result ≡ strings.with_depth literal depth }
 {
-    Delimiters {
-        opener: delimiters.opener,
-        closer: delimiters.closer,
+    Literal {
+        delimiters: literal.delimiters,
         depth,
-        double: delimiters.double,
-        key: delimiters.key,
+        double: literal.double,
+        key: literal.key,
     }
 }
 
@@ -177,6 +200,7 @@ fn nest_step(lexer: &mut Lexer, mode: Mode, at: usize, byte: u8) -> Result<usize
     requires { at < 4294967295 }
     ensures place { IfOk result (λ e. e ≡ at + 1) }
     ensures value { Gives (λ e. (state_of lexer.new, e)) result (strings.nest_step mode at byte (state_of lexer.old)) }
+    ensures fault { IfErr result (λ e. e ≡ NoMemory) }
 {
     lexer.leave();
     lexer.enter(mode)?;
@@ -184,11 +208,12 @@ fn nest_step(lexer: &mut Lexer, mode: Mode, at: usize, byte: u8) -> Result<usize
 }
 
 /// One opener delimiter more; a number of them that doesn't fit is want of memory.
-fn deeper(delimiters: Delimiters) -> Result<Delimiters, LexError>
-    ensures { Gives (λ d. d) result (strings.deeper delimiters) }
+fn deeper(literal: Literal) -> Result<Literal, LexError>
+    ensures value { Gives (λ d. d) result (strings.deeper literal) }
+    ensures fault { IfErr result (λ e. e ≡ NoMemory) }
 {
-    match delimiters.depth.checked_add(1) {
-        Some(depth) => Ok(with_depth(delimiters, depth)),
+    match literal.depth.checked_add(1) {
+        Some(depth) => Ok(with_depth(literal, depth)),
         None => Err(LexError::NoMemory),
     }
 }
@@ -198,31 +223,32 @@ fn deeper(delimiters: Delimiters) -> Result<Delimiters, LexError>
 pub fn text_step(
     alloc: Global,
     lexer: &mut Lexer,
-    delimiters: Delimiters,
+    literal: Literal,
     text: &[u8],
     at: usize,
 ) -> Result<usize, LexError>
     requires place { at < length text.now }
     requires small { length text.now < 4294967296 }
     ensures within { IfOk result (λ e. (at < e) × (e ≤ length text.now)) }
-    ensures value { Gives (λ e. (state_of lexer.new, e)) result (strings.text_step delimiters text.now at (state_of lexer.old)) }
+    ensures value { Gives (λ e. (state_of lexer.new, e)) result (strings.text_step literal text.now at (state_of lexer.old)) }
+    ensures fault { IfErr result (λ e. IsWithin (length text.now) e) }
 {
     let byte = text[at];
-    if byte == delimiters.closer {
-        if delimiters.depth == 0 {
-            return end_step(alloc, lexer, delimiters.key, text, at);
+    if byte == literal.delimiters.close {
+        if literal.depth == 0 {
+            return end_step(alloc, lexer, literal.key, text, at);
         }
-        let mode = Mode::Text(with_depth(delimiters, delimiters.depth - 1));
+        let mode = Mode::Text(with_depth(literal, literal.depth - 1));
         return nest_step(lexer, mode, at, byte);
     }
-    if byte == delimiters.opener {
-        let mode = Mode::Text(deeper(delimiters)?);
+    if byte == literal.delimiters.open {
+        let mode = Mode::Text(deeper(literal)?);
         return nest_step(lexer, mode, at, byte);
     }
-    if delimiters.double {
+    if literal.double {
         double_step(alloc, lexer, text, at)
     } else {
-        single_step(lexer, delimiters, text, at)
+        single_step(lexer, literal.delimiters, text, at)
     }
 }
 
@@ -231,36 +257,33 @@ pub fn text_step(
 pub fn words_step(
     alloc: Global,
     lexer: &mut Lexer,
-    delimiters: Delimiters,
+    literal: Literal,
     text: &[u8],
     at: usize,
 ) -> Result<usize, LexError>
     requires place { at < length text.now }
     requires small { length text.now < 4294967296 }
     ensures within { IfOk result (λ e. (at < e) × (e ≤ length text.now)) }
-    ensures value { Gives (λ e. (state_of lexer.new, e)) result (strings.words_step delimiters text.now at (state_of lexer.old)) }
+    ensures value { Gives (λ e. (state_of lexer.new, e)) result (strings.words_step literal text.now at (state_of lexer.old)) }
+    ensures fault { IfErr result (λ e. IsWithin (length text.now) e) }
 {
     let byte = text[at];
     if is_white(byte) {
         lexer.flush_word(alloc)?;
         return Ok(at + 1);
     }
-    if byte == delimiters.closer {
-        if delimiters.depth == 0 {
+    if byte == literal.delimiters.close {
+        if literal.depth == 0 {
             return words_end_step(alloc, lexer, at);
         }
-        let mode = Mode::Words(with_depth(delimiters, delimiters.depth - 1));
+        let mode = Mode::Words(with_depth(literal, literal.depth - 1));
         return nest_step(lexer, mode, at, byte);
     }
-    if byte == delimiters.opener {
-        let mode = Mode::Words(deeper(delimiters)?);
+    if byte == literal.delimiters.open {
+        let mode = Mode::Words(deeper(literal)?);
         return nest_step(lexer, mode, at, byte);
     }
-    if byte == b'\\' && is_white(byte_at(text, at + 1)) {
-        byte_step(lexer, at, byte_at(text, at + 1), at + 2)
-    } else {
-        single_step(lexer, delimiters, text, at)
-    }
+    word_byte_step(lexer, literal.delimiters, text, at)
 }
 
 /// The end of a list of words.
@@ -268,6 +291,7 @@ fn words_end_step(alloc: Global, lexer: &mut Lexer, at: usize) -> Result<usize, 
     requires { at < 4294967295 }
     ensures place { IfOk result (λ e. e ≡ at + 1) }
     ensures value { Gives (λ e. (state_of lexer.new, e)) result (strings.words_end_step at (state_of lexer.old)) }
+    ensures fault { IfErr result (λ e. e ≡ NoMemory) }
 {
     lexer.flush_word(alloc)?;
     lexer.push(at, TokenKind::LiteralEnd, Context::Operand)?;
@@ -288,6 +312,7 @@ pub fn body_step(
     requires small { length text.now < 4294967296 }
     ensures within { IfOk result (λ e. (at < e) × (e ≤ length text.now)) }
     ensures value { Gives (λ e. (state_of lexer.new, e)) result (strings.body_step double text.now at (state_of lexer.old)) }
+    ensures fault { IfErr result (λ e. IsWithin (length text.now) e) }
 {
     if double {
         double_step(alloc, lexer, text, at)
