@@ -70,6 +70,10 @@ closed s = closed_in s.top s.around
 abbrev pub done : Levels → Levels
 done s = if s.top.head then on_top s (separated s.top false false) else opened s false
 
+-- an index counts, and starts a level
+abbrev pub indexed : Levels → Levels
+indexed s = opened (on_top s (counted s.top)) false
+
 unfoldable pub step : Effect → Levels → Levels
 step Nothing s = s
 step Count s = on_top s (counted s.top)
@@ -81,7 +85,7 @@ step When s = on_top s (separated s.top s.top.head true)
 step Do s = done s
 step Open s = opened s false
 step OpenLoop s = opened s true
-step OpenIndex s = opened (on_top s (counted s.top)) false
+step OpenIndex s = indexed s
 step Close s = closed s
 
 -- the levels behind the tokens; after_word: a name directly there counts

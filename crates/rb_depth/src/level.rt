@@ -1,4 +1,5 @@
 //! A level of a text.
+ghost use Rattle.std.specs.Prelude.{◌≤◌, ◌+◌};
 
 /// A level of a text. Its value is at most 256; what would make it greater gives None.
 #[derive(Clone, Copy)]
@@ -14,7 +15,7 @@ pub struct Level {
 }
 
 impl Level {
-    ghost use Rattle.std.specs.Prelude.{◌≡◌, ◌≤◌, ◌<◌, ◌+◌, max, MatchOption, true, false};
+    ghost use Rattle.std.specs.Prelude.{◌≡◌, ◌<◌, MatchOption, false};
     ghost use Rattle.rb_depth.specs.Levels as levels;
     ghost use Rattle.rb_depth.specs.Held.{measures_of};
 
@@ -125,13 +126,12 @@ impl Level {
         }
     }
 
-    /// Behind a level of that value that ended within.
-    pub fn nested(self, value: u32) -> Option<Level>
-        requires { value ≤ 256 }
+    /// Behind a level that ended within.
+    pub fn nested(self, ended: Level) -> Option<Level>
         ensures { MatchOption result
-            (256 < (levels.nested (measures_of self) value).value)
-            (λ l. measures_of l ≡ levels.nested (measures_of self) value) }
+            (256 < (levels.nested (measures_of self) (measures_of ended).value).value)
+            (λ l. measures_of l ≡ levels.nested (measures_of self) (measures_of ended).value) }
     {
-        self.altered(self.count, self.kept, self.inner.max(value + 1))
+        self.altered(self.count, self.kept, self.inner.max(ended.value + 1))
     }
 }

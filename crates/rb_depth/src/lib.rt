@@ -4,9 +4,12 @@
 #![tactic(auto)]
 
 pub mod effect;
-//pub mod fold;
+pub mod fold;
 pub mod level;
-//pub mod stack;
+pub mod stack;
 
-//pub use fold::depth;
+pub use fold::depth;
 
+
+#[cfg(test)]
+mod tests;
