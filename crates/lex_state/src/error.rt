@@ -7,9 +7,7 @@ use std::alloc::{AllocError, AllocFailed};
 #[derive(Clone, Copy, Debug, PartialEq, Eq)]
 pub enum LexError {
     /// The text can't be read as tokens. `at` is a byte offset, at most the text's length.
-    Syntax {
-        at: u32,
-    },
+    Syntax { at: u32 },
     NoMemory,
 }
 

@@ -13,4 +13,3 @@ pub mod trivia;
 pub use error::LexError;
 pub use mode::{Literal, Mode};
 pub use state::Lexer;
-

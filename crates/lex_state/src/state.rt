@@ -79,12 +79,7 @@ impl Lexer {
     }
 
     /// One token more.
-    pub fn push(
-        &mut self,
-        at: usize,
-        kind: TokenKind,
-        context: Context,
-    ) -> Result<(), LexError>
+    pub fn push(&mut self, at: usize, kind: TokenKind, context: Context) -> Result<(), LexError>
         requires { at < 4294967296 }
         ensures ok { OnOk result (state_of self.new ≡ state.pushed (state_of self.old) at kind context) }
         ensures err { IfErr result (λ e. e ≡ errors.NoMemory) }
@@ -100,7 +95,12 @@ impl Lexer {
         ensures err { IfErr result (λ e. e ≡ errors.NoMemory) }
     {
         let value = self.context.expects_value_at(keyword);
-        self.push_as(at, TokenKind::Keyword(keyword), value, after_keyword(keyword))
+        self.push_as(
+            at,
+            TokenKind::Keyword(keyword),
+            value,
+            after_keyword(keyword),
+        )
     }
 
     /// White space was read.
@@ -197,7 +197,11 @@ impl Lexer {
         }
         let bytes = mem::replace(&mut self.piece, Vec::new(alloc));
         let at = self.piece_at as usize;
-        self.push(at, TokenKind::Piece(Bytes::from_vec(bytes)), Context::Operand)
+        self.push(
+            at,
+            TokenKind::Piece(Bytes::from_vec(bytes)),
+            Context::Operand,
+        )
     }
 
     /// The bytes of a list's element so far are a token.
@@ -210,6 +214,10 @@ impl Lexer {
         }
         let bytes = mem::replace(&mut self.piece, Vec::new(alloc));
         let at = self.piece_at as usize;
-        self.push(at, TokenKind::Word(Bytes::from_vec(bytes)), Context::Operand)
+        self.push(
+            at,
+            TokenKind::Word(Bytes::from_vec(bytes)),
+            Context::Operand,
+        )
     }
 }

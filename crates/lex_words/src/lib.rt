@@ -6,4 +6,3 @@
 pub mod names;
 pub mod outside;
 pub mod signs;
-

@@ -5,9 +5,7 @@ ghost use Rattle.lex_state.specs.State.{state_of};
 ghost use Rattle.lex_words.specs.Names as names;
 
 use lex_state::error::LexError;
-use lex_state::scan::{
-    byte_at, def_end, digit_end, mark_end, name_end, symbol_end, wide_end,
-};
+use lex_state::scan::{byte_at, def_end, digit_end, mark_end, name_end, symbol_end, wide_end};
 use lex_state::state::Lexer;
 use lex_state::trivia::begins_line;
 use rb_base::Bytes;

@@ -4,9 +4,9 @@ ghost use Rattle.lex_state.specs.LexError.{Gives, IsWithin};
 ghost use Rattle.lex_state.specs.State.{state_of};
 ghost use Rattle.lex_words.specs.Closed as closed;
 
+use crate::signs::closing;
 use lex_state::error::LexError;
 use lex_state::scan::option_end;
-use crate::signs::closing;
 use lex_state::state::Lexer;
 use rb_syntax::{Outside, TokenKind};
 use rb_words::Context;

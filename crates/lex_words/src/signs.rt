@@ -6,10 +6,10 @@ ghost use Rattle.lex_state.specs.State.{state_of};
 ghost use Rattle.lex_words.specs.Closed as closed;
 ghost use Rattle.lex_words.specs.Signs as signs;
 
-use lex_state::error::LexError;
-use lex_state::mode::{Literal, Mode};
 use crate::names::symbol_name_end;
 use crate::outside::outside_step;
+use lex_state::error::LexError;
+use lex_state::mode::{Literal, Mode};
 use lex_state::scan::byte_at;
 use lex_state::state::Lexer;
 use rb_base::Bytes;
@@ -161,12 +161,7 @@ fn quote_step(lexer: &mut Lexer, text: &[u8], at: usize) -> Result<usize, LexErr
 
 /// A colon: a symbol or a mark.
 #[tactic(auto, unfolding(crate::specs::Signs::colon_step))]
-fn colon_step(
-    alloc: Global,
-    lexer: &mut Lexer,
-    text: &[u8],
-    at: usize,
-) -> Result<usize, LexError>
+fn colon_step(alloc: Global, lexer: &mut Lexer, text: &[u8], at: usize) -> Result<usize, LexError>
     requires place { at < length text.now }
     requires small { length text.now < 4294967296 }
     ensures within { IfOk result (λ e. (at < e) × (e ≤ length text.now)) }
@@ -216,11 +211,7 @@ fn number_step(lexer: &mut Lexer, text: &[u8], at: usize) -> Result<usize, LexEr
 {
     match numeral(text, at) {
         Ok(number) => {
-            lexer.push(
-                at,
-                number_kind(number.value, number.tail),
-                Context::Operand,
-            )?;
+            lexer.push(at, number_kind(number.value, number.tail), Context::Operand)?;
             Ok(number.end)
         }
         Err(fault) => Err(LexError::Syntax {
@@ -244,11 +235,7 @@ fn ambiguous_step(lexer: &mut Lexer, at: usize) -> Result<usize, LexError>
     ensures value { Gives (λ e. (state_of lexer.new, e)) result (signs.ambiguous_step at (state_of lexer.old)) }
     ensures fault { IfErr result (λ e. e ≡ NoMemory) }
 {
-    lexer.push(
-        at,
-        TokenKind::Outside(Outside::Ambiguous),
-        Context::Start,
-    )?;
+    lexer.push(at, TokenKind::Outside(Outside::Ambiguous), Context::Start)?;
     Ok(at + 1)
 }
 
@@ -343,7 +330,8 @@ fn is_delimiter(byte: u8) -> bool
 fn is_percent_letter(letter: u8, delimiter: u8) -> bool
     ensures { result ≡ signs.is_percent_letter letter delimiter }
 {
-    (letter == b'q' || letter == b'Q' || letter == b'w' || letter == b'i') && is_delimiter(delimiter)
+    (letter == b'q' || letter == b'Q' || letter == b'w' || letter == b'i')
+        && is_delimiter(delimiter)
 }
 
 /// The literal with `%` that a delimiter opens.
@@ -363,12 +351,7 @@ fn percent_literal(opener: u8, double: bool) -> Literal
 
 /// The opening of a literal with `%`, a letter and a delimiter.
 #[tactic(auto, unfolding(crate::specs::Signs::letter_step))]
-fn letter_step(
-    lexer: &mut Lexer,
-    at: usize,
-    letter: u8,
-    delimiter: u8,
-) -> Result<usize, LexError>
+fn letter_step(lexer: &mut Lexer, at: usize, letter: u8, delimiter: u8) -> Result<usize, LexError>
     requires { at < 4294967296 }
     ensures place { IfOk result (λ e. e ≡ at + 3) }
     ensures value { Gives (λ e. (state_of lexer.new, e)) result (signs.letter_step at letter delimiter (state_of lexer.old)) }

@@ -69,11 +69,8 @@ fn keyword_effect(keyword: Keyword, value: bool, after_word: bool) -> Effect
             Effect::Separate
         }
         Keyword::When => Effect::When,
-        Keyword::Return
-        | Keyword::Break
-        | Keyword::Next
-        | Keyword::Yield
-        | Keyword::Super => word_effect(after_word),
+        Keyword::Return | Keyword::Break | Keyword::Next | Keyword::Yield | Keyword::Super =>
+            word_effect(after_word),
         _ => Effect::Nothing,
     }
 }
@@ -137,11 +134,7 @@ fn is_word_keyword(keyword: Keyword) -> bool
     ensures { result ≡ effects.is_word_keyword keyword }
 {
     match keyword {
-        Keyword::Return
-        | Keyword::Break
-        | Keyword::Next
-        | Keyword::Yield
-        | Keyword::Super => true,
+        Keyword::Return | Keyword::Break | Keyword::Next | Keyword::Yield | Keyword::Super => true,
         _ => false,
     }
 }

@@ -10,6 +10,5 @@ pub mod stack;
 
 pub use fold::depth;
 
-
 #[cfg(test)]
 mod tests;

@@ -59,4 +59,4 @@ pub body_fits : (text : List ℕ) (from : ℕ) (head : Head) (b : Bodies) → fr
 unfolding bodies_in bodies_at
 body_fits text from head b within found =
     whole_case text from (body_in head (lines_of (drop from text))) b within
-        (λ c h. subst (λ (n : ℕ). length c.0 + length (concat c.1) ≤ n) (lines_bound text from) (body_parts head (lines_of (drop from text)) c h)) found
+    (λ c h. subst (λ (n : ℕ). length c.0 + length (concat c.1) ≤ n) (lines_bound text from) (body_parts head (lines_of (drop from text)) c h)) found

@@ -4,15 +4,15 @@ ghost use Rattle.lex_state.specs.LexError.{Gives, IsWithin};
 ghost use Rattle.lex_state.specs.State.{state_of, top};
 ghost use Rattle.rb_lexer.specs.Code as code;
 
+use crate::strings::{body_step, text_step, words_step};
 use lex_state::error::LexError;
 use lex_state::mode::Mode;
+use lex_state::state::Lexer;
+use lex_state::trivia::{is_trivia, trivia_step};
 use lex_words::names::{
     is_end_marker, operator_end, push_operator, push_wide, variable_step, word_step,
 };
 use lex_words::signs::sign_step;
-use lex_state::state::Lexer;
-use crate::strings::{body_step, text_step, words_step};
-use lex_state::trivia::{is_trivia, trivia_step};
 use rb_words::bytes::{is_name_start, is_wide};
 use std::alloc::Global;
 
@@ -38,12 +38,7 @@ fn word_or_end_step(
 
 /// A variable, the name of an operator's method where a name is wanted, or a sign.
 #[tactic(auto, unfolding(crate::specs::Code::other_step))]
-fn other_step(
-    alloc: Global,
-    lexer: &mut Lexer,
-    text: &[u8],
-    at: usize,
-) -> Result<usize, LexError>
+fn other_step(alloc: Global, lexer: &mut Lexer, text: &[u8], at: usize) -> Result<usize, LexError>
     requires place { at < length text.now }
     requires small { length text.now < 4294967296 }
     ensures within { IfOk result (λ e. (at < e) × (e ≤ length text.now)) }
@@ -65,12 +60,7 @@ fn other_step(
 
 /// A step outside of literals.
 #[tactic(auto, unfolding(crate::specs::Code::code_step))]
-fn code_step(
-    alloc: Global,
-    lexer: &mut Lexer,
-    text: &[u8],
-    at: usize,
-) -> Result<usize, LexError>
+fn code_step(alloc: Global, lexer: &mut Lexer, text: &[u8], at: usize) -> Result<usize, LexError>
     requires place { at < length text.now }
     requires small { length text.now < 4294967296 }
     ensures within { IfOk result (λ e. (at < e) × (e ≤ length text.now)) }
@@ -91,12 +81,7 @@ fn code_step(
 }
 
 /// A step in what the place is inside of.
-pub fn step(
-    alloc: Global,
-    lexer: &mut Lexer,
-    text: &[u8],
-    at: usize,
-) -> Result<usize, LexError>
+pub fn step(alloc: Global, lexer: &mut Lexer, text: &[u8], at: usize) -> Result<usize, LexError>
     requires place { at < length text.now }
     requires small { length text.now < 4294967296 }
     ensures within { IfOk result (λ e. (at < e) × (e ≤ length text.now)) }

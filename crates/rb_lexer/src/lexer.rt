@@ -6,10 +6,10 @@ ghost use Rattle.rb_lexer.specs.Lexing as lexing;
 ghost use Rattle.lex_state.specs.declared.error.LexError.TheVariants as errors;
 
 use crate::code::step;
-use lex_state::error::LexError;
 use crate::heads::{HeadPlace, begins_heredoc, is_indented};
-use lex_state::mode::Mode;
 use crate::reach::{Reach, Region};
+use lex_state::error::LexError;
+use lex_state::mode::Mode;
 use lex_state::scan::line_end;
 use lex_state::state::Lexer;
 use lex_state::trivia::newline_step;

@@ -1,6 +1,6 @@
-//! The tokens of a text.
+//! The tokens of a text, and how deep they are.
 //!
-//! Types: [`LexError`]. Call: [`lex`].
+//! Types: [`LexError`]. Calls: [`lex`], [`depth`].
 #![tactic(auto)]
 
 pub mod code;
@@ -11,6 +11,7 @@ pub mod strings;
 
 pub use lex_state::LexError;
 pub use lexer::lex;
+pub use rb_depth::depth;
 
 #[cfg(test)]
 mod tests;

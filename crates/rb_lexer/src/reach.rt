@@ -7,7 +7,9 @@ pub enum Region {
     /// Nothing: the stretch ends at the text's end.
     Plain,
     /// The stretch is the rest of a line with heads of heredocs, behind whose bodies reading goes on at `next`.
-    Line { next: usize },
+    Line {
+        next: usize,
+    },
     /// The stretch is the body of a heredoc, behind which reading goes on at `back`, up to the line's end `line`,
     /// and then at `next`.
     Body {

@@ -7,9 +7,9 @@ ghost use Rattle.rb_lexer.specs.Strings as strings;
 
 use lex_state::error::LexError;
 use lex_state::mode::{Literal, Mode};
-use lex_words::names::{is_colon, push_variable};
 use lex_state::scan::byte_at;
 use lex_state::state::Lexer;
+use lex_words::names::{is_colon, push_variable};
 use rb_literals::{Delimiters, full_escape, plain_escape, word_escape};
 use rb_syntax::{Outside, TokenKind};
 use rb_words::Context;
@@ -48,11 +48,7 @@ fn escape_step(lexer: &mut Lexer, text: &[u8], at: usize) -> Result<usize, LexEr
 }
 
 /// The `#{` at a place.
-fn open_interpolation(
-    alloc: Global,
-    lexer: &mut Lexer,
-    at: usize,
-) -> Result<usize, LexError>
+fn open_interpolation(alloc: Global, lexer: &mut Lexer, at: usize) -> Result<usize, LexError>
     requires { at < 4294967294 }
     ensures place { IfOk result (λ e. e ≡ at + 2) }
     ensures value { Gives (λ e. (state_of lexer.new, e)) result (strings.open_interpolation at (state_of lexer.old)) }
@@ -66,12 +62,7 @@ fn open_interpolation(
 
 /// A `#`: an interpolation, or the byte.
 #[tactic(auto, unfolding(crate::specs::Strings::hash_step))]
-fn hash_step(
-    alloc: Global,
-    lexer: &mut Lexer,
-    text: &[u8],
-    at: usize,
-) -> Result<usize, LexError>
+fn hash_step(alloc: Global, lexer: &mut Lexer, text: &[u8], at: usize) -> Result<usize, LexError>
     requires place { at < length text.now }
     requires small { length text.now < 4294967296 }
     ensures within { IfOk result (λ e. (at < e) × (e ≤ length text.now)) }
@@ -91,12 +82,7 @@ fn hash_step(
 
 /// A byte of a literal with escapes and interpolation that is no delimiter.
 #[tactic(auto, unfolding(crate::specs::Strings::double_step))]
-fn double_step(
-    alloc: Global,
-    lexer: &mut Lexer,
-    text: &[u8],
-    at: usize,
-) -> Result<usize, LexError>
+fn double_step(alloc: Global, lexer: &mut Lexer, text: &[u8], at: usize) -> Result<usize, LexError>
     requires place { at < length text.now }
     requires small { length text.now < 4294967296 }
     ensures within { IfOk result (λ e. (at < e) × (e ≤ length text.now)) }

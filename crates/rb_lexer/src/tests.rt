@@ -1,4 +1,4 @@
-use crate::{LexError, lex};
+use crate::{LexError, depth, lex};
 use rb_syntax::{Token, TokenKind};
 use std::alloc::{AllocError, Global};
 use std::process::Abort;
@@ -74,7 +74,10 @@ fn white_space_and_newlines(rt: HostRuntime) -> Result<(), Fail> {
         rt.alloc(),
         &[
             ("", ""),
-            ("a = 1 +\n2\nputs a # three", "id:a Assign 1 Plus 2 nl id:puts id:a "),
+            (
+                "a = 1 +\n2\nputs a # three",
+                "id:a Assign 1 Plus 2 nl id:puts id:a ",
+            ),
             ("a\n-1", "id:a nl Minus 1 "),
             ("a\n\n\nb", "id:a nl id:b "),
             ("\n a;\n b", "id:a ; id:b "),
@@ -93,7 +96,10 @@ fn white_space_and_newlines(rt: HostRuntime) -> Result<(), Fail> {
             ("a\n__END__ \n", "id:a nl id:__END__ nl "),
             ("a\0b", "Syntax 1 "),
             ("# a\0", "Syntax 3 "),
-            ("f(1,\n2)", "id:f OpenParenthesis 1 Comma 2 CloseParenthesis "),
+            (
+                "f(1,\n2)",
+                "id:f OpenParenthesis 1 Comma 2 CloseParenthesis ",
+            ),
             ("return\n1", "Return nl 1 "),
             ("x and\ny", "id:x And id:y "),
             ("x.\ny", "id:x Dot id:y "),
@@ -113,20 +119,41 @@ fn names_and_keywords(rt: HostRuntime) -> Result<(), Fail> {
             ("a? b! a!=b", "method:a? method:b! id:a NotEqual id:b "),
             ("a?==b", "method:a? Equal id:b "),
             ("a!=>b", "method:a! Arrow id:b "),
-            ("{a: 1, if: 2}", "OpenBrace label:a 1 Comma label:if 2 CloseBrace "),
+            (
+                "{a: 1, if: 2}",
+                "OpenBrace label:a 1 Comma label:if 2 CloseBrace ",
+            ),
             ("a::B", "id:a ColonColon const:B "),
-            ("def end; x.class; end", "Def method:end ; id:x Dot method:class ; End "),
-            ("def x=(v)", "Def method:x= OpenParenthesis id:v CloseParenthesis "),
+            (
+                "def end; x.class; end",
+                "Def method:end ; id:x Dot method:class ; End ",
+            ),
+            (
+                "def x=(v)",
+                "Def method:x= OpenParenthesis id:v CloseParenthesis ",
+            ),
             ("def x= v", "Def method:x= id:v "),
             ("def x = v", "Def id:x Assign id:v "),
-            ("def self.x=(v)", "Def method:self Dot method:x= OpenParenthesis id:v CloseParenthesis "),
-            ("def +(o)", "Def method:+ OpenParenthesis id:o CloseParenthesis "),
-            ("def -@; def []=(a, b)", "Def method:-@ ; Def method:[]= OpenParenthesis id:a Comma id:b CloseParenthesis "),
+            (
+                "def self.x=(v)",
+                "Def method:self Dot method:x= OpenParenthesis id:v CloseParenthesis ",
+            ),
+            (
+                "def +(o)",
+                "Def method:+ OpenParenthesis id:o CloseParenthesis ",
+            ),
+            (
+                "def -@; def []=(a, b)",
+                "Def method:-@ ; Def method:[]= OpenParenthesis id:a Comma id:b CloseParenthesis ",
+            ),
             ("alias == eql?", "Alias method:== method:eql? "),
             ("alias eql? ==", "Alias method:eql? method:== "),
             ("undef a, +", "Undef id:a Comma method:+ "),
             ("x if y", "id:x If id:y "),
-            ("defined?(x)", "Defined OpenParenthesis id:x CloseParenthesis "),
+            (
+                "defined?(x)",
+                "Defined OpenParenthesis id:x CloseParenthesis ",
+            ),
             ("nil? nil", "method:nil? Nil "),
             ("__FILE__ BEGIN", "FileName BeginBlock "),
         ],
@@ -140,11 +167,17 @@ fn marks_and_bars(rt: HostRuntime) -> Result<(), Fail> {
         rt.alloc(),
         &[
             ("a <=> b", "id:a Compare id:b "),
-            ("a <<= b **= c", "id:a ShiftLeftAssign id:b StarStarAssign id:c "),
+            (
+                "a <<= b **= c",
+                "id:a ShiftLeftAssign id:b StarStarAssign id:c ",
+            ),
             ("a ? b : c", "id:a Question id:b Colon id:c "),
             ("a...b", "id:a DotDotDot id:b "),
             ("a&.b =~ c", "id:a AmpersandDot id:b Match id:c "),
-            ("f { |a| a | b }", "id:f OpenBrace OpenBar id:a CloseBar id:a Bar id:b CloseBrace "),
+            (
+                "f { |a| a | b }",
+                "id:f OpenBrace OpenBar id:a CloseBar id:a Bar id:b CloseBrace ",
+            ),
             ("f do || 1 end", "id:f Do OpenBar CloseBar 1 End "),
             ("a || b", "id:a OrOr id:b "),
             ("-> { }", "LambdaArrow OpenBrace CloseBrace "),
@@ -162,7 +195,10 @@ fn numbers(rt: HostRuntime) -> Result<(), Fail> {
             ("9223372036854775808", "9223372036854775808 "),
             ("9223372036854775809", "!WideInteger "),
             ("-2 ** 2", "Minus 2 StarStar 2 "),
-            ("1.5 1e3 2r 3i 1.5r", "!Float !Float !Rational !Imaginary !Rational "),
+            (
+                "1.5 1e3 2r 3i 1.5r",
+                "!Float !Float !Rational !Imaginary !Rational ",
+            ),
             ("1.a", "1 Dot id:a "),
             ("1..2", "1 DotDot 2 "),
             ("1if x", "1 If id:x "),
@@ -181,7 +217,10 @@ fn strings_and_symbols(rt: HostRuntime) -> Result<(), Fail> {
             ("\"a\\\nb\"", "( =ab ) "),
             ("\"\"", "( ) "),
             ("\"a#{b + \"c\"}d\"", "( =a #{ id:b Plus ( =c ) } =d ) "),
-            ("\"#{ {a: 1} }\"", "( #{ OpenBrace label:a 1 CloseBrace } ) "),
+            (
+                "\"#{ {a: 1} }\"",
+                "( #{ OpenBrace label:a 1 CloseBrace } ) ",
+            ),
             ("\"#@a#$b#c\"", "( ivar:@a gvar:$b =#c ) "),
             ("'#{a}'", "( =#{a} ) "),
             ("\"a\" 'b'", "( =a ) ( =b ) "),
@@ -194,7 +233,10 @@ fn strings_and_symbols(rt: HostRuntime) -> Result<(), Fail> {
             ("%Q[a]", "( =a ) "),
             ("%w[a b\\ c\n d]", "w( =a =b c =d ) "),
             ("%i(a b)", "i( =a =b ) "),
-            ("p :a, :b?, :c=, :+, :[]=", "id:p sym:a Comma sym:b? Comma sym:c= Comma sym:+ Comma sym:[]= "),
+            (
+                "p :a, :b?, :c=, :+, :[]=",
+                "id:p sym:a Comma sym:b? Comma sym:c= Comma sym:+ Comma sym:[]= ",
+            ),
             ("{:a=>1}", "OpenBrace sym:a Arrow 1 CloseBrace "),
             (":\"a b\" :'c' :@d", ":( =a b ) :( =c ) sym:@d "),
             ("{\"a\": 1}", "OpenBrace ( =a !QuotedLabel 1 CloseBrace "),
@@ -216,9 +258,18 @@ fn heredocs(rt: HostRuntime) -> Result<(), Fail> {
             ("puts <<A\nb\nA\n", "id:puts ( =b\n ) nl "),
             ("x <<a\n", "id:x ShiftLeft id:a nl "),
             ("x << A", "id:x ShiftLeft const:A "),
-            ("f(<<A)\nb\nA\n  .c", "id:f OpenParenthesis ( =b\n ) CloseParenthesis Dot id:c "),
-            ("f(<<A, 'x\nb\nA\ny')", "id:f OpenParenthesis ( =b\n ) Comma ( =x\ny ) CloseParenthesis "),
-            ("x = <<~A\n '\n A\ny", "id:x Assign !SquigglyHeredoc nl id:y "),
+            (
+                "f(<<A)\nb\nA\n  .c",
+                "id:f OpenParenthesis ( =b\n ) CloseParenthesis Dot id:c ",
+            ),
+            (
+                "f(<<A, 'x\nb\nA\ny')",
+                "id:f OpenParenthesis ( =b\n ) Comma ( =x\ny ) CloseParenthesis ",
+            ),
+            (
+                "x = <<~A\n '\n A\ny",
+                "id:x Assign !SquigglyHeredoc nl id:y ",
+            ),
             ("x = <<A\nb\n", "Syntax 4 "),
             ("\"#{<<A}\"\nb\nA\n", "Syntax 3 "),
             ("x = <<A\r\nb\r\nA\r\n1", "id:x Assign ( =b\r\n ) nl 1 "),
@@ -242,7 +293,10 @@ fn outside_tokens(rt: HostRuntime) -> Result<(), Fail> {
             ("x %y", "id:x !Ambiguous id:y "),
             ("x % y", "id:x Percent id:y "),
             ("`ls`", "!Backquote "),
-            ("%r{a{b}c} %x(a)", "!PercentLiteral Percent id:x OpenParenthesis id:a CloseParenthesis "),
+            (
+                "%r{a{b}c} %x(a)",
+                "!PercentLiteral Percent id:x OpenParenthesis id:a CloseParenthesis ",
+            ),
             ("@@a $1 $!", "!ClassVariable !SpecialGlobal !SpecialGlobal "),
             ("a\u{e9}b", "!NonAsciiName "),
             ("\u{e9}", "!NonAsciiName "),
@@ -281,6 +335,59 @@ fn flags_of_tokens(rt: HostRuntime) -> Result<(), Fail> {
     ] {
         let line = flags_of(&rt, rt.alloc(), text.as_bytes())?;
         assert_eq!(rt; line.as_slice(), flags.as_bytes(), "{text}");
+    }
+    Ok(())
+}
+
+/// `n` times the part between two others.
+fn repeated(
+    alloc: Global,
+    front: &[u8],
+    part: &[u8],
+    n: usize,
+    back: &[u8],
+) -> Result<Vec<u8>, AllocError> {
+    let mut text = Vec::from_slice(alloc, front)?;
+    for _ in 0..n {
+        text.extend_from_slice(part)?;
+    }
+    text.extend_from_slice(back)?;
+    Ok(text)
+}
+
+fn has_depth(rt: &impl Abort, alloc: Global, text: &[u8], expected: u32) -> Result<(), Fail> {
+    assert!(rt; text.len() < 4294967296);
+    let tokens = lex(alloc, text)?;
+    assert_eq!(rt; depth(&tokens), expected);
+    Ok(())
+}
+
+#[test]
+fn depth_of_chains(rt: HostRuntime) -> Result<(), Fail> {
+    let alloc = rt.alloc();
+    let lines = b"a = nil\na = lambda { |x| a }\na";
+    has_depth(&rt, alloc, &repeated(alloc, lines, b"[0]", 255, b"")?, 256)?;
+    has_depth(&rt, alloc, &repeated(alloc, lines, b"[0]", 256, b"")?, 257)?;
+    has_depth(&rt, alloc, &repeated(alloc, b"", b"x ", 257, b"1")?, 256)?;
+    has_depth(&rt, alloc, &repeated(alloc, b"", b"x ", 258, b"1")?, 257)?;
+    Ok(())
+}
+
+#[test]
+fn depth_of_statements(rt: HostRuntime) -> Result<(), Fail> {
+    for (text, expected) in [
+        ("", 0),
+        ("a + b", 1),
+        ("a + b, c * d", 1),
+        ("a if b; c + d + e", 2),
+        ("f(a + b)", 2),
+        ("while a do b end", 1),
+        ("while a\nb { c }\nend", 2),
+        ("x and y and z, 1", 2),
+        ("case a\nwhen 1, 2, 3 then b\nend", 3),
+        ("def f; return g a; end", 2),
+    ] {
+        has_depth(&rt, rt.alloc(), text.as_bytes(), expected)?;
     }
     Ok(())
 }

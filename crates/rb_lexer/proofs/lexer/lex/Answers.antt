@@ -10,9 +10,9 @@ pub steps-preserved : goal.steps-preserved
 steps-preserved c = record {
   fits = kept (λ (r : Reach). Fits (length c.args.text.now) r) _ c.in-Some.next c.in-Some.is c.in_ok-next.ensures.fits;
   enough = goes_on c.args.text.now (state_of c.steps.lexer) (state_of c.advance.new.lexer) c.steps.reach c.in-Some.next _
-    (unread (length c.args.text.now) c.steps.reach) (unread (length c.args.text.now) c.in-Some.next) _ c.steps.invariant.enough
-    c.in_ok-next.ensures.value c.in-Some.is
-    (kept (λ (r : Reach). unread (length c.args.text.now) r < unread (length c.args.text.now) c.steps.reach) _ c.in-Some.next c.in-Some.is c.in_ok-next.ensures.smaller);
+      (unread (length c.args.text.now) c.steps.reach) (unread (length c.args.text.now) c.in-Some.next) _ c.steps.invariant.enough
+      c.in_ok-next.ensures.value c.in-Some.is
+      (kept (λ (r : Reach). unread (length c.args.text.now) r < unread (length c.args.text.now) c.steps.reach) _ c.in-Some.next c.in-Some.is c.in_ok-next.ensures.smaller);
 }
 
 pub returns-in_err-next-clause-value : goal.returns-in_err-next-clause-value
@@ -25,5 +25,5 @@ pub returns-clause-value : goal.returns-clause-value
 unfolding tokens_of
 returns-clause-value c =
     let all : run (length c.args.text.now + 1) c.args.text.now opening (whole c.args.text.now) ≡ Ok (state_of c.advance.new.lexer) =
-      ends c.args.text.now (state_of c.steps.lexer) (state_of c.advance.new.lexer) c.steps.reach _ (unread (length c.args.text.now) c.steps.reach) _ c.steps.invariant.enough c.in_ok-next.ensures.value c.in-None.is in
+    ends c.args.text.now (state_of c.steps.lexer) (state_of c.advance.new.lexer) c.steps.reach _ (unread (length c.args.text.now) c.steps.reach) _ c.steps.invariant.enough c.in_ok-next.ensures.value c.in-None.is in
     rw all c.finish.ensures.value
