@@ -385,7 +385,7 @@ fn depth_of_statements(rt: HostRuntime) -> Result<(), Fail> {
         ("while a\nb { c }\nend", 2),
         ("x and y and z, 1", 2),
         ("case a\nwhen 1, 2, 3 then b\nend", 3),
-        ("def f; return g a; end", 2),
+        ("def f; return g a; end", 3),
     ] {
         has_depth(&rt, rt.alloc(), text.as_bytes(), expected)?;
     }
