@@ -1,17 +1,24 @@
 //! What the front, the generator and the definitions speak of: core forms, the binary operators among the
-//! core methods, the constructs outside the language, and the counts that have a limit.
+//! core methods, the constructs outside the language, the counts that have a limit, and tokens.
 //!
-//! Types: [`Core`] with its parts, [`Operator`], [`Outside`], [`Count`].
+//! Types: [`Core`] with its parts, [`Operator`], [`Outside`], [`Count`], [`Token`] with [`TokenKind`],
+//! [`Keyword`] and [`Punctuator`].
 #![tactic(auto)]
 
 pub mod core_form;
 pub mod count;
+pub mod keyword;
 pub mod operator;
 pub mod outside;
+pub mod punctuator;
+pub mod token;
 
 pub use core_form::{
     BeginForm, Branch, Clause, Core, DefinedKind, Function, Item, Pair, Parameters, Receiver,
 };
 pub use count::Count;
+pub use keyword::Keyword;
 pub use operator::Operator;
 pub use outside::Outside;
+pub use punctuator::Punctuator;
+pub use token::{Token, TokenKind};

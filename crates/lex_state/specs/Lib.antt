@@ -1,0 +1,4 @@
+pub mod LexError
+pub mod State
+pub mod Scan
+pub mod Trivia

@@ -1,0 +1,14 @@
+//! How deep the tokens of a text are.
+//!
+//! Call: [`depth`]. It takes no memory.
+#![tactic(auto)]
+
+pub mod effect;
+pub mod fold;
+pub mod level;
+pub mod stack;
+
+pub use fold::depth;
+
+#[cfg(test)]
+mod tests;

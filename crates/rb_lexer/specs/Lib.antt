@@ -1,0 +1,4 @@
+pub mod Strings
+pub mod Code
+pub mod Heads
+pub mod Lexing

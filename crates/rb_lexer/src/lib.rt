@@ -1,0 +1,17 @@
+//! The tokens of a text, and how deep they are.
+//!
+//! Types: [`LexError`]. Calls: [`lex`], [`depth`].
+#![tactic(auto)]
+
+pub mod code;
+pub mod heads;
+pub mod lexer;
+pub mod reach;
+pub mod strings;
+
+pub use lex_state::LexError;
+pub use lexer::lex;
+pub use rb_depth::depth;
+
+#[cfg(test)]
+mod tests;

@@ -1,0 +1,5 @@
+pub mod Kinds
+pub mod Integers
+pub mod Numbers
+pub mod Escaping
+pub mod PlainEscapes

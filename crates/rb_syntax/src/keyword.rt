@@ -1,0 +1,51 @@
+/// A reserved word. `if`, `unless`, `while`, `until` and `rescue` are modifiers where no value is expected,
+/// which the token says.
+#[derive(Clone, Copy, Debug, PartialEq, Eq)]
+pub enum Keyword {
+    /// `__ENCODING__`
+    EncodingName,
+    /// `__FILE__`
+    FileName,
+    /// `__LINE__`
+    LineNumber,
+    /// `BEGIN`
+    BeginBlock,
+    /// `END`
+    EndBlock,
+    Alias,
+    And,
+    Begin,
+    Break,
+    Case,
+    Class,
+    Def,
+    Defined,
+    Do,
+    Else,
+    Elsif,
+    End,
+    Ensure,
+    False,
+    For,
+    If,
+    In,
+    Module,
+    Next,
+    Nil,
+    Not,
+    Or,
+    Redo,
+    Rescue,
+    Retry,
+    Return,
+    SelfReference,
+    Super,
+    Then,
+    True,
+    Undef,
+    Unless,
+    Until,
+    When,
+    While,
+    Yield,
+}

@@ -1,0 +1,4 @@
+pub mod ByteClass
+pub mod Keyword
+pub mod Marks
+pub mod Following
