@@ -1,6 +1,8 @@
 //! Keywords by their spelling.
-ghost use Rattle.std.specs.Prelude.{◌≡◌};
+ghost use Rattle.std.specs.Prelude.{◌≡◌, IfSome, Some};
 ghost use Rattle.rb_words.specs.Keyword as spelled;
+ghost use Rattle.rb_words.specs.Spelling.{keyword_spelling};
+ghost use Rattle.rb_syntax.specs.declared.keyword.Keyword.{Keyword};
 
 use rb_syntax::Keyword;
 
@@ -160,9 +162,9 @@ fn of_five_bytes(word: &[u8]) -> Option<Keyword>
     }
 }
 
-/// The keyword that is spelled so, if it is one.
+/// The keyword that is spelled so, by its length.
 #[tactic(auto, unfolding(crate::specs::Keyword::keyword_of))]
-pub fn keyword_of(word: &[u8]) -> Option<Keyword>
+fn by_length(word: &[u8]) -> Option<Keyword>
     ensures { result ≡ spelled.keyword_of word.now }
 {
     match word.len() {
@@ -173,4 +175,15 @@ pub fn keyword_of(word: &[u8]) -> Option<Keyword>
         6 => of_six_bytes(word),
         _ => of_more_bytes(word),
     }
+}
+
+/// The keyword that is spelled so, if it is one.
+pub fn keyword_of(word: &[u8]) -> Option<Keyword>
+    ensures value { result ≡ spelled.keyword_of word.now }
+    // What is found is spelled so.
+    ensures so { IfSome result (λ k. word.now ≡ keyword_spelling k) }
+    // A keyword is found by its spelling.
+    ensures found { (k : Keyword) → word.now ≡ keyword_spelling k → result ≡ Some k }
+{
+    by_length(word)
 }
