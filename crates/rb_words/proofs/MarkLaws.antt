@@ -1,5 +1,5 @@
 -- The table of marks against their spelling.
-use Rattle.std.proofs.Common.{◌≡◌, ℕ, ◌≤◌, List, [], ◌∷◌, length, take, codes, Bool, true, false, ◌&&◌, Option, Some, None, refl, eqb, cond, lit≤, MatchOption, IfSome, subst, sym, arith}
+use Rattle.std.proofs.Common.{◌≡◌, ℕ, ◌≤◌, [], ◌∷◌, length, Bool, true, false, Option, Some, None, refl, eqb, cond, lit≤, MatchOption, IfSome, subst, sym, arith}
 use Rattle.std.proofs.lemmas.Bool.{eqb-true, and_parts}
 use Rattle.rb_syntax.specs.declared.punctuator.Punctuator.{Punctuator}
 use Rattle.rb_syntax.specs.declared.punctuator.Punctuator.TheVariants as marks
@@ -18,7 +18,6 @@ pick_some false x y Q one other = other refl
 long : (t : Bool) (x y : Mark) (n : ℕ) → n ≤ x.length → n ≤ y.length → n ≤ (cond t x y).length
 long true x y n one other = one
 long false x y n one other = other
-
 
 some_bytes : (p : Punctuator) → 1 ≤ length (mark_spelling p)
 some_bytes marks.Plus = lit≤ tt
