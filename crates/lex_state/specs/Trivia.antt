@@ -1,5 +1,5 @@
 -- White space, comments and the ends of lines.
-use Rattle.std.specs.Prelude.{ℕ, ◌+◌, ◌-◌, List, [], ◌∷◌, drop, length, codes, ◌==◌, nat_eq, not, Bool, true, false, ◌||◌, ◌&&◌, if◌then◌else◌, Option, Some, None, Result, Ok, Err, slice_index}
+use Rattle.std.specs.Prelude.{ℕ, ◌+◌, ◌-◌, List, [], ◌∷◌, drop, codes, ◌==◌, nat_eq, not, Bool, true, false, ◌||◌, ◌&&◌, if◌then◌else◌, Option, Some, None, Result, Ok, Err, slice_index}
 use Rattle.std.specs.List.{starts_with}
 use Rattle.rb_syntax.specs.declared.token.TokenKind.TheVariants as kinds
 use Rattle.rb_words.specs.declared.context.Context.TheVariants as contexts

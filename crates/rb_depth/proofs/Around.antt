@@ -1,10 +1,10 @@
 -- The levels that an array holds.
-use Rattle.std.proofs.Common.{◌≡◌, ◌≢◌, ℕ, zero, suc, ◌+◌, ◌-◌, ◌≤◌, ◌<◌, List, [], ◌∷◌, length, Bool, Option, Some, None, get_or, arith, refl, sym, ap, ◌∙◌, add-one, slice_set}
+use Rattle.std.proofs.Common.{◌≡◌, ◌≢◌, ℕ, zero, suc, ◌+◌, ◌-◌, ◌≤◌, ◌<◌, List, [], ◌∷◌, length, Bool, Some, get_or, arith, refl, sym, ap, ◌∙◌, add-one, slice_set}
 use Rattle.std.specs.Prelude.{slice_get}
 use Rattle.std.proofs.lemmas.List.{get_or-set_other, get_or-set_same, length-set}
 use Rattle.std.proofs.lemmas.Option.{slice_get-get_or}
 use Rattle.rb_depth.specs.declared.level.Level.{Level}
-use Rattle.rb_depth.specs.Held.{around_of, measures_of, measures_or_fresh}
+use Rattle.rb_depth.specs.Held.{around_of, measures_of}
 use Rattle.rb_depth.specs.Levels.{Measures, Levels, fresh, nested, opened, closed, closed_in, finished, value_of}
 use Rattle.rb_depth.proofs.Growth.{at_least}
 

@@ -1,5 +1,5 @@
 -- A text is no less deep than the value of any of its levels and the levels around it.
-use Rattle.std.proofs.Common.{◌≡◌, ℕ, zero, suc, ◌+◌, ◌-◌, ◌≤◌, ◌<◌, List, [], ◌∷◌, length, max, Bool, true, false, Option, Some, None, arith, refl, sym, ap, ◌∙◌, if◌then◌else◌, get_or, drop, drop-cons, add-one}
+use Rattle.std.proofs.Common.{◌≡◌, ℕ, suc, ◌+◌, ◌≤◌, ◌<◌, List, [], ◌∷◌, length, Bool, true, false, arith, refl, sym, ap, ◌∙◌, if◌then◌else◌, get_or, drop, drop-cons, add-one}
 use Rattle.std.proofs.Math.ListN.{drop_of_length-le}
 use Rattle.rb_syntax.specs.declared.token.Token.{Token}
 use Rattle.rb_depth.specs.declared.effect.Effect.{Effect}

@@ -1,5 +1,5 @@
 -- The levels of a text, and what tokens do to them.
-use Rattle.std.specs.Prelude.{ℕ, ◌+◌, Bool, true, false, if◌then◌else◌, List, [], ◌∷◌, max, min}
+use Rattle.std.specs.Prelude.{ℕ, ◌+◌, Bool, true, false, if◌then◌else◌, List, [], ◌∷◌, max}
 use Rattle.rb_syntax.specs.declared.token.Token.{Token}
 use Rattle.rb_depth.specs.declared.effect.Effect.{Effect}
 use Rattle.rb_depth.specs.declared.effect.Effect.TheVariants.{Nothing, Count, Keep, Comma, Separate, EndLine, When, Do, Open, OpenLoop, OpenIndex, Close}

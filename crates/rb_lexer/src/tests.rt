@@ -391,3 +391,144 @@ fn depth_of_statements(rt: HostRuntime) -> Result<(), Fail> {
     }
     Ok(())
 }
+
+#[test]
+fn more_newlines(rt: HostRuntime) -> Result<(), Fail> {
+    all_read(
+        &rt,
+        rt.alloc(),
+        &[
+            ("a;;b", "id:a ; ; id:b "),
+            ("\t a \r\n", "id:a nl "),
+            ("a\n=begin x\n=end y\nb", "id:a nl id:b "),
+            ("a \\\n.b", "id:a Dot id:b "),
+            ("a # c\n  # d\n.b", "id:a Dot id:b "),
+            ("a ||\nb", "id:a OrOr id:b "),
+            ("{ |a|\nb }", "OpenBrace OpenBar id:a CloseBar nl id:b CloseBrace "),
+            ("a ? \nb :\nc", "id:a Question id:b Colon id:c "),
+            ("x = \n# c\n1", "id:x Assign 1 "),
+            ("case\nwhen 1", "Case nl When 1 "),
+            ("rescue\nx", "Rescue nl id:x "),
+            ("class A\nend", "Class const:A nl End "),
+            ("a\n&.b", "id:a nl AmpersandDot id:b "),
+            ("->\n{}", "LambdaArrow OpenBrace CloseBrace "),
+        ],
+    )
+}
+
+#[test]
+fn more_names(rt: HostRuntime) -> Result<(), Fail> {
+    all_read(
+        &rt,
+        rt.alloc(),
+        &[
+            ("A? A!", "method:A? method:A! "),
+            ("a=b", "id:a Assign id:b "),
+            ("x.if y", "id:x Dot method:if id:y "),
+            ("x&.class", "id:x AmpersandDot method:class "),
+            ("x::then", "id:x ColonColon method:then "),
+            ("x.== y", "id:x Dot method:== id:y "),
+            ("x.(1)", "id:x Dot OpenParenthesis 1 CloseParenthesis "),
+            ("::A", "ColonColon const:A "),
+            ("def x=1", "Def id:x Assign 1 "),
+            ("def A.b=(v)", "Def const:A Dot method:b= OpenParenthesis id:v CloseParenthesis "),
+            ("def []; def <=>(o)", "Def method:[] ; Def method:<=> OpenParenthesis id:o CloseParenthesis "),
+            ("undef if, end", "Undef method:if Comma method:end "),
+            ("alias $a $b", "Alias gvar:$a gvar:$b "),
+            ("@", "Syntax 0 "),
+            ("$", "Syntax 0 "),
+            ("a!b", "method:a! id:b "),
+        ],
+    )
+}
+
+#[test]
+fn every_operator(rt: HostRuntime) -> Result<(), Fail> {
+    all_read(
+        &rt,
+        rt.alloc(),
+        &[
+            ("a + b - c * d / e % f ** g", "id:a Plus id:b Minus id:c Star id:d Slash id:e Percent id:f StarStar id:g "),
+            ("a == b === c != d < e <= f > g >= h", "id:a Equal id:b CaseEqual id:c NotEqual id:d Less id:e LessEqual id:f Greater id:g GreaterEqual id:h "),
+            ("a << b >> c & d ^ e | f && g", "id:a ShiftLeft id:b ShiftRight id:c Ampersand id:d Caret id:e Bar id:f AndAnd id:g "),
+            ("a += 1; a -= 1; a *= 1", "id:a PlusAssign 1 ; id:a MinusAssign 1 ; id:a StarAssign 1 "),
+            ("a |= 1; a ^= 1; a &= 1", "id:a BarAssign 1 ; id:a CaretAssign 1 ; id:a AmpersandAssign 1 "),
+            ("a >>= 1; a &&= b; a ||= c; a %= 2", "id:a ShiftRightAssign 1 ; id:a AndAndAssign id:b ; id:a OrOrAssign id:c ; id:a PercentAssign 2 "),
+            ("!a !~ ~b", "Not id:a NotMatch Tilde id:b "),
+            ("[a => b]", "OpenBracket id:a Arrow id:b CloseBracket "),
+            ("\\", "Syntax 0 "),
+            ("a, *b", "id:a Comma Star id:b "),
+        ],
+    )
+}
+
+#[test]
+fn malformed_numbers(rt: HostRuntime) -> Result<(), Fail> {
+    all_read(
+        &rt,
+        rt.alloc(),
+        &[
+            ("0b2", "Syntax 2 "),
+            ("1__0", "Syntax 2 "),
+            ("1_", "Syntax 2 "),
+            ("0x", "Syntax 2 "),
+            ("08", "Syntax 1 "),
+            ("1e-3 1E5", "!Float !Float "),
+            ("0", "0 "),
+            ("1.e", "1 Dot id:e "),
+            ("3ri", "!Imaginary "),
+        ],
+    )
+}
+
+#[test]
+fn escapes_and_delimiters(rt: HostRuntime) -> Result<(), Fail> {
+    all_read(
+        &rt,
+        rt.alloc(),
+        &[
+            ("\"\\n\\t\\r\\a\\b\\e\\f\\v\\0\"", "( =\n\t\r\u{7}\u{8}\u{1b}\u{c}\u{b}\0 ) "),
+            ("\"\\q\\#{\"", "( =q#{ ) "),
+            ("\"\\u{20AC}\"", "( =\u{20ac} ) "),
+            ("\"\\x\"", "Syntax 3 "),
+            ("\"\\ud800\"", "Syntax 3 "),
+            ("'a\nb'", "( =a\nb ) "),
+            ("'a", "Syntax 2 "),
+            ("%(a", "Syntax 3 "),
+            ("%w(a", "Syntax 4 "),
+            ("\"#{\"#{a}\"}\"", "( #{ ( #{ id:a } ) } ) "),
+            ("\"a\": 1", "( =a !QuotedLabel 1 "),
+            ("a ? \"b\": c", "id:a Question ( =b ) Colon id:c "),
+            ("%q<a<b>c>", "( =a<b>c ) "),
+            ("%!a!", "( =a ) "),
+            ("%w[]", "w( ) "),
+            ("%i[a#{b}]", "i( =a#{b} ) "),
+            ("a ? :b : :c", "id:a Question sym:b Colon sym:c "),
+            ("p :if, :$a", "id:p sym:if Comma sym:$a "),
+            ("x :y", "id:x sym:y "),
+            (":\"a#{1}\"", ":( =a #{ 1 } ) "),
+            ("[?a, ?b]", "OpenBracket char:97 Comma char:98 CloseBracket "),
+        ],
+    )
+}
+
+#[test]
+fn more_heredocs(rt: HostRuntime) -> Result<(), Fail> {
+    all_read(
+        &rt,
+        rt.alloc(),
+        &[
+            ("<<\"A B\"\nx\nA B\n", "( =x\n ) nl "),
+            ("f <<-'A', 1\n x\n  A\n", "id:f ( = x\n ) Comma 1 nl "),
+            ("<<A.b\nc\nA\n", "( =c\n ) Dot id:b nl "),
+            ("<<A\nA\n", "( ) nl "),
+            ("<<A\na\\tb\nA\n", "( =a\tb\n ) nl "),
+            ("x <<~y\n", "Syntax 2 "),
+            ("x = %r(a(b))", "id:x Assign !PercentLiteral "),
+            ("x = %s{a}", "id:x Assign !PercentLiteral "),
+            ("%^a^", "!PercentLiteral "),
+            ("/a", "Syntax 0 "),
+            ("a `b`", "Syntax 2 "),
+        ],
+    )
+}

@@ -1,5 +1,5 @@
 -- What the tokens before a place say of the token there.
-use Rattle.std.specs.Prelude.{Bool, true, false, ◌&&◌, not, if◌then◌else◌}
+use Rattle.std.specs.Prelude.{Bool, true, false, ◌&&◌, not}
 use Rattle.rb_syntax.specs.declared.keyword.Keyword.{Keyword}
 use Rattle.rb_syntax.specs.declared.keyword.Keyword.TheVariants as keys
 use Rattle.rb_syntax.specs.declared.punctuator.Punctuator.{Punctuator}

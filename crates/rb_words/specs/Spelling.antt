@@ -1,9 +1,10 @@
 -- How keywords and marks are spelled.
-use Rattle.std.specs.Prelude.{ℕ, List, codes}
+use Rattle.std.specs.Prelude.{◌≡◌, ◌≤◌, ℕ, List, [], ◌∷◌, length, take, codes, Option, MatchOption}
 use Rattle.rb_syntax.specs.declared.keyword.Keyword.{Keyword}
 use Rattle.rb_syntax.specs.declared.keyword.Keyword.TheVariants as keys
 use Rattle.rb_syntax.specs.declared.punctuator.Punctuator.{Punctuator}
 use Rattle.rb_syntax.specs.declared.punctuator.Punctuator.TheVariants as marks
+use Rattle.rb_words.specs.declared.marks.Mark.{Mark}
 
 abbrev pub keyword_spelling : Keyword → List ℕ
 keyword_spelling keys.EncodingName = codes "__ENCODING__"
@@ -106,3 +107,15 @@ mark_spelling marks.OpenBracket = codes "["
 mark_spelling marks.CloseBracket = codes "]"
 mark_spelling marks.OpenBrace = codes "{"
 mark_spelling marks.CloseBrace = codes "}"
+
+-- the mark is spelled at the front of these bytes
+abbrev pub Begins : Punctuator → ℕ → ℕ → ℕ → Type 0
+Begins p first second third = take (length (mark_spelling p)) (first ∷ second ∷ third ∷ []) ≡ mark_spelling p
+
+-- a mark with its length
+abbrev pub IsSpelled : ℕ → ℕ → ℕ → Mark → Type 0
+IsSpelled first second third m = (m.length ≡ length (mark_spelling m.punctuator)) × Begins m.punctuator first second third
+
+-- a mark is found, and it is no shorter than that one
+abbrev pub Reaches : Punctuator → Option Mark → Type 0
+Reaches p found = MatchOption found ⊥ (λ m. length (mark_spelling p) ≤ m.length)

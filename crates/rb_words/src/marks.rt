@@ -1,6 +1,8 @@
 //! Marks by longest match.
 ghost use Rattle.std.specs.Prelude.{◌≡◌, ◌<◌, ◌≤◌, IfSome};
 ghost use Rattle.rb_words.specs.Marks as marks;
+ghost use Rattle.rb_words.specs.Spelling.{Begins, IsSpelled, Reaches};
+ghost use Rattle.rb_syntax.specs.declared.punctuator.Punctuator.{Punctuator};
 
 use rb_syntax::Punctuator;
 
@@ -275,10 +277,9 @@ fn single_mark(first: u8) -> Option<Mark>
     }
 }
 
-/// The longest mark that begins with these three bytes, where a place past the text's end reads as 0; None where
-/// no mark begins with the first.
+/// The longest mark that begins with these bytes, by the first.
 #[tactic(auto, unfolding(crate::specs::Marks::mark_of))]
-pub fn mark_of(first: u8, second: u8, third: u8) -> Option<Mark>
+fn by_first(first: u8, second: u8, third: u8) -> Option<Mark>
     ensures value { result ≡ marks.mark_of first second third }
     ensures some { IfSome result (λ m. 0 < m.length) }
     ensures two { IfSome result (λ m. 1 < m.length → 0 < second) }
@@ -344,6 +345,22 @@ fn one_more(is_longer: bool) -> usize
     ensures { result ≡ marks.one_more is_longer }
 {
     if is_longer { 2 } else { 1 }
+}
+
+/// The longest mark that begins with these three bytes, where a place past the text's end reads as 0; None where
+/// no mark begins with the first.
+pub fn mark_of(first: u8, second: u8, third: u8) -> Option<Mark>
+    ensures value { result ≡ marks.mark_of first second third }
+    // What is found is spelled there.
+    ensures so { IfSome result (λ m. IsSpelled first second third m) }
+    // No mark that is spelled there is longer.
+    ensures longest { (p : Punctuator) → Begins p first second third → Reaches p result }
+    ensures some { IfSome result (λ m. 0 < m.length) }
+    ensures two { IfSome result (λ m. 1 < m.length → 0 < second) }
+    ensures three { IfSome result (λ m. 2 < m.length → 0 < third) }
+    ensures few { IfSome result (λ m. m.length ≤ 3) }
+{
+    by_first(first, second, third)
 }
 
 /// How many bytes the name of an operator's method has that begins with these three bytes; 0 where none does.

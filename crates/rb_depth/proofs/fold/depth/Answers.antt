@@ -1,4 +1,4 @@
-use Rattle.std.proofs.Common.{ap, ◌∙◌, ◌≡◌, ◌<◌, false, arith, length}
+use Rattle.std.proofs.Common.{ap, ◌∙◌, ◌≡◌, ◌<◌, false, arith}
 use Rattle.rb_depth.specs.declared.effect.Effect.{Effect}
 use Rattle.rb_depth.specs.Held.{levels_of}
 use Rattle.rb_depth.specs.Levels.{Levels, value_of, step, fold, outermost, deep}
