@@ -5,7 +5,7 @@ use Rattle.rb_syntax.specs.Form.{Form, strict, call_puts, set_local, cond, while
 use Rattle.rb_syntax.specs.Limits.{is_plain, are_plain, parts, all_parts, IsWithin, is_scoped, has_short_sums}
 use Rattle.rb_syntax.specs.View.{◌>>=◌}
 use Rattle.rb_syntax.specs.declared.operator.Operator.{Operator}
-use Rattle.path_front.specs.Tree.{operation, block}
+use Rattle.path_front.specs.Tree.{operation, block, program}
 use Rattle.path_front.specs.Parts.{first, behind, name_at}
 use Rattle.path_front.specs.Grammar.{Text, Read, is_separator, is_assign, is_right_paren, is_end, expect, is_adding, is_multiplying, is_comparing, operator_in, chain_turn, chain_from, chain, unit_at, unit, product, sum, inner_sum, whole_sum, comparison, test_at, whole_test, heading, separators_from, skip_separators, ends_lines, ends_line, otherwise_at, otherwise, branch, repeat, line_at, line, lines_from, lines, inner_lines, finished, whole_text}
 use Rattle.path_front.specs.declared.parts.Part.{Part}
@@ -293,8 +293,16 @@ pub record Sized (ts : Text) (f : Form) : Type 0 where
   pub plain : is_plain f ≡ true
   pub size : parts f ≤ length ts + 1
 
+program_plain : (fs : List Form) → are_plain (forms fs) ≡ true → is_plain (program fs) ≡ true
+program_plain [] h = h
+program_plain (f ∷ fs) h = block_fits (f ∷ fs) h
+
+program_parts : (fs : List Form) → parts (program fs) ≤ all_parts (forms fs) + 1
+program_parts [] = omega arith
+program_parts (f ∷ fs) = block_parts (f ∷ fs)
+
 finished_good : (t : Part) (fs : List Form) (ts rest : Text) → AllFit ts (fs, rest) → Holds (Sized ts) (finished fs t)
-finished_good Finish fs ts rest ff = record { plain = block_fits fs ff.plain; size = omega (arith, ff.size, block_parts fs) }
+finished_good Finish fs ts rest ff = record { plain = program_plain fs ff.plain; size = omega (arith, ff.size, program_parts fs) }
 finished_good _ fs ts rest ff = tt
 
 pub whole_text_good : (ts : Text) → Holds (Sized ts) (whole_text ts)

@@ -6,7 +6,7 @@ use Rattle.rb_syntax.specs.declared.operator.Operator.{Operator}
 use Rattle.rb_syntax.specs.declared.operator.Operator.TheVariants.{Plus, Minus, Times, Equal, Less, LessEqual, Greater, GreaterEqual}
 use Rattle.rb_syntax.specs.declared.token.Token.{Token}
 use Rattle.path_front.specs.Parts.{first, behind, name_at}
-use Rattle.path_front.specs.Tree.{number, operation, block}
+use Rattle.path_front.specs.Tree.{number, operation, block, program}
 use Rattle.path_front.specs.declared.parts.Part.{Part}
 use Rattle.path_front.specs.declared.parts.Part.TheVariants.{Separator, Puts, If, Else, End, While, True, Number, Name, Op, Assign, LeftParen, RightParen, Finish}
 
@@ -185,7 +185,7 @@ inner_lines zero ts = None
 inner_lines (suc depth) ts = lines (inner_lines depth) ts
 
 abbrev pub finished : List Form → Part → Option Form
-finished found Finish = Some (block found)
+finished found Finish = Some (program found)
 finished found _ = None
 
 -- a whole text, with lines at most 10 deep in one another

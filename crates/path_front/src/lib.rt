@@ -20,7 +20,7 @@ mod program;
 mod tree;
 
 pub use error::FrontError;
-use lower::lower_lines;
+use lower::lower_program;
 use program::program_lines;
 use rb_syntax::{Core, Token};
 use std::alloc::Global;
@@ -34,6 +34,6 @@ pub fn read(alloc: Global, tokens: &[Token], size: u32) -> Result<Core, FrontErr
     ensures refused { IfErr result (Refuses tokens.now size) }
 {
     let lines = program_lines(alloc, tokens, size)?;
-    let core = lower_lines(alloc, &lines)?;
+    let core = lower_program(alloc, &lines)?;
     Ok(Box::into_inner(core))
 }

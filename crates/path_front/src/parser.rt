@@ -3,7 +3,7 @@
 ghost use Rattle.std.specs.Prelude.{◌≡◌, ◌≢◌, ◌<◌, ◌≤◌, length, IfOk, IsSome};
 ghost use Rattle.path_front.specs.Parts as parts;
 ghost use Rattle.path_front.specs.Grammar as grammar;
-ghost use Rattle.path_front.specs.Tree.{sum_form, test_form, line_form, line_forms, operation, block};
+ghost use Rattle.path_front.specs.Tree.{sum_form, test_form, line_form, line_forms, operation, program};
 ghost use Rattle.path_front.specs.Reads.{Gives, Reads, Shortens};
 
 use crate::parse_error::ParseError;
@@ -352,7 +352,7 @@ fn inner_lines(
 /// The lines of a whole text.
 #[tactic(auto, unfolding(crate::specs::Grammar::whole_text))]
 pub fn whole_text(alloc: Global, tokens: &[Token]) -> Result<Vec<Line>, ParseError>
-    ensures { Gives (λ list. block (line_forms list)) result (grammar.whole_text tokens.now) }
+    ensures { Gives (λ list. program (line_forms list)) result (grammar.whole_text tokens.now) }
 {
     let (list, rest) = lines(alloc, tokens, 10)?;
     match first(rest) {

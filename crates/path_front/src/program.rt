@@ -1,6 +1,6 @@
 //! The lines of the tokens of a text of the language.
 ghost use Rattle.std.specs.Prelude.{◌≡◌, ◌≤◌, Some, map, IfOk, IfErr};
-ghost use Rattle.path_front.specs.Tree.{line_form, block};
+ghost use Rattle.path_front.specs.Tree.{line_form, program};
 ghost use Rattle.path_front.specs.Language.{form_in};
 ghost use Rattle.path_front.specs.Refusal.{Refuses};
 
@@ -28,7 +28,7 @@ fn place(tokens: &[Token], left: usize, size: u32) -> u32
 /// The lines of the tokens of a text of `size` bytes.
 #[tactic(auto, unfolding(crate::specs::Language::form_in))]
 pub fn program_lines(alloc: Global, tokens: &[Token], size: u32) -> Result<Vec<Line>, FrontError>
-    ensures value { IfOk result (λ list. form_in tokens.now ≡ Some (block (map line_form list.items))) }
+    ensures value { IfOk result (λ list. form_in tokens.now ≡ Some (program (map line_form list.items))) }
     ensures refused { IfErr result (Refuses tokens.now size) }
 {
     if tokens.len() > MOST {
