@@ -13,7 +13,6 @@ use Rattle.code_listing.specs.Writing.{Stream}
 use Rattle.mrb_tool.specs.Writing.{IsAnswer}
 use Rattle.mrb_tool.specs.Running.{end_of, text_of}
 use Rattle.code_listing.specs.declared.refusal.Refusal.{Refusal}
-use Rattle.code_listing.specs.declared.refusal.Refusal.TheVariants as refusals
 use Rattle.mrb_tool.specs.declared.rite.End.{End}
 use Rattle.mrb_tool.specs.declared.rite.End.TheVariants as ends
 use Rattle.mrb_tool.specs.declared.report.Report.{Report}
@@ -41,16 +40,7 @@ shows : (before after : Told) (x y : Stream) (n : ℕ) (source file : List ℕ) 
 shows before after x y n source file seen s = record { code = s.code; built = built before after x y source file s.code s.built; seen_is = s.seen_is }
 
 refused : (before after : Told) (x y : Stream) (source : List ℕ) (r : Refusal) → IsRefused before after source r → IsRefused (with_err before x) (with_err after y) source r
-refused before after x y source (refusals.Syntax at) h = h
-refused before after x y source refusals.TooDeep h = absurd h
-refused before after x y source (refusals.Outside what at) h = absurd h
-refused before after x y source (refusals.TooLarge what count) h = absurd h
-refused before after x y source refusals.NotRite h = absurd h
-refused before after x y source (refusals.Foreign name) h = absurd h
-refused before after x y source (refusals.Truncated at) h = absurd h
-refused before after x y source (refusals.BadSection at) h = absurd h
-refused before after x y source (refusals.BadRecord at) h = absurd h
-refused before after x y source (refusals.Bad irep at cause) h = absurd h
+refused before after x y source r h = h
 
 exec_reports : (before after : Told) (x y : Stream) (n : ℕ) (source file : List ℕ) (end : End) (text : List ℕ) → ExecReports before after n source file end text → ExecReports (with_err before x) (with_err after y) n source file end text
 exec_reports before after x y n source file (ends.Ended k) text (out, s, w, e) = (out, shows before after x y n source file _ s, w, e)

@@ -2,7 +2,7 @@
 use Rattle.std.proofs.Common.{◌≡◌, ℕ, List, Option, Some, None, MatchOption, refl}
 use Rattle.rb_syntax.specs.Form.{Form}
 use Rattle.rite_code.specs.Code.{Program, IsWhole}
-use Rattle.path_front.specs.Language.{program_of}
+use Rattle.rb_compile.specs.Language.{program_of}
 use Rattle.rite_file.specs.File.{Spells}
 use Rattle.code_verifier.specs.Verified.{IsVerified}
 use Rattle.code_generator.specs.Implements.{Implements}

@@ -5,7 +5,9 @@ use Rattle.rb_syntax.specs.Form.{Form}
 use Rattle.rb_value.specs.declared.failure.Failure.{Failure}
 use Rattle.rite_code.specs.Code.{Program}
 use Rattle.def_eval.specs.Seen.{Ended, Uncaught, Going, Over, Seen, output_of}
-use Rattle.path_front.specs.Language.{program_of}
+use Rattle.rb_compile.specs.Language.{program_of}
+use Rattle.rb_compile.specs.Compiled.{Refuses}
+use Rattle.rb_compile.specs.declared.error.CompileError.TheVariants as compile_errors
 use Rattle.rite_file.specs.File.{Spells}
 use Rattle.code_verifier.specs.Verified.{IsVerified}
 use Rattle.code_listing.specs.Info.{info_of}
@@ -20,9 +22,9 @@ use Rattle.code_listing.specs.declared.refusal.Refusal.TheVariants as refusals
 use Rattle.mrb_tool.specs.declared.rite.End.{End}
 use Rattle.mrb_tool.specs.declared.rite.End.TheVariants as ends
 
--- the text of a source: what the file holds, up to 4001 bytes, where the files tell
+-- the text of a source: what the file holds, up to 16777217 bytes, where the files tell
 abbrev pub IsSource : Told → List ℕ → List ℕ → Type 0
-IsSource before source text = IsTrue before.tells → IsLoaded (before.file source) 4001 text
+IsSource before source text = IsTrue before.tells → IsLoaded (before.file source) 16777217 text
 
 -- The file under the second name spells this code, which passes the verifier and implements the source under the
 -- first name, and every other file stays.
@@ -53,19 +55,22 @@ Wrote before after seen = (after.out ≡ with_more before.out (output_of seen)) 
 abbrev pub WroteFront : Told → Told → Seen → Type 0
 WroteFront before after seen = (k : ℕ) × (after.out ≡ with_more before.out (take k (output_of seen)))
 
+-- why a text is refused: for a cause of the compiler, which no construct is yet
+abbrev pub RefusesText : List ℕ → Refusal → Type 0
+RefusesText text (refusals.Syntax at) = Refuses text (compile_errors.Syntax at)
+RefusesText text refusals.TooDeep = Refuses text compile_errors.TooDeep
+RefusesText text (refusals.TooLarge what count) = Refuses text (compile_errors.TooLarge what count)
+RefusesText text (refusals.Outside what at) = ⊥
+RefusesText text refusals.NotRite = ⊥
+RefusesText text (refusals.Foreign name) = ⊥
+RefusesText text (refusals.Truncated at) = ⊥
+RefusesText text (refusals.BadSection at) = ⊥
+RefusesText text (refusals.BadRecord at) = ⊥
+RefusesText text (refusals.Bad irep at cause) = ⊥
+
 -- Why a refusal comes, and that nothing was done.
 abbrev pub IsRefused : Told → Told → List ℕ → Refusal → Type 0
-IsRefused before after source (refusals.Syntax at) =
-    (text : List ℕ) × IsSource before source text × (program_of text ≡ None) × (at ≤ length text) × Untouched before after
-IsRefused before after source refusals.TooDeep = ⊥
-IsRefused before after source (refusals.Outside what at) = ⊥
-IsRefused before after source (refusals.TooLarge what count) = ⊥
-IsRefused before after source refusals.NotRite = ⊥
-IsRefused before after source (refusals.Foreign name) = ⊥
-IsRefused before after source (refusals.Truncated at) = ⊥
-IsRefused before after source (refusals.BadSection at) = ⊥
-IsRefused before after source (refusals.BadRecord at) = ⊥
-IsRefused before after source (refusals.Bad irep at cause) = ⊥
+IsRefused before after source refusal = (text : List ℕ) × IsSource before source text × RefusesText text refusal × Untouched before after
 
 -- A load of the source failed, or a store of the code, after which only that file may differ.
 abbrev pub FileFailed : Told → Told → List ℕ → List ℕ → Type 0

@@ -5,7 +5,7 @@ use Rattle.rb_base.specs.Outside.{Rose, with_more, TookFront}
 use Rattle.rb_syntax.specs.Form.{Form}
 use Rattle.rite_code.specs.Code.{Program, IsWhole}
 use Rattle.def_eval.specs.Seen.{Ended, Uncaught, Going, Over, Seen, output_of}
-use Rattle.path_front.specs.Language.{program_of}
+use Rattle.rb_compile.specs.Language.{program_of}
 use Rattle.rite_file.specs.File.{Spells}
 use Rattle.rite_file.specs.Loaded.{loaded}
 use Rattle.rite_file.specs.declared.error.LoadError.{LoadError}
@@ -18,7 +18,7 @@ use Rattle.code_generator.specs.Implements.{Implements}
 use Rattle.mrb_tool.specs.Told.{Told, SameFiles, SameFilesBut, NoFileFault, NothingOut, NoOutFault}
 use Rattle.mrb_tool.specs.Texts as texts
 use Rattle.mrb_tool.specs.Showing.{Untouched, IsFile, refusal_of}
-use Rattle.mrb_tool.specs.Answer.{IsSource, Built, IsRefused, FileFailed}
+use Rattle.mrb_tool.specs.Answer.{IsSource, Built, RefusesText, IsRefused, FileFailed}
 use Rattle.code_listing.specs.Writing.{Stream}
 use Rattle.rb_base.specs.declared.outside.FileError.{FileError}
 use Rattle.rb_base.specs.declared.outside.FileError.TheVariants as file_errors
@@ -95,19 +95,6 @@ pub record Encodes (text bytes : List ℕ) : Type 0 where
   pub whole : IsWhole code
   pub verified : IsVerified code
   pub spelled : Spells bytes code
-
--- why a text is refused: it isn't in the language, and there is no other cause
-abbrev pub RefusesText : List ℕ → Refusal → Type 0
-RefusesText text (refusals.Syntax at) = (program_of text ≡ None) × (at ≤ length text)
-RefusesText text refusals.TooDeep = ⊥
-RefusesText text (refusals.Outside what at) = ⊥
-RefusesText text (refusals.TooLarge what count) = ⊥
-RefusesText text refusals.NotRite = ⊥
-RefusesText text (refusals.Foreign name) = ⊥
-RefusesText text (refusals.Truncated at) = ⊥
-RefusesText text (refusals.BadSection at) = ⊥
-RefusesText text (refusals.BadRecord at) = ⊥
-RefusesText text (refusals.Bad irep at cause) = ⊥
 
 -- why a text has no code
 abbrev pub NotEncoded : List ℕ → Report → Type 0

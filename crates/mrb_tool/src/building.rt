@@ -12,7 +12,7 @@ use rb_base::{Failed, Files, Sink};
 use std::alloc::Global;
 
 // One byte more than the longest source has.
-const SOURCE_LIMIT: usize = 4001;
+const SOURCE_LIMIT: usize = 16_777_217;
 
 /// Compiles the source in the file `source` and puts its code into the file `file`. Nothing goes to `out`.
 pub fn build<F: Files, O: Sink>(

@@ -84,6 +84,10 @@ fn runs_sources(rt: HostRuntime) -> Result<(), Fail> {
         ("if 2 <= 1; puts 1 else puts 2 end", "2\n"),
         ("if 1 == 1\n  if 3 > 4\n    puts 5\n  end\nend", ""),
         ("puts 0 - 5 * (7 - 2 * 3)", "-5\n"),
+        ("puts 1 # one", "1\n"),
+        ("a = 010\nputs a", "8\n"),
+        ("a = 1 +\n2\nputs a # three", "3\n"),
+        ("puts 1_000", "1000\n"),
         ("", ""),
         (";;\n ; \n", ""),
     ];
@@ -154,7 +158,7 @@ fn refuses_texts(rt: HostRuntime) -> Result<(), Fail> {
         "puts1",
         "puts(1)",
         "puts 1x",
-        "a = 01",
+        "a = 09",
         "a = 2147483648",
         "if 1 < 2; end puts 1",
         "if = 3",
@@ -162,7 +166,8 @@ fn refuses_texts(rt: HostRuntime) -> Result<(), Fail> {
         "puts -1",
         "if true; b = 1; end; puts b",
         "while true; puts 1",
-        "puts 1 # one",
+        "puts 1 +",
+        "puts \"one\"",
     ];
     for text in texts {
         let left = exec(rt.alloc(), text.as_bytes(), None)?;
@@ -175,6 +180,48 @@ fn refuses_texts(rt: HostRuntime) -> Result<(), Fail> {
         assert_eq!(rt; left.out.bytes().len(), 0, "{text}");
         assert!(rt; left.files.get("one.mrb").is_none(), "{text}");
     }
+    Ok(())
+}
+
+/// `puts` of 1 in so many parentheses.
+fn nested(alloc: Global, levels: usize) -> Result<Vec<u8>, Fail> {
+    let mut source = Vec::new(alloc);
+    source.extend_from_slice(b"puts ")?;
+    for _ in 0..levels {
+        source.push(b'(')?;
+    }
+    source.push(b'1')?;
+    for _ in 0..levels {
+        source.push(b')')?;
+    }
+    Ok(source)
+}
+
+#[test]
+fn refuses_deep_texts(rt: HostRuntime) -> Result<(), Fail> {
+    let alloc = rt.alloc();
+    let left = exec(alloc, &nested(alloc, 50)?, None)?;
+    assert_eq!(rt; left.out.bytes(), b"1\n".as_slice());
+    let left = exec(alloc, &nested(alloc, 256)?, None)?;
+    assert!(rt; left.err.bytes().starts_with(b"refused: Syntax at "));
+    let left = exec(alloc, &nested(alloc, 257)?, None)?;
+    assert_eq!(rt; left.err.bytes(), b"refused: TooDeep\n".as_slice());
+    assert_eq!(rt; left.end.status(), 121);
+    assert!(rt; left.files.get("one.mrb").is_none());
+    Ok(())
+}
+
+#[test]
+fn refuses_large_texts(rt: HostRuntime) -> Result<(), Fail> {
+    let alloc = rt.alloc();
+    let mut source = Vec::new(alloc);
+    for _ in 0..16_777_217u32 {
+        source.push(b' ')?;
+    }
+    let left = exec(alloc, &source, None)?;
+    let line = b"refused: TooLarge Source 16777217\n";
+    assert_eq!(rt; left.err.bytes(), line.as_slice());
+    assert_eq!(rt; left.end.status(), 121);
     Ok(())
 }
 

@@ -3,7 +3,7 @@ use Rattle.std.proofs.Common.{◌≡◌, List, [], ◌∷◌, refl, subst, arith
 use Rattle.rb_syntax.specs.Form.{Name, Form, forms, strict, call_puts, one, set_local, cond, while_form}
 use Rattle.rb_syntax.specs.Names.{with_name, add_names, add_all}
 use Rattle.rb_syntax.specs.Limits.{is_scoped, lines_scoped, has_short_sums, have_short_sums}
-use Rattle.path_front.specs.Tree.{block, sum_form, sum_step, test_form, line_form, line_forms}
+use Rattle.path_front.specs.Tree.{block, program, sum_form, sum_step, test_form, line_form, line_forms}
 use Rattle.path_front.specs.declared.tree.Sum.{Sum}
 use Rattle.path_front.specs.declared.tree.Sum.TheOpen.{Sum-F}
 use Rattle.path_front.specs.declared.tree.Sum.TheFolds.{map-Sum, fold-roll-Sum, ind-Sum}
@@ -87,4 +87,16 @@ pub ruleset block_laws = (block_short, block_scoped)
 
 pub ruleset name_laws = (names_Puts, names_Assign, names_Branch, names_Loop)
 
-pub ruleset whole_laws = (block_short, block_scoped, block_names)
+pub program_short : (fs : List Form) → has_short_sums (program fs) ≡ have_short_sums (forms fs)
+program_short [] = refl
+program_short (f ∷ fs) = block_short (f ∷ fs)
+
+pub program_scoped : (known : List Name) (fs : List Form) → is_scoped known (program fs) ≡ lines_scoped known (forms fs)
+program_scoped known [] = refl
+program_scoped known (f ∷ fs) = block_scoped known (f ∷ fs)
+
+pub program_names : (known : List Name) (fs : List Form) → add_names known (program fs) ≡ add_all known (forms fs)
+program_names known [] = refl
+program_names known (f ∷ fs) = block_names known (f ∷ fs)
+
+pub ruleset whole_laws = (program_short, program_scoped, program_names)

@@ -1,7 +1,6 @@
 pub mod Checks
 pub mod Holds
 pub mod Lowering
-pub mod Numbers
-pub mod Parts
+pub mod Tokens
 pub mod Turns
 pub mod Within

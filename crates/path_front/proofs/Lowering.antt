@@ -1,6 +1,6 @@
 -- What core forms stand for.
-use Rattle.std.proofs.Common.{◌≡◌, List, [], ◌∷◌, Some, map, refl, rules, arith, length, ◌≤◌}
-use Rattle.path_front.specs.Tree.{line_form, block}
+use Rattle.std.proofs.Common.{◌≡◌, List, [], ◌∷◌, Some, map, refl, rules, arith, length, ◌≤◌, ◌<◌}
+use Rattle.path_front.specs.Tree.{line_form, block, program}
 use Rattle.path_front.specs.declared.tree.Line.{Line}
 use Rattle.std.specs.Prelude.{Vec}
 use Rattle.std.specs.declared.alloc.Global.{Global}
@@ -36,5 +36,11 @@ pub form_of_lines : (v : Vec Core Global) (lines : List Line) → 2 ≤ length l
 form_of_lines v [] many e = absurd (omega arith)
 form_of_lines v (x ∷ []) many e = absurd (omega arith)
 form_of_lines v (x ∷ (y ∷ lines)) many e = form_of_Seq v (map line_form (x ∷ (y ∷ lines))) e
+
+pub program_of_lines : (lines : List Line) → 0 < length lines → program (map line_form lines) ≡ block (map line_form lines)
+program_of_lines [] some = absurd (omega arith)
+program_of_lines (x ∷ lines) some = refl
+
+pub ruleset program_laws = (form_of_Seq, program_of_lines)
 
 pub ruleset lowering_laws = (operator_named_name, form_of_Seq)

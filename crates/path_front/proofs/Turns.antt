@@ -10,12 +10,12 @@ use Rattle.path_front.specs.Tree.{line_form, line_forms, test_form, block}
 use Rattle.path_front.specs.declared.tree.Line.{Line, Branch, the_lemmas}
 use Rattle.path_front.specs.declared.tree.Test.{Test}
 use Rattle.path_front.specs.Grammar.{Text, Read, operator_in, chain_turn, chain_from, is_separator, separators_from, skip_separators, ends_lines, ends_line, line, lines_from}
-use Rattle.path_front.specs.declared.token.Token.TheVariants.{Finish}
+use Rattle.path_front.specs.declared.parts.Part.TheVariants.{Finish}
 use Rattle.path_front.specs.Grammar.{heading, otherwise, branch}
 use Rattle.path_front.specs.Reads.{Fails}
 use Rattle.path_front.specs.declared.parse_error.ParseError.{ParseError}
 use Rattle.path_front.specs.declared.parse_error.ParseError.TheVariants.{Syntax, NoMemory}
-use Rattle.path_front.proofs.Parts.{behind_shorter}
+use Rattle.path_front.proofs.Tokens.{behind_shorter}
 
 module _ (operand : Text → Read Form) (is_wanted : Operator → Bool) where
   pub chain_step : (n : ℕ) (left : Form) (ts : Text) → 0 < n

@@ -1,25 +1,24 @@
--- Whatever the grammar reads is plain, and has no more parts than the bytes that it took.
+-- Whatever the grammar reads is plain, and has no more parts than the tokens that it took.
 use Rattle.std.proofs.Common.{◌≡◌, ℕ, zero, suc, ◌+◌, ◌<◌, ◌≤◌, Bool, true, false, List, [], ◌∷◌, ◌++◌, Option, Some, None, if◌then◌else◌, length, refl, ap, sym, ◌∙◌, arith}
 use Rattle.std.specs.Prelude.{nat_le, nat_lt, ◌&&◌}
 use Rattle.rb_syntax.specs.Form.{Form, strict, call_puts, set_local, cond, while_form, one, forms}
 use Rattle.rb_syntax.specs.Limits.{is_plain, are_plain, parts, all_parts, IsWithin, is_scoped, has_short_sums}
 use Rattle.rb_syntax.specs.View.{◌>>=◌}
 use Rattle.rb_syntax.specs.declared.operator.Operator.{Operator}
-use Rattle.path_front.specs.Tree.{operation, block}
+use Rattle.path_front.specs.Tree.{operation, block, program}
 use Rattle.path_front.specs.Parts.{first, behind, name_at}
 use Rattle.path_front.specs.Grammar.{Text, Read, is_separator, is_assign, is_right_paren, is_end, expect, is_adding, is_multiplying, is_comparing, operator_in, chain_turn, chain_from, chain, unit_at, unit, product, sum, inner_sum, whole_sum, comparison, test_at, whole_test, heading, separators_from, skip_separators, ends_lines, ends_line, otherwise_at, otherwise, branch, repeat, line_at, line, lines_from, lines, inner_lines, finished, whole_text}
-use Rattle.path_front.specs.declared.token.Token.{Token}
-use Rattle.path_front.specs.declared.token.Token.TheVariants.{Puts, If, Else, End, While, True, Number, Name, LeftParen, Finish}
+use Rattle.path_front.specs.declared.parts.Part.{Part}
+use Rattle.path_front.specs.declared.parts.Part.TheVariants.{Puts, If, Else, End, While, True, Number, Name, LeftParen, Finish}
 use Rattle.std.specs.Prelude.{MatchOption}
 use Rattle.std.proofs.Common.{subst}
 use Rattle.std.proofs.lemmas.Bool.{and_parts, leb-true}
 use Rattle.rb_syntax.specs.Names.{names_of}
-use Rattle.path_front.specs.Language.{is_allowed, allowed, program_of}
+use Rattle.path_front.specs.Language.{is_allowed, allowed, form_in}
 use Rattle.path_front.proofs.Holds.{Holds, holds_bind, holds_if}
-use Rattle.path_front.proofs.Numbers.{small_number}
-use Rattle.path_front.proofs.Parts.{behind_shorter, behind_within}
+use Rattle.path_front.proofs.Tokens.{behind_shorter, behind_within, small_number}
 
--- the form is plain, and its parts stand in the bytes before the rest
+-- the form is plain, and its parts stand in the tokens before the rest
 pub record Fits (ts : Text) (r : Form × Text) : Type 0 where
   pub plain : is_plain r.0 ≡ true
   pub size : parts r.0 + length r.1 ≤ length ts
@@ -37,28 +36,28 @@ GoodLines rule = (ts : Text) → Holds (AllFit ts) (rule ts)
 abbrev Shorter : Text → Text → Type 0
 Shorter ts rest = length rest < length ts
 
--- so many bytes more were taken than the parts of the form, counting those before the text
+-- so many tokens more were taken than the parts of the form, counting those before the text
 pub record Inner (ts : Text) (r : Form × Text) : Type 0 where
   pub plain : is_plain r.0 ≡ true
   pub size : parts r.0 + length r.1 ≤ length ts + 1
 
 -- parts
 
--- a part that isn't the end takes a byte
-taken : (w : Token → Bool) (ts : Text) → w Finish ≡ false → w (first ts) ≡ true → length (behind ts) < length ts
+-- a part that isn't the end takes a token
+taken : (w : Part → Bool) (ts : Text) → w Finish ≡ false → w (first ts) ≡ true → length (behind ts) < length ts
 taken w ts ends is = behind_shorter ts (λ (e : first ts ≡ Finish). let wrong : true ≡ false = sym is ∙ ap w e ∙ ends in cc)
 
-is_not_finish : (t : Token) (ts : Text) (w : Token → Bool) → first ts ≡ t → w Finish ≡ false → w t ≡ true → length (behind ts) < length ts
+is_not_finish : (t : Part) (ts : Text) (w : Part → Bool) → first ts ≡ t → w Finish ≡ false → w t ≡ true → length (behind ts) < length ts
 is_not_finish t ts w is ends here = taken w ts ends (ap w is ∙ here)
 
-expect_shorter : (w : Token → Bool) → w Finish ≡ false → (ts : Text) → Holds (Shorter ts) (expect w ts)
+expect_shorter : (w : Part → Bool) → w Finish ≡ false → (ts : Text) → Holds (Shorter ts) (expect w ts)
 expect_shorter w ends ts = holds_if (Shorter ts) (w (first ts)) (Some (behind ts)) (λ is. taken w ts ends is)
 
-abbrev is_present : Token → Bool
+abbrev is_present : Part → Bool
 is_present Finish = false
 is_present _ = true
 
-present : (t : Token) (ts : Text) → first ts ≡ t → is_present t ≡ true → length (behind ts) < length ts
+present : (t : Part) (ts : Text) → first ts ≡ t → is_present t ≡ true → length (behind ts) < length ts
 present t ts is here = is_not_finish t ts is_present is refl here
 
 operator_taken : (w : Operator → Bool) (o : Operator) (ts : Text) → operator_in w (first ts) ≡ Some o → length (behind ts) < length ts
@@ -94,7 +93,7 @@ module _ (operand : Text → Read Form) (good : Good operand) (w : Operator → 
 -- sums
 
 module _ (inner : Text → Read Form) (good : Good inner) where
-  unit_at_good : (t : Token) (ts : Text) → first ts ≡ t → Holds (Fits ts) (unit_at inner t ts)
+  unit_at_good : (t : Part) (ts : Text) → first ts ≡ t → Holds (Fits ts) (unit_at inner t ts)
   unit_at_good (Number n) ts is =
       let less = present (Number n) ts is refl in
       let small : nat_lt n 2147483648 ≡ true = small_number n ts is in
@@ -136,7 +135,7 @@ compared_good ts =
     holds_bind (Fits ts) (Fits ts) (whole_sum ts) (λ r. comparison r.0 (operator_in is_comparing (first r.1)) r.1) (whole_sum_good ts)
     (λ r fr. comparison_good (operator_in is_comparing (first r.1)) r.0 r.1 ts refl fr)
 
-test_at_good : (t : Token) (ts : Text) → first ts ≡ t → Holds (Fits ts) (test_at t ts)
+test_at_good : (t : Part) (ts : Text) → first ts ≡ t → Holds (Fits ts) (test_at t ts)
 test_at_good True ts is = let less = present True ts is refl in record { plain = refl; size = omega arith }
 test_at_good _ ts is = compared_good ts
 
@@ -214,7 +213,7 @@ pub record Ends (ts : Text) (r : List Form × Text) : Type 0 where
   pub size : all_parts (forms r.0) + length r.1 < length ts
 
 module _ (inner : Text → Read (List Form)) (good : GoodLines inner) where
-  otherwise_at_good : (t : Token) (ts : Text) → first ts ≡ t → Holds (Ends ts) (otherwise_at inner t ts)
+  otherwise_at_good : (t : Part) (ts : Text) → first ts ≡ t → Holds (Ends ts) (otherwise_at inner t ts)
   otherwise_at_good Else ts is =
       let less = present Else ts is refl in
       holds_bind (AllFit (behind ts)) (Ends ts) (inner (behind ts)) (λ r. expect is_end r.1 >>= (λ rest. Some (r.0, rest))) (good (behind ts))
@@ -250,7 +249,7 @@ module _ (inner : Text → Read (List Form)) (good : GoodLines inner) where
         size = omega (arith, ft.size, fr.size, block_parts r.0);
       })))
 
-  line_at_good : (t : Token) (ts : Text) → first ts ≡ t → Holds (Fits ts) (line_at inner t ts)
+  line_at_good : (t : Part) (ts : Text) → first ts ≡ t → Holds (Fits ts) (line_at inner t ts)
   line_at_good Puts ts is =
       let less = present Puts ts is refl in
       holds_bind (Fits (behind ts)) (Fits ts) (whole_sum (behind ts)) (λ r. Some (strict call_puts (one r.0), r.1)) (whole_sum_good (behind ts))
@@ -294,8 +293,16 @@ pub record Sized (ts : Text) (f : Form) : Type 0 where
   pub plain : is_plain f ≡ true
   pub size : parts f ≤ length ts + 1
 
-finished_good : (t : Token) (fs : List Form) (ts rest : Text) → AllFit ts (fs, rest) → Holds (Sized ts) (finished fs t)
-finished_good Finish fs ts rest ff = record { plain = block_fits fs ff.plain; size = omega (arith, ff.size, block_parts fs) }
+program_plain : (fs : List Form) → are_plain (forms fs) ≡ true → is_plain (program fs) ≡ true
+program_plain [] h = h
+program_plain (f ∷ fs) h = block_fits (f ∷ fs) h
+
+program_parts : (fs : List Form) → parts (program fs) ≤ all_parts (forms fs) + 1
+program_parts [] = omega arith
+program_parts (f ∷ fs) = block_parts (f ∷ fs)
+
+finished_good : (t : Part) (fs : List Form) (ts rest : Text) → AllFit ts (fs, rest) → Holds (Sized ts) (finished fs t)
+finished_good Finish fs ts rest ff = record { plain = program_plain fs ff.plain; size = omega (arith, ff.size, program_parts fs) }
 finished_good _ fs ts rest ff = tt
 
 pub whole_text_good : (ts : Text) → Holds (Sized ts) (whole_text ts)
@@ -306,8 +313,8 @@ whole_text_good ts =
 
 -- the law
 
-pub program_within : (text : Text) → Holds IsWithin (program_of text)
-unfolding program_of is_allowed
+pub program_within : (text : Text) → Holds IsWithin (form_in text)
+unfolding form_in is_allowed
 program_within text =
     holds_if IsWithin (nat_le (length text) 4000) (whole_text text >>= allowed) (λ few.
     holds_bind (Sized text) IsWithin (whole_text text) allowed (whole_text_good text) (λ f sf.
@@ -322,6 +329,6 @@ program_within text =
       few_parts = omega (arith, sf.size, leb-true (length text) 4000 few);
     })))
 
-pub within_clause : (text : Text) (o : Option Form) (g : Form) → o ≡ Some g → o ≡ program_of text → MatchOption o ⊥ IsWithin
+pub within_clause : (text : Text) (o : Option Form) (g : Form) → o ≡ Some g → o ≡ form_in text → MatchOption o ⊥ IsWithin
 within_clause text None g is same = absurd (let wrong : None ≡ Some g = is in cc)
 within_clause text (Some f) g is same = subst (Holds IsWithin) (sym same) (program_within text)

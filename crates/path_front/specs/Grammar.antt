@@ -1,39 +1,40 @@
--- The rules of the language. Each reads at the front of the bytes, and gives a form and the bytes behind it.
+-- The rules of the language. Each reads at the front of the tokens, and gives a form and the tokens behind it.
 use Rattle.std.specs.Prelude.{ℕ, zero, suc, ◌+◌, Bool, true, false, ◌||◌, if◌then◌else◌, List, [], ◌∷◌, ◌++◌, length, Option, Some, None}
 use Rattle.rb_syntax.specs.Form.{Form, strict, give_true, call_puts, local, set_local, cond, while_form, none, one}
 use Rattle.rb_syntax.specs.View.{◌>>=◌}
 use Rattle.rb_syntax.specs.declared.operator.Operator.{Operator}
 use Rattle.rb_syntax.specs.declared.operator.Operator.TheVariants.{Plus, Minus, Times, Equal, Less, LessEqual, Greater, GreaterEqual}
+use Rattle.rb_syntax.specs.declared.token.Token.{Token}
 use Rattle.path_front.specs.Parts.{first, behind, name_at}
-use Rattle.path_front.specs.Tree.{number, operation, block}
-use Rattle.path_front.specs.declared.token.Token.{Token}
-use Rattle.path_front.specs.declared.token.Token.TheVariants.{Separator, Puts, If, Else, End, While, True, Number, Name, Op, Assign, LeftParen, RightParen, Finish}
+use Rattle.path_front.specs.Tree.{number, operation, block, program}
+use Rattle.path_front.specs.declared.parts.Part.{Part}
+use Rattle.path_front.specs.declared.parts.Part.TheVariants.{Separator, Puts, If, Else, End, While, True, Number, Name, Op, Assign, LeftParen, RightParen, Finish}
 
 abbrev pub Text : Type 0
-Text = List ℕ
+Text = List Token
 
--- what was read and the bytes behind it, or none where the front isn't of the rule
+-- what was read and the tokens behind it, or none where the front isn't of the rule
 abbrev pub Read : Type 0 → Type 0
 Read A = Option (A × Text)
 
-abbrev pub is_separator : Token → Bool
+abbrev pub is_separator : Part → Bool
 is_separator Separator = true
 is_separator _ = false
 
-abbrev pub is_assign : Token → Bool
+abbrev pub is_assign : Part → Bool
 is_assign Assign = true
 is_assign _ = false
 
-abbrev pub is_right_paren : Token → Bool
+abbrev pub is_right_paren : Part → Bool
 is_right_paren RightParen = true
 is_right_paren _ = false
 
-abbrev pub is_end : Token → Bool
+abbrev pub is_end : Part → Bool
 is_end End = true
 is_end _ = false
 
--- the bytes behind a part of this kind
-abbrev pub expect : (Token → Bool) → Text → Option Text
+-- the tokens behind a part of this kind
+abbrev pub expect : (Part → Bool) → Text → Option Text
 expect is_wanted ts = if is_wanted (first ts) then Some (behind ts) else None
 
 abbrev pub is_adding : Operator → Bool
@@ -54,7 +55,7 @@ is_comparing GreaterEqual = true
 is_comparing _ = false
 
 -- the operator, where it is of this kind
-abbrev pub operator_in : (Operator → Bool) → Token → Option Operator
+abbrev pub operator_in : (Operator → Bool) → Part → Option Operator
 operator_in is_wanted (Op o) = if is_wanted o then Some o else None
 operator_in is_wanted _ = None
 
@@ -75,7 +76,7 @@ module _ (operand : Text → Read Form) (is_wanted : Operator → Bool) where
 -- the rules of sums, with the sum that may stand in parentheses
 module _ (inner : Text → Read Form) where
   -- unit = digits | name | "(" sum ")"
-  abbrev pub unit_at : Token → Text → Read Form
+  abbrev pub unit_at : Part → Text → Read Form
   unit_at (Number n) ts = Some (number n, behind ts)
   unit_at Name ts = Some (local (name_at ts), behind ts)
   unit_at LeftParen ts = inner (behind ts) >>= (λ r. expect is_right_paren r.1 >>= (λ rest. Some (r.0, rest)))
@@ -106,7 +107,7 @@ comparison left None ts = None
 comparison left (Some o) ts = whole_sum (behind ts) >>= (λ r. Some (operation o left r.0, r.1))
 
 -- test = "true" | sum ("=="|"<"|"<="|">"|">=") sum
-abbrev pub test_at : Token → Text → Read Form
+abbrev pub test_at : Part → Text → Read Form
 test_at True ts = Some (strict give_true none, behind ts)
 test_at _ ts = whole_sum ts >>= (λ r. comparison r.0 (operator_in is_comparing (first r.1)) r.1)
 
@@ -126,19 +127,19 @@ abbrev pub skip_separators : Text → Text
 skip_separators ts = separators_from (length ts) ts
 
 -- what stands behind a list of lines
-abbrev pub ends_lines : Token → Bool
+abbrev pub ends_lines : Part → Bool
 ends_lines Finish = true
 ends_lines Else = true
 ends_lines End = true
 ends_lines _ = false
 
-abbrev pub ends_line : Token → Bool
+abbrev pub ends_line : Part → Bool
 ends_line t = ends_lines t || is_separator t
 
 -- the rules of lines, with the lines that may stand in a branch or a loop
 module _ (inner : Text → Read (List Form)) where
   -- ["else" text] "end", behind the lines of a branch
-  abbrev pub otherwise_at : Token → Text → Read (List Form)
+  abbrev pub otherwise_at : Part → Text → Read (List Form)
   otherwise_at Else ts = inner (behind ts) >>= (λ r. expect is_end r.1 >>= (λ rest. Some (r.0, rest)))
   otherwise_at End ts = Some ([], behind ts)
   otherwise_at _ ts = None
@@ -157,7 +158,7 @@ module _ (inner : Text → Read (List Form)) where
       heading ts >>= (λ t. inner t.1 >>= (λ r. expect is_end r.1 >>= (λ rest. Some (while_form t.0 (block r.0), rest))))
 
   -- line = "puts" sum | name "=" sum | "if" .. | "while" ..
-  abbrev pub line_at : Token → Text → Read Form
+  abbrev pub line_at : Part → Text → Read Form
   line_at Puts ts = whole_sum (behind ts) >>= (λ r. Some (strict call_puts (one r.0), r.1))
   line_at Name ts = expect is_assign (behind ts) >>= (λ value. whole_sum value >>= (λ r. Some (set_local (name_at ts) r.0, r.1)))
   line_at If ts = branch (behind ts)
@@ -183,8 +184,8 @@ abbrev pub inner_lines : ℕ → Text → Read (List Form)
 inner_lines zero ts = None
 inner_lines (suc depth) ts = lines (inner_lines depth) ts
 
-abbrev pub finished : List Form → Token → Option Form
-finished found Finish = Some (block found)
+abbrev pub finished : List Form → Part → Option Form
+finished found Finish = Some (program found)
 finished found _ = None
 
 -- a whole text, with lines at most 10 deep in one another

@@ -23,6 +23,11 @@ block [] = strict give_nil none
 block (f ∷ []) = f
 block (f ∷ (g ∷ gs)) = seq (forms (f ∷ (g ∷ gs)))
 
+-- the same of a whole text, but one without a line is an empty sequence
+abbrev pub program : List Form → Form
+program [] = seq none
+program (f ∷ fs) = block (f ∷ fs)
+
 abbrev pub sum_step : Sum-F Form → Form
 sum_step (Sum-F.Number n) = number n
 sum_step (Sum-F.Local x) = local x

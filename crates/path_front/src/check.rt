@@ -4,7 +4,7 @@ ghost use Rattle.rb_syntax.specs.Form.{forms};
 ghost use Rattle.rb_syntax.specs.Names as naming;
 ghost use Rattle.rb_syntax.specs.Limits as limits;
 ghost use Rattle.path_front.specs.Language.{is_allowed};
-ghost use Rattle.path_front.specs.Tree.{sum_form, test_form, line_form, block};
+ghost use Rattle.path_front.specs.Tree.{sum_form, test_form, line_form, program};
 
 use crate::tree::{Line, Sum, Test};
 use rb_base::Bytes;
@@ -189,7 +189,7 @@ pub fn knows_lines(
 /// most 50 names.
 #[tactic(auto, using(crate::proofs::Checks::whole_laws), unfolding(crate::specs::Language::is_allowed))]
 pub fn is_allowed(alloc: Global, lines: &[Line]) -> Result<bool, AllocError>
-    ensures { IfOk result (λ b. b ≡ is_allowed (block (map line_form lines.now))) }
+    ensures { IfOk result (λ b. b ≡ is_allowed (program (map line_form lines.now))) }
 {
     let mut known = Vec::new(alloc);
     if !knows_lines(alloc, &mut known, lines)? || !have_short_sums(lines) {

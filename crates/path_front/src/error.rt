@@ -3,7 +3,7 @@ ghost use Rattle.path_front.specs.declared.error.FrontError.TheVariants.{NoMemor
 
 use std::alloc::{AllocError, AllocFailed};
 
-/// Why a text has no core: it isn't in the language, as a place at most its length says, or memory ran out.
+/// Why tokens have no core: they aren't in the language, as a place in their text says, or memory ran out.
 #[derive(Clone, Copy, Debug, PartialEq, Eq)]
 pub enum FrontError {
     Syntax { at: u32 },

@@ -1,7 +1,7 @@
 //! From trees to core forms.
 ghost use Rattle.std.specs.Prelude.{◌≡◌, Some, map, IfOk};
 ghost use Rattle.rb_syntax.specs.View.{form_of};
-ghost use Rattle.path_front.specs.Tree.{sum_form, test_form, line_form, block};
+ghost use Rattle.path_front.specs.Tree.{sum_form, test_form, line_form, block, program};
 ghost use Rattle.path_front.specs.Lowered.{lowered_operation, lowered_puts, lowered_assignment, lowered_condition, lowered_repetition};
 
 use crate::tree::{Line, Sum, Test};
@@ -153,12 +153,23 @@ fn lower_all(alloc: Global, lines: &[Line]) -> Result<Vec<Core>, AllocError>
 /// The core of a list of lines.
 #[cycle(lower)]
 #[tactic(auto, using(crate::proofs::Lowering::lowering_laws))]
-pub fn lower_lines(alloc: Global, lines: &[Line]) -> Result<Box<Core>, AllocError>
+fn lower_lines(alloc: Global, lines: &[Line]) -> Result<Box<Core>, AllocError>
     ensures { IfOk result (λ c. form_of c.value ≡ Some (block (map line_form lines.now))) }
 {
     match lines {
         [] => Ok(Box::new(alloc, Core::Nil)?),
         [line] => lower_line(alloc, line),
         _ => Ok(Box::new(alloc, Core::Seq(lower_all(alloc, lines)?))?),
+    }
+}
+
+/// The core of the lines of a whole text.
+#[tactic(auto, using(crate::proofs::Lowering::program_laws))]
+pub fn lower_program(alloc: Global, lines: &[Line]) -> Result<Box<Core>, AllocError>
+    ensures { IfOk result (λ c. form_of c.value ≡ Some (program (map line_form lines.now))) }
+{
+    match lines {
+        [] => Ok(Box::new(alloc, Core::Seq(Vec::new(alloc)))?),
+        [_, ..] => lower_lines(alloc, lines),
     }
 }

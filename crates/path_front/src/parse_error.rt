@@ -3,7 +3,7 @@ ghost use Rattle.path_front.specs.declared.parse_error.ParseError.TheVariants.{N
 
 use std::alloc::{AllocError, AllocFailed};
 
-/// Why a rule read nothing: the front isn't of the rule, up to how many bytes are left, or memory ran out.
+/// Why a rule read nothing: the front isn't of the rule, up to how many tokens are left, or memory ran out.
 #[derive(Clone, Copy, Debug, PartialEq, Eq)]
 pub enum ParseError {
     Syntax { left: usize },

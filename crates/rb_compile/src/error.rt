@@ -1,8 +1,9 @@
 ghost use Rattle.std.specs.Prelude.{◌≡◌};
 ghost use Rattle.rb_compile.specs.declared.error.CompileError.TheVariants.{NoMemory};
-ghost use Rattle.rb_compile.specs.Front.{front_error};
+ghost use Rattle.rb_compile.specs.Front.{front_error, lex_error};
 
 use path_front::FrontError;
+use rb_lexer::LexError;
 use rb_syntax::{Count, Outside};
 use std::alloc::AllocError;
 
@@ -14,6 +15,17 @@ pub enum CompileError {
     TooDeep,
     Outside { what: Outside, at: u32 },
     NoMemory,
+}
+
+impl From<LexError> for CompileError {
+    ghost from_gives = { λ e c. c ≡ lex_error e };
+
+    fn from(error: LexError) -> CompileError {
+        match error {
+            LexError::Syntax { at } => CompileError::Syntax { at },
+            LexError::NoMemory => CompileError::NoMemory,
+        }
+    }
 }
 
 impl From<FrontError> for CompileError {

@@ -27,4 +27,4 @@ branch-returns-clause-value t c = rw (c.in_ok-test.ensures.value, c.in_ok-yes.en
 pub branch-returns-in_err-no-clause-value : goal.branch-returns-in_err-no-clause-value
 branch-returns-in_err-no-clause-value t c =
     let p = err_from_is_err_and c.from_residual-in_err-no.result c.from_residual-in_err-no.ensures.1 in
-    rw (p.1, p.2) (branch_fails (inner_lines c.args.depth) c.args.text.now _ _ _ _ c.in_err-no.field-0.0 c.in_ok-test.ensures.value c.in_ok-yes.ensures.value c.in_err-no.ensures.value)
+    rw (p.1, p.2) (branch_fails (inner_lines c.args.depth) c.args.tokens.now _ _ _ _ c.in_err-no.field-0.0 c.in_ok-test.ensures.value c.in_ok-yes.ensures.value c.in_err-no.ensures.value)

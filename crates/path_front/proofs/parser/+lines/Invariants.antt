@@ -24,8 +24,8 @@ decreases-lines l = 8 * l.depth + 4
 abbrev pub invariant-lines-lines : goal.invariant-lines-lines
 invariant-lines-lines l =
     (n : ℕ) × (length l.rest < n)
-    × (lines (inner_lines l.depth) l.fn.text ≡ lines_from (inner_lines l.depth) n (line_forms l.list) l.rest)
-    × (length l.rest ≤ length l.fn.text)
+    × (lines (inner_lines l.depth) l.fn.tokens ≡ lines_from (inner_lines l.depth) n (line_forms l.list) l.rest)
+    × (length l.rest ≤ length l.fn.tokens)
 
 abbrev pub decreases-lines-lines : goal.decreases-lines-lines
 decreases-lines-lines l = length l.rest

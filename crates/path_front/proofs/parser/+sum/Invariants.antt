@@ -18,8 +18,8 @@ decreases-sum l = 8 * l.depth + 3
 abbrev pub invariant-product-operators : goal.invariant-product-operators
 invariant-product-operators l =
     (n : ℕ) × (length l.rest < n)
-    × (product (inner_sum l.depth) l.fn.text ≡ chain_from (unit (inner_sum l.depth)) is_multiplying n (sum_form l.left) l.rest)
-    × (length l.rest < length l.fn.text)
+    × (product (inner_sum l.depth) l.fn.tokens ≡ chain_from (unit (inner_sum l.depth)) is_multiplying n (sum_form l.left) l.rest)
+    × (length l.rest < length l.fn.tokens)
 
 abbrev pub decreases-product-operators : goal.decreases-product-operators
 decreases-product-operators l = length l.rest
@@ -27,8 +27,8 @@ decreases-product-operators l = length l.rest
 abbrev pub invariant-sum-operators : goal.invariant-sum-operators
 invariant-sum-operators l =
     (n : ℕ) × (length l.rest < n)
-    × (sum (inner_sum l.depth) l.fn.text ≡ chain_from (product (inner_sum l.depth)) is_adding n (sum_form l.left) l.rest)
-    × (length l.rest < length l.fn.text)
+    × (sum (inner_sum l.depth) l.fn.tokens ≡ chain_from (product (inner_sum l.depth)) is_adding n (sum_form l.left) l.rest)
+    × (length l.rest < length l.fn.tokens)
 
 abbrev pub decreases-sum-operators : goal.decreases-sum-operators
 decreases-sum-operators l = length l.rest
