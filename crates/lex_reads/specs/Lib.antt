@@ -1,0 +1,4 @@
+pub mod Longest
+pub mod Names
+pub mod Operators
+pub mod Numbers
