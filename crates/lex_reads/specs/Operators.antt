@@ -1,5 +1,5 @@
 -- Operators and other marks: how each is spelled.
-use Rattle.std.specs.Prelude.{◌≡◌, ℕ, ◌+◌, Bool, true, false, List, length, codes}
+use Rattle.std.specs.Prelude.{◌≡◌, ℕ, ◌+◌, ◌≤◌, Bool, true, false, List, length, codes}
 use Rattle.rb_syntax.specs.declared.punctuator.Punctuator.{Punctuator}
 use Rattle.rb_syntax.specs.declared.punctuator.Punctuator.TheVariants as marks
 use Rattle.lex_reads.specs.Longest.{Stands}
@@ -128,3 +128,8 @@ pub record IsOperator (mark : Punctuator) (text : List ℕ) (at end : ℕ) : Typ
   pub stands : Stands text at (spelling mark)
   pub ends : end ≡ at + length (spelling mark)
   pub operator : is_operator mark ≡ true
+
+-- the longest that stands at a place
+pub record LongestOperator (text : List ℕ) (at : ℕ) (mark : Punctuator) (end : ℕ) : Type 0 where
+  pub there : IsOperator mark text at end
+  pub longest : (other : ℕ) (q : Punctuator) → IsOperator q text at other → other ≤ end

@@ -1,15 +1,24 @@
 //! What the tokens of a text are: each is the longest that the rules allow at its place.
 #![tactic(auto)]
 
-ghost use Rattle.std.specs.Prelude.{◌≡◌, ◌+◌, ◌<◌, ℕ, List, length, drop};
+ghost use Rattle.std.specs.Prelude.{◌≡◌, ◌+◌, ◌<◌, ℕ, List, length, drop, slice_index, true, Some};
 ghost use Rattle.lex_state.specs.Scan.{name_end};
+ghost use Rattle.rb_syntax.specs.declared.punctuator.Punctuator.{Punctuator};
+ghost use Rattle.rb_words.specs.ByteClass.{is_name_start};
+ghost use Rattle.rb_words.specs.declared.marks.Mark.{Mark};
+ghost use Rattle.rb_words.specs.Marks.{mark_of};
 ghost use Rattle.lex_reads.specs.Longest.{IsLongest};
 ghost use Rattle.lex_reads.specs.Names.{IsName};
-ghost use Rattle.rb_words.specs.ByteClass.{is_name_start};
-ghost use Rattle.std.specs.Prelude.{slice_index, true};
+ghost use Rattle.lex_reads.specs.Operators.{LongestOperator};
 
 /// The end that the lexer reads of a name is that of the longest name there, and no other.
 pub fn names_are_longest()
     ensures sound { (text : List ℕ) (at : ℕ) → is_name_start (slice_index text at) ≡ true → IsLongest (IsName text at) (name_end (at + 1) (drop (at + 1) text)) }
     ensures complete { (text : List ℕ) (at end : ℕ) → IsLongest (IsName text at) end → name_end (at + 1) (drop (at + 1) text) ≡ end }
+{}
+
+/// The mark that the lexer reads is the longest of the table that stands there, and no other.
+pub fn operators_are_longest()
+    ensures sound { (text : List ℕ) (at : ℕ) (m : Mark) → mark_of (slice_index text at) (slice_index text (at + 1)) (slice_index text (at + 2)) ≡ Some m → LongestOperator text at m.punctuator (at + m.length) }
+    ensures complete { (text : List ℕ) (at : ℕ) (q : Punctuator) (end : ℕ) → LongestOperator text at q end → (m : Mark) × (mark_of (slice_index text at) (slice_index text (at + 1)) (slice_index text (at + 2)) ≡ Some m) × (m.punctuator ≡ q) × (at + m.length ≡ end) }
 {}
