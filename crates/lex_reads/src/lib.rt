@@ -1,7 +1,10 @@
 //! What the tokens of a text are: each is the longest that the rules allow at its place.
 #![tactic(auto)]
 
-ghost use Rattle.std.specs.Prelude.{◌≡◌, ◌+◌, ◌<◌, ℕ, List, length, drop, slice_index, true, Some};
+ghost use Rattle.std.specs.Prelude.{◌≡◌, ◌+◌, ◌<◌, ℕ, List, length, drop, slice_index, true, Some, Ok};
+ghost use Rattle.rb_literals.specs.declared.integers.Scanned.{Scanned};
+ghost use Rattle.rb_literals.specs.Integers.{integer_at, narrow};
+ghost use Rattle.lex_reads.specs.Numbers.{IsWholeInteger};
 ghost use Rattle.lex_state.specs.Scan.{name_end};
 ghost use Rattle.rb_syntax.specs.declared.punctuator.Punctuator.{Punctuator};
 ghost use Rattle.rb_words.specs.ByteClass.{is_name_start};
@@ -21,4 +24,10 @@ pub fn names_are_longest()
 pub fn operators_are_longest()
     ensures sound { (text : List ℕ) (at : ℕ) (m : Mark) → mark_of (slice_index text at) (slice_index text (at + 1)) (slice_index text (at + 2)) ≡ Some m → LongestOperator text at m.punctuator (at + m.length) }
     ensures complete { (text : List ℕ) (at : ℕ) (q : Punctuator) (end : ℕ) → LongestOperator text at q end → (m : Mark) × (mark_of (slice_index text at) (slice_index text (at + 1)) (slice_index text (at + 2)) ≡ Some m) × (m.punctuator ≡ q) × (at + m.length ≡ end) }
+{}
+
+/// The integer that the lexer reads is the longest literal that stands there, with its value, and no other.
+pub fn integers_are_longest()
+    ensures sound { (text : List ℕ) (at : ℕ) (s : Scanned) → integer_at text at ≡ Ok s → (n : ℕ) × IsWholeInteger text at s.end n × (s.value ≡ narrow n) }
+    ensures complete { (text : List ℕ) (at end n : ℕ) → IsWholeInteger text at end n → integer_at text at ≡ Ok (record { end = end; value = narrow n }) }
 {}
