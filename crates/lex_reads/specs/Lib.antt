@@ -2,3 +2,4 @@ pub mod Longest
 pub mod Names
 pub mod Operators
 pub mod Numbers
+pub mod White

@@ -1,17 +1,20 @@
 //! What the tokens of a text are: each is the longest that the rules allow at its place.
 #![tactic(auto)]
 
-ghost use Rattle.std.specs.Prelude.{◌≡◌, ◌+◌, ◌<◌, ℕ, List, length, drop, slice_index, true, Some, Ok};
+ghost use Rattle.std.specs.Prelude.{◌≡◌, ◌+◌, ◌<◌, ℕ, List, ◌-◌, length, drop, slice_index, true, Some, Ok};
 ghost use Rattle.rb_literals.specs.declared.integers.Scanned.{Scanned};
 ghost use Rattle.rb_literals.specs.Integers.{integer_at, narrow};
 ghost use Rattle.lex_reads.specs.Numbers.{IsWholeInteger};
-ghost use Rattle.lex_state.specs.Scan.{name_end};
+ghost use Rattle.lex_state.specs.Scan.{name_end, mark_end};
 ghost use Rattle.rb_syntax.specs.declared.punctuator.Punctuator.{Punctuator};
-ghost use Rattle.rb_words.specs.ByteClass.{is_name_start};
+ghost use Rattle.rb_words.specs.ByteClass.{is_blank, is_name_start};
 ghost use Rattle.rb_words.specs.declared.marks.Mark.{Mark};
 ghost use Rattle.rb_words.specs.Marks.{mark_of};
-ghost use Rattle.lex_reads.specs.Longest.{IsLongest};
-ghost use Rattle.lex_reads.specs.Names.{IsName};
+ghost use Rattle.lex_reads.specs.Longest.{IsLongest, IsRun};
+ghost use Rattle.lex_state.specs.State.{State, spaced};
+ghost use Rattle.rb_lexer.specs.Code.{code_step};
+ghost use Rattle.lex_reads.specs.White.{steps};
+ghost use Rattle.lex_reads.specs.Names.{IsName, IsWord};
 ghost use Rattle.lex_reads.specs.Operators.{LongestOperator};
 
 /// The end that the lexer reads of a name is that of the longest name there, and no other.
@@ -30,4 +33,17 @@ pub fn operators_are_longest()
 pub fn integers_are_longest()
     ensures sound { (text : List ℕ) (at : ℕ) (s : Scanned) → integer_at text at ≡ Ok s → (n : ℕ) × IsWholeInteger text at s.end n × (s.value ≡ narrow n) }
     ensures complete { (text : List ℕ) (at end n : ℕ) → IsWholeInteger text at end n → integer_at text at ≡ Ok (record { end = end; value = narrow n }) }
+{}
+
+/// The end that the lexer reads of a name with its mark is that of the longest there, and no other.
+pub fn words_are_longest()
+    ensures sound { (text : List ℕ) (at : ℕ) → is_name_start (slice_index text at) ≡ true → IsLongest (IsWord text at) (mark_end text (name_end (at + 1) (drop (at + 1) text))) }
+    ensures complete { (text : List ℕ) (at end : ℕ) → IsLongest (IsWord text at) end → mark_end text (name_end (at + 1) (drop (at + 1) text)) ≡ end }
+{}
+
+/// White space is passed over as far as it goes: where a token is read none stands before it, and the longest run is
+/// passed over in as many steps as it has bytes, which change nothing but that space stands before the next token.
+pub fn white_space_is_longest()
+    ensures sound { (text : List ℕ) (at end : ℕ) (s t : State) → code_step text at s ≡ Ok (t, end) → (t.tokens ≡ s.tokens → ⊥) → (other : ℕ) → IsRun is_blank text at other → other ≡ at }
+    ensures complete { (text : List ℕ) (at end : ℕ) (s : State) → IsLongest (IsRun is_blank text at) end → at < end → steps (end - at) text at s ≡ Ok (spaced s, end) }
 {}
