@@ -5,3 +5,6 @@ pub mod Numbers
 pub mod White
 pub mod Words
 pub mod Place
+pub mod Gaps
+pub mod Signs
+pub mod Reads
