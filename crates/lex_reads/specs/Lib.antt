@@ -8,3 +8,4 @@ pub mod Place
 pub mod Gaps
 pub mod Signs
 pub mod Reads
+pub mod Taking

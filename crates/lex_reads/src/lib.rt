@@ -1,18 +1,25 @@
 //! What the tokens of a text are: each is the longest that the rules allow at its place.
 #![tactic(auto)]
 
-ghost use Rattle.std.specs.Prelude.{◌≡◌, ◌+◌, ◌<◌, ℕ, List, ◌-◌, length, drop, slice_index, true, Some, Ok};
+ghost use Rattle.std.specs.Prelude.{◌≡◌, ◌+◌, ◌<◌, ℕ, List, ◌-◌, length, drop, slice_index, true, false, Some, Ok};
 ghost use Rattle.rb_literals.specs.declared.integers.Scanned.{Scanned};
 ghost use Rattle.rb_literals.specs.Integers.{integer_at, narrow};
 ghost use Rattle.lex_reads.specs.Numbers.{IsWholeInteger};
 ghost use Rattle.lex_state.specs.Scan.{name_end, mark_end};
 ghost use Rattle.rb_syntax.specs.declared.punctuator.Punctuator.{Punctuator};
-ghost use Rattle.rb_words.specs.ByteClass.{is_blank, is_name_start};
+ghost use Rattle.rb_words.specs.ByteClass.{is_blank, is_name_start, is_wide};
 ghost use Rattle.rb_words.specs.declared.marks.Mark.{Mark};
 ghost use Rattle.rb_words.specs.Marks.{mark_of};
 ghost use Rattle.lex_reads.specs.Longest.{IsLongest, IsRun};
 ghost use Rattle.lex_state.specs.State.{State, spaced};
 ghost use Rattle.rb_lexer.specs.Code.{code_step};
+ghost use Rattle.rb_syntax.specs.declared.keyword.Keyword.{Keyword};
+ghost use Rattle.rb_syntax.specs.declared.token.TokenKind.{TokenKind};
+ghost use Rattle.rb_syntax.specs.declared.token.TokenKind.TheVariants as kinds;
+ghost use Rattle.lex_words.specs.Names.{word_step};
+ghost use Rattle.lex_reads.specs.Reads.{IsToken};
+ghost use Rattle.lex_reads.specs.Taking.{place_of, took};
+ghost use Rattle.lex_reads.specs.Words.{IsLabel, IsKeyword, IsIdentifier, IsConstant, IsMethodWord};
 ghost use Rattle.lex_reads.specs.White.{steps};
 ghost use Rattle.lex_reads.specs.Names.{IsName, IsWord};
 ghost use Rattle.lex_reads.specs.Operators.{LongestOperator};
@@ -46,4 +53,15 @@ pub fn words_are_longest()
 pub fn white_space_is_longest()
     ensures sound { (text : List ℕ) (at end : ℕ) (s t : State) → code_step text at s ≡ Ok (t, end) → (t.tokens ≡ s.tokens → ⊥) → (other : ℕ) → IsRun is_blank text at other → other ≡ at }
     ensures complete { (text : List ℕ) (at end : ℕ) (s : State) → IsLongest (IsRun is_blank text at) end → at < end → steps (end - at) text at s ≡ Ok (spaced s, end) }
+{}
+
+/// A word that begins at a place, with no byte past ASCII behind its name, is read as the token that it is by the
+/// rules: a label, a keyword, an identifier, a constant or the name of a method. What is one of these is read so.
+pub fn words_are_tokens()
+    ensures sound { (text : List ℕ) (at end : ℕ) (s t : State) → is_name_start (slice_index text at) ≡ true → is_wide (slice_index text (name_end (at + 1) (drop (at + 1) text))) ≡ false → word_step text at s ≡ Ok (t, end) → (kind : TokenKind) × IsToken text (place_of s at) kind end × (t ≡ took s at kind) }
+    ensures label { (text : List ℕ) (at end : ℕ) (bytes : List ℕ) (s : State) → IsLabel text at bytes end → word_step text at s ≡ Ok (took s at (kinds.Label bytes), end) }
+    ensures keyword { (text : List ℕ) (at end : ℕ) (k : Keyword) (s : State) → IsKeyword text at s.context k end → word_step text at s ≡ Ok (took s at (kinds.Keyword k), end) }
+    ensures identifier { (text : List ℕ) (at end : ℕ) (bytes : List ℕ) (s : State) → IsIdentifier text at s.context bytes end → word_step text at s ≡ Ok (took s at (kinds.Identifier bytes), end) }
+    ensures constant { (text : List ℕ) (at end : ℕ) (bytes : List ℕ) (s : State) → IsConstant text at s.context bytes end → word_step text at s ≡ Ok (took s at (kinds.Constant bytes), end) }
+    ensures method { (text : List ℕ) (at end : ℕ) (bytes : List ℕ) (s : State) → IsMethodWord text at s.context bytes end → word_step text at s ≡ Ok (took s at (kinds.MethodName bytes), end) }
 {}
