@@ -180,8 +180,8 @@ impl Stack {
     }
 
     /// The value of the outermost level where all that are open end, or `TOO_DEEP` for one above 256.
-    pub fn finish(&mut self) -> u32
-        ensures { result ≡ min (levels.value_of (levels_of self.old)) 257 }
+    pub fn finish(mut self) -> u32
+        ensures { result ≡ min (levels.value_of (levels_of self)) 257 }
     {
         'levels: while self.started > 0 {
             match self.end() {

@@ -1,5 +1,5 @@
 -- Steps of reading, one after the other.
-use Rattle.std.proofs.Common.{◌≡◌, ℕ, zero, suc, ◌+◌, ◌≤◌, ◌<◌, List, arith, refl, sym, ap, ◌∙◌, Option, Some, None, Result, Ok, Err, length, subst, IfSome}
+use Rattle.std.proofs.Common.{◌≡◌, ℕ, zero, suc, ◌<◌, List, arith, refl, sym, ◌∙◌, Option, Some, None, Result, Ok, Err, length, subst, IfSome}
 use Rattle.lex_state.specs.declared.error.LexError.{LexError}
 use Rattle.lex_state.specs.declared.error.LexError.TheVariants.{NoMemory, Syntax}
 use Rattle.rb_lexer.specs.declared.reach.Reach.{Reach}

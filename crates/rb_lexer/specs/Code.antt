@@ -1,5 +1,5 @@
 -- One step of reading: outside of literals, and in what the place is inside of.
-use Rattle.std.specs.Prelude.{ℕ, ◌==◌, not, Bool, true, ◌||◌, ◌&&◌, if◌then◌else◌, List, length, Option, Some, None, Result, Ok, Err, slice_index}
+use Rattle.std.specs.Prelude.{ℕ, ◌==◌, not, true, ◌||◌, ◌&&◌, if◌then◌else◌, List, length, Option, Some, None, Result, Ok, slice_index}
 use Rattle.rb_words.specs.ByteClass.{is_name_start, is_wide}
 use Rattle.rb_words.specs.Following.{wants_name}
 use Rattle.lex_state.specs.declared.mode.Mode.{Mode}

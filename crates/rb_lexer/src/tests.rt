@@ -404,7 +404,10 @@ fn more_newlines(rt: HostRuntime) -> Result<(), Fail> {
             ("a \\\n.b", "id:a Dot id:b "),
             ("a # c\n  # d\n.b", "id:a Dot id:b "),
             ("a ||\nb", "id:a OrOr id:b "),
-            ("{ |a|\nb }", "OpenBrace OpenBar id:a CloseBar nl id:b CloseBrace "),
+            (
+                "{ |a|\nb }",
+                "OpenBrace OpenBar id:a CloseBar nl id:b CloseBrace ",
+            ),
             ("a ? \nb :\nc", "id:a Question id:b Colon id:c "),
             ("x = \n# c\n1", "id:x Assign 1 "),
             ("case\nwhen 1", "Case nl When 1 "),
@@ -431,8 +434,14 @@ fn more_names(rt: HostRuntime) -> Result<(), Fail> {
             ("x.(1)", "id:x Dot OpenParenthesis 1 CloseParenthesis "),
             ("::A", "ColonColon const:A "),
             ("def x=1", "Def id:x Assign 1 "),
-            ("def A.b=(v)", "Def const:A Dot method:b= OpenParenthesis id:v CloseParenthesis "),
-            ("def []; def <=>(o)", "Def method:[] ; Def method:<=> OpenParenthesis id:o CloseParenthesis "),
+            (
+                "def A.b=(v)",
+                "Def const:A Dot method:b= OpenParenthesis id:v CloseParenthesis ",
+            ),
+            (
+                "def []; def <=>(o)",
+                "Def method:[] ; Def method:<=> OpenParenthesis id:o CloseParenthesis ",
+            ),
             ("undef if, end", "Undef method:if Comma method:end "),
             ("alias $a $b", "Alias gvar:$a gvar:$b "),
             ("@", "Syntax 0 "),
@@ -448,12 +457,30 @@ fn every_operator(rt: HostRuntime) -> Result<(), Fail> {
         &rt,
         rt.alloc(),
         &[
-            ("a + b - c * d / e % f ** g", "id:a Plus id:b Minus id:c Star id:d Slash id:e Percent id:f StarStar id:g "),
-            ("a == b === c != d < e <= f > g >= h", "id:a Equal id:b CaseEqual id:c NotEqual id:d Less id:e LessEqual id:f Greater id:g GreaterEqual id:h "),
-            ("a << b >> c & d ^ e | f && g", "id:a ShiftLeft id:b ShiftRight id:c Ampersand id:d Caret id:e Bar id:f AndAnd id:g "),
-            ("a += 1; a -= 1; a *= 1", "id:a PlusAssign 1 ; id:a MinusAssign 1 ; id:a StarAssign 1 "),
-            ("a |= 1; a ^= 1; a &= 1", "id:a BarAssign 1 ; id:a CaretAssign 1 ; id:a AmpersandAssign 1 "),
-            ("a >>= 1; a &&= b; a ||= c; a %= 2", "id:a ShiftRightAssign 1 ; id:a AndAndAssign id:b ; id:a OrOrAssign id:c ; id:a PercentAssign 2 "),
+            (
+                "a + b - c * d / e % f ** g",
+                "id:a Plus id:b Minus id:c Star id:d Slash id:e Percent id:f StarStar id:g ",
+            ),
+            (
+                "a == b === c != d < e <= f > g >= h",
+                "id:a Equal id:b CaseEqual id:c NotEqual id:d Less id:e LessEqual id:f Greater id:g GreaterEqual id:h ",
+            ),
+            (
+                "a << b >> c & d ^ e | f && g",
+                "id:a ShiftLeft id:b ShiftRight id:c Ampersand id:d Caret id:e Bar id:f AndAnd id:g ",
+            ),
+            (
+                "a += 1; a -= 1; a *= 1",
+                "id:a PlusAssign 1 ; id:a MinusAssign 1 ; id:a StarAssign 1 ",
+            ),
+            (
+                "a |= 1; a ^= 1; a &= 1",
+                "id:a BarAssign 1 ; id:a CaretAssign 1 ; id:a AmpersandAssign 1 ",
+            ),
+            (
+                "a >>= 1; a &&= b; a ||= c; a %= 2",
+                "id:a ShiftRightAssign 1 ; id:a AndAndAssign id:b ; id:a OrOrAssign id:c ; id:a PercentAssign 2 ",
+            ),
             ("!a !~ ~b", "Not id:a NotMatch Tilde id:b "),
             ("[a => b]", "OpenBracket id:a Arrow id:b CloseBracket "),
             ("\\", "Syntax 0 "),
@@ -487,7 +514,10 @@ fn escapes_and_delimiters(rt: HostRuntime) -> Result<(), Fail> {
         &rt,
         rt.alloc(),
         &[
-            ("\"\\n\\t\\r\\a\\b\\e\\f\\v\\0\"", "( =\n\t\r\u{7}\u{8}\u{1b}\u{c}\u{b}\0 ) "),
+            (
+                "\"\\n\\t\\r\\a\\b\\e\\f\\v\\0\"",
+                "( =\n\t\r\u{7}\u{8}\u{1b}\u{c}\u{b}\0 ) ",
+            ),
             ("\"\\q\\#{\"", "( =q#{ ) "),
             ("\"\\u{20AC}\"", "( =\u{20ac} ) "),
             ("\"\\x\"", "Syntax 3 "),
@@ -507,7 +537,10 @@ fn escapes_and_delimiters(rt: HostRuntime) -> Result<(), Fail> {
             ("p :if, :$a", "id:p sym:if Comma sym:$a "),
             ("x :y", "id:x sym:y "),
             (":\"a#{1}\"", ":( =a #{ 1 } ) "),
-            ("[?a, ?b]", "OpenBracket char:97 Comma char:98 CloseBracket "),
+            (
+                "[?a, ?b]",
+                "OpenBracket char:97 Comma char:98 CloseBracket ",
+            ),
         ],
     )
 }
