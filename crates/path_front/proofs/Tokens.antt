@@ -8,7 +8,7 @@ use Rattle.rb_syntax.specs.declared.punctuator.Punctuator.TheVariants as marks
 use Rattle.rb_syntax.specs.declared.token.Token.{Token}
 use Rattle.rb_syntax.specs.declared.token.TokenKind.{TokenKind}
 use Rattle.rb_syntax.specs.declared.token.TokenKind.TheVariants as kinds
-use Rattle.path_front.specs.Parts.{first, behind, part, keyword_part, mark_part, number_part, name_part, is_apart}
+use Rattle.path_front.specs.Parts.{first, behind, part, keyword_part, mark_part, is_apart}
 use Rattle.path_front.specs.declared.parts.Part.{Part}
 use Rattle.path_front.specs.declared.parts.Part.TheVariants.{Puts, Number, Name, Finish, Unknown}
 
