@@ -17,6 +17,7 @@ ghost use Rattle.rb_syntax.specs.declared.keyword.Keyword.{Keyword};
 ghost use Rattle.rb_syntax.specs.declared.token.TokenKind.{TokenKind};
 ghost use Rattle.rb_syntax.specs.declared.token.TokenKind.TheVariants as kinds;
 ghost use Rattle.lex_words.specs.Names.{word_step};
+ghost use Rattle.lex_words.specs.Signs.{mark_step};
 ghost use Rattle.lex_reads.specs.Reads.{IsToken};
 ghost use Rattle.lex_reads.specs.Taking.{place_of, took};
 ghost use Rattle.lex_reads.specs.Words.{IsLabel, IsKeyword, IsIdentifier, IsConstant, IsMethodWord};
@@ -64,4 +65,10 @@ pub fn words_are_tokens()
     ensures identifier { (text : List ℕ) (at end : ℕ) (bytes : List ℕ) (s : State) → IsIdentifier text at s.context bytes end → word_step text at s ≡ Ok (took s at (kinds.Identifier bytes), end) }
     ensures constant { (text : List ℕ) (at end : ℕ) (bytes : List ℕ) (s : State) → IsConstant text at s.context bytes end → word_step text at s ≡ Ok (took s at (kinds.Constant bytes), end) }
     ensures method { (text : List ℕ) (at end : ℕ) (bytes : List ℕ) (s : State) → IsMethodWord text at s.context bytes end → word_step text at s ≡ Ok (took s at (kinds.MethodName bytes), end) }
+{}
+
+/// A mark is read as the token of the longest operator there, and that operator so.
+pub fn operators_are_tokens()
+    ensures sound { (text : List ℕ) (at end : ℕ) (s t : State) → mark_step text at s ≡ Ok (t, end) → (q : Punctuator) × LongestOperator text at q end × (t ≡ took s at (kinds.Punctuator q)) }
+    ensures complete { (text : List ℕ) (at end : ℕ) (q : Punctuator) (s : State) → LongestOperator text at q end → mark_step text at s ≡ Ok (took s at (kinds.Punctuator q), end) }
 {}
