@@ -246,3 +246,71 @@ suffix_is text at to has_exponent tail h =
         ]
       ]
     ]
+
+and_none : (a b : Bool) → (a && b) ≡ false → a ≡ true → b ≡ false
+and_none true b h e = h
+and_none false b h e = absurd (not_both false e refl)
+
+or_left : (a b : Bool) → a ≡ true → (a || b) ≡ true
+or_left true b h = refl
+or_left false b h = absurd (not_both false h refl)
+
+or_right : (a b : Bool) → b ≡ true → (a || b) ≡ true
+or_right true b h = refl
+or_right false b h = h
+
+is_exponent_letter : (b : ℕ) → (b ≡ 101) ⊎ (b ≡ 69) → (eqb b 101 || eqb b 69) ≡ true
+is_exponent_letter b (inl e) = or_left (eqb b 101) (eqb b 69) (eq-eqb b 101 e)
+is_exponent_letter b (inr e) = or_right (eqb b 101) (eqb b 69) (eq-eqb b 69 e)
+
+float_or_not : (a b : ℕ) → (if eqb a b then tails.Nothing else tails.Float) ≡ tails.Nothing → a ≡ b
+float_or_not a b h =
+    elim (cases_Bool (eqb a b)) [
+      | inl same ↦ eqb-true a b same
+      | inr other ↦ let bad : tails.Float ≡ tails.Nothing = rw other at h in absurd (cc)
+    ]
+
+same_none : (a b : ℕ) → a ≡ b → not (eqb a b) ≡ false
+same_none a b e = rw (eq-eqb a b e) refl
+
+abbrev tail_of : ℕ → ℕ → Tail
+tail_of a b = if eqb a b then tails.Nothing else tails.Float
+
+no_tail : (text : List ℕ) (at end to : ℕ) (p : ℕ × ℕ) → Parts text at end p.0 p.1 → Suffix text p.1 to (not (eqb p.0 p.1)) (tail_of p.1 end) → (end ≡ to) × NoTail text at end
+no_tail text at end to p parts suffix =
+    let e : p.1 ≡ end = float_or_not p.1 end suffix.tail_is in
+    let none : not (eqb p.0 p.1) ≡ false = same_none p.0 p.1 (omega (arith, e, parts.first, parts.second)) in
+    let imaginary = subst (λ (k : ℕ). get_or text k 0 ≡ 105 → goes_on (get_or text (k + 1) 0) ≡ true) e suffix.no_imaginary in
+    let rational = subst (λ (k : ℕ). get_or text k 0 ≡ 114 → goes_on (get_or text (k + 1) 0) ≡ true) e (suffix.no_rational none) in
+    let both_letters = subst (λ (k : ℕ). get_or text k 0 ≡ 114 → get_or text (k + 1) 0 ≡ 105 → goes_on (get_or text (k + 2) 0) ≡ true) e (suffix.no_rational_imaginary none) in
+    (sym e ∙ suffix.same, record {
+      no_fraction = λ plain point. and_none (eqb (get_or text end 0) 46) _ (parts.no_fraction e plain) (eq-eqb (get_or text end 0) 46 point);
+      no_exponent = λ plain letter. and_none (eqb (get_or text end 0) 101 || eqb (get_or text end 0) 69) _ (parts.no_exponent e plain) (is_exponent_letter (get_or text end 0) letter);
+      no_imaginary = imaginary;
+      no_rational = rational;
+      no_rational_imaginary = both_letters;
+    })
+
+number : ℕ × Tail → Option ℕ → Result Number Fault
+number s value = Ok (record { end = s.0; value = value; tail = s.1 })
+
+abbrev suffix_of : List ℕ → ℕ → ℕ × ℕ → ℕ × Tail
+suffix_of text end p = suffix_at text p.1 (not (eqb p.0 p.1)) (tail_of p.1 end)
+
+pub number_token : (text : List ℕ) (at : ℕ) (m : Number) → numeral_at text at ≡ Ok m → m.tail ≡ tails.Nothing → (n : ℕ) × IsWholeInteger text at m.end n × NoTail text at m.end × (m.value ≡ narrow n)
+unfolding numeral_at number
+number_token text at m h none =
+    let b = bind_ok (integer_at text at) (λ (i : Scanned). parts_end text at i.end >>= λ (p : ℕ × ℕ). number (suffix_of text i.end p) i.value) m h in
+    let i = b.0 in
+    let c = bind_ok (parts_end text at i.end) (λ (p : ℕ × ℕ). number (suffix_of text i.end p) i.value) m b.2 in
+    let p = c.0 in
+    let made : Number = record { end = (suffix_of text i.end p).0; value = i.value; tail = (suffix_of text i.end p).1 } in
+    let is : made ≡ m = cc in
+    let ends : (suffix_of text i.end p).0 ≡ m.end = ap (λ (k : Number). k.end) is in
+    let value : i.value ≡ m.value = ap (λ (k : Number). k.value) is in
+    let tail : (suffix_of text i.end p).1 ≡ tails.Nothing = ap (λ (k : Number). k.tail) is ∙ none in
+    let pair : suffix_of text i.end p ≡ ended m.end tails.Nothing = ap (λ (k : ℕ). ended k (suffix_of text i.end p).1) ends ∙ ap (λ (t : Tail). ended m.end t) tail in
+    let suffix = suffix_is text p.1 m.end (not (eqb p.0 p.1)) (tail_of p.1 i.end) pair in
+    let tailless = no_tail text at i.end m.end p (parts_are text at i.end p c.1) suffix in
+    let w = integer_sound text at i b.1 in
+    (w.0, subst (λ (k : ℕ). IsWholeInteger text at k w.0) tailless.0 w.1, subst (λ (k : ℕ). NoTail text at k) tailless.0 tailless.1, sym value ∙ w.2)
