@@ -7,9 +7,7 @@ use Rattle.lex_state.specs.Trivia.{trivia_step}
 use Rattle.rb_lexer.specs.Code.{code_step}
 use Rattle.lex_reads.specs.Longest.{IsLongest, IsRun}
 use Rattle.lex_reads.specs.White.{steps}
-
-abbrev pub passed : State → ℕ → Result (State × ℕ) ℕ
-passed s at = Ok (s, at)
+use Rattle.lex_reads.proofs.Steps.{passed, both_are}
 
 pub blank_step : (text : List ℕ) (at : ℕ) (s : State) → is_blank (get_or text at 0) ≡ true → code_step text at s ≡ passed (spaced s) (at + 1)
 unfolding code_step trivia_step
@@ -40,16 +38,11 @@ white_complete text at end s l some =
     let e : at + suc (end - at - 1) ≡ end = omega (arith, some) in
     rw k (blanks_pass (end - at - 1) text at s (λ i low high. l.there.all i low (omega (arith, high, e))) ∙ ap (passed (spaced s)) e)
 
-states_same : (s t : State) (m n : ℕ) → passed s m ≡ passed t n → s.tokens ≡ t.tokens
-states_same s t m n h =
-    let pair : (s, m) ≡ (t, n) = cc in
-    ap (λ (p : State × ℕ). p.0.tokens) pair
-
 pub white_sound : (text : List ℕ) (at end : ℕ) (s t : State) → code_step text at s ≡ passed t end → (t.tokens ≡ s.tokens → ⊥) → (other : ℕ) → IsRun is_blank text at other → other ≡ at
 white_sound text at end s t h token other run =
     elim (cases_lt at other) [
       | inl far ↦
           let step = blank_step text at s (run.all at (omega arith) far) in
-          absurd (token (states_same t (spaced s) end (at + 1) (sym h ∙ step)))
+          absurd (token (ap (λ (u : State). u.tokens) ((both_are t (spaced s) end (at + 1) (sym h ∙ step)).0)))
       | inr near ↦ omega (arith, run.forward, near)
     ]

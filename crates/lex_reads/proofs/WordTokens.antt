@@ -16,14 +16,9 @@ use Rattle.lex_reads.specs.Place.{after}
 use Rattle.lex_reads.specs.Reads.{IsToken, value_at, is_newline, bars_after}
 use Rattle.lex_reads.specs.Taking.{place_of, took}
 use Rattle.lex_reads.specs.Words.{WordAt, IsColon, TakesEqual, IsLabel, IsKeyword, IsPlainName, IsIdentifier, IsConstant, EndsWanted, IsMethodWord}
+use Rattle.lex_reads.proofs.Steps.{passed, both_are, not_both}
 use Rattle.lex_reads.proofs.Runs.{name_sound, name_complete}
 use Rattle.lex_reads.proofs.Words.{word_sound, word_complete}
-
-abbrev pub passed : State → ℕ → Result (State × ℕ) ℕ
-passed s at = Ok (s, at)
-
-not_both : (b : Bool) → b ≡ true → b ≡ false → ⊥
-not_both b t f = let bad : true ≡ false = sym t ∙ f in absurd (cc)
 
 -- ---- colons and =
 
@@ -250,11 +245,6 @@ word_taken text at name word s r =
             | inr other ↦ not_wanted_taken text at name word s _ r no_label other refl
           ]
     ]
-
-both_are : (s t : State) (m n : ℕ) → passed s m ≡ passed t n → (s ≡ t) × (m ≡ n)
-both_are s t m n h =
-    let pair : (s, m) ≡ (t, n) = cc in
-    (ap (λ (p : State × ℕ). p.0) pair, ap (λ (p : State × ℕ). p.1) pair)
 
 pub word_token : (text : List ℕ) (at end : ℕ) (s t : State) → is_name_start (get_or text at 0) ≡ true → is_wide (get_or text (name_end (at + 1) (drop (at + 1) text)) 0) ≡ false → word_step text at s ≡ passed t end → (kind : TokenKind) × IsToken text (place_of s at) kind end × (t ≡ took s at kind)
 word_token text at end s t begins ascii h =

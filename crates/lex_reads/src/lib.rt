@@ -2,9 +2,13 @@
 #![tactic(auto)]
 
 ghost use Rattle.std.specs.Prelude.{◌≡◌, ◌+◌, ◌<◌, ℕ, List, ◌-◌, length, drop, slice_index, true, false, Some, Ok};
+ghost use Rattle.rb_literals.specs.declared.numbers.Number.{Number};
+ghost use Rattle.rb_literals.specs.declared.numbers.Tail.TheVariants.{Nothing};
+ghost use Rattle.rb_literals.specs.Numbers.{numeral_at};
+ghost use Rattle.rb_syntax.specs.declared.outside.Outside.TheVariants.{WideInteger};
 ghost use Rattle.rb_literals.specs.declared.integers.Scanned.{Scanned};
 ghost use Rattle.rb_literals.specs.Integers.{integer_at, narrow};
-ghost use Rattle.lex_reads.specs.Numbers.{IsWholeInteger};
+ghost use Rattle.lex_reads.specs.Numbers.{IsNarrowInteger, IsWholeInteger, IsWideInteger, NoTail};
 ghost use Rattle.lex_state.specs.Scan.{name_end, mark_end};
 ghost use Rattle.rb_syntax.specs.declared.punctuator.Punctuator.{Punctuator};
 ghost use Rattle.rb_words.specs.ByteClass.{is_blank, is_name_start, is_wide};
@@ -17,6 +21,7 @@ ghost use Rattle.rb_syntax.specs.declared.keyword.Keyword.{Keyword};
 ghost use Rattle.rb_syntax.specs.declared.token.TokenKind.{TokenKind};
 ghost use Rattle.rb_syntax.specs.declared.token.TokenKind.TheVariants as kinds;
 ghost use Rattle.lex_words.specs.Names.{word_step};
+ghost use Rattle.lex_words.specs.Signs.{mark_step, number_step};
 ghost use Rattle.lex_reads.specs.Reads.{IsToken};
 ghost use Rattle.lex_reads.specs.Taking.{place_of, took};
 ghost use Rattle.lex_reads.specs.Words.{IsLabel, IsKeyword, IsIdentifier, IsConstant, IsMethodWord};
@@ -64,4 +69,17 @@ pub fn words_are_tokens()
     ensures identifier { (text : List ℕ) (at end : ℕ) (bytes : List ℕ) (s : State) → IsIdentifier text at s.context bytes end → word_step text at s ≡ Ok (took s at (kinds.Identifier bytes), end) }
     ensures constant { (text : List ℕ) (at end : ℕ) (bytes : List ℕ) (s : State) → IsConstant text at s.context bytes end → word_step text at s ≡ Ok (took s at (kinds.Constant bytes), end) }
     ensures method { (text : List ℕ) (at end : ℕ) (bytes : List ℕ) (s : State) → IsMethodWord text at s.context bytes end → word_step text at s ≡ Ok (took s at (kinds.MethodName bytes), end) }
+{}
+
+/// A mark is read as the token of the longest operator there, and that operator so.
+pub fn operators_are_tokens()
+    ensures sound { (text : List ℕ) (at end : ℕ) (s t : State) → mark_step text at s ≡ Ok (t, end) → (q : Punctuator) × LongestOperator text at q end × (t ≡ took s at (kinds.Punctuator q)) }
+    ensures complete { (text : List ℕ) (at end : ℕ) (q : Punctuator) (s : State) → LongestOperator text at q end → mark_step text at s ≡ Ok (took s at (kinds.Punctuator q), end) }
+{}
+
+/// A number is read as an integer where it is one by the rules, of its value, and what is one is read so.
+pub fn integers_are_tokens()
+    ensures sound { (text : List ℕ) (at : ℕ) (m : Number) → numeral_at text at ≡ Ok m → m.tail ≡ Nothing → (n : ℕ) × IsWholeInteger text at m.end n × NoTail text at m.end × (m.value ≡ narrow n) }
+    ensures narrow { (text : List ℕ) (at end n : ℕ) (s : State) → IsNarrowInteger text at end n → number_step text at s ≡ Ok (took s at (kinds.Integer n), end) }
+    ensures wide { (text : List ℕ) (at end : ℕ) (s : State) → IsWideInteger text at end → number_step text at s ≡ Ok (took s at (kinds.Outside WideInteger), end) }
 {}
