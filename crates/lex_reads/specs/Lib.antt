@@ -1,0 +1,12 @@
+pub mod Longest
+pub mod Names
+pub mod Operators
+pub mod Numbers
+pub mod White
+pub mod Words
+pub mod Place
+pub mod Gaps
+pub mod Signs
+pub mod Reads
+pub mod Taking
+pub mod Example

@@ -1,0 +1,249 @@
+-- The tokens that a text reads as.
+use Rattle.std.specs.Prelude.{◌≡◌, ℕ, ◌+◌, ◌<◌, ◌⊎◌, Bool, true, false, List, [], ◌∷◌, length, slice_index}
+use Rattle.rb_syntax.specs.declared.outside.Outside.{Outside}
+use Rattle.rb_syntax.specs.declared.outside.Outside.TheVariants as outsides
+use Rattle.rb_syntax.specs.declared.punctuator.Punctuator.{Punctuator}
+use Rattle.rb_syntax.specs.declared.punctuator.Punctuator.TheVariants as marks
+use Rattle.rb_syntax.specs.declared.token.Token.{Token}
+use Rattle.rb_syntax.specs.declared.token.TokenKind.{TokenKind}
+use Rattle.rb_syntax.specs.declared.token.TokenKind.TheVariants as kinds
+use Rattle.rb_words.specs.Following.{expects_value, expects_value_at, wants_name}
+use Rattle.lex_words.specs.Names.{spelled, is_end_marker}
+use Rattle.lex_reads.specs.Gaps.{IsGap, IsNewline}
+use Rattle.lex_reads.specs.Longest.{IsLongest}
+use Rattle.lex_reads.specs.Names.{IsName, IsVariable}
+use Rattle.lex_reads.specs.Numbers.{IsNarrowInteger, IsWideInteger}
+use Rattle.lex_reads.specs.Place.{Place, start, after}
+use Rattle.lex_reads.specs.Signs.{IsAmbiguous, IsCharacter, IsMark, IsOperatorName, IsSymbol}
+use Rattle.lex_reads.specs.Words.{IsConstant, IsIdentifier, IsKeyword, IsLabel, IsMethodWord, IsWideName}
+
+-- an operator where a name is wanted is the name of a method
+pub record IsMethodOperator (text : List ℕ) (p : Place) (bytes : List ℕ) (end : ℕ) : Type 0 where
+  pub wanted : wants_name p.context ≡ true
+  pub name : IsLongest (IsOperatorName text p.at) end
+  pub bytes_are : bytes ≡ spelled text p.at end
+
+-- @name or $name
+pub record IsVariableToken (sigil : ℕ) (text : List ℕ) (at : ℕ) (bytes : List ℕ) (end : ℕ) : Type 0 where
+  pub name : IsLongest (IsVariable sigil text at) end
+  pub bytes_are : bytes ≡ spelled text at end
+
+-- @@ and a name
+pub record IsClassVariable (text : List ℕ) (at end : ℕ) : Type 0 where
+  pub first : slice_index text at ≡ 64
+  pub second : slice_index text (at + 1) ≡ 64
+  pub name : IsLongest (IsName text (at + 2)) end
+
+-- Of the tokens outside the language these are stated; the others have no rule here.
+unfoldable pub IsOutside : List ℕ → Place → Outside → ℕ → Type 0
+IsOutside text p outsides.Float end = ⊥
+IsOutside text p outsides.Rational end = ⊥
+IsOutside text p outsides.Imaginary end = ⊥
+IsOutside text p outsides.WideInteger end = IsWideInteger text p.at end
+IsOutside text p outsides.Regexp end = ⊥
+IsOutside text p outsides.Backquote end = ⊥
+IsOutside text p outsides.PercentLiteral end = ⊥
+IsOutside text p outsides.Ambiguous end = IsAmbiguous text p × (end ≡ p.at + 1)
+IsOutside text p outsides.QuotedLabel end = ⊥
+IsOutside text p outsides.NonAsciiName end = IsWideName text p.at end
+IsOutside text p outsides.SquigglyHeredoc end = ⊥
+IsOutside text p outsides.ClassVariable end = IsClassVariable text p.at end
+IsOutside text p outsides.SpecialGlobal end = ⊥
+IsOutside text p outsides.MatchOperator end = ⊥
+IsOutside text p outsides.SafeNavigation end = ⊥
+IsOutside text p outsides.DoubleSplat end = ⊥
+IsOutside text p outsides.Redo end = ⊥
+IsOutside text p outsides.FileKeyword end = ⊥
+IsOutside text p outsides.LineKeyword end = ⊥
+IsOutside text p outsides.EncodingKeyword end = ⊥
+IsOutside text p outsides.BeginBlock end = ⊥
+IsOutside text p outsides.EndBlock end = ⊥
+IsOutside text p outsides.KeywordParameter end = ⊥
+IsOutside text p outsides.EndlessMethod end = ⊥
+IsOutside text p outsides.GlobalAlias end = ⊥
+IsOutside text p outsides.FlipFlop end = ⊥
+IsOutside text p outsides.SplatClause end = ⊥
+IsOutside text p outsides.PatternMatch end = ⊥
+
+-- A token of a kind stands from a place to its end. The openings, insides and ends of literals have no rule here.
+unfoldable pub IsToken : List ℕ → Place → TokenKind → ℕ → Type 0
+IsToken text p kinds.Newline end = IsNewline text p end
+IsToken text p kinds.Semicolon end = (slice_index text p.at ≡ 59) × (end ≡ p.at + 1)
+IsToken text p (kinds.Identifier bytes) end = IsIdentifier text p.at p.context bytes end
+IsToken text p (kinds.Constant bytes) end = IsConstant text p.at p.context bytes end
+IsToken text p (kinds.MethodName bytes) end = IsMethodWord text p.at p.context bytes end ⊎ IsMethodOperator text p bytes end
+IsToken text p (kinds.InstanceVariable bytes) end = IsVariableToken 64 text p.at bytes end
+IsToken text p (kinds.GlobalVariable bytes) end = IsVariableToken 36 text p.at bytes end
+IsToken text p (kinds.Label bytes) end = IsLabel text p.at bytes end
+IsToken text p (kinds.Keyword k) end = IsKeyword text p.at p.context k end
+IsToken text p (kinds.Punctuator m) end = IsMark text p m end
+IsToken text p (kinds.Integer n) end = IsNarrowInteger text p.at end n
+IsToken text p (kinds.Character b) end = IsCharacter text p b end
+IsToken text p (kinds.Symbol bytes) end = IsSymbol text p bytes end
+IsToken text p kinds.StringBegin end = ⊥
+IsToken text p kinds.SymbolBegin end = ⊥
+IsToken text p kinds.WordsBegin end = ⊥
+IsToken text p kinds.SymbolsBegin end = ⊥
+IsToken text p (kinds.Piece bytes) end = ⊥
+IsToken text p (kinds.Word bytes) end = ⊥
+IsToken text p kinds.InterpolationBegin end = ⊥
+IsToken text p kinds.InterpolationEnd end = ⊥
+IsToken text p kinds.LiteralEnd end = ⊥
+IsToken text p (kinds.Outside o) end = IsOutside text p o end
+
+-- whether a value is expected at a token
+unfoldable pub value_at : Place → TokenKind → Bool
+value_at p kinds.Newline = expects_value p.context
+value_at p kinds.Semicolon = expects_value p.context
+value_at p (kinds.Identifier bytes) = expects_value p.context
+value_at p (kinds.Constant bytes) = expects_value p.context
+value_at p (kinds.MethodName bytes) = expects_value p.context
+value_at p (kinds.InstanceVariable bytes) = expects_value p.context
+value_at p (kinds.GlobalVariable bytes) = expects_value p.context
+value_at p (kinds.Label bytes) = expects_value p.context
+value_at p (kinds.Keyword k) = expects_value_at p.context k
+value_at p (kinds.Punctuator m) = expects_value p.context
+value_at p (kinds.Integer n) = expects_value p.context
+value_at p (kinds.Character b) = expects_value p.context
+value_at p (kinds.Symbol bytes) = expects_value p.context
+value_at p kinds.StringBegin = expects_value p.context
+value_at p kinds.SymbolBegin = expects_value p.context
+value_at p kinds.WordsBegin = expects_value p.context
+value_at p kinds.SymbolsBegin = expects_value p.context
+value_at p (kinds.Piece bytes) = expects_value p.context
+value_at p (kinds.Word bytes) = expects_value p.context
+value_at p kinds.InterpolationBegin = expects_value p.context
+value_at p kinds.InterpolationEnd = expects_value p.context
+value_at p kinds.LiteralEnd = expects_value p.context
+value_at p (kinds.Outside o) = expects_value p.context
+
+unfoldable pub is_newline : TokenKind → Bool
+is_newline kinds.Newline = true
+is_newline kinds.Semicolon = false
+is_newline (kinds.Identifier bytes) = false
+is_newline (kinds.Constant bytes) = false
+is_newline (kinds.MethodName bytes) = false
+is_newline (kinds.InstanceVariable bytes) = false
+is_newline (kinds.GlobalVariable bytes) = false
+is_newline (kinds.Label bytes) = false
+is_newline (kinds.Keyword k) = false
+is_newline (kinds.Punctuator m) = false
+is_newline (kinds.Integer n) = false
+is_newline (kinds.Character b) = false
+is_newline (kinds.Symbol bytes) = false
+is_newline kinds.StringBegin = false
+is_newline kinds.SymbolBegin = false
+is_newline kinds.WordsBegin = false
+is_newline kinds.SymbolsBegin = false
+is_newline (kinds.Piece bytes) = false
+is_newline (kinds.Word bytes) = false
+is_newline kinds.InterpolationBegin = false
+is_newline kinds.InterpolationEnd = false
+is_newline kinds.LiteralEnd = false
+is_newline (kinds.Outside o) = false
+
+-- whether the parameters of a block are open behind a mark
+unfoldable pub bars_behind : Bool → Punctuator → Bool
+bars_behind bars marks.Plus = bars
+bars_behind bars marks.Minus = bars
+bars_behind bars marks.Star = bars
+bars_behind bars marks.Slash = bars
+bars_behind bars marks.Percent = bars
+bars_behind bars marks.StarStar = bars
+bars_behind bars marks.Not = bars
+bars_behind bars marks.Tilde = bars
+bars_behind bars marks.Equal = bars
+bars_behind bars marks.CaseEqual = bars
+bars_behind bars marks.NotEqual = bars
+bars_behind bars marks.Match = bars
+bars_behind bars marks.NotMatch = bars
+bars_behind bars marks.Less = bars
+bars_behind bars marks.LessEqual = bars
+bars_behind bars marks.Greater = bars
+bars_behind bars marks.GreaterEqual = bars
+bars_behind bars marks.Compare = bars
+bars_behind bars marks.ShiftLeft = bars
+bars_behind bars marks.ShiftRight = bars
+bars_behind bars marks.Ampersand = bars
+bars_behind bars marks.Bar = bars
+bars_behind bars marks.OpenBar = true
+bars_behind bars marks.CloseBar = false
+bars_behind bars marks.Caret = bars
+bars_behind bars marks.AndAnd = bars
+bars_behind bars marks.OrOr = bars
+bars_behind bars marks.Assign = bars
+bars_behind bars marks.PlusAssign = bars
+bars_behind bars marks.MinusAssign = bars
+bars_behind bars marks.StarAssign = bars
+bars_behind bars marks.SlashAssign = bars
+bars_behind bars marks.PercentAssign = bars
+bars_behind bars marks.StarStarAssign = bars
+bars_behind bars marks.ShiftLeftAssign = bars
+bars_behind bars marks.ShiftRightAssign = bars
+bars_behind bars marks.AmpersandAssign = bars
+bars_behind bars marks.BarAssign = bars
+bars_behind bars marks.CaretAssign = bars
+bars_behind bars marks.AndAndAssign = bars
+bars_behind bars marks.OrOrAssign = bars
+bars_behind bars marks.DotDot = bars
+bars_behind bars marks.DotDotDot = bars
+bars_behind bars marks.Question = bars
+bars_behind bars marks.Colon = bars
+bars_behind bars marks.ColonColon = bars
+bars_behind bars marks.Arrow = bars
+bars_behind bars marks.LambdaArrow = bars
+bars_behind bars marks.Dot = bars
+bars_behind bars marks.AmpersandDot = bars
+bars_behind bars marks.Comma = bars
+bars_behind bars marks.OpenParenthesis = bars
+bars_behind bars marks.CloseParenthesis = bars
+bars_behind bars marks.OpenBracket = bars
+bars_behind bars marks.CloseBracket = bars
+bars_behind bars marks.OpenBrace = bars
+bars_behind bars marks.CloseBrace = bars
+
+unfoldable pub bars_after : Bool → TokenKind → Bool
+bars_after bars kinds.Newline = bars
+bars_after bars kinds.Semicolon = bars
+bars_after bars (kinds.Identifier bytes) = bars
+bars_after bars (kinds.Constant bytes) = bars
+bars_after bars (kinds.MethodName bytes) = bars
+bars_after bars (kinds.InstanceVariable bytes) = bars
+bars_after bars (kinds.GlobalVariable bytes) = bars
+bars_after bars (kinds.Label bytes) = bars
+bars_after bars (kinds.Keyword k) = bars
+bars_after bars (kinds.Punctuator m) = bars_behind bars m
+bars_after bars (kinds.Integer n) = bars
+bars_after bars (kinds.Character b) = bars
+bars_after bars (kinds.Symbol bytes) = bars
+bars_after bars kinds.StringBegin = bars
+bars_after bars kinds.SymbolBegin = bars
+bars_after bars kinds.WordsBegin = bars
+bars_after bars kinds.SymbolsBegin = bars
+bars_after bars (kinds.Piece bytes) = bars
+bars_after bars (kinds.Word bytes) = bars
+bars_after bars kinds.InterpolationBegin = bars
+bars_after bars kinds.InterpolationEnd = bars
+bars_after bars kinds.LiteralEnd = bars
+bars_after bars (kinds.Outside o) = bars
+
+-- behind a token that ends at a place
+abbrev pub behind : Place → TokenKind → ℕ → Place
+behind p kind end = record { at = end; context = after p.context kind; space = is_newline kind; line_start = is_newline kind; bars = bars_after p.bars kind }
+
+-- a token with what is so of its place
+abbrev pub token_at : Place → TokenKind → Token
+token_at p kind = record { kind = kind; at = p.at; space = p.space; line_start = p.line_start; value = value_at p kind }
+
+-- the text ends, or a line __END__ ends it
+abbrev pub IsEnd : List ℕ → Place → Type 0
+IsEnd text p = (p.at ≡ length text) ⊎ ((p.at < length text) × (is_end_marker text p.at ≡ true))
+
+-- The text from a place on reads as these tokens. The line that ends the text is no word.
+pub data ReadsFrom (text : List ℕ) : Place → List Token → Type 0 where
+  Ends : (p : Place) → IsEnd text p → ReadsFrom text p []
+  Passes : (p q : Place) (tokens : List Token) → IsGap text p q → ReadsFrom text q tokens → ReadsFrom text p tokens
+  Takes : (p : Place) (kind : TokenKind) (end : ℕ) (tokens : List Token) → (IsEnd text p → ⊥) → IsToken text p kind end → ReadsFrom text (behind p kind end) tokens → ReadsFrom text p (token_at p kind ∷ tokens)
+
+abbrev pub Reads : List ℕ → List Token → Type 0
+Reads text tokens = ReadsFrom text start tokens
