@@ -7,6 +7,7 @@ pub mod Words
 pub mod Place
 pub mod Gaps
 pub mod Signs
+pub mod Closed
 pub mod Reads
 pub mod Taking
 pub mod Example

@@ -1,7 +1,9 @@
 -- Integer literals: digits of a base with single _ between them.
-use Rattle.std.specs.Prelude.{◌≡◌, ℕ, ◌+◌, ◌-◌, ◌*◌, ◌<◌, ◌≤◌, ◌⊎◌, Bool, true, false, nat_lt, List, [], ◌∷◌, length, take, drop, slice_index}
+use Rattle.std.specs.Prelude.{◌≡◌, ℕ, ◌+◌, ◌-◌, ◌*◌, ◌<◌, ◌≤◌, ◌⊎◌, Bool, true, false, nat_lt, List, [], ◌∷◌, Ok, length, take, drop, slice_index}
 use Rattle.rb_literals.specs.Kinds.{is_digit, digit_value, goes_on}
-use Rattle.rb_literals.specs.Numbers.{is_plain, sign_end}
+use Rattle.rb_literals.specs.declared.numbers.Number.{Number}
+use Rattle.rb_literals.specs.declared.numbers.Tail.{Tail}
+use Rattle.rb_literals.specs.Numbers.{is_plain, numeral_at, sign_end}
 use Rattle.rb_literals.specs.Integers.{radix_at}
 
 abbrev pub begins_with_digit : ℕ → List ℕ → Bool
@@ -53,3 +55,10 @@ pub record IsWideInteger (text : List ℕ) (at end : ℕ) : Type 0 where
   pub literal : IsWholeInteger text at end value
   pub great : 9223372036854775808 < value
   pub no_tail : NoTail text at end
+
+-- a number that its fraction, its exponent or its suffix makes another than an integer
+pub record IsTailed (tail : Tail) (text : List ℕ) (at end : ℕ) : Type 0 where
+  pub number : Number
+  pub literal : numeral_at text at ≡ Ok number
+  pub tail_is : number.tail ≡ tail
+  pub ends : end ≡ number.end

@@ -7,12 +7,15 @@ use Rattle.rb_syntax.specs.declared.punctuator.Punctuator.TheVariants as marks
 use Rattle.rb_syntax.specs.declared.token.Token.{Token}
 use Rattle.rb_syntax.specs.declared.token.TokenKind.{TokenKind}
 use Rattle.rb_syntax.specs.declared.token.TokenKind.TheVariants as kinds
+use Rattle.rb_literals.specs.declared.numbers.Tail.TheVariants as tails
+use Rattle.rb_words.specs.ByteClass.{is_digit, is_punctuation}
 use Rattle.rb_words.specs.Following.{expects_value, expects_value_at, wants_name}
 use Rattle.lex_words.specs.Names.{spelled, is_end_marker}
 use Rattle.lex_reads.specs.Gaps.{IsGap, IsNewline}
-use Rattle.lex_reads.specs.Longest.{IsLongest}
+use Rattle.lex_reads.specs.Closed.{IsBackquote, IsPercentLiteral, IsRegexp}
+use Rattle.lex_reads.specs.Longest.{IsLongest, IsRun}
 use Rattle.lex_reads.specs.Names.{IsName, IsVariable}
-use Rattle.lex_reads.specs.Numbers.{IsNarrowInteger, IsWideInteger}
+use Rattle.lex_reads.specs.Numbers.{IsNarrowInteger, IsTailed, IsWideInteger}
 use Rattle.lex_reads.specs.Place.{Place, start, after}
 use Rattle.lex_reads.specs.Signs.{IsAmbiguous, IsCharacter, IsMark, IsOperatorName, IsSymbol}
 use Rattle.lex_reads.specs.Words.{IsConstant, IsIdentifier, IsKeyword, IsLabel, IsMethodWord, IsWideName}
@@ -34,21 +37,27 @@ pub record IsClassVariable (text : List ℕ) (at end : ℕ) : Type 0 where
   pub second : slice_index text (at + 1) ≡ 64
   pub name : IsLongest (IsName text (at + 2)) end
 
--- Of the tokens outside the language these are stated; the others have no rule here.
+-- $ and digits, or one punctuation mark
+pub record IsSpecialGlobal (text : List ℕ) (at end : ℕ) : Type 0 where
+  pub dollar : slice_index text at ≡ 36
+  pub rest : ((at + 1 < end) × IsLongest (IsRun is_digit text (at + 1)) end) ⊎ ((is_punctuation (slice_index text (at + 1)) ≡ true) × (end ≡ at + 2))
+
+-- The tokens outside the language that stand by themselves. A QuotedLabel ends a string and a SquigglyHeredoc takes
+-- its body along; the others are no tokens of a text.
 unfoldable pub IsOutside : List ℕ → Place → Outside → ℕ → Type 0
-IsOutside text p outsides.Float end = ⊥
-IsOutside text p outsides.Rational end = ⊥
-IsOutside text p outsides.Imaginary end = ⊥
+IsOutside text p outsides.Float end = IsTailed tails.Float text p.at end
+IsOutside text p outsides.Rational end = IsTailed tails.Rational text p.at end
+IsOutside text p outsides.Imaginary end = IsTailed tails.Imaginary text p.at end
 IsOutside text p outsides.WideInteger end = IsWideInteger text p.at end
-IsOutside text p outsides.Regexp end = ⊥
-IsOutside text p outsides.Backquote end = ⊥
-IsOutside text p outsides.PercentLiteral end = ⊥
+IsOutside text p outsides.Regexp end = IsRegexp text p end
+IsOutside text p outsides.Backquote end = IsBackquote text p end
+IsOutside text p outsides.PercentLiteral end = IsPercentLiteral text p end
 IsOutside text p outsides.Ambiguous end = IsAmbiguous text p × (end ≡ p.at + 1)
 IsOutside text p outsides.QuotedLabel end = ⊥
 IsOutside text p outsides.NonAsciiName end = IsWideName text p.at end
 IsOutside text p outsides.SquigglyHeredoc end = ⊥
 IsOutside text p outsides.ClassVariable end = IsClassVariable text p.at end
-IsOutside text p outsides.SpecialGlobal end = ⊥
+IsOutside text p outsides.SpecialGlobal end = IsSpecialGlobal text p.at end
 IsOutside text p outsides.MatchOperator end = ⊥
 IsOutside text p outsides.SafeNavigation end = ⊥
 IsOutside text p outsides.DoubleSplat end = ⊥

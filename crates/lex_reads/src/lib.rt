@@ -5,8 +5,9 @@
 //! `specs::Reads::Reads` relates a text and its tokens. Its rules are one a class, on the text and the place:
 //!
 //! - Longest, Names, Words: names, their marks, labels, keywords, identifiers, constants, names of methods
-//! - Numbers: integers
+//! - Numbers: integers, and the numbers that are none
 //! - Operators, Signs: marks, bars of parameters, symbols without quotes, characters, ambiguous marks
+//! - Closed: regular expressions, backquotes and other literals outside the language
 //! - Gaps: white space, comments, dropped newlines
 //! - Place: what the token before says, and the flags of a token
 //!
@@ -16,11 +17,12 @@
 //! Rules that are missing, so that a text with such a token has no reading here:
 //!
 //! - strings, symbols in quotes, `%` literals and heredocs: their openings, pieces, interpolations and ends
-//! - tokens outside the language but `WideInteger`, `NonAsciiName`, `Ambiguous` and `ClassVariable`
+//! - of the tokens outside the language `QuotedLabel` and `SquigglyHeredoc`
 //! - an interpolation's closing brace
 //!
 //! Laws that are missing:
 //!
+//! - tokens outside the language but `WideInteger` and `NonAsciiName` have rules, but no laws
 //! - newlines, comments of whole lines, symbols, bars and ambiguous marks have rules, but no laws
 //! - [`operators_are_tokens`] is about the step that reads a mark, and not about when that step is reached
 //! - at most one list of tokens reads a text; what `lex` gives reads the text; what reads the text `lex` gives
