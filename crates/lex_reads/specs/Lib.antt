@@ -8,6 +8,7 @@ pub mod Place
 pub mod Gaps
 pub mod Signs
 pub mod Closed
+pub mod Literals
 pub mod Reads
 pub mod Taking
 pub mod Example
