@@ -11,6 +11,7 @@ use Rattle.lex_reads.specs.Numbers.{IsWholeInteger, IsNarrowInteger}
 use Rattle.lex_reads.specs.Place.{Place, start, spaced_to, after}
 use Rattle.lex_reads.specs.Gaps.{IsBlanks}
 use Rattle.lex_reads.specs.Reads.{Reads, Ends, Passes, Takes, IsEnd, IsToken, value_at, is_newline, bars_after}
+use Rattle.lex_reads.specs.Within.{Whole}
 use Rattle.lex_reads.specs.Words.{WordAt, IsIdentifier}
 use Rattle.lex_reads.proofs.Runs.{class_end, name_sound, run_ends, run_longest}
 use Rattle.lex_reads.proofs.Words.{word_sound}
@@ -67,7 +68,7 @@ no_end_here (inr e) = absurd (cc)
 pub example_reads : Reads text tokens
 unfolding IsToken after value_at is_newline bars_after
 example_reads =
-    Takes start (kinds.Identifier (97 ∷ [])) 1 _ (λ e. no_end start e refl) name_there
-    (Passes behind_name before_number _ (inl (inl blanks_there, refl))
-    (Takes before_number (kinds.Integer 1) 3 [] no_end_here number_there
-    (Ends _ (inl refl))))
+    Takes Whole [] [] start (kinds.Identifier (97 ∷ [])) 1 _ tt (λ b. b) (λ e. no_end start e refl) name_there (inr (inr (λ e. absurd (cc), λ e. absurd (cc), refl)))
+    (Passes Whole [] behind_name before_number _ tt (λ b. b) (inl (inl blanks_there, refl))
+    (Takes Whole [] [] before_number (kinds.Integer 1) 3 [] tt (λ b. b) no_end_here number_there (inr (inr (λ e. absurd (cc), λ e. absurd (cc), refl)))
+    (Ends [] _ tt (inl refl))))

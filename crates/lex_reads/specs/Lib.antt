@@ -9,6 +9,7 @@ pub mod Gaps
 pub mod Signs
 pub mod Closed
 pub mod Literals
+pub mod Within
 pub mod Reads
 pub mod Taking
 pub mod Example

@@ -1,5 +1,5 @@
 -- The tokens that a text reads as.
-use Rattle.std.specs.Prelude.{◌≡◌, ℕ, ◌+◌, ◌<◌, ◌⊎◌, Bool, true, false, List, [], ◌∷◌, length, slice_index}
+use Rattle.std.specs.Prelude.{◌≡◌, ℕ, ◌+◌, ◌<◌, ◌⊎◌, Bool, true, false, List, [], ◌∷◌, Some, None, codes, length, slice_index}
 use Rattle.rb_syntax.specs.declared.outside.Outside.{Outside}
 use Rattle.rb_syntax.specs.declared.outside.Outside.TheVariants as outsides
 use Rattle.rb_syntax.specs.declared.punctuator.Punctuator.{Punctuator}
@@ -8,17 +8,20 @@ use Rattle.rb_syntax.specs.declared.token.Token.{Token}
 use Rattle.rb_syntax.specs.declared.token.TokenKind.{TokenKind}
 use Rattle.rb_syntax.specs.declared.token.TokenKind.TheVariants as kinds
 use Rattle.rb_literals.specs.declared.numbers.Tail.TheVariants as tails
-use Rattle.rb_words.specs.ByteClass.{is_digit, is_punctuation}
-use Rattle.rb_words.specs.Following.{expects_value, expects_value_at, wants_name}
+use Rattle.rb_words.specs.ByteClass.{is_digit, is_punctuation, is_white}
+use Rattle.rb_words.specs.Following.{can_end, expects_value, expects_value_at, wants_name}
+use Rattle.rb_lexer.specs.declared.heads.HeadPlace.{HeadPlace}
 use Rattle.lex_words.specs.Names.{spelled, is_end_marker}
-use Rattle.lex_reads.specs.Gaps.{IsGap, IsNewline}
+use Rattle.lex_reads.specs.Gaps.{IsGap, IsNewline, LeadsDot}
 use Rattle.lex_reads.specs.Closed.{IsBackquote, IsPercentLiteral, IsRegexp}
-use Rattle.lex_reads.specs.Longest.{IsLongest, IsRun}
+use Rattle.lex_reads.specs.Literals.{Literal, Words, Double, IsClosing, IsElement, IsPiece, OpensLiteral, piece_kind}
+use Rattle.lex_reads.specs.Longest.{IsLongest, IsRun, Stands}
 use Rattle.lex_reads.specs.Names.{IsName, IsVariable}
 use Rattle.lex_reads.specs.Numbers.{IsNarrowInteger, IsTailed, IsWideInteger}
 use Rattle.lex_reads.specs.Place.{Place, start, after}
 use Rattle.lex_reads.specs.Signs.{IsAmbiguous, IsCharacter, IsMark, IsOperatorName, IsSymbol}
-use Rattle.lex_reads.specs.Words.{IsConstant, IsIdentifier, IsKeyword, IsLabel, IsMethodWord, IsWideName}
+use Rattle.lex_reads.specs.Within.{AreBraces, BeforeBodies, DropsBefore, InCode, IsBody, IsHeredoc, Nests, Open, Inside, Interpolation, Stretch, Whole, Line, Body, shown}
+use Rattle.lex_reads.specs.Words.{IsColon, IsConstant, IsIdentifier, IsKeyword, IsLabel, IsMethodWord, IsWideName}
 
 -- an operator where a name is wanted is the name of a method
 pub record IsMethodOperator (text : List ℕ) (p : Place) (bytes : List ℕ) (end : ℕ) : Type 0 where
@@ -74,7 +77,8 @@ IsOutside text p outsides.FlipFlop end = ⊥
 IsOutside text p outsides.SplatClause end = ⊥
 IsOutside text p outsides.PatternMatch end = ⊥
 
--- A token of a kind stands from a place to its end. The openings, insides and ends of literals have no rule here.
+-- A token of a kind stands from a place to its end. The openings, insides and ends of literals are told by what is
+-- open: `ReadsFrom` reads them.
 unfoldable pub IsToken : List ℕ → Place → TokenKind → ℕ → Type 0
 IsToken text p kinds.Newline end = IsNewline text p end
 IsToken text p kinds.Semicolon end = (slice_index text p.at ≡ 59) × (end ≡ p.at + 1)
@@ -248,11 +252,59 @@ token_at p kind = record { kind = kind; at = p.at; space = p.space; line_start =
 abbrev pub IsEnd : List ℕ → Place → Type 0
 IsEnd text p = (p.at ≡ length text) ⊎ ((p.at < length text) × (is_end_marker text p.at ≡ true))
 
--- The text from a place on reads as these tokens. The line that ends the text is no word.
-pub data ReadsFrom (text : List ℕ) : Place → List Token → Type 0 where
-  Ends : (p : Place) → IsEnd text p → ReadsFrom text p []
-  Passes : (p q : Place) (tokens : List Token) → IsGap text p q → ReadsFrom text q tokens → ReadsFrom text p tokens
-  Takes : (p : Place) (kind : TokenKind) (end : ℕ) (tokens : List Token) → (IsEnd text p → ⊥) → IsToken text p kind end → ReadsFrom text (behind p kind end) tokens → ReadsFrom text p (token_at p kind ∷ tokens)
+-- the same at another place
+abbrev pub moved : Place → ℕ → Place
+moved p at = record p { at = at }
+
+-- @name or $name behind the # of an interpolation
+abbrev pub IsInterpolated : List ℕ → ℕ → TokenKind → ℕ → Type 0
+IsInterpolated text at kind end =
+    (bytes : List ℕ)
+    × (((kind ≡ kinds.InstanceVariable bytes) × IsVariableToken 64 text at bytes end)
+    ⊎ ((kind ≡ kinds.GlobalVariable bytes) × IsVariableToken 36 text at bytes end))
+
+-- a colon behind the end of a string makes it a key
+abbrev pub EndsKey : List ℕ → Literal → ℕ → ℕ → Type 0
+EndsKey text l begin at = (l.key ≡ Some begin) × IsColon text (at + 1)
+
+-- A text from a place on, in a stretch of it and with what is open there, reads as these tokens.
+pub data ReadsFrom (text : List ℕ) : Stretch → List Open → Place → List Token → Type 0 where
+  -- nothing but braces is open where the text ends
+  Ends : (around : List Open) (p : Place) → AreBraces around → IsEnd text p → ReadsFrom text Whole around p []
+  -- between tokens
+  Passes : (s : Stretch) (around : List Open) (p q : Place) (tokens : List Token) → InCode around → (BeforeBodies s p.at → ⊥) → IsGap (shown text s) p q → ReadsFrom text s around q tokens → ReadsFrom text s around p tokens
+  -- a token that is no part of a literal; the line that ends the text is no word
+  Takes : (s : Stretch) (around after_it : List Open) (p : Place) (kind : TokenKind) (end : ℕ) (tokens : List Token) → InCode around → (BeforeBodies s p.at → ⊥) → (IsEnd (shown text s) p → ⊥) → IsToken (shown text s) p kind end → Nests around kind after_it → ReadsFrom text s after_it (behind p kind end) tokens → ReadsFrom text s around p (token_at p kind ∷ tokens)
+  -- the opening of a literal
+  OpensIt : (s : Stretch) (around : List Open) (p : Place) (kind : TokenKind) (l : Literal) (end : ℕ) (tokens : List Token) → InCode around → OpensLiteral (shown text s) p kind l end → ReadsFrom text s (Inside l 0 ∷ around) (behind p kind end) tokens → ReadsFrom text s around p (token_at p kind ∷ tokens)
+  -- bytes of a literal
+  Holds : (s : Stretch) (around : List Open) (p : Place) (l : Literal) (depth last end : ℕ) (bytes : List ℕ) (tokens : List Token) → IsPiece l (shown text s) depth p.at bytes last end → ReadsFrom text s (Inside l last ∷ around) (behind p (piece_kind l.contents bytes) end) tokens → ReadsFrom text s (Inside l depth ∷ around) p (token_at p (piece_kind l.contents bytes) ∷ tokens)
+  -- an escape that stands for nothing, where no piece has begun
+  Skips : (s : Stretch) (around : List Open) (p : Place) (l : Literal) (depth end : ℕ) (tokens : List Token) → IsElement l (shown text s) p.at [] end → ReadsFrom text s (Inside l depth ∷ around) (moved p end) tokens → ReadsFrom text s (Inside l depth ∷ around) p tokens
+  -- white space between words
+  Separates : (s : Stretch) (around : List Open) (p : Place) (l : Literal) (depth : ℕ) (tokens : List Token) → l.contents ≡ Words → is_white (slice_index (shown text s) p.at) ≡ true → ReadsFrom text s (Inside l depth ∷ around) (moved p (p.at + 1)) tokens → ReadsFrom text s (Inside l depth ∷ around) p tokens
+  -- #{
+  Interpolates : (s : Stretch) (around : List Open) (p : Place) (l : Literal) (depth : ℕ) (tokens : List Token) → l.contents ≡ Double → Stands (shown text s) p.at (codes "#{") → ReadsFrom text s (Interpolation ∷ Inside l depth ∷ around) (behind p kinds.InterpolationBegin (p.at + 2)) tokens → ReadsFrom text s (Inside l depth ∷ around) p (token_at p kinds.InterpolationBegin ∷ tokens)
+  -- the } of #{
+  Closes : (s : Stretch) (around : List Open) (p : Place) (tokens : List Token) → slice_index (shown text s) p.at ≡ 125 → ReadsFrom text s around (behind p kinds.InterpolationEnd (p.at + 1)) tokens → ReadsFrom text s (Interpolation ∷ around) p (token_at p kinds.InterpolationEnd ∷ tokens)
+  -- #@name or #$name
+  Inserts : (s : Stretch) (around : List Open) (p : Place) (l : Literal) (depth : ℕ) (kind : TokenKind) (end : ℕ) (tokens : List Token) → l.contents ≡ Double → slice_index (shown text s) p.at ≡ 35 → IsInterpolated (shown text s) (p.at + 1) kind end → ReadsFrom text s (Inside l depth ∷ around) (behind p kind end) tokens → ReadsFrom text s (Inside l depth ∷ around) p (token_at (moved p (p.at + 1)) kind ∷ tokens)
+  -- the end of a literal
+  EndsIt : (s : Stretch) (around : List Open) (p : Place) (l : Literal) (depth : ℕ) (tokens : List Token) → IsClosing l (shown text s) depth p.at → ((begin : ℕ) → EndsKey (shown text s) l begin p.at → ⊥) → ReadsFrom text s around (behind p kinds.LiteralEnd (p.at + 1)) tokens → ReadsFrom text s (Inside l depth ∷ around) p (token_at p kinds.LiteralEnd ∷ tokens)
+  -- the end of a string that is a key has the place of its opening, and takes the colon
+  EndsLabel : (s : Stretch) (around : List Open) (p : Place) (l : Literal) (depth begin : ℕ) (tokens : List Token) → IsClosing l (shown text s) depth p.at → EndsKey (shown text s) l begin p.at → ReadsFrom text s around (behind p (kinds.Outside outsides.QuotedLabel) (p.at + 2)) tokens → ReadsFrom text s (Inside l depth ∷ around) p (token_at (moved p begin) (kinds.Outside outsides.QuotedLabel) ∷ tokens)
+  -- the head of a heredoc, behind which its body is read
+  Heredoc : (s : Stretch) (around : List Open) (p : Place) (h : HeadPlace) (l : Literal) (from stop line next : ℕ) (tokens : List Token) → InCode around → IsHeredoc text s around p h from stop line next → (h.dash ≡ 126 → ⊥) → IsBody h l → ReadsFrom text (Body stop h.end line next) (Inside l 0 ∷ around) (behind p kinds.StringBegin from) tokens → ReadsFrom text s around p (token_at p kinds.StringBegin ∷ tokens)
+  -- the end of the body, behind which the rest of the head's line is read
+  EndsBody : (around : List Open) (p : Place) (l : Literal) (depth stop back line next : ℕ) (tokens : List Token) → l.delimiters ≡ None → p.at ≡ stop → ReadsFrom text (Line line next) around (behind p kinds.LiteralEnd back) tokens → ReadsFrom text (Body stop back line next) (Inside l depth ∷ around) p (token_at p kinds.LiteralEnd ∷ tokens)
+  -- <<~ and its identifier, whose body is left out
+  Squiggly : (s : Stretch) (around : List Open) (p : Place) (h : HeadPlace) (from stop line next : ℕ) (tokens : List Token) → InCode around → IsHeredoc text s around p h from stop line next → h.dash ≡ 126 → ReadsFrom text (Line line next) around (behind p (kinds.Outside outsides.SquigglyHeredoc) h.end) tokens → ReadsFrom text s around p (token_at p (kinds.Outside outsides.SquigglyHeredoc) ∷ tokens)
+  -- the newline of a line with heads, behind which the bodies stand, is dropped
+  PassesBodies : (around : List Open) (p q : Place) (stop next : ℕ) (tokens : List Token) → InCode around → p.at + 1 ≡ stop → DropsBefore text p next q → ReadsFrom text Whole around q tokens → ReadsFrom text (Line stop next) around p tokens
+  -- or a token
+  TakesNewline : (around : List Open) (p : Place) (stop next : ℕ) (tokens : List Token) → InCode around → p.at + 1 ≡ stop → can_end p.context ≡ true → ((dot : ℕ) → LeadsDot text next dot → ⊥) → ReadsFrom text Whole around (behind p kinds.Newline next) tokens → ReadsFrom text (Line stop next) around p (token_at p kinds.Newline ∷ tokens)
+  -- what was passed over or taken with that newline leads behind the bodies
+  EndsLine : (around : List Open) (p : Place) (stop next : ℕ) (tokens : List Token) → p.at ≡ stop → ReadsFrom text Whole around (moved p next) tokens → ReadsFrom text (Line stop next) around p tokens
 
 abbrev pub Reads : List ℕ → List Token → Type 0
-Reads text tokens = ReadsFrom text start tokens
+Reads text tokens = ReadsFrom text Whole [] start tokens

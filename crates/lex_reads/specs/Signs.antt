@@ -87,10 +87,13 @@ IsAmbiguous text p =
     ⊎ ((slice_index text p.at ≡ 37) × (slice_index text (p.at + 1) ≡ 61 → ⊥) × (is_percent_letter (slice_index text (p.at + 1)) (slice_index text (p.at + 2)) ≡ false))))
 
 -- << and the head of a heredoc where a value is expected, or behind an identifier and white space
-abbrev pub BeginsHeredoc : List ℕ → Place → Type 0
-BeginsHeredoc text p =
-    (h : HeadPlace) × Stands text p.at (codes "<<") × (head_at text p.at ≡ Some h)
+abbrev pub IsHeredocHead : List ℕ → Place → HeadPlace → Type 0
+IsHeredocHead text p h =
+    Stands text p.at (codes "<<") × (head_at text p.at ≡ Some h)
     × ((expects_value p.context ≡ true) ⊎ ((is_name p.context ≡ true) × (p.space ≡ true) × (is_plain_head h ≡ true)))
+
+abbrev pub BeginsHeredoc : List ℕ → Place → Type 0
+BeginsHeredoc text p = (h : HeadPlace) × IsHeredocHead text p h
 
 -- no comment, name or literal begins with the sign at a place
 pub record IsBareSign (text : List ℕ) (p : Place) : Type 0 where
