@@ -1,6 +1,7 @@
--- A text that reads as two tokens.
-use Rattle.std.specs.Prelude.{ℕ, List, [], ◌∷◌, codes, true, false}
+-- A text that reads as two tokens, and one with a string.
+use Rattle.std.specs.Prelude.{ℕ, List, [], ◌∷◌, codes, Bool, true, false}
 use Rattle.rb_syntax.specs.declared.token.Token.{Token}
+use Rattle.rb_syntax.specs.declared.token.TokenKind.{TokenKind}
 use Rattle.rb_syntax.specs.declared.token.TokenKind.TheVariants as kinds
 
 abbrev pub text : List ℕ
@@ -10,4 +11,20 @@ abbrev pub tokens : List Token
 tokens =
     record { kind = kinds.Identifier (codes "a"); at = 0; space = false; line_start = true; value = true }
     ∷ record { kind = kinds.Integer 1; at = 2; space = true; line_start = false; value = false }
+    ∷ []
+
+abbrev pub string_text : List ℕ
+string_text = codes "\"a#{1}\""
+
+abbrev pub in_string : ℕ → TokenKind → Bool → Token
+in_string at kind value = record { kind = kind; at = at; space = false; line_start = false; value = value }
+
+abbrev pub string_tokens : List Token
+string_tokens =
+    record { kind = kinds.StringBegin; at = 0; space = false; line_start = true; value = true }
+    ∷ in_string 1 (kinds.Piece (codes "a")) false
+    ∷ in_string 2 kinds.InterpolationBegin false
+    ∷ in_string 4 (kinds.Integer 1) true
+    ∷ in_string 5 kinds.InterpolationEnd false
+    ∷ in_string 6 kinds.LiteralEnd false
     ∷ []

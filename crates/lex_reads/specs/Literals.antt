@@ -1,5 +1,5 @@
 -- The insides of strings, symbols in quotes, lists of words and the bodies of heredocs.
-use Rattle.std.specs.Prelude.{◌≡◌, ℕ, suc, ◌+◌, ◌<◌, ◌⊎◌, true, false, List, [], ◌∷◌, ◌++◌, Option, Some, None, Ok, length, slice_index}
+use Rattle.std.specs.Prelude.{◌≡◌, ℕ, suc, ◌+◌, ◌<◌, ◌⊎◌, true, false, List, [], ◌∷◌, ◌++◌, Option, Some, None, Ok, length, take, slice_index}
 use Rattle.rb_literals.specs.declared.escaped.Escape.{Escape}
 use Rattle.rb_literals.specs.declared.plain_escapes.Delimiters.{Delimiters}
 use Rattle.rb_literals.specs.Escaping.{bytes_of, full_escape_at}
@@ -8,7 +8,7 @@ use Rattle.rb_syntax.specs.declared.token.TokenKind.{TokenKind}
 use Rattle.rb_syntax.specs.declared.token.TokenKind.TheVariants as kinds
 use Rattle.rb_words.specs.ByteClass.{is_name_start, is_white}
 use Rattle.rb_words.specs.Following.{expects_value, is_question, wants_name}
-use Rattle.lex_words.specs.Signs.{is_delimiter, is_percent_letter}
+use Rattle.lex_words.specs.Signs.{is_delimiter}
 use Rattle.lex_reads.specs.Closed.{delimited_by}
 use Rattle.lex_reads.specs.Place.{Place}
 use Rattle.lex_reads.specs.Signs.{BeginsSymbol, IsSpaced}
@@ -100,13 +100,31 @@ EndsElements Single text at = ⊥
 EndsElements Double text at = BeginsInterpolation text at
 EndsElements Words text at = is_white (slice_index text at) ≡ true
 
--- The bytes of a piece or a word: not empty, from the first byte or escape that stands for any, up to the closing
--- delimiter, an interpolation or white space between words, or to the end of a heredoc's body.
-pub record IsPiece (l : Literal) (text : List ℕ) (depth at : ℕ) (bytes : List ℕ) (last end : ℕ) : Type 0 where
+-- where a piece or a word ends: at the closing delimiter, an interpolation or white space between words, or at the end
+-- of a heredoc's body
+abbrev pub EndsPiece : Literal → List ℕ → ℕ → ℕ → Type 0
+EndsPiece l text depth at =
+    IsClosing l text depth at ⊎ (EndsElements l.contents text at ⊎ ((at ≡ length text) × (l.delimiters ≡ None)))
+
+-- bytes of a piece or a word: not empty, from the first byte or escape that stands for any
+pub record BeginsPiece (l : Literal) (text : List ℕ) (depth at : ℕ) (bytes : List ℕ) (last end : ℕ) : Type 0 where
   pub elements : AreElements l text depth at bytes last end
   pub some : bytes ≡ [] → ⊥
   pub first : (next : ℕ) → IsElement l text at [] next → ⊥
-  pub ends : IsClosing l text last end ⊎ (EndsElements l.contents text end ⊎ ((end ≡ length text) × (l.delimiters ≡ None)))
+
+pub record IsPiece (l : Literal) (text : List ℕ) (depth at : ℕ) (bytes : List ℕ) (last end : ℕ) : Type 0 where
+  pub begins : BeginsPiece l text depth at bytes last end
+  pub ends : EndsPiece l text last end
+
+-- one that goes on behind the bodies of the heredocs on its line, which ends at stop
+pub record IsLongPiece (l : Literal) (text : List ℕ) (stop next depth at : ℕ) (bytes : List ℕ) (last end : ℕ) : Type 0 where
+  pub inner : ℕ
+  pub before : List ℕ
+  pub behind : List ℕ
+  pub begins : BeginsPiece l (take stop text) depth at before inner stop
+  pub rest : AreElements l text inner next behind last end
+  pub bytes_are : bytes ≡ before ++ behind
+  pub ends : EndsPiece l text last end
 
 -- the token of such bytes
 abbrev pub piece_kind : Contents → List ℕ → TokenKind

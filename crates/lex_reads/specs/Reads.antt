@@ -14,7 +14,7 @@ use Rattle.rb_lexer.specs.declared.heads.HeadPlace.{HeadPlace}
 use Rattle.lex_words.specs.Names.{spelled, is_end_marker}
 use Rattle.lex_reads.specs.Gaps.{IsGap, IsNewline, LeadsDot}
 use Rattle.lex_reads.specs.Closed.{IsBackquote, IsPercentLiteral, IsRegexp}
-use Rattle.lex_reads.specs.Literals.{Literal, Words, Double, IsClosing, IsElement, IsPiece, OpensLiteral, piece_kind}
+use Rattle.lex_reads.specs.Literals.{Literal, Words, Double, IsClosing, IsElement, IsLongPiece, IsPiece, OpensLiteral, piece_kind}
 use Rattle.lex_reads.specs.Longest.{IsLongest, IsRun, Stands}
 use Rattle.lex_reads.specs.Names.{IsName, IsVariable}
 use Rattle.lex_reads.specs.Numbers.{IsNarrowInteger, IsTailed, IsWideInteger}
@@ -274,11 +274,13 @@ pub data ReadsFrom (text : List ℕ) : Stretch → List Open → Place → List 
   -- between tokens
   Passes : (s : Stretch) (around : List Open) (p q : Place) (tokens : List Token) → InCode around → (BeforeBodies s p.at → ⊥) → IsGap (shown text s) p q → ReadsFrom text s around q tokens → ReadsFrom text s around p tokens
   -- a token that is no part of a literal; the line that ends the text is no word
-  Takes : (s : Stretch) (around after_it : List Open) (p : Place) (kind : TokenKind) (end : ℕ) (tokens : List Token) → InCode around → (BeforeBodies s p.at → ⊥) → (IsEnd (shown text s) p → ⊥) → IsToken (shown text s) p kind end → Nests around kind after_it → ReadsFrom text s after_it (behind p kind end) tokens → ReadsFrom text s around p (token_at p kind ∷ tokens)
+  Takes : (s : Stretch) (around next_open : List Open) (p : Place) (kind : TokenKind) (end : ℕ) (tokens : List Token) → InCode around → (BeforeBodies s p.at → ⊥) → (IsEnd (shown text s) p → ⊥) → IsToken (shown text s) p kind end → Nests around kind next_open → ReadsFrom text s next_open (behind p kind end) tokens → ReadsFrom text s around p (token_at p kind ∷ tokens)
   -- the opening of a literal
   OpensIt : (s : Stretch) (around : List Open) (p : Place) (kind : TokenKind) (l : Literal) (end : ℕ) (tokens : List Token) → InCode around → OpensLiteral (shown text s) p kind l end → ReadsFrom text s (Inside l 0 ∷ around) (behind p kind end) tokens → ReadsFrom text s around p (token_at p kind ∷ tokens)
   -- bytes of a literal
   Holds : (s : Stretch) (around : List Open) (p : Place) (l : Literal) (depth last end : ℕ) (bytes : List ℕ) (tokens : List Token) → IsPiece l (shown text s) depth p.at bytes last end → ReadsFrom text s (Inside l last ∷ around) (behind p (piece_kind l.contents bytes) end) tokens → ReadsFrom text s (Inside l depth ∷ around) p (token_at p (piece_kind l.contents bytes) ∷ tokens)
+  -- or of one that goes over the end of a line with heads of heredocs
+  HoldsOver : (around : List Open) (p : Place) (l : Literal) (stop next depth last end : ℕ) (bytes : List ℕ) (tokens : List Token) → IsLongPiece l text stop next depth p.at bytes last end → ReadsFrom text Whole (Inside l last ∷ around) (behind p (piece_kind l.contents bytes) end) tokens → ReadsFrom text (Line stop next) (Inside l depth ∷ around) p (token_at p (piece_kind l.contents bytes) ∷ tokens)
   -- an escape that stands for nothing, where no piece has begun
   Skips : (s : Stretch) (around : List Open) (p : Place) (l : Literal) (depth end : ℕ) (tokens : List Token) → IsElement l (shown text s) p.at [] end → ReadsFrom text s (Inside l depth ∷ around) (moved p end) tokens → ReadsFrom text s (Inside l depth ∷ around) p tokens
   -- white space between words

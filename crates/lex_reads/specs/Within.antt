@@ -9,7 +9,7 @@ use Rattle.rb_words.specs.Following.{can_end, wants_name}
 use Rattle.rb_lexer.specs.declared.heads.HeadPlace.{HeadPlace}
 use Rattle.rb_lexer.specs.Lexing.{head_of}
 use Rattle.lex_reads.specs.Gaps.{IsLine, LeadsDot}
-use Rattle.lex_reads.specs.Literals.{Literal, Contents, Raw, Double}
+use Rattle.lex_reads.specs.Literals.{Literal, Raw, Double}
 use Rattle.lex_reads.specs.Place.{Place, lined_to}
 use Rattle.lex_reads.specs.Signs.{IsHeredocHead}
 

@@ -9,19 +9,17 @@
 //! - Operators, Signs: marks, bars of parameters, symbols without quotes, characters, ambiguous marks
 //! - Closed: regular expressions, backquotes and other literals outside the language
 //! - Gaps: white space, comments, dropped newlines
+//! - Literals: strings, symbols in quotes, `%` literals and lists of words: how they open, and the bytes within
+//! - Within: what is open at a place, and heredocs: the stretch of the text that is read
 //! - Place: what the token before says, and the flags of a token
+//! - Reads: the tokens by themselves, and the readings of whole texts, with openings, interpolations and ends
 //!
 //! Laws in both directions: names, words, integers, operators and their names, variables, semicolons,
 //! characters, white space and comments.
 //!
-//! Rules that are missing, so that a text with such a token has no reading here:
+//! Every token that `lex` gives has a rule. Laws that are missing:
 //!
-//! - strings, symbols in quotes, `%` literals and heredocs: their openings, pieces, interpolations and ends
-//! - of the tokens outside the language `QuotedLabel` and `SquigglyHeredoc`
-//! - an interpolation's closing brace
-//!
-//! Laws that are missing:
-//!
+//! - literals, interpolations and heredocs have rules, but no laws
 //! - tokens outside the language but `WideInteger` and `NonAsciiName` have rules, but no laws
 //! - newlines, comments of whole lines, symbols, bars and ambiguous marks have rules, but no laws
 //! - [`operators_are_tokens`] is about the step that reads a mark, and not about when that step is reached
@@ -41,7 +39,7 @@ ghost use Rattle.rb_syntax.specs.declared.punctuator.Punctuator.{Punctuator};
 ghost use Rattle.rb_words.specs.ByteClass.{is_blank, is_digit, is_name_start, is_wide};
 ghost use Rattle.rb_words.specs.declared.marks.Mark.{Mark};
 ghost use Rattle.rb_words.specs.Marks.{mark_of};
-ghost use Rattle.lex_reads.specs.Example.{text as example, tokens as example_tokens};
+ghost use Rattle.lex_reads.specs.Example.{text as example, tokens as example_tokens, string_text, string_tokens};
 ghost use Rattle.lex_reads.specs.Gaps.{IsComment};
 ghost use Rattle.lex_reads.specs.Longest.{IsLongest, IsRun};
 ghost use Rattle.lex_state.specs.State.{State, spaced};
@@ -152,7 +150,8 @@ pub fn signs_are_tokens()
     ensures character { (text : List ℕ) (at b end : ℕ) (s : State) → IsCharacter text (place_of s at) b end → code_step text at s ≡ Ok (took s at (kinds.Character b), end) }
 {}
 
-/// The text `a 1` reads as an identifier and an integer.
+/// The text `a 1` reads as an identifier and an integer, and `"a#{1}"` as a string with an integer in it.
 pub fn a_text_reads()
-    ensures { Reads example example_tokens }
+    ensures words { Reads example example_tokens }
+    ensures string { Reads string_text string_tokens }
 {}

@@ -1,5 +1,9 @@
+use Rattle.lex_reads.proofs.StringWitness.{string_reads}
 use Rattle.lex_reads.proofs.Witness.{example_reads}
 use Rattle.lex_reads.proofs.a_text_reads.Goals as goal
 
-pub returns : goal.returns
-returns c = example_reads
+pub returns-clause-words : goal.returns-clause-words
+returns-clause-words c = example_reads
+
+pub returns-clause-string : goal.returns-clause-string
+returns-clause-string c = string_reads
