@@ -1,4 +1,4 @@
--- A text that reads as two tokens, and one with a string.
+-- A text that reads as two tokens, one with a string and one with a heredoc.
 use Rattle.std.specs.Prelude.{ℕ, List, [], ◌∷◌, codes, Bool, true, false}
 use Rattle.rb_syntax.specs.declared.token.Token.{Token}
 use Rattle.rb_syntax.specs.declared.token.TokenKind.{TokenKind}
@@ -27,4 +27,16 @@ string_tokens =
     ∷ in_string 4 (kinds.Integer 1) true
     ∷ in_string 5 kinds.InterpolationEnd false
     ∷ in_string 6 kinds.LiteralEnd false
+    ∷ []
+
+-- and one with a heredoc, whose contents stand before what follows its head on the line
+abbrev pub heredoc_text : List ℕ
+heredoc_text = codes "<<A;\nb\nA\n"
+
+abbrev pub heredoc_tokens : List Token
+heredoc_tokens =
+    record { kind = kinds.StringBegin; at = 0; space = false; line_start = true; value = true }
+    ∷ in_string 5 (kinds.Piece (codes "b\n")) false
+    ∷ in_string 7 kinds.LiteralEnd false
+    ∷ in_string 3 kinds.Semicolon false
     ∷ []

@@ -1,3 +1,4 @@
+use Rattle.lex_reads.proofs.HeredocWitness.{heredoc_reads}
 use Rattle.lex_reads.proofs.StringWitness.{string_reads}
 use Rattle.lex_reads.proofs.Witness.{example_reads}
 use Rattle.lex_reads.proofs.a_text_reads.Goals as goal
@@ -7,3 +8,6 @@ returns-clause-words c = example_reads
 
 pub returns-clause-string : goal.returns-clause-string
 returns-clause-string c = string_reads
+
+pub returns-clause-heredoc : goal.returns-clause-heredoc
+returns-clause-heredoc c = heredoc_reads
