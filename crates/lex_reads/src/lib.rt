@@ -44,6 +44,7 @@ ghost use Rattle.lex_reads.specs.Gaps.{IsComment};
 ghost use Rattle.lex_reads.specs.Longest.{IsLongest, IsRun};
 ghost use Rattle.lex_state.specs.State.{State, spaced};
 ghost use Rattle.rb_lexer.specs.Code.{code_step, other_step};
+ghost use Rattle.rb_lexer.specs.Lexing.{tokens_of};
 ghost use Rattle.rb_syntax.specs.declared.keyword.Keyword.{Keyword};
 ghost use Rattle.rb_syntax.specs.declared.token.TokenKind.{TokenKind};
 ghost use Rattle.rb_syntax.specs.declared.token.TokenKind.TheVariants as kinds;
@@ -151,9 +152,11 @@ pub fn signs_are_tokens()
 {}
 
 /// The text `a 1` reads as an identifier and an integer, `"a#{1}"` as a string with an integer in it, and a heredoc and
-/// a semicolon as a string and a semicolon.
+/// a semicolon as a string and a semicolon. Those two are read so by the definition that `lex` follows, too.
 pub fn a_text_reads()
     ensures words { Reads example example_tokens }
     ensures string { Reads string_text string_tokens }
     ensures heredoc { Reads heredoc_text heredoc_tokens }
+    ensures string_lexed { tokens_of string_text ≡ Ok string_tokens }
+    ensures heredoc_lexed { tokens_of heredoc_text ≡ Ok heredoc_tokens }
 {}

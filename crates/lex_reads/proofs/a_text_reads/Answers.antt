@@ -1,3 +1,4 @@
+use Rattle.lex_reads.proofs.Lexed.{heredoc_lexed, string_lexed}
 use Rattle.lex_reads.proofs.HeredocWitness.{heredoc_reads}
 use Rattle.lex_reads.proofs.StringWitness.{string_reads}
 use Rattle.lex_reads.proofs.Witness.{example_reads}
@@ -11,3 +12,9 @@ returns-clause-string c = string_reads
 
 pub returns-clause-heredoc : goal.returns-clause-heredoc
 returns-clause-heredoc c = heredoc_reads
+
+pub returns-clause-string_lexed : goal.returns-clause-string_lexed
+returns-clause-string_lexed c = string_lexed
+
+pub returns-clause-heredoc_lexed : goal.returns-clause-heredoc_lexed
+returns-clause-heredoc_lexed c = heredoc_lexed
