@@ -1,4 +1,4 @@
--- A text that reads as two tokens, one with a string and one with a heredoc.
+-- A text that reads as two tokens, and some with literals.
 use Rattle.std.specs.Prelude.{ℕ, List, [], ◌∷◌, codes, Bool, true, false}
 use Rattle.rb_syntax.specs.declared.token.Token.{Token}
 use Rattle.rb_syntax.specs.declared.token.TokenKind.{TokenKind}
@@ -39,4 +39,16 @@ heredoc_tokens =
     ∷ in_string 5 (kinds.Piece (codes "b\n")) false
     ∷ in_string 7 kinds.LiteralEnd false
     ∷ in_string 3 kinds.Semicolon false
+    ∷ []
+
+-- a list of words, with brackets in one
+abbrev pub words_text : List ℕ
+words_text = codes "%w(a (b))"
+
+abbrev pub words_tokens : List Token
+words_tokens =
+    record { kind = kinds.WordsBegin; at = 0; space = false; line_start = true; value = true }
+    ∷ in_string 3 (kinds.Word (codes "a")) false
+    ∷ in_string 5 (kinds.Word (codes "(b)")) false
+    ∷ in_string 8 kinds.LiteralEnd false
     ∷ []

@@ -39,7 +39,7 @@ ghost use Rattle.rb_syntax.specs.declared.punctuator.Punctuator.{Punctuator};
 ghost use Rattle.rb_words.specs.ByteClass.{is_blank, is_digit, is_name_start, is_wide};
 ghost use Rattle.rb_words.specs.declared.marks.Mark.{Mark};
 ghost use Rattle.rb_words.specs.Marks.{mark_of};
-ghost use Rattle.lex_reads.specs.Example.{text as example, tokens as example_tokens, string_text, string_tokens, heredoc_text, heredoc_tokens};
+ghost use Rattle.lex_reads.specs.Example.{text as example, tokens as example_tokens, string_text, string_tokens, heredoc_text, heredoc_tokens, words_text, words_tokens};
 ghost use Rattle.lex_reads.specs.Gaps.{IsComment};
 ghost use Rattle.lex_reads.specs.Longest.{IsLongest, IsRun};
 ghost use Rattle.lex_state.specs.State.{State, spaced};
@@ -151,12 +151,15 @@ pub fn signs_are_tokens()
     ensures character { (text : List ℕ) (at b end : ℕ) (s : State) → IsCharacter text (place_of s at) b end → code_step text at s ≡ Ok (took s at (kinds.Character b), end) }
 {}
 
-/// The text `a 1` reads as an identifier and an integer, `"a#{1}"` as a string with an integer in it, and a heredoc and
-/// a semicolon as a string and a semicolon. Those two are read so by the definition that `lex` follows, too.
+/// The text `a 1` reads as an identifier and an integer, `"a#{1}"` as a string with an integer in it, a heredoc and a
+/// semicolon as a string and a semicolon, and `%w(a (b))` as two words. Those with literals are read so by the definition
+/// that `lex` follows, too.
 pub fn a_text_reads()
     ensures words { Reads example example_tokens }
     ensures string { Reads string_text string_tokens }
     ensures heredoc { Reads heredoc_text heredoc_tokens }
+    ensures words_of_list { Reads words_text words_tokens }
+    ensures words_lexed { tokens_of words_text ≡ Ok words_tokens }
     ensures string_lexed { tokens_of string_text ≡ Ok string_tokens }
     ensures heredoc_lexed { tokens_of heredoc_text ≡ Ok heredoc_tokens }
 {}

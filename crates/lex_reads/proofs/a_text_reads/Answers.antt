@@ -1,3 +1,4 @@
+use Rattle.lex_reads.proofs.WordsWitness.{words_lexed, words_read}
 use Rattle.lex_reads.proofs.Lexed.{heredoc_lexed, string_lexed}
 use Rattle.lex_reads.proofs.HeredocWitness.{heredoc_reads}
 use Rattle.lex_reads.proofs.StringWitness.{string_reads}
@@ -18,3 +19,9 @@ returns-clause-string_lexed c = string_lexed
 
 pub returns-clause-heredoc_lexed : goal.returns-clause-heredoc_lexed
 returns-clause-heredoc_lexed c = heredoc_lexed
+
+pub returns-clause-words_of_list : goal.returns-clause-words_of_list
+returns-clause-words_of_list c = words_read
+
+pub returns-clause-words_lexed : goal.returns-clause-words_lexed
+returns-clause-words_lexed c = words_lexed
