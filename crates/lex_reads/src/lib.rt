@@ -5,21 +5,22 @@
 //! `specs::Reads::Reads` relates a text and its tokens. Its rules are one a class, on the text and the place:
 //!
 //! - Longest, Names, Words: names, their marks, labels, keywords, identifiers, constants, names of methods
-//! - Numbers: integers, and the numbers that are none
+//! - Numbers: integers; Float, Rational and Imaginary literals by the definition of rb_literals
 //! - Operators, Signs: marks, bars of parameters, symbols without quotes, characters, ambiguous marks
 //! - Closed: regular expressions, backquotes and other literals outside the language
 //! - Gaps: white space, comments, dropped newlines
 //! - Literals: strings, symbols in quotes, `%` literals and lists of words: how they open, and the bytes within
-//! - Within: what is open at a place, and heredocs: the stretch of the text that is read
+//! - Within: what is open at a place, and heredocs: the stretch of the text that is read; their heads by the definition
+//!   of rb_lexer and their bodies by that of rb_heredoc
 //! - Place: what the token before says, and the flags of a token
 //! - Reads: the tokens by themselves, and the readings of whole texts, with openings, interpolations and ends
 //!
 //! Laws in both directions: names, words, integers, operators and their names, variables, semicolons,
 //! characters, white space and comments.
 //!
-//! Every token that `lex` gives has a rule. Laws that are missing:
+//! Every kind of token that `lex` gives has a rule. Laws that are missing:
 //!
-//! - literals, interpolations and heredocs have rules, but no laws
+//! - literals, interpolations and heredocs have rules, but no laws beyond the examples of [`a_text_reads`]
 //! - tokens outside the language but `WideInteger` and `NonAsciiName` have rules, but no laws
 //! - newlines, comments of whole lines, symbols, bars and ambiguous marks have rules, but no laws
 //! - [`operators_are_tokens`] is about the step that reads a mark, and not about when that step is reached
