@@ -33,6 +33,8 @@ fn decodes(rt: HostRuntime) {
     assert!(rt; first == Some((Operation::LoadI { a: 1, b: 5 }, 3)));
     let second = decode_wide_at(&code, 3).map(|found| (found.0.operation(), found.1));
     assert!(rt; second == Some((Operation::Move { a: 300, b: 1 }, 9)));
+    let idle = decode_at(&[0x00, 0x01], 0).map(|found| (found.0.operation(), found.1));
+    assert!(rt; idle == Some((Operation::Nop, 1)));
     let last = decode_wide_at(&code, 9).map(|found| (found.0.operation(), found.1));
     assert!(rt; last == Some((Operation::Stop, 10)));
 }
@@ -40,7 +42,7 @@ fn decodes(rt: HostRuntime) {
 #[test]
 fn decodes_no_other(rt: HostRuntime) {
     let cut: [u8; 2] = [0x03, 0x01];
-    let unknown: [u8; 3] = [0x00, 0x01, 0x05];
+    let unknown: [u8; 3] = [0x4A, 0x01, 0x05];
     let extended_stop: [u8; 2] = [0x49, 0x48];
     assert!(rt; decode_at(&cut, 0).is_none());
     assert!(rt; decode_at(&cut, 2).is_none());
