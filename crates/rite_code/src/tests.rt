@@ -33,7 +33,8 @@ fn decodes(rt: HostRuntime) {
     assert!(rt; first == Some((Operation::LoadI { a: 1, b: 5 }, 3)));
     let second = decode_wide_at(&code, 3).map(|found| (found.0.operation(), found.1));
     assert!(rt; second == Some((Operation::Move { a: 300, b: 1 }, 9)));
-    let idle = decode_at(&[0x00, 0x01], 0).map(|found| (found.0.operation(), found.1));
+    let nothing: [u8; 2] = [0x00, 0x01];
+    let idle = decode_at(&nothing, 0).map(|found| (found.0.operation(), found.1));
     assert!(rt; idle == Some((Operation::Nop, 1)));
     let last = decode_wide_at(&code, 9).map(|found| (found.0.operation(), found.1));
     assert!(rt; last == Some((Operation::Stop, 10)));
