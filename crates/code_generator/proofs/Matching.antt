@@ -1,6 +1,6 @@
 -- How a transition is matched by no turn, one turn and two.
 use Rattle.std.proofs.Common.{◌≡◌, ◌⊎◌, ℕ, zero, suc, ◌+◌, ◌<◌, List, [], ◌∷◌, ◌++◌, sym, ap, ◌∙◌, subst, inl, arith, Option, length}
-use Rattle.rb_value.specs.declared.value.Value.{Value}
+use Rattle.path_value.specs.declared.value.Value.{Value}
 use Rattle.rite_code.specs.Code.{Program}
 use Rattle.rite_code.specs.declared.operation.Operation.{Operation}
 use Rattle.rite_code.specs.Instruction.{Instruction}

@@ -5,8 +5,8 @@ use Rattle.std.proofs.Math.Seq.{map-set_same, take-set-lt, take-nil}
 use Rattle.std.proofs.Math.ListN.{get_or-map as get_or_map}
 use Rattle.rb_syntax.specs.Form.{Name}
 use Rattle.rb_syntax.specs.Names.{place_of}
-use Rattle.rb_value.specs.declared.value.Value.{Value}
-use Rattle.rb_value.specs.declared.value.Value.TheVariants.{Nil}
+use Rattle.path_value.specs.declared.value.Value.{Value}
+use Rattle.path_value.specs.declared.value.Value.TheVariants.{Nil}
 use Rattle.rite_code.specs.Code.{Program}
 use Rattle.def_eval.specs.Configuration as source
 use Rattle.def_eval.specs.Configuration.{Source, Scope, World, no_scope, scope_at, named, local_of, with_local}

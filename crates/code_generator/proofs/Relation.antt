@@ -1,6 +1,6 @@
 -- When a configuration of the evaluation and a state of the machine are alike.
 use Rattle.std.proofs.Common.{◌≡◌, ℕ, ◌+◌, ◌<◌, ◌≤◌, List, [], ◌∷◌, ◌++◌, length, map, take}
-use Rattle.rb_value.specs.declared.value.Value.{Value}
+use Rattle.path_value.specs.declared.value.Value.{Value}
 use Rattle.rite_code.specs.Code.{Program}
 use Rattle.rite_code.specs.declared.operation.Operation.TheVariants.{Stop}
 use Rattle.def_eval.specs.Seen.{Uncaught}

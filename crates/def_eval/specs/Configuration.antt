@@ -2,9 +2,9 @@
 use Rattle.std.specs.Prelude.{ℕ, ◌+◌, List, [], ◌∷◌, map, get_or, set, length, replicate}
 use Rattle.rb_syntax.specs.Form.{Name, Action, give_nil, Form, strict, Forms, none}
 use Rattle.rb_syntax.specs.Names.{place_of}
-use Rattle.rb_value.specs.declared.value.Value.{Value}
-use Rattle.rb_value.specs.declared.value.Value.TheVariants.{Nil}
-use Rattle.rb_value.specs.declared.failure.Failure.{Failure}
+use Rattle.path_value.specs.declared.value.Value.{Value}
+use Rattle.path_value.specs.declared.value.Value.TheVariants.{Nil}
+use Rattle.path_value.specs.declared.failure.Failure.{Failure}
 use Rattle.def_eval.specs.Seen.{End, Seen, Going, Over}
 
 -- a body, with the names of its locals

@@ -1,6 +1,6 @@
 -- What is seen of a run from outside: its output, and how it ended.
 use Rattle.std.specs.Prelude.{ℕ, Bool, true, false, List}
-use Rattle.rb_value.specs.declared.failure.Failure.{Failure}
+use Rattle.path_value.specs.declared.failure.Failure.{Failure}
 
 -- an end with this output: with a status, or by an exception that nothing caught
 pub data End : Type 0 where

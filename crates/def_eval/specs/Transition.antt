@@ -2,11 +2,11 @@
 use Rattle.std.specs.Prelude.{ℕ, ◌+◌, List, [], ◌∷◌, ◌++◌, Bool, true, false, get_or, map}
 use Rattle.rb_syntax.specs.Form.{Name, Action, give_nil, give_true, give_int, call_operator, call_puts, Form, strict, local, set_local, seq, cond, while_form, Forms, none, more}
 use Rattle.rb_syntax.specs.declared.operator.Operator.{Operator}
-use Rattle.rb_value.specs.Value.{is_true}
-use Rattle.rb_value.specs.declared.value.Value.{Value}
-use Rattle.rb_value.specs.declared.value.Value.TheVariants.{Nil, True, Int}
-use Rattle.rb_value.specs.declared.failure.Failure.{Failure}
-use Rattle.def_core.specs.Rows.{Outcome, gives, raises, writes, call, line_of}
+use Rattle.path_value.specs.Value.{is_true}
+use Rattle.path_value.specs.declared.value.Value.{Value}
+use Rattle.path_value.specs.declared.value.Value.TheVariants.{Nil, True, Int}
+use Rattle.path_value.specs.declared.failure.Failure.{Failure}
+use Rattle.path_core.specs.Rows.{Outcome, gives, raises, writes, call, line_of}
 use Rattle.def_eval.specs.Seen.{End, Ended, Uncaught}
 use Rattle.def_eval.specs.Configuration.{Source, Part, operands, rest, branch, chosen, loop_test, loop_body, assign, Item, inside, activation, Exit, raise, Focus, perform, give, travel, World, Config, Run, Halt, named, local_of, with_local}
 

@@ -2,7 +2,7 @@
 use Rattle.std.proofs.Common.{◌≡◌, ℕ, zero, suc, ◌+◌, List, [], ◌∷◌, Bool, true, false, Option, Some, None, refl, ap, ◌∙◌, get_or}
 use Rattle.rb_syntax.specs.declared.operator.Operator.{Operator}
 use Rattle.rb_syntax.specs.declared.operator.Operator.TheVariants.{Plus, Minus, Times, Equal, Less, LessEqual, Greater, GreaterEqual}
-use Rattle.def_core.specs.Rows.{Outcome, gives, raises, writes, call}
+use Rattle.path_core.specs.Rows.{Outcome, gives, raises, writes, call}
 use Rattle.def_eval.specs.Steps.{times}
 use Rattle.def_machine.specs.State.{Thrown, raised, Frame, Memory, State, On, Off, start, shown, body_at, value_at}
 use Rattle.def_machine.specs.Turn.{throw, after, operate, is_puts, call_self, act, turn_by, turn, fetch}

@@ -1,7 +1,7 @@
 -- What a run reports.
 use Rattle.std.proofs.Common.{◌≡◌, ℕ, List, [], ◌∙◌, subst}
 use Rattle.rb_base.specs.Outside.{with_more}
-use Rattle.rb_value.specs.declared.failure.Failure.{Failure}
+use Rattle.path_value.specs.declared.failure.Failure.{Failure}
 use Rattle.rite_code.specs.Code.{Program}
 use Rattle.def_eval.specs.Seen.{Ended, Uncaught, Going, Over, Seen, output_of}
 use Rattle.path_machine.specs.Run.{seen_after, IsRan, StoppedWithin}

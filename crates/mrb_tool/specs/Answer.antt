@@ -2,7 +2,7 @@
 use Rattle.std.specs.Prelude.{◌≡◌, ◌⊎◌, ℕ, ◌≤◌, List, [], Option, Some, None, IsTrue, length, take}
 use Rattle.rb_base.specs.Outside.{Rose, with_more, IsLoaded}
 use Rattle.rb_syntax.specs.Form.{Form}
-use Rattle.rb_value.specs.declared.failure.Failure.{Failure}
+use Rattle.path_value.specs.declared.failure.Failure.{Failure}
 use Rattle.rite_code.specs.Code.{Program}
 use Rattle.def_eval.specs.Seen.{Ended, Uncaught, Going, Over, Seen, output_of}
 use Rattle.rb_compile.specs.Language.{program_of}

@@ -1,7 +1,7 @@
 -- The lines that the program writes to the error stream.
 use Rattle.std.specs.Prelude.{ℕ, List, [], ◌∷◌, ◌++◌, codes, decimal}
-use Rattle.rb_value.specs.Failure as failures
-use Rattle.rb_value.specs.declared.failure.Failure.{Failure}
+use Rattle.path_value.specs.Failure as failures
+use Rattle.path_value.specs.declared.failure.Failure.{Failure}
 use Rattle.code_listing.specs.declared.refusal.Refusal.{Refusal}
 use Rattle.code_listing.specs.RefusalText.{refusal_text}
 

@@ -5,9 +5,9 @@ use crate::rite::End;
 use crate::texts;
 use code_listing::Refusal;
 use code_verifier::VerifyError;
+use path_value::Failure;
 use rb_base::{Failed, FileError, Sink};
 use rb_compile::CompileError;
-use rb_value::Failure;
 use rite_file::LoadError;
 use std::alloc::AllocError;
 

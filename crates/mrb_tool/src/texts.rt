@@ -6,8 +6,8 @@ ghost use Rattle.code_listing.specs.Writing.{Says};
 use code_listing::pieces::write_text;
 use code_listing::{Refusal, refusal_text, write_pieces};
 use itoa::Buffer;
+use path_value::Failure;
 use rb_base::{Failed, Sink, write_all};
-use rb_value::Failure;
 
 /// Writes how the program is called.
 pub fn tell_usage<E: Sink>(err: &mut E) -> Result<(), Failed>

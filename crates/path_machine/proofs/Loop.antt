@@ -6,12 +6,12 @@ use Rattle.std.specs.Prelude.{Result, OnErr}
 use Rattle.rb_base.specs.Outside.{with_more, TookFront}
 use Rattle.rite_code.specs.declared.code.Irep.{Irep}
 use Rattle.rite_code.specs.Spelling.{decode_wide_at, front}
-use Rattle.def_core.specs.Rows.{line_of}
+use Rattle.path_core.specs.Rows.{line_of}
 use Rattle.def_machine.specs.State.{no_body}
 use Rattle.path_machine.specs.Course.{Values, Course, behind, follows, course, stepped}
 use Rattle.path_machine.specs.Standing.{whole_course}
-use Rattle.rb_value.specs.declared.value.Value.{Value}
-use Rattle.rb_value.specs.declared.failure.Failure.{Failure}
+use Rattle.path_value.specs.declared.value.Value.{Value}
+use Rattle.path_value.specs.declared.failure.Failure.{Failure}
 use Rattle.path_machine.specs.declared.machine.Next.{Next}
 use Rattle.path_machine.specs.declared.machine.Next.TheVariants as nexts
 use Rattle.path_machine.specs.declared.ran.Ran.{Ran}

@@ -1,10 +1,10 @@
 -- What many turns show is what the course of the body says.
 use Rattle.std.proofs.Common.{◌≡◌, ℕ, zero, suc, List, [], ◌∷◌, ◌++◌, map, replicate, refl, ap, sym, ◌∙◌, append_assoc}
 use Rattle.std.proofs.lemmas.List.{append-nil}
-use Rattle.rb_value.specs.declared.value.Value.{Value}
-use Rattle.rb_value.specs.declared.value.Value.TheVariants.{Nil}
+use Rattle.path_value.specs.declared.value.Value.{Value}
+use Rattle.path_value.specs.declared.value.Value.TheVariants.{Nil}
 use Rattle.rite_code.specs.Code.{Program}
-use Rattle.def_core.specs.Rows.{line_of}
+use Rattle.path_core.specs.Rows.{line_of}
 use Rattle.def_eval.specs.Steps.{times}
 use Rattle.def_eval.specs.Seen.{End, Ended, Uncaught, Seen, Going, Over, output_of}
 use Rattle.def_machine.specs.State.{Slot, value, State, On, Off, shown, body_at}

@@ -4,15 +4,15 @@ use Rattle.std.proofs.Math.ListN.{get_or-map}
 use Rattle.std.proofs.lemmas.List.{map-set}
 use Rattle.rb_syntax.specs.declared.operator.Operator.{Operator}
 use Rattle.rb_syntax.specs.declared.operator.Operator.TheVariants.{Plus, Minus, Times, Equal, Less, LessEqual, Greater, GreaterEqual}
-use Rattle.rb_value.specs.Value.{is_true}
-use Rattle.rb_value.specs.declared.value.Value.{Value}
-use Rattle.rb_value.specs.declared.value.Value.TheVariants.{Nil, True, Int}
+use Rattle.path_value.specs.Value.{is_true}
+use Rattle.path_value.specs.declared.value.Value.{Value}
+use Rattle.path_value.specs.declared.value.Value.TheVariants.{Nil, True, Int}
 use Rattle.rite_code.specs.Code.{Program}
 use Rattle.rite_code.specs.declared.operation.Operation.{Operation}
 use Rattle.rite_code.specs.declared.operation.Operation.TheVariants.{Move, LoadI, LoadI16, LoadI32, LoadNil, LoadT, Jmp, JmpIf, JmpNot, SSend, Add, Sub, Mul, Eq, Lt, Le, Gt, Ge, Stop}
 use Rattle.rite_code.specs.Instruction.{Instruction}
 use Rattle.rite_code.specs.Spelling.{decode_wide_at}
-use Rattle.def_core.specs.Rows.{Outcome, gives, raises, writes, call, line_of}
+use Rattle.path_core.specs.Rows.{Outcome, gives, raises, writes, call, line_of}
 use Rattle.def_machine.specs.State.{Slot, value, read, Registers, State, slot_at, value_at, put, body_at, On}
 use Rattle.def_machine.specs.Turn.{fetch, target, is_puts, after, operate, call_self, act, turn_by, turn}
 use Rattle.path_machine.specs.Course.{Values, value_of, gets_outcome, operated, sent, executed, stepped_by, stepped}

@@ -2,10 +2,10 @@
 use Rattle.std.proofs.Common.{ℤ, ◌+ℤ◌, ◌-ℤ◌, ◌*ℤ◌, Bool, true, false, if◌then◌else◌}
 use Rattle.rb_syntax.specs.declared.operator.Operator.{Operator}
 use Rattle.rb_syntax.specs.declared.operator.Operator.TheVariants.{Plus, Minus, Times, Equal, Less, LessEqual, Greater, GreaterEqual}
-use Rattle.rb_value.specs.declared.value.Value.{Value}
-use Rattle.rb_value.specs.declared.value.Value.TheVariants.{Nil, True, False, Int}
-use Rattle.rb_value.specs.declared.failure.Failure.TheVariants.{IntegerOverflow}
-use Rattle.def_core.specs.Rows.{Outcome, gives, raises, writes, in_range, integer, on_integers, on_other, without_row, call}
+use Rattle.path_value.specs.declared.value.Value.{Value}
+use Rattle.path_value.specs.declared.value.Value.TheVariants.{Nil, True, False, Int}
+use Rattle.path_value.specs.declared.failure.Failure.TheVariants.{IntegerOverflow}
+use Rattle.path_core.specs.Rows.{Outcome, gives, raises, writes, in_range, integer, on_integers, on_other, without_row, call}
 
 abbrev pub IsQuiet : Outcome → Type 0
 IsQuiet (gives v) = Unit {0}

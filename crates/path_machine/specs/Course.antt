@@ -2,15 +2,15 @@
 use Rattle.std.specs.Prelude.{ℕ, zero, suc, ◌+◌, pos, List, [], ◌++◌, Option, Some, None, Bool, true, false, get_or, set, if◌then◌else◌}
 use Rattle.rb_syntax.specs.declared.operator.Operator.{Operator}
 use Rattle.rb_syntax.specs.declared.operator.Operator.TheVariants.{Plus, Minus, Times, Equal, Less, LessEqual, Greater, GreaterEqual}
-use Rattle.rb_value.specs.Value.{is_true}
-use Rattle.rb_value.specs.declared.value.Value.{Value}
-use Rattle.rb_value.specs.declared.value.Value.TheVariants.{Nil, True, Int}
+use Rattle.path_value.specs.Value.{is_true}
+use Rattle.path_value.specs.declared.value.Value.{Value}
+use Rattle.path_value.specs.declared.value.Value.TheVariants.{Nil, True, Int}
 use Rattle.rite_code.specs.declared.code.Irep.{Irep}
 use Rattle.rite_code.specs.declared.operation.Operation.{Operation}
 use Rattle.rite_code.specs.declared.operation.Operation.TheVariants.{Move, LoadI, LoadI16, LoadI32, LoadNil, LoadT, Jmp, JmpIf, JmpNot, SSend, Add, Sub, Mul, Eq, Lt, Le, Gt, Ge, Stop}
 use Rattle.rite_code.specs.Instruction.{Instruction}
 use Rattle.rite_code.specs.Spelling.{decode_wide_at}
-use Rattle.def_core.specs.Rows.{Outcome, gives, raises, writes, call, line_of}
+use Rattle.path_core.specs.Rows.{Outcome, gives, raises, writes, call, line_of}
 use Rattle.def_machine.specs.Turn.{target, is_puts}
 use Rattle.path_machine.specs.declared.machine.Next.{Next}
 use Rattle.path_machine.specs.declared.machine.Next.TheVariants as nexts

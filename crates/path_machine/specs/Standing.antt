@@ -1,8 +1,8 @@
 -- What a run of one body holds, as a state.
 use Rattle.std.specs.Prelude.{ℕ, List, [], ◌∷◌, ◌++◌, map, replicate}
-use Rattle.rb_value.specs.declared.value.Value.TheVariants.{Nil}
+use Rattle.path_value.specs.declared.value.Value.TheVariants.{Nil}
 use Rattle.rite_code.specs.declared.code.Irep.{Irep}
-use Rattle.def_core.specs.Rows.{line_of}
+use Rattle.path_core.specs.Rows.{line_of}
 use Rattle.def_eval.specs.Seen.{Ended, Uncaught, Seen, Going, Over}
 use Rattle.def_machine.specs.State.{value, Registers, Frame, Memory, State, On, Off}
 use Rattle.path_machine.specs.Course.{Values, Course, course}

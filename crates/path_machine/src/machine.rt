@@ -4,10 +4,10 @@ ghost use Rattle.def_machine.specs.Turn as turns;
 ghost use Rattle.path_machine.specs.Course.{value_of, gets, operated, sent, executed, stepped};
 ghost use Rattle.rite_code.specs.Spelling as spelling;
 
-use core_number::{Outcome, call};
+use path_number::{Outcome, call};
+use path_value::{Failure, Value};
 use rb_base::Bytes;
 use rb_syntax::Operator;
-use rb_value::{Failure, Value};
 use rite_code::{Instr, Irep, Operation, decode_wide_at};
 
 /// What a turn leads to.

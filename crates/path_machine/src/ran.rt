@@ -1,7 +1,7 @@
 ghost use Rattle.std.specs.Prelude.{◌≡◌};
 
+use path_value::Failure;
 use rb_base::Failed;
-use rb_value::Failure;
 use std::alloc::AllocError;
 
 /// How a run of at most so many turns came out: it goes on, ended with a status, or an exception wasn't caught.

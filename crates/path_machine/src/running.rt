@@ -1,16 +1,16 @@
 //! Turn after turn of one body.
 ghost use Rattle.std.specs.Prelude.{◌≡◌, ◌≢◌, [], IfOk, OnOk, OnErr, IsErrOf};
 ghost use Rattle.rb_base.specs.Outside.{Rose, TookFront, with_more};
-ghost use Rattle.def_core.specs.Rows.{line_of};
+ghost use Rattle.path_core.specs.Rows.{line_of};
 ghost use Rattle.def_machine.specs.State.{no_body};
 ghost use Rattle.path_machine.specs.Course.{course};
 ghost use Rattle.path_machine.specs.Standing.{whole_course};
 
 use crate::machine::{Next, step};
 use crate::ran::{Ran, RunFault};
-use core_number::Line;
+use path_number::Line;
+use path_value::Value;
 use rb_base::{Failed, Sink, write_all};
-use rb_value::Value;
 use rite_code::Irep;
 use std::alloc::Global;
 

@@ -2,8 +2,8 @@ ghost use Rattle.std.specs.Prelude.{Option, None};
 
 use super::*;
 use crate::running::run_body;
+use path_value::Failure;
 use rb_base::{Bytes, Failed, List};
-use rb_value::Failure;
 use rite_code::Irep;
 use std::alloc::AllocError;
 use std::test::Fail;

@@ -1,8 +1,8 @@
 -- Branches.
 use Rattle.std.proofs.Common.{◌≡◌, ◌⊎◌, ℕ, ◌+◌, ℤ, List, ◌∷◌, refl, sym, ap, ◌∙◌, subst, inl, inr, arith, Bool, true, false, if◌then◌else◌}
 use Rattle.rb_syntax.specs.Form.{Form, cond}
-use Rattle.rb_value.specs.Value.{is_true}
-use Rattle.rb_value.specs.declared.value.Value.{Value}
+use Rattle.path_value.specs.Value.{is_true}
+use Rattle.path_value.specs.declared.value.Value.{Value}
 use Rattle.rite_code.specs.Code.{Program}
 use Rattle.rite_code.specs.declared.operation.Operation.TheVariants.{Jmp, JmpNot}
 use Rattle.def_eval.specs.Configuration.{Source, branch, chosen, Item, inside, perform, give, World, Run}

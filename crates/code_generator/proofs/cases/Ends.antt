@@ -1,6 +1,6 @@
 -- The end of the main program, and exits that pass pending items.
 use Rattle.std.proofs.Common.{◌≡◌, ℕ, ◌+◌, ◌<◌, List, [], ◌∷◌, sym, ap, subst, arith}
-use Rattle.rb_value.specs.declared.value.Value.{Value}
+use Rattle.path_value.specs.declared.value.Value.{Value}
 use Rattle.rite_code.specs.Code.{Program}
 use Rattle.rite_code.specs.declared.operation.Operation.TheVariants.{Stop}
 use Rattle.def_eval.specs.Seen.{Ended, Uncaught}

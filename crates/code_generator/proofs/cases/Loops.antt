@@ -1,9 +1,9 @@
 -- Loops.
 use Rattle.std.proofs.Common.{◌≡◌, ℕ, ◌+◌, List, ◌∷◌, refl, sym, ap, ◌∙◌, subst, arith, Bool, true, false, if◌then◌else◌}
 use Rattle.rb_syntax.specs.Form.{Form, while_form}
-use Rattle.rb_value.specs.Value.{is_true}
-use Rattle.rb_value.specs.declared.value.Value.{Value}
-use Rattle.rb_value.specs.declared.value.Value.TheVariants.{Nil}
+use Rattle.path_value.specs.Value.{is_true}
+use Rattle.path_value.specs.declared.value.Value.{Value}
+use Rattle.path_value.specs.declared.value.Value.TheVariants.{Nil}
 use Rattle.rite_code.specs.Code.{Program}
 use Rattle.rite_code.specs.declared.operation.Operation.TheVariants.{LoadNil, Jmp, JmpNot}
 use Rattle.def_eval.specs.Configuration.{Source, loop_test, loop_body, Item, inside, perform, give, World, Run}

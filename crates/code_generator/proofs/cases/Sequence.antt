@@ -1,8 +1,8 @@
 -- Sequences.
 use Rattle.std.proofs.Common.{◌≡◌, ℕ, ◌+◌, List, ◌∷◌, sym, subst, arith}
 use Rattle.rb_syntax.specs.Form.{seq, Forms, none, more}
-use Rattle.rb_value.specs.declared.value.Value.{Value}
-use Rattle.rb_value.specs.declared.value.Value.TheVariants.{Nil}
+use Rattle.path_value.specs.declared.value.Value.{Value}
+use Rattle.path_value.specs.declared.value.Value.TheVariants.{Nil}
 use Rattle.rite_code.specs.Code.{Program}
 use Rattle.rite_code.specs.declared.operation.Operation.TheVariants.{LoadNil}
 use Rattle.def_eval.specs.Configuration.{Source, rest, Item, inside, perform, give, World, Run}

@@ -6,13 +6,13 @@ use Rattle.rb_syntax.specs.Form.{Action, give_nil, give_true, give_int, call_ope
 use Rattle.rb_syntax.specs.Limits.{arity}
 use Rattle.rb_syntax.specs.declared.operator.Operator.{Operator}
 use Rattle.rb_syntax.specs.declared.operator.Operator.TheVariants.{Plus, Minus, Times, Equal, Less, LessEqual, Greater, GreaterEqual}
-use Rattle.rb_value.specs.declared.value.Value.{Value}
-use Rattle.rb_value.specs.declared.value.Value.TheVariants.{Nil, Int}
-use Rattle.rb_value.specs.declared.failure.Failure.{Failure}
+use Rattle.path_value.specs.declared.value.Value.{Value}
+use Rattle.path_value.specs.declared.value.Value.TheVariants.{Nil, Int}
+use Rattle.path_value.specs.declared.failure.Failure.{Failure}
 use Rattle.rite_code.specs.Code.{Program}
 use Rattle.rite_code.specs.declared.operation.Operation.TheVariants as ops
 use Rattle.rite_code.specs.Shape.{size_of}
-use Rattle.def_core.specs.Rows.{Outcome, gives, raises, writes, call, line_of}
+use Rattle.path_core.specs.Rows.{Outcome, gives, raises, writes, call, line_of}
 use Rattle.def_eval.specs.Seen.{Going, Uncaught}
 use Rattle.def_eval.specs.Configuration as source
 use Rattle.def_eval.specs.Configuration.{Source, Part, operands, Item, inside, Focus, perform, give, World, Config, Run, seen}

@@ -3,7 +3,7 @@ use Rattle.std.specs.Prelude.{codes, decimal}
 use Rattle.std.proofs.lemmas.Fmt.{decimal_digit}
 use Rattle.rite_code.specs.Spelling.{encoding, decode_wide_at, front, narrow_front}
 use Rattle.rite_code.specs.Table.{opcode_of, opcodes}
-use Rattle.def_core.specs.Rows.{call, integer}
+use Rattle.path_core.specs.Rows.{call, integer}
 use Rattle.def_eval.specs.Seen.{Ended, Over}
 use Rattle.def_eval.specs.Transition.{outcome}
 use Rattle.def_machine.specs.State.{slot_at, put}

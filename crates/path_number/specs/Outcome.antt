@@ -1,10 +1,10 @@
 -- What the call of a core method gives or raises, in the words of the definitions.
 use Rattle.std.specs.Prelude.{ℤ, Option, Some, None}
-use Rattle.rb_value.specs.declared.value.Value.TheVariants.{Int}
-use Rattle.rb_value.specs.declared.failure.Failure.TheVariants.{IntegerOverflow}
-use Rattle.def_core.specs.Rows as rows
-use Rattle.core_number.specs.declared.outcome.Outcome.{Outcome}
-use Rattle.core_number.specs.declared.outcome.Outcome.TheVariants.{Gives, Raises}
+use Rattle.path_value.specs.declared.value.Value.TheVariants.{Int}
+use Rattle.path_value.specs.declared.failure.Failure.TheVariants.{IntegerOverflow}
+use Rattle.path_core.specs.Rows as rows
+use Rattle.path_number.specs.declared.outcome.Outcome.{Outcome}
+use Rattle.path_number.specs.declared.outcome.Outcome.TheVariants.{Gives, Raises}
 
 abbrev pub outcome_of : Outcome → rows.Outcome
 outcome_of (Gives v) = rows.gives v

@@ -2,8 +2,8 @@
 use Rattle.std.proofs.Common.{◌≡◌, ◌<◌, ◌^◌, ℤ, pos, negsuc, Option, Some, None, FitsSigned, w64, arith}
 use Rattle.std.proofs.lemmas.Bool.Decides.{nat_tests}
 use Rattle.std.specs.Option.{SomeIff}
-use Rattle.def_core.specs.Rows.{integer}
-use Rattle.core_number.specs.Outcome.{checked}
+use Rattle.path_core.specs.Rows.{integer}
+use Rattle.path_number.specs.Outcome.{checked}
 
 pub checked_as : (z : ℤ) (o : Option ℤ) → SomeIff o (FitsSigned w64 z) z → checked o ≡ integer z
 unfolding integer

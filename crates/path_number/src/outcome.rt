@@ -1,11 +1,11 @@
 ghost use Rattle.std.specs.Prelude.{◌≡◌};
-ghost use Rattle.def_core.specs.Rows as rows;
-ghost use Rattle.core_number.specs.Outcome.{outcome_of, checked};
-ghost use Rattle.rb_value.specs.Value as values;
+ghost use Rattle.path_core.specs.Rows as rows;
+ghost use Rattle.path_number.specs.Outcome.{outcome_of, checked};
+ghost use Rattle.path_value.specs.Value as values;
 
+use path_value::failure::class_of;
+use path_value::{Failure, Value};
 use rb_syntax::Operator;
-use rb_value::failure::class_of;
-use rb_value::{Failure, Value};
 
 /// What the call of a core method gives, or the exception that it raises.
 #[derive(Clone, Copy, Debug, PartialEq, Eq)]
@@ -83,7 +83,7 @@ fn without_row(operator: Operator, receiver: Value, argument: Value) -> Outcome
 
 /// The call of an operator on a value with another: what it gives, or the exception.
 #[inline(always)]
-#[tactic(auto, unfolding(def_core::specs::Rows::call))]
+#[tactic(auto, unfolding(path_core::specs::Rows::call))]
 pub fn call(operator: Operator, receiver: Value, argument: Value) -> Outcome
     ensures { outcome_of result ≡ rows.call operator receiver argument }
 {

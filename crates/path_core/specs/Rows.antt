@@ -4,11 +4,11 @@ use Rattle.std.specs.Prelude.{ℕ, ◌^◌, ℤ, pos, negsuc, ◌+ℤ◌, ◌-�
 use Rattle.std.specs.Fmt.{signed_decimal}
 use Rattle.rb_syntax.specs.declared.operator.Operator.{Operator}
 use Rattle.rb_syntax.specs.declared.operator.Operator.TheVariants.{Plus, Minus, Times, Equal, Less, LessEqual, Greater, GreaterEqual}
-use Rattle.rb_value.specs.Value.{truth, class_of}
-use Rattle.rb_value.specs.declared.value.Value.{Value}
-use Rattle.rb_value.specs.declared.value.Value.TheVariants.{Nil, True, False, Int}
-use Rattle.rb_value.specs.declared.failure.Failure.{Failure}
-use Rattle.rb_value.specs.declared.failure.Failure.TheVariants.{IntegerOverflow, UndefinedMethod, IntegerExpected}
+use Rattle.path_value.specs.Value.{truth, class_of}
+use Rattle.path_value.specs.declared.value.Value.{Value}
+use Rattle.path_value.specs.declared.value.Value.TheVariants.{Nil, True, False, Int}
+use Rattle.path_value.specs.declared.failure.Failure.{Failure}
+use Rattle.path_value.specs.declared.failure.Failure.TheVariants.{IntegerOverflow, UndefinedMethod, IntegerExpected}
 
 -- what a core method does: it gives a value, raises, or writes these bytes and gives nil
 pub data Outcome : Type 0 where

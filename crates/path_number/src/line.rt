@@ -1,9 +1,9 @@
 //! What `puts` writes for a value.
 ghost use Rattle.std.specs.Prelude.{◌≡◌, ◌+◌, ◌<◌, ◌++◌, [], ◌∷◌, length, take};
-ghost use Rattle.def_core.specs.Rows.{text_of, line_of};
+ghost use Rattle.path_core.specs.Rows.{text_of, line_of};
 
 use itoa::Buffer;
-use rb_value::Value;
+use path_value::Value;
 use std::marker::Model;
 
 /// Enough for the longest text of an Integer and a newline.

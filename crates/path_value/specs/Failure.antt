@@ -1,10 +1,10 @@
 -- The classes and the messages of what core methods raise.
 use Rattle.std.specs.Prelude.{ℕ, List, ◌++◌, codes}
 use Rattle.rb_syntax.specs.Operator as operators
-use Rattle.rb_value.specs.declared.failure.CoreClass.{CoreClass}
-use Rattle.rb_value.specs.declared.failure.CoreClass.TheVariants.{NilClass, TrueClass, FalseClass, Integer, RangeError, TypeError, NoMethodError}
-use Rattle.rb_value.specs.declared.failure.Failure.{Failure}
-use Rattle.rb_value.specs.declared.failure.Failure.TheVariants.{IntegerOverflow, UndefinedMethod, IntegerExpected}
+use Rattle.path_value.specs.declared.failure.CoreClass.{CoreClass}
+use Rattle.path_value.specs.declared.failure.CoreClass.TheVariants.{NilClass, TrueClass, FalseClass, Integer, RangeError, TypeError, NoMethodError}
+use Rattle.path_value.specs.declared.failure.Failure.{Failure}
+use Rattle.path_value.specs.declared.failure.Failure.TheVariants.{IntegerOverflow, UndefinedMethod, IntegerExpected}
 
 abbrev pub name_of : CoreClass → List ℕ
 name_of NilClass = codes "NilClass"

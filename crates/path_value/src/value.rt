@@ -10,7 +10,7 @@ pub enum Value {
 }
 
 impl Value {
-    ghost use Rattle.rb_value.specs.Value as values;
+    ghost use Rattle.path_value.specs.Value as values;
 
     /// Whether a condition takes the value as true: every value but nil and false
     /// (ISO/IEC 30170:2012, 11.1).

@@ -1,9 +1,9 @@
 -- What is said of a value.
 use Rattle.std.specs.Prelude.{ℤ, Bool, true, false}
-use Rattle.rb_value.specs.declared.value.Value.{Value}
-use Rattle.rb_value.specs.declared.value.Value.TheVariants.{Nil, True, False, Int}
-use Rattle.rb_value.specs.declared.failure.CoreClass.{CoreClass}
-use Rattle.rb_value.specs.declared.failure.CoreClass.TheVariants.{NilClass, TrueClass, FalseClass, Integer}
+use Rattle.path_value.specs.declared.value.Value.{Value}
+use Rattle.path_value.specs.declared.value.Value.TheVariants.{Nil, True, False, Int}
+use Rattle.path_value.specs.declared.failure.CoreClass.{CoreClass}
+use Rattle.path_value.specs.declared.failure.CoreClass.TheVariants.{NilClass, TrueClass, FalseClass, Integer}
 
 -- false and nil count as false, every other value as true
 abbrev pub is_true : Value → Bool

@@ -1,5 +1,5 @@
 ghost use Rattle.std.specs.Prelude.{◌≡◌};
-ghost use Rattle.rb_value.specs.Value as values;
+ghost use Rattle.path_value.specs.Value as values;
 
 use crate::value::Value;
 use rb_syntax::Operator;
@@ -40,7 +40,7 @@ pub fn class_of(value: Value) -> CoreClass
 }
 
 impl CoreClass {
-    ghost use Rattle.rb_value.specs.Failure.{name_of};
+    ghost use Rattle.path_value.specs.Failure.{name_of};
 
     /// The name of the class.
     pub fn name(self) -> &'static [u8]
@@ -59,7 +59,7 @@ impl CoreClass {
 }
 
 impl Failure {
-    ghost use Rattle.rb_value.specs.Failure as failures;
+    ghost use Rattle.path_value.specs.Failure as failures;
 
     /// The class of the exception.
     pub fn class(self) -> CoreClass

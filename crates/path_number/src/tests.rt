@@ -1,6 +1,6 @@
 use super::*;
+use path_value::{Failure, Value};
 use rb_syntax::Operator;
-use rb_value::{Failure, Value};
 
 #[test]
 fn calls_give_values_or_raise(rt: HostRuntime) {
