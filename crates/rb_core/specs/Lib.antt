@@ -1,0 +1,2 @@
+pub mod CoreForm
+pub mod View
