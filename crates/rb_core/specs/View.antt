@@ -1,5 +1,5 @@
 -- The core form that a core stands for.
-use Rattle.std.specs.Prelude.{ℕ, List, [], ◌∷◌, Option, Some, None, map, Box}
+use Rattle.std.specs.Prelude.{List, Option, Some, None, map, Box}
 use Rattle.std.specs.declared.alloc.Global.{Global}
 use Rattle.rb_syntax.specs.declared.core_form.Core.{Core, fold-Core}
 use Rattle.rb_syntax.specs.declared.core_form.Core.TheOpen.{Core-F}

@@ -1,0 +1,3 @@
+pub mod Operator
+pub mod Node
+pub mod View

@@ -1,0 +1,14 @@
+//! Trees of the grammar, one variant for each rule. A tree that stands inside another is behind a `Box` or in a
+//! `Vec`; contracts see the whole as a `Node` (specs/Node.antt, specs/View.antt).
+//!
+//! Types: [`Tree`] with its parts, [`BinaryOperator`], [`UnaryOperator`], [`AssignmentOperator`].
+#![tactic(auto)]
+
+pub mod operator;
+pub mod tree;
+
+pub use operator::{AssignmentOperator, BinaryOperator, UnaryOperator};
+pub use tree::{
+    Arguments, Definition, OptionalParameter, Parameter, ParameterList, Piece, RescueBody,
+    RescueClause, RestParameter, Scope, TargetList, Tree, WhenClause,
+};
