@@ -2,7 +2,6 @@
 use Rattle.std.proofs.Common.{◌≡◌, ◌<◌, ◌^◌, ℤ, pos, negsuc, Option, Some, None, Ok, ok_or, FitsSigned, w64, arith}
 use Rattle.std.proofs.lemmas.Bool.Decides.{nat_tests}
 use Rattle.std.specs.Option.{SomeIff}
-use Rattle.rb_integer.specs.declared.failure.IntegerFailure.{IntegerFailure}
 use Rattle.rb_integer.specs.declared.failure.IntegerFailure.TheVariants.{Overflow}
 use Rattle.rb_integer.specs.Exact.{exact}
 

@@ -1,5 +1,5 @@
 -- Division that rounds down, from division that rounds toward zero.
-use Rattle.std.proofs.Common.{◌≡◌, ◌≢◌, ℕ, zero, suc, ◌<◌, ◌≤◌, ◌+◌, ◌-◌, ◌*◌, ◌/◌, ◌%◌, ◌==◌, ◌⊎◌, inl, inr, ◌^◌, ℤ, pos, negsuc, neg_ℤ, FitsSigned, w64, to_z, of_z, Option, Some, None, Ok, ok_or, ◌+ℤ◌, ◌-ℤ◌, Bool, true, false, not, refl, sym, ◌∙◌, ap, subst, arith}
+use Rattle.std.proofs.Common.{◌≡◌, ◌≢◌, ℕ, zero, suc, ◌<◌, ◌≤◌, ◌+◌, ◌-◌, ◌*◌, ◌/◌, ◌%◌, ◌==◌, ◌⊎◌, inl, inr, ◌^◌, ℤ, pos, negsuc, neg_ℤ, FitsSigned, w64, to_z, of_z, Option, Some, None, Ok, ok_or, ◌+ℤ◌, ◌-ℤ◌, Bool, true, false, not, refl, sym, ◌∙◌, ap, arith}
 use Rattle.std.proofs.lemmas.Bool.{cases_lt}
 use Rattle.std.proofs.lemmas.Bool.Decides.{nat_tests}
 use Rattle.std.proofs.lemmas.Int.{ints, quot_is, to_z-of_z}
@@ -17,18 +17,18 @@ use Rattle.rb_integer.specs.Truncation.{is_rounded_up}
 -- one more leaves the quotient, or begins the next
 pub next_quotient : (n m : ℕ) → 0 < m → ((suc n / m ≡ n / m) × (suc n % m ≡ suc (n % m))) ⊎ ((suc n / m ≡ suc (n / m)) × (suc n % m ≡ 0) × (suc (n % m) ≡ m))
 next_quotient n m h =
-  let whole : n / m * m + n % m ≡ n = div-add-mod' n m in
-  let below : n % m < m = mod_below n m h in
-  elim (cases_lt (suc (n % m)) m) [
-    inl lt ↦
-      let e : suc n ≡ n / m * m + suc (n % m) = omega arith in
-      inl (ap (λ k. k / m) e ∙ div-mul-add (n / m) m (suc (n % m)) lt, ap (λ k. k % m) e ∙ mod-mul-add (n / m) m (suc (n % m)) lt)
-  | inr le ↦
-      let full : suc (n % m) ≡ m = omega arith in
-      let product : suc (n / m) * m ≡ n / m * m + m = suc-mul (n / m) m in
-      let e : suc n ≡ suc (n / m) * m + 0 = omega arith in
-      inr (ap (λ k. k / m) e ∙ div-mul-add (suc (n / m)) m 0 h, ap (λ k. k % m) e ∙ mod-mul-add (suc (n / m)) m 0 h, full)
-  ]
+    let whole : n / m * m + n % m ≡ n = div-add-mod' n m in
+    let below : n % m < m = mod_below n m h in
+    elim (cases_lt (suc (n % m)) m) [
+      | inl lt ↦
+          let e : suc n ≡ n / m * m + suc (n % m) = omega arith in
+          inl (ap (λ k. k / m) e ∙ div-mul-add (n / m) m (suc (n % m)) lt, ap (λ k. k % m) e ∙ mod-mul-add (n / m) m (suc (n % m)) lt)
+      | inr le ↦
+          let full : suc (n % m) ≡ m = omega arith in
+          let product : suc (n / m) * m ≡ n / m * m + m = suc-mul (n / m) m in
+          let e : suc n ≡ suc (n / m) * m + 0 = omega arith in
+          inr (ap (λ k. k / m) e ∙ div-mul-add (suc (n / m)) m 0 h, ap (λ k. k % m) e ∙ mod-mul-add (suc (n / m)) m 0 h, full)
+    ]
 
 one_less : (k : ℕ) → negsuc k ≡ neg_ℤ (pos k) -ℤ pos 1
 one_less k = omega (arith, ints)
@@ -37,21 +37,21 @@ one_less k = omega (arith, ints)
 
 less : (n m : ℕ) → 0 < m → not (suc n % m == 0) ≡ true → negsuc (n / m) ≡ neg_ℤ (pos (suc n / m)) -ℤ pos 1
 less n m h up = elim (next_quotient n m h) [
-    inl e ↦ one_less (n / m) ∙ ap (λ k. neg_ℤ (pos k) -ℤ pos 1) (sym e.0)
+  | inl e ↦ one_less (n / m) ∙ ap (λ k. neg_ℤ (pos k) -ℤ pos 1) (sym e.0)
   | inr e ↦ absurd (grind (arith, nat_tests))
-  ]
+]
 
 same : (n m : ℕ) → 0 < m → not (suc n % m == 0) ≡ false → negsuc (n / m) ≡ neg_ℤ (pos (suc n / m))
 same n m h up = elim (next_quotient n m h) [
-    inl e ↦ absurd (grind (arith, nat_tests))
+  | inl e ↦ absurd (grind (arith, nat_tests))
   | inr e ↦ ap (λ k. neg_ℤ (pos k)) (sym e.0)
-  ]
+]
 
 -- the remainder of -(n + 1), and that of n + 1 by a divisor below 0
 rem_more : (n m : ℕ) → 0 < m → not (suc n % m == 0) ≡ true → pos (m - 1 - n % m) ≡ neg_ℤ (pos (suc n % m)) +ℤ pos m
 rem_more n m h up =
-  let below : suc n % m < m = mod_below (suc n) m h in
-  elim (next_quotient n m h) [ inl e ↦ omega (arith, ints) | inr e ↦ absurd (grind (arith, nat_tests)) ]
+    let below : suc n % m < m = mod_below (suc n) m h in
+    elim (next_quotient n m h) [ inl e ↦ omega (arith, ints) | inr e ↦ absurd (grind (arith, nat_tests)) ]
 
 rem_same : (n m : ℕ) → 0 < m → not (suc n % m == 0) ≡ false → (suc n % m ≡ 0) × (m - 1 - n % m ≡ 0)
 rem_same n m h up = elim (next_quotient n m h) [ inl e ↦ absurd (grind (arith, nat_tests)) | inr e ↦ (e.1, omega arith) ]
@@ -118,9 +118,9 @@ may_divide x y v (Some q) n s = (s.0.1, s.1)
 
 pub rounded_down : (x y : ℤ) → FitsSigned w64 x → FitsSigned w64 y → y ≢ pos 0 → is_rounded_up x y ≡ true → Ok (to_z w64 (of_z w64 (to_z w64 (of_z w64 (int_div (to_z w64 (of_z w64 x)) (to_z w64 (of_z w64 y)))) -ℤ pos 1))) ≡ exact (floor_quotient x y)
 rounded_down x y f g h up =
-  let t : FitsSigned w64 (int_div x y) = truncation_fits x y f h up in
-  let q : FitsSigned w64 (floor_quotient x y) = quotient_fits x y f h up in
-  rw (quot_is w64 x y f g t, ← quotient_less x y h up, to_z-of_z w64 (floor_quotient x y) q) (sym (exact_at (floor_quotient x y) q))
+    let t : FitsSigned w64 (int_div x y) = truncation_fits x y f h up in
+    let q : FitsSigned w64 (floor_quotient x y) = quotient_fits x y f h up in
+    rw (quot_is w64 x y f g t, ← quotient_less x y h up, to_z-of_z w64 (floor_quotient x y) q) (sym (exact_at (floor_quotient x y) q))
 
 pub divided : (x y : ℤ) (o : Option ℤ) → FitsSigned w64 y → y ≢ pos 0 → is_rounded_up x y ≡ false → SomeIff o (CanDivide w64 x y) (int_div x y) → ok_or o Overflow ≡ exact (floor_quotient x y)
 divided x y o g h up s = rw (quotient_same x y h up) (checked_as (int_div x y) o (may_divide x y (int_div x y) o (non_zero y g h) s))
@@ -132,18 +132,18 @@ euclid_rem (negsuc a) d = (suc d - 1 - a % suc d, refl, omega arith)
 remainder_fits : (x y : ℤ) → FitsSigned w64 y → y ≢ pos 0 → FitsSigned w64 (floor_remainder x y)
 remainder_fits x (pos zero) g h = absurd (h refl)
 remainder_fits x (pos (suc d)) g h =
-  let e : (k : ℕ) × (int_rem_euclid x (pos (suc d)) ≡ pos k) × (k ≤ d) = euclid_rem x d in
-  let small : suc d < 2 ^ 63 = g.sfits in
-  rw e.1 (record { sfits = omega arith })
+    let e : (k : ℕ) × (int_rem_euclid x (pos (suc d)) ≡ pos k) × (k ≤ d) = euclid_rem x d in
+    let small : suc d < 2 ^ 63 = g.sfits in
+    rw e.1 (record { sfits = omega arith })
 remainder_fits x (negsuc d) g h =
-  let e : (k : ℕ) × (int_rem_euclid (neg_ℤ x) (pos (suc d)) ≡ pos k) × (k ≤ d) = euclid_rem (neg_ℤ x) d in
-  let small : d < 2 ^ 63 = g.sfits in
-  rw e.1 (neg_fits e.0 (omega arith))
+    let e : (k : ℕ) × (int_rem_euclid (neg_ℤ x) (pos (suc d)) ≡ pos k) × (k ≤ d) = euclid_rem (neg_ℤ x) d in
+    let small : d < 2 ^ 63 = g.sfits in
+    rw e.1 (neg_fits e.0 (omega arith))
 
 pub remainder_down : (x y r : ℤ) → FitsSigned w64 y → FitsSigned w64 r → y ≢ pos 0 → is_rounded_up x y ≡ true → r ≡ int_rem x y → to_z w64 (of_z w64 (to_z w64 (of_z w64 r) +ℤ to_z w64 (of_z w64 y))) ≡ floor_remainder x y
 remainder_down x y r g f h up is =
-  let e : r +ℤ y ≡ floor_remainder x y = ap (λ k. k +ℤ y) is ∙ sym (remainder_more x y h up) in
-  rw (to_z-of_z w64 r f, to_z-of_z w64 y g, e) (to_z-of_z w64 (floor_remainder x y) (remainder_fits x y g h))
+    let e : r +ℤ y ≡ floor_remainder x y = ap (λ k. k +ℤ y) is ∙ sym (remainder_more x y h up) in
+    rw (to_z-of_z w64 r f, to_z-of_z w64 y g, e) (to_z-of_z w64 (floor_remainder x y) (remainder_fits x y g h))
 
 -- what a call with two Integers tells
 pub rounding : (x y : ℤ) (r b : Bool) → FitsSigned w64 x → FitsSigned w64 y → r ≡ is_rounded_up (to_z w64 (of_z w64 x)) (to_z w64 (of_z w64 y)) → r ≡ b → is_rounded_up x y ≡ b

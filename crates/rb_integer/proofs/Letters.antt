@@ -1,5 +1,5 @@
 -- The digits of a number, from the last to the first.
-use Rattle.std.proofs.Common.{◌≡◌, ◌≢◌, ℕ, zero, suc, ◌<◌, ◌≤◌, ◌+◌, ◌-◌, ◌*◌, ◌/◌, ◌%◌, ◌^◌, false, List, [], ◌∷◌, ◌++◌, map, length, drop, set, ℤ, pos, negsuc, FitsSigned, w64, refl, sym, ◌∙◌, ap, arith, append_assoc, length-append}
+use Rattle.std.proofs.Common.{◌≡◌, ◌≢◌, ℕ, zero, suc, ◌<◌, ◌≤◌, ◌+◌, ◌/◌, ◌%◌, ◌^◌, false, List, [], ◌∷◌, ◌++◌, map, length, drop, set, ℤ, pos, negsuc, FitsSigned, w64, refl, ◌∙◌, ap, arith, append_assoc, length-append}
 use Rattle.std.proofs.lemmas.List.{drop-set, map-append, length-map}
 use Rattle.std.proofs.lemmas.Bool.Decides.{nat_tests}
 use Rattle.std.proofs.lemmas.Fmt.{decimal_digit, decimal-digits_of}
@@ -20,8 +20,8 @@ letters_step b n h non_zero = rw (digits_of_step b n h (omega arith)) (map-appen
 pub letters_length : (b n : ℕ) → 2 ≤ b → n < 2 ^ 64 → length (letters b n) ≤ 64
 unfolding letters
 letters_length b n h small =
-  let wide : 2 ^ 64 ≤ b ^ 64 = pow-le-pow_left h 64 in
-  rw (length-map (digits_of b n) (digit_glyph false)) (length-digits_of-le b 64 n h (omega arith))
+    let wide : 2 ^ 64 ≤ b ^ 64 = pow-le-pow_left h 64 in
+    rw (length-map (digits_of b n) (digit_glyph false)) (length-digits_of-le b 64 n h (omega arith))
 
 pub letters_shorter : (b n : ℕ) → 2 ≤ b → n ≢ 0 → length (letters b n) ≡ length (letters b (n / b)) + 1
 letters_shorter b n h non_zero = ap length (letters_step b n h non_zero) ∙ length-append (letters b (n / b)) (digit_glyph false (n % b) ∷ [])
@@ -29,7 +29,7 @@ letters_shorter b n h non_zero = ap length (letters_step b n h non_zero) ∙ len
 -- one digit more is written before the others
 pub letter_before : (b n : ℕ) (whole bytes : List ℕ) (at : ℕ) → 2 ≤ b → n ≢ 0 → at < length bytes → whole ≡ letters b n ++ drop (at + 1) bytes → whole ≡ letters b (n / b) ++ drop at (set bytes at (digit_glyph false (n % b)))
 letter_before b n whole bytes at h non_zero below is =
-  rw (drop-set bytes at (digit_glyph false (n % b)) below) (is ∙ ap (λ k. k ++ drop (at + 1) bytes) (letters_step b n h non_zero) ∙ append_assoc (letters b (n / b)) (digit_glyph false (n % b) ∷ []) (drop (at + 1) bytes))
+    rw (drop-set bytes at (digit_glyph false (n % b)) below) (is ∙ ap (λ k. k ++ drop (at + 1) bytes) (letters_step b n h non_zero) ∙ append_assoc (letters b (n / b)) (digit_glyph false (n % b) ∷ []) (drop (at + 1) bytes))
 
 -- ---- base 10
 

@@ -1,9 +1,8 @@
 -- Powers with a large exponent.
-use Rattle.std.proofs.Common.{◌≡◌, ◌≢◌, ℕ, zero, suc, ◌<◌, ◌≤◌, ◌^◌, ◌%◌, ◌==◌, ◌*◌, ◌+◌, ℤ, pos, negsuc, neg_ℤ, Bool, Result, Ok, Err, cond, true, false, refl, sym, ◌∙◌, ap, subst, arith}
+use Rattle.std.proofs.Common.{◌≡◌, ◌≢◌, ℕ, zero, suc, ◌≤◌, ◌^◌, ◌%◌, ◌==◌, ℤ, pos, negsuc, neg_ℤ, Bool, Ok, Err, cond, true, false, refl, ◌∙◌, arith}
 use Rattle.std.proofs.lemmas.Bool.Decides.{nat_tests}
 use Rattle.std.proofs.Math.Nat.{pow-suc, pow-zero, pow-le-pow_left, pow-le-pow_right, le_trans, mul-zero, mul-one}
 use Rattle.std.specs.Int.{int_pow}
-use Rattle.rb_integer.specs.declared.failure.IntegerFailure.{IntegerFailure}
 use Rattle.rb_integer.specs.declared.failure.IntegerFailure.TheVariants.{Overflow}
 use Rattle.rb_integer.specs.Exact.{exact}
 
@@ -50,8 +49,8 @@ overflow_power (pos (suc zero)) e h no0 no1 no2 = absurd (no1 refl)
 overflow_power (pos (suc (suc a))) e h no0 no1 no2 = overflow_of (suc (suc a) ^ e) (large (suc (suc a)) e (omega arith) h)
 overflow_power (negsuc zero) e h no0 no1 no2 = absurd (no2 refl)
 overflow_power (negsuc (suc a)) e h no0 no1 no2 =
-  let big : 2 ^ 64 ≤ suc (suc a) ^ e = large (suc (suc a)) e (omega arith) h in
-  let P : Bool → Type 0 = λ even. exact (cond even (pos (suc (suc a) ^ e)) (neg_ℤ (pos (suc (suc a) ^ e)))) ≡ Err Overflow in
-  elim (e % 2 == 0) as P [ true ↦ overflow_of (suc (suc a) ^ e) big | false ↦ overflow_below (suc (suc a) ^ e) big ]
+    let big : 2 ^ 64 ≤ suc (suc a) ^ e = large (suc (suc a)) e (omega arith) h in
+    let P : Bool → Type 0 = λ even. exact (cond even (pos (suc (suc a) ^ e)) (neg_ℤ (pos (suc (suc a) ^ e)))) ≡ Err Overflow in
+    elim (e % 2 == 0) as P [ true ↦ overflow_of (suc (suc a) ^ e) big | false ↦ overflow_below (suc (suc a) ^ e) big ]
 
 pub ruleset large_powers = (power_of_zero, power_of_one, even_power, odd_power, overflow_power)

@@ -1,5 +1,5 @@
--- Sums, products and powers (ISO/IEC 30170:2012, 15.2.8.3).
-use Rattle.std.specs.Prelude.{ℕ, ℤ, pos, negsuc, ◌+ℤ◌, ◌-ℤ◌, ◌*ℤ◌, neg_ℤ, unsigned_abs, Result, Err}
+-- Sums, products and powers (ISO/IEC 30170:2012, 15.2.8).
+use Rattle.std.specs.Prelude.{ℤ, pos, negsuc, ◌+ℤ◌, ◌-ℤ◌, ◌*ℤ◌, neg_ℤ, unsigned_abs, Result, Err}
 use Rattle.std.specs.Int.{int_pow}
 use Rattle.rb_integer.specs.declared.failure.IntegerFailure.{IntegerFailure}
 use Rattle.rb_integer.specs.declared.failure.IntegerFailure.TheVariants.{NegativeExponent}

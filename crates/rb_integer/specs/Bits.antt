@@ -1,6 +1,6 @@
--- Operations on bits, and shifts (ISO/IEC 30170:2012, 15.2.8.3.7 to 15.2.8.3.12).
-use Rattle.std.specs.Prelude.{ℕ, zero, suc, ◌+◌, ◌-◌, ◌/◌, ◌%◌, ◌^◌, ℤ, pos, negsuc, ◌*ℤ◌, neg_ℤ, Result, Ok}
-use Rattle.std.specs.Int.{w64, int_bit_and, int_bit_or, int_bit_xor, bit_at}
+-- Operations on bits, and shifts (ISO/IEC 30170:2012, 15.2.8).
+use Rattle.std.specs.Prelude.{ℕ, suc, ◌-◌, ◌^◌, ℤ, pos, negsuc, ◌*ℤ◌, neg_ℤ, Result, Ok}
+use Rattle.std.specs.Int.{bit_at}
 use Rattle.rb_integer.specs.declared.failure.IntegerFailure.{IntegerFailure}
 use Rattle.rb_integer.specs.Exact.{exact}
 use Rattle.rb_integer.specs.Division.{floor_quotient}

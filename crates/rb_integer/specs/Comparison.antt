@@ -1,5 +1,5 @@
--- Comparisons and tests (ISO/IEC 30170:2012, 15.2.8.3.1 and 15.2.8.3.8).
-use Rattle.std.specs.Prelude.{ℕ, zero, suc, ◌%◌, ℤ, pos, negsuc, unsigned_abs, int_lt, int_le, Bool, true, false, not, ◌&&◌, ◌==◌, if◌then◌else◌}
+-- Comparisons and tests (ISO/IEC 30170:2012, 15.2.8).
+use Rattle.std.specs.Prelude.{zero, suc, ◌%◌, ℤ, pos, negsuc, unsigned_abs, int_lt, int_le, Bool, true, false, not, ◌&&◌, ◌==◌, if◌then◌else◌}
 
 -- -1, 0 or 1, as x is below, at or above y
 abbrev pub order : ℤ → ℤ → ℤ

@@ -1,5 +1,5 @@
 -- Ranges over Integers and over one-byte Strings (ISO/IEC 30170:2012, 15.2.14).
-use Rattle.std.specs.Prelude.{ℕ, ◌+◌, min, ℤ, pos, negsuc, ◌+ℤ◌, int_lt, int_le, List, [], ◌∷◌, ◌++◌, Bool, true, false, ◌&&◌, Result, Ok, Err, if◌then◌else◌}
+use Rattle.std.specs.Prelude.{ℕ, ◌+◌, min, ℤ, pos, negsuc, ◌+ℤ◌, int_lt, int_le, List, [], ◌∷◌, ◌++◌, Bool, true, false, ◌&&◌, Result, Ok, Err}
 use Rattle.std.specs.Fmt.{signed_decimal}
 use Rattle.std.specs.Int.{int_gap}
 use Rattle.rb_integer.specs.declared.ends.Bounds.{Bounds}

@@ -1,5 +1,5 @@
 -- A result that is an Integer of 64 bits, or an overflow.
-use Rattle.std.specs.Prelude.{ℕ, ◌^◌, ℤ, pos, negsuc, Bool, nat_lt, Result, Ok, Err, if◌then◌else◌}
+use Rattle.std.specs.Prelude.{◌^◌, ℤ, pos, negsuc, Bool, nat_lt, Result, Ok, Err, if◌then◌else◌}
 use Rattle.rb_integer.specs.declared.failure.IntegerFailure.{IntegerFailure}
 use Rattle.rb_integer.specs.declared.failure.IntegerFailure.TheVariants.{Overflow}
 

@@ -1,9 +1,15 @@
--- The texts of Integers (ISO/IEC 30170:2012, 15.2.8.3.25), and their one-byte Strings (15.2.8.3.16).
-use Rattle.std.specs.Prelude.{ℕ, zero, suc, ℤ, pos, negsuc, List, ◌∷◌, map, codes, false, nat_lt, nat_le, ◌&&◌, Result, Ok, Err, if◌then◌else◌}
+-- The texts of Integers (ISO/IEC 30170:2012, 15.2.8), and their one-byte Strings.
+use Rattle.std.specs.Prelude.{◌≡◌, ◌<◌, slice_index, ℕ, zero, suc, ℤ, pos, negsuc, List, ◌∷◌, map, codes, false, nat_lt, nat_le, ◌&&◌, Result, Ok, Err, if◌then◌else◌}
 use Rattle.std.specs.Fmt.{digit_glyph}
-use Rattle.std.specs.Int.Digits.{digits_of}
+use Rattle.std.specs.Int.Digits.{digits_of, number_from_digits, AllBelowBase}
 use Rattle.rb_integer.specs.declared.failure.IntegerFailure.{IntegerFailure}
 use Rattle.rb_integer.specs.declared.failure.IntegerFailure.TheVariants.{BadBase, OutsideCharacters}
+
+-- what the digits of a number above 0 are: each is below the base, their value is the number, and the first isn't 0
+pub record IsDigitsOf (base n : ℕ) (ds : List ℕ) : Type 0 where
+  pub below : AllBelowBase base ds
+  pub value : number_from_digits base ds ≡ n
+  pub leading : 0 < slice_index ds 0
 
 -- The digits of a number in a base, the highest first, in 0 to 9 and small letters: the one list of digits with this
 -- value that doesn't begin with 0, and none for 0.

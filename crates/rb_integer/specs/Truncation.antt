@@ -1,5 +1,5 @@
 -- How division that rounds toward zero differs from division that rounds down.
-use Rattle.std.specs.Prelude.{ℕ, zero, suc, ◌%◌, ℤ, pos, negsuc, Bool, true, false, not, ◌==◌}
+use Rattle.std.specs.Prelude.{suc, ◌%◌, ℤ, pos, negsuc, Bool, false, not, ◌==◌}
 
 -- whether rounding toward zero rounds up: the signs differ, and the division leaves a remainder
 abbrev pub is_rounded_up : ℤ → ℤ → Bool

@@ -1,5 +1,6 @@
-//! Sums, products and powers (ISO/IEC 30170:2012, 15.2.8.3).
-ghost use Rattle.std.specs.Prelude.{◌≡◌, ◌≤◌, pos, ok_or};
+//! Sums, products and powers (ISO/IEC 30170:2012, 15.2.8).
+ghost use Rattle.std.specs.Prelude.{◌≡◌, ◌≤◌, ◌*ℤ◌, ℕ, suc, ℤ, pos, ok_or};
+ghost use Rattle.std.specs.Int.{int_pow};
 ghost use Rattle.rb_integer.specs.Arithmetic as numbers;
 
 use crate::failure::IntegerFailure;
@@ -110,3 +111,9 @@ pub fn power(x: i64, exponent: i64) -> Result<i64, IntegerFailure>
         natural_power(x, exponent as u64)
     }
 }
+
+/// What powers are: 1 without a factor, and with one more factor the product with it.
+pub fn laws_of_powers()
+    ensures none { (x : ℤ) → int_pow x 0 ≡ pos 1 }
+    ensures more { (x : ℤ) (n : ℕ) → int_pow x (suc n) ≡ int_pow x n *ℤ x }
+{}

@@ -1,4 +1,4 @@
-//! Operations on bits in two's complement, and shifts (ISO/IEC 30170:2012, 15.2.8.3.7 to 15.2.8.3.12).
+//! Operations on bits in two's complement, and shifts (ISO/IEC 30170:2012, 15.2.8).
 ghost use Rattle.std.specs.Prelude.{◌≡◌, ◌≢◌, ◌≤◌, ℕ, min, max, ◌+◌, ◌*◌, ◌%◌, ◌^◌, ◌*ℤ◌, pos, Ok};
 ghost use Rattle.rb_integer.specs.Bits as numbers;
 ghost use Rattle.rb_integer.specs.Bits.{bit_of};

@@ -1,4 +1,4 @@
-//! Comparisons and tests (ISO/IEC 30170:2012, 15.2.8.3.1 and 15.2.8.3.8).
+//! Comparisons and tests (ISO/IEC 30170:2012, 15.2.8).
 ghost use Rattle.std.specs.Prelude.{◌≡◌, int_lt, int_le};
 ghost use Rattle.rb_integer.specs.Comparison as numbers;
 

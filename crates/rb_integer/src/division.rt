@@ -1,4 +1,4 @@
-//! Division that rounds down (ISO/IEC 30170:2012, 15.2.8.3.5 and 15.2.8.3.6).
+//! Division that rounds down (ISO/IEC 30170:2012, 15.2.8).
 ghost use Rattle.std.specs.Prelude.{◌≡◌, ◌≢◌, ℤ, pos};
 ghost use Rattle.rb_integer.specs.Division as numbers;
 ghost use Rattle.rb_integer.specs.Exact.{exact};
@@ -83,5 +83,4 @@ pub fn divide_with_remainder(x: i64, y: i64) -> Result<(i64, i64), IntegerFailur
 pub fn laws_of_division()
     ensures { (x y : ℤ) → y ≢ pos 0
         → numbers.IsFloorDivision x y (numbers.floor_quotient x y) (numbers.floor_remainder x y) }
-{
-}
+{}

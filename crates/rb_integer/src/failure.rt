@@ -3,7 +3,7 @@ ghost use Rattle.std.specs.Prelude.{◌≡◌};
 use crate::text::Text;
 use itoa::Buffer;
 
-/// The class of an exception that a method of Integer or Range raises (ISO/IEC 30170:2012, 15.2.22 to 15.2.37).
+/// The class of an exception that a method of Integer or Range raises (ISO/IEC 30170:2012, 15.2.24, 15.2.26 and 15.2.30).
 #[derive(Clone, Copy, Debug, PartialEq, Eq)]
 pub enum ExceptionClass {
     ArgumentError,
@@ -75,10 +75,7 @@ impl IntegerFailure {
             IntegerFailure::BadBase => Text::joined(b"bad base", b""),
             IntegerFailure::OutsideCharacters(number) => {
                 let mut buffer = Buffer::new();
-                Text::joined(
-                    buffer.format(number).as_bytes(),
-                    b" out of char range",
-                )
+                Text::joined(buffer.format(number).as_bytes(), b" out of char range")
             }
             IntegerFailure::BadEnds => Text::joined(b"bad value for range", b""),
         }

@@ -5,7 +5,7 @@
 //!
 //! Types: [`IntegerFailure`], [`ExceptionClass`], [`Text`], [`Ends`] with [`Bounds`] and [`Item`].
 //! Calls: those of [`arithmetic`], [`division`], [`bits`], [`comparison`] and [`numeral`], and of the types.
-//! Laws: [`laws_of_division`].
+//! Laws: [`laws_of_powers`], [`laws_of_division`], [`laws_of_numerals`], [`laws_of_ranges`].
 #![tactic(auto)]
 
 pub mod arithmetic;
@@ -14,11 +14,17 @@ pub mod comparison;
 pub mod division;
 pub mod ends;
 pub mod failure;
+mod laws;
 pub mod numeral;
 pub mod text;
 
+pub use arithmetic::laws_of_powers;
 pub use division::laws_of_division;
 pub use ends::{Bounds, Ends, Item};
 pub use failure::{ExceptionClass, IntegerFailure};
+pub use laws::laws_of_ranges;
+pub use numeral::laws_of_numerals;
 pub use text::Text;
 
+#[cfg(test)]
+mod tests;

@@ -1,5 +1,8 @@
-//! The texts of Integers (ISO/IEC 30170:2012, 15.2.8.3.25), and their one-byte Strings (15.2.8.3.16).
-ghost use Rattle.std.specs.Prelude.{◌≡◌, ◌<◌, ◌≤◌, ◌++◌, false, length};
+//! The texts of Integers (ISO/IEC 30170:2012, 15.2.8), and their one-byte Strings.
+ghost use Rattle.std.specs.Prelude as prelude;
+ghost use Rattle.std.specs.Prelude.{◌≡◌, ◌<◌, ◌≤◌, ◌++◌, ℕ, ℤ, FitsSigned, false, length};
+ghost use Rattle.std.specs.Int.{w64};
+ghost use Rattle.std.specs.Int.Digits.{digits_of};
 ghost use Rattle.std.specs.Fmt.{signed_decimal, digit_glyph};
 ghost use Rattle.rb_integer.specs.Numeral as numbers;
 
@@ -86,3 +89,12 @@ pub fn character(number: i64) -> Result<u8, IntegerFailure>
         Ok(number as u8)
     }
 }
+
+/// What numerals are: the digits of a number above 0 are the one list of digits below the base that has its value and
+/// doesn't begin with 0, and a numeral in base 10 is the decimal one.
+pub fn laws_of_numerals()
+    ensures digits { (base n : ℕ) → 2 ≤ base → 0 < n → numbers.IsDigitsOf base n (digits_of base n) }
+    ensures only { (base n : ℕ) (ds : prelude.List ℕ) → 2 ≤ base → numbers.IsDigitsOf base n ds
+        → digits_of base n ≡ ds }
+    ensures ten { (z : ℤ) → FitsSigned w64 z → numbers.numeral 10 z ≡ signed_decimal z }
+{}
