@@ -1,0 +1,10 @@
+pub mod Checked
+pub mod DivisionLaws
+pub mod Divisions
+pub mod Letters
+pub mod NumeralLaws
+pub mod Patterns
+pub mod PowerLaws
+pub mod Powers
+pub mod RangeLaws
+pub mod Shifts

@@ -1,0 +1,10 @@
+pub mod Failure
+pub mod Ends
+pub mod Exact
+pub mod Arithmetic
+pub mod Bits
+pub mod Comparison
+pub mod Division
+pub mod Dots
+pub mod Numeral
+pub mod Truncation
