@@ -63,15 +63,15 @@ pub length-with_part : {T : Type 0} (a k : ℕ) (xs ys : List T) → length ys �
 length-with_part a k xs ys same within =
     simp (length-append, length-drop) (let front : length (take a xs) ≡ a = length-take-le a xs (omega arith) in omega arith)
 
-part_before : {T : Type 0} (a k : ℕ) (xs ys : List T) (p : ℕ) (d : T) → p < a → a ≤ length xs → get_or (with_part a k xs ys) p d ≡ get_or xs p d
+pub part_before : {T : Type 0} (a k : ℕ) (xs ys : List T) (p : ℕ) (d : T) → p < a → a ≤ length xs → get_or (with_part a k xs ys) p d ≡ get_or xs p d
 part_before a k xs ys p d before within =
     get_or_append_left (take a xs) (ys ++ drop k (drop a xs)) d p (omega (arith, length-take-le a xs within)) ∙ get_or-take a xs p d before
 
-part_inside : {T : Type 0} (a k : ℕ) (xs ys : List T) (p : ℕ) (d : T) → a ≤ p → p < a + length ys → a ≤ length xs → get_or (with_part a k xs ys) p d ≡ get_or ys (p - a) d
+pub part_inside : {T : Type 0} (a k : ℕ) (xs ys : List T) (p : ℕ) (d : T) → a ≤ p → p < a + length ys → a ≤ length xs → get_or (with_part a k xs ys) p d ≡ get_or ys (p - a) d
 part_inside a k xs ys p d from before within =
     get_or-append_right (take a xs) (ys ++ drop k (drop a xs)) a p d (length-take-le a xs within) from ∙ get_or_append_left ys (drop k (drop a xs)) d (p - a) (omega arith)
 
-part_behind : {T : Type 0} (a k : ℕ) (xs ys : List T) (p : ℕ) (d : T) → a + k ≤ p → length ys ≡ k → a ≤ length xs → get_or (with_part a k xs ys) p d ≡ get_or xs p d
+pub part_behind : {T : Type 0} (a k : ℕ) (xs ys : List T) (p : ℕ) (d : T) → a + k ≤ p → length ys ≡ k → a ≤ length xs → get_or (with_part a k xs ys) p d ≡ get_or xs p d
 part_behind a k xs ys p d past same within =
     let at : a + (k + (p - a - k)) ≡ p = omega arith in
     get_or-append_right (take a xs) (ys ++ drop k (drop a xs)) a p d (length-take-le a xs within) (omega arith)
