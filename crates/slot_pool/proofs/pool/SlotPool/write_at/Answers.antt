@@ -1,0 +1,19 @@
+use Rattle.std.proofs.Common.{◌/◌, ◌%◌, refl, arith}
+use Rattle.slot_pool.proofs.Blocks.{place_within, place_written}
+use Rattle.slot_pool.proofs.pool.SlotPool.write_at.Goals as goal
+
+pub index_mut-requires : goal.index_mut-requires
+index_mut-requires g c =
+    let live = rw (← c.self.view_is) at c.requires in
+    omega (arith, place_within _ _ _ _ _ _ (c.args.place / 64) (c.args.place % 64) c.args.place c.self.invariant live (omega arith) (omega arith))
+
+pub invariant_of-self : goal.invariant_of-self
+invariant_of-self g c =
+    let live = rw (← c.self.view_is) at c.requires in
+    (place_written _ _ _ _ _ _ (c.args.place / 64) (c.args.place % 64) c.args.place c.args.v c.self.invariant live (omega arith) (omega arith)).sound
+
+pub returns : goal.returns
+returns g c =
+    let live = rw (← c.self.view_is) at c.requires in
+    let changed = (place_written _ _ _ _ _ _ (c.args.place / 64) (c.args.place % 64) c.args.place c.args.v c.self.invariant live (omega arith) (omega arith)).blocks in
+    rw (← c.self.view_is, changed) refl

@@ -1,0 +1,6 @@
+pub mod Live
+pub mod Moves
+pub mod Tables
+pub mod Slots
+pub mod Sound
+pub mod Calls
