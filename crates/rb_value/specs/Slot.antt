@@ -1,7 +1,6 @@
 -- What a register reads as.
 use Rattle.rb_value.specs.declared.value.Value.{Value}
 use Rattle.rb_value.specs.declared.value.Value.TheVariants.{Nil, Obj}
-use Rattle.rb_value.specs.declared.exit.Exit.{Exit}
 use Rattle.rb_value.specs.declared.exit.Exit.TheVariants.{Raise, Return, Break, Jump}
 use Rattle.rb_value.specs.declared.exit.Slot.{Slot}
 use Rattle.rb_value.specs.declared.exit.Slot.TheVariants.{V, E}
