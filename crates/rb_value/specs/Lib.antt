@@ -1,2 +1,5 @@
 pub mod Value
 pub mod Slot
+pub mod CoreClass
+pub mod MethodTable
+pub mod Sort

@@ -10,8 +10,9 @@ pub struct ObjId(pub u64);
 
 /// A value of the language. Integers have 64 bits; every value that is none of the others is an object of the
 /// store.
-#[derive(Clone, Copy, Debug, PartialEq, Eq)]
+#[derive(Clone, Copy, Debug, Default, PartialEq, Eq)]
 pub enum Value {
+    #[default]
     Nil,
     True,
     False,

@@ -1,0 +1,26 @@
+-- What an object is, without what it holds.
+use Rattle.rb_value.specs.declared.kind.ClassForm.{ClassForm}
+use Rattle.rb_value.specs.declared.kind.ClassForm.TheVariants as form
+use Rattle.rb_value.specs.declared.kind.Kind.{Kind}
+use Rattle.rb_value.specs.declared.kind.Kind.TheVariants as kind
+use Rattle.rb_value.specs.declared.kind.Sort.{Sort}
+use Rattle.rb_value.specs.declared.kind.Sort.TheVariants as sort
+
+abbrev pub sort_of_form : ClassForm → Sort
+sort_of_form form.Class = sort.Class
+sort_of_form form.Singleton = sort.Singleton
+sort_of_form form.Module = sort.Module
+
+abbrev pub sort_of : Kind → Sort
+sort_of kind.Plain = sort.Plain
+sort_of (kind.Class c) = sort_of_form c.form
+sort_of (kind.String s) = sort.String
+sort_of (kind.Array a) = sort.Array
+sort_of (kind.Hash h) = sort.Hash
+sort_of (kind.Range r) = sort.Range
+sort_of (kind.Proc p) = sort.Proc
+sort_of (kind.CoreProc r k) = sort.Proc
+sort_of (kind.Fiber b e) = sort.Fiber
+sort_of (kind.Exception m d) = sort.Exception
+sort_of (kind.Enumerator e) = sort.Enumerator
+sort_of (kind.Yielder b) = sort.Yielder

@@ -1,0 +1,196 @@
+//! What objects hold.
+ghost use Rattle.std.specs.Prelude.{◌≡◌};
+ghost use Rattle.rb_value.specs.Sort.{sort_of, sort_of_form};
+
+use crate::key::Key;
+use crate::method::{Shape, Visibility};
+use crate::method_table::MethodTable;
+use crate::value::{ObjId, SymId, Value};
+use rb_base::{Bytes, List};
+
+/// What a class object is: a class, the singleton class of an object, or a module.
+#[derive(Clone, Copy, Debug, PartialEq, Eq)]
+pub enum ClassForm {
+    Class,
+    Singleton,
+    Module,
+}
+
+/// A constant of a class or module.
+#[derive(Clone, Copy, Debug, PartialEq, Eq)]
+pub struct Constant {
+    pub name: SymId,
+    pub value: Value,
+}
+
+/// The contents of a class or module (ISO/IEC 30170:2012, 13.1 to 13.4).
+#[derive(Drop)]
+pub struct ClassContents {
+    pub form: ClassForm,
+    /// None of an anonymous one and of a singleton class.
+    pub name: Option<SymId>,
+    /// None of a module, of Object and of a copy of Object.
+    pub superclass: Option<ObjId>,
+    /// The included modules, in the order in which look-up goes through them.
+    pub included: List<ObjId>,
+    pub constants: List<Constant>,
+    /// The visibility of the next method that is defined.
+    pub visibility: Visibility,
+    pub methods: MethodTable,
+}
+
+/// A pair of a Hash: the key, the value that is shown as the key, and the value.
+#[derive(Drop)]
+pub struct HashPair {
+    pub key: Key,
+    pub shown: Value,
+    pub value: Value,
+}
+
+/// The contents of a Hash: its pairs in the order of insertion, and what an absent key gives.
+#[derive(Drop)]
+pub struct HashContents {
+    pub pairs: List<HashPair>,
+    pub default: Value,
+    /// A Proc that is called for an absent key.
+    pub block: Option<ObjId>,
+}
+
+/// The ends of a Range: Integers, or the bytes of Strings of one byte.
+#[derive(Clone, Copy, Debug, PartialEq, Eq)]
+pub enum RangeEnds {
+    Integers { first: i64, last: i64 },
+    Bytes { first: u8, last: u8 },
+}
+
+/// The contents of a Range. Where it is exclusive, its last end isn't in it.
+#[derive(Clone, Copy, Debug, PartialEq, Eq)]
+pub struct RangeContents {
+    pub ends: RangeEnds,
+    pub exclusive: bool,
+}
+
+/// The contents of a Proc with a body of code.
+#[derive(Debug, Drop)]
+pub struct ProcContents {
+    /// The number of the body, depth first.
+    pub code: u32,
+    pub shape: Shape,
+    /// The numbers of the scopes around the body, innermost first.
+    pub scopes: List<u64>,
+    /// The value of `self` in the body.
+    pub receiver: Value,
+    /// The class that has the method in whose text the body stands.
+    pub owner: Option<ObjId>,
+    /// The name by which that method was called.
+    pub name: Option<SymId>,
+    /// The number of the list of classes around the text.
+    pub classes: u64,
+    /// The number of the activation that a `return` ends.
+    pub home: u64,
+    /// The number of the activation that a `break` ends.
+    pub target: Option<u64>,
+    /// The Proc that a `yield` calls.
+    pub block: Option<ObjId>,
+    pub lambda: bool,
+}
+
+/// Where the items of an Enumerator come from: a call with a block, or a Proc that is called with a Yielder.
+#[derive(Debug, Drop)]
+pub enum EnumeratorSource {
+    Call {
+        receiver: Value,
+        name: SymId,
+        args: List<Value>,
+    },
+    Block(ObjId),
+}
+
+/// The contents of an Enumerator: its source; the fiber that gives the items, where one has begun; the Array of the
+/// items that came since the making or the last `rewind`; how many of them were given; and the result, where the
+/// end was reached.
+#[derive(Debug, Drop)]
+pub struct EnumeratorContents {
+    pub source: EnumeratorSource,
+    pub fiber: Option<ObjId>,
+    pub items: ObjId,
+    pub position: u64,
+    pub result: Option<Value>,
+}
+
+/// What an object holds, by what it is.
+#[derive(Drop)]
+pub enum Kind {
+    /// Nothing but its instance variables.
+    Plain,
+    Class(ClassContents),
+    String(Bytes),
+    Array(List<Value>),
+    Hash(HashContents),
+    Range(RangeContents),
+    Proc(ProcContents),
+    /// A Proc whose call enters the row, with the kept value as the receiver.
+    CoreProc { row: u16, kept: Value },
+    /// A fiber: the Proc that it runs, and whether it has ended.
+    Fiber { block: ObjId, ended: bool },
+    Exception { message: Value, detail: Value },
+    Enumerator(EnumeratorContents),
+    /// What the Proc of an Enumerator is called with: the Proc that takes each item.
+    Yielder { block: ObjId },
+}
+
+/// What an object is, without what it holds.
+#[derive(Clone, Copy, Debug, PartialEq, Eq)]
+pub enum Sort {
+    Plain,
+    Class,
+    Singleton,
+    Module,
+    String,
+    Array,
+    Hash,
+    Range,
+    Proc,
+    Fiber,
+    Exception,
+    Enumerator,
+    Yielder,
+}
+
+impl ClassForm {
+    /// The sort of a class object of this form.
+    pub fn sort(self) -> Sort
+        ensures { result ≡ sort_of_form self }
+    {
+        match self {
+            ClassForm::Class => Sort::Class,
+            ClassForm::Singleton => Sort::Singleton,
+            ClassForm::Module => Sort::Module,
+        }
+    }
+}
+
+impl Kind {
+    /// The sort of an object of this kind.
+    pub fn sort(&self) -> Sort
+        ensures { result ≡ sort_of self.now }
+    {
+        match self {
+            Kind::Plain => Sort::Plain,
+            Kind::Class(contents) => contents.form.sort(),
+            Kind::String(_) => Sort::String,
+            Kind::Array(_) => Sort::Array,
+            Kind::Hash(_) => Sort::Hash,
+            Kind::Range(_) => Sort::Range,
+            Kind::Proc(_) => Sort::Proc,
+            Kind::CoreProc { row: _, kept: _ } => Sort::Proc,
+            Kind::Fiber { block: _, ended: _ } => Sort::Fiber,
+            Kind::Exception {
+                message: _,
+                detail: _,
+            } => Sort::Exception,
+            Kind::Enumerator(_) => Sort::Enumerator,
+            Kind::Yielder { block: _ } => Sort::Yielder,
+        }
+    }
+}
