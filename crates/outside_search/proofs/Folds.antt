@@ -6,10 +6,10 @@ use Rattle.rb_tree.specs.View.{view}
 use Rattle.rb_tree.specs.declared.tree.Tree as tree
 use Rattle.rb_tree.specs.declared.tree.Tree.{Tree}
 use Rattle.rb_tree.specs.declared.tree.WhenClause.{WhenClause}
-use Rattle.outside_search.specs.Parts as part
+use Rattle.rb_tree.specs.Parts as part
 use Rattle.outside_search.specs.Search.{found, found_all}
 use Rattle.outside_search.specs.declared.construct.Found.{Found}
-use Rattle.outside_search.proofs.Views.{views, view-Case}
+use Rattle.rb_tree.proofs.Views.{views, view-Case}
 
 pub found_all-nodes : (best : Option Found) (ns : List Node) → found_all best (nodes ns) ≡ fold found best ns
 found_all-nodes best [] = refl

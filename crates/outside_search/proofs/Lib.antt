@@ -1,3 +1,1 @@
-pub mod Fused
-pub mod Views
 pub mod Folds

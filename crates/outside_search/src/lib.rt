@@ -1,8 +1,7 @@
 //! The construct outside the language that a tree names first. Its place is the least among those of the tree's
 //! nodes of such constructs; of two nodes with one place it is the one that stands first in the text.
 //!
-//! Type: [`Found`]. Call: [`first_outside`]. proofs/Views.antt has the node of each tree whose parts lie in
-//! lists and options, for the crates above.
+//! Type: [`Found`]. Call: [`first_outside`].
 #![tactic(auto)]
 
 pub mod construct;

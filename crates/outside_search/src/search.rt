@@ -3,7 +3,7 @@
 ghost use Rattle.std.specs.Prelude.{◌≡◌, fold, map};
 ghost use Rattle.rb_tree.specs.View.{view};
 ghost use Rattle.outside_search.specs.Search.{earlier, found, found_all};
-ghost use Rattle.outside_search.specs.Parts.{item_node, pair_node, branch_node, piece_node, boxed, arguments, parameter_node, optional_node, definition_node, block, rescue_node, begin_node, when_node, targets_node, scope_node};
+ghost use Rattle.rb_tree.specs.Parts.{item_node, pair_node, branch_node, piece_node, boxed, arguments, parameter_node, optional_node, definition_node, block, rescue_node, begin_node, when_node, targets_node, scope_node};
 
 use crate::construct::Found;
 use rb_syntax::{Branch, Item, Outside, Pair};

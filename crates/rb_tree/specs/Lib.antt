@@ -1,3 +1,4 @@
 pub mod Operator
 pub mod Node
 pub mod View
+pub mod Parts

@@ -1,6 +1,9 @@
 //! Trees of the grammar, one variant for each rule. A tree that stands inside another is behind a `Box` or in a
 //! `Vec`; contracts see the whole as a `Node` (specs/Node.antt, specs/View.antt).
 //!
+//! For the crates above, specs/Parts.antt has the nodes of a tree's parts, and proofs/Views.antt the node of each tree
+//! whose parts lie in lists and options.
+//!
 //! Types: [`Tree`] with its parts, [`BinaryOperator`], [`UnaryOperator`], [`AssignmentOperator`].
 #![tactic(auto)]
 

@@ -1,6 +1,6 @@
 use Rattle.std.proofs.Common.{◌≡◌, ◌+◌, ◌*◌, fold, map, take}
 use Rattle.rb_tree.specs.View.{view}
-use Rattle.outside_search.specs.Parts.{item_node, pair_node, branch_node, piece_node, when_node, rescue_node, parameter_node, optional_node}
+use Rattle.rb_tree.specs.Parts.{item_node, pair_node, branch_node, piece_node, when_node, rescue_node, parameter_node, optional_node}
 use Rattle.outside_search.specs.Search.{found}
 use Rattle.outside_search.proofs.search.+search.Given as goal
 

@@ -27,8 +27,8 @@ use Rattle.rb_tree.specs.Node as node
 use Rattle.rb_tree.specs.Node.{Node, Nodes, nodes}
 use Rattle.rb_tree.specs.View as of
 use Rattle.rb_tree.specs.View.{view}
-use Rattle.outside_search.specs.Parts as part
-use Rattle.outside_search.proofs.Fused.{fused}
+use Rattle.rb_tree.specs.Parts as part
+use Rattle.rb_tree.proofs.Fused.{fused}
 
 items-fused : (g : Item Tree → Item Node) → ((e : Tree) → of.item_of (g (Plain e)) ≡ view e) → ((e : Tree) → of.item_of (g (Splat e)) ≡ node.splat (view e))
     → (is : List (Item Tree)) → of.items_of (map g is) ≡ part.items is
