@@ -98,7 +98,9 @@ pub fn find(best: Option<Found>, tree: &Tree) -> Option<Found>
         } => find_block(find_arguments(find_boxed(best, receiver), arguments), block),
         Tree::Index(e, items) => find_items(find(best, e), items),
         Tree::Super {
-            arguments, block, ..
+            arguments,
+            block,
+            ..
         } => find_block(find_arguments(best, arguments), block),
         Tree::Lambda(definition) => find_definition(best, definition),
         Tree::MultipleAssign(targets, value) => find(find_targets(best, targets), value),

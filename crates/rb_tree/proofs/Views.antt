@@ -137,17 +137,17 @@ pub view-Lambda : (d : Definition Tree) → view (tree.Lambda d) ≡ node.lambda
 view-Lambda d =
     ap view (sym (variant.rolls-Lambda d)) ∙ (fold-roll-Tree Node of.view_step (Tree-F.Lambda d) ∙
     ap node.lambda (same-definition d (parameters-fused _ (λ x. refl) (λ e. refl) d.parameters.required.items)
-        (fused of.optional_of part.optional_node _ (λ p. refl) d.parameters.optional.items) (parameters-fused _ (λ x. refl) (λ e. refl) d.parameters.post.items)))
+    (fused of.optional_of part.optional_node _ (λ p. refl) d.parameters.optional.items) (parameters-fused _ (λ x. refl) (λ e. refl) d.parameters.post.items)))
 
 pub view-Define : (s : Option (Box Tree Global)) (x : Bytes) (d : Definition Tree) → view (tree.Define s x d) ≡ node.define (part.boxed s) x (part.definition_node d)
 view-Define None x d =
     ap view (sym (variant.rolls-Define None x d)) ∙ (fold-roll-Tree Node of.view_step (Tree-F.Define None x d) ∙
     ap (node.define (part.boxed None) x) (same-definition d (parameters-fused _ (λ x. refl) (λ e. refl) d.parameters.required.items)
-        (fused of.optional_of part.optional_node _ (λ p. refl) d.parameters.optional.items) (parameters-fused _ (λ x. refl) (λ e. refl) d.parameters.post.items)))
+    (fused of.optional_of part.optional_node _ (λ p. refl) d.parameters.optional.items) (parameters-fused _ (λ x. refl) (λ e. refl) d.parameters.post.items)))
 view-Define (Some s) x d =
     ap view (sym (variant.rolls-Define (Some s) x d)) ∙ (fold-roll-Tree Node of.view_step (Tree-F.Define (Some s) x d) ∙
     ap (node.define (part.boxed (Some s)) x) (same-definition d (parameters-fused _ (λ x. refl) (λ e. refl) d.parameters.required.items)
-        (fused of.optional_of part.optional_node _ (λ p. refl) d.parameters.optional.items) (parameters-fused _ (λ x. refl) (λ e. refl) d.parameters.post.items)))
+    (fused of.optional_of part.optional_node _ (λ p. refl) d.parameters.optional.items) (parameters-fused _ (λ x. refl) (λ e. refl) d.parameters.post.items)))
 
 pub view-Class : (s : Scope Tree) (x : Bytes) (p : Option (Box Tree Global)) (b : Box Tree Global) → view (tree.Class s x p b) ≡ node.class_node (part.scope_node s) x (part.boxed p) (view b.value)
 view-Class Innermost x None b =
@@ -223,28 +223,28 @@ call-with None x a None None =
 call-with None x a None (Some b) =
     ap view (sym (variant.rolls-Call None x (Some (record a { block = None })) (Some b))) ∙ (fold-roll-Tree Node of.view_step (Tree-F.Call None x (Some (record a { block = None })) (Some b)) ∙
     ap2 (λ is b. node.call (part.boxed None) x (node.one (node.arguments is (part.boxed None))) b) (items-fused _ (λ e. refl) (λ e. refl) a.items.items) (ap node.one (same-definition b (parameters-fused _ (λ x. refl) (λ e. refl) b.parameters.required.items)
-        (fused of.optional_of part.optional_node _ (λ p. refl) b.parameters.optional.items) (parameters-fused _ (λ x. refl) (λ e. refl) b.parameters.post.items))))
+    (fused of.optional_of part.optional_node _ (λ p. refl) b.parameters.optional.items) (parameters-fused _ (λ x. refl) (λ e. refl) b.parameters.post.items))))
 call-with None x a (Some k) None =
     ap view (sym (variant.rolls-Call None x (Some (record a { block = Some k })) None)) ∙ (fold-roll-Tree Node of.view_step (Tree-F.Call None x (Some (record a { block = Some k })) None) ∙
     ap2 (λ is b. node.call (part.boxed None) x (node.one (node.arguments is (part.boxed (Some k)))) b) (items-fused _ (λ e. refl) (λ e. refl) a.items.items) (refl))
 call-with None x a (Some k) (Some b) =
     ap view (sym (variant.rolls-Call None x (Some (record a { block = Some k })) (Some b))) ∙ (fold-roll-Tree Node of.view_step (Tree-F.Call None x (Some (record a { block = Some k })) (Some b)) ∙
     ap2 (λ is b. node.call (part.boxed None) x (node.one (node.arguments is (part.boxed (Some k)))) b) (items-fused _ (λ e. refl) (λ e. refl) a.items.items) (ap node.one (same-definition b (parameters-fused _ (λ x. refl) (λ e. refl) b.parameters.required.items)
-        (fused of.optional_of part.optional_node _ (λ p. refl) b.parameters.optional.items) (parameters-fused _ (λ x. refl) (λ e. refl) b.parameters.post.items))))
+    (fused of.optional_of part.optional_node _ (λ p. refl) b.parameters.optional.items) (parameters-fused _ (λ x. refl) (λ e. refl) b.parameters.post.items))))
 call-with (Some r) x a None None =
     ap view (sym (variant.rolls-Call (Some r) x (Some (record a { block = None })) None)) ∙ (fold-roll-Tree Node of.view_step (Tree-F.Call (Some r) x (Some (record a { block = None })) None) ∙
     ap2 (λ is b. node.call (part.boxed (Some r)) x (node.one (node.arguments is (part.boxed None))) b) (items-fused _ (λ e. refl) (λ e. refl) a.items.items) (refl))
 call-with (Some r) x a None (Some b) =
     ap view (sym (variant.rolls-Call (Some r) x (Some (record a { block = None })) (Some b))) ∙ (fold-roll-Tree Node of.view_step (Tree-F.Call (Some r) x (Some (record a { block = None })) (Some b)) ∙
     ap2 (λ is b. node.call (part.boxed (Some r)) x (node.one (node.arguments is (part.boxed None))) b) (items-fused _ (λ e. refl) (λ e. refl) a.items.items) (ap node.one (same-definition b (parameters-fused _ (λ x. refl) (λ e. refl) b.parameters.required.items)
-        (fused of.optional_of part.optional_node _ (λ p. refl) b.parameters.optional.items) (parameters-fused _ (λ x. refl) (λ e. refl) b.parameters.post.items))))
+    (fused of.optional_of part.optional_node _ (λ p. refl) b.parameters.optional.items) (parameters-fused _ (λ x. refl) (λ e. refl) b.parameters.post.items))))
 call-with (Some r) x a (Some k) None =
     ap view (sym (variant.rolls-Call (Some r) x (Some (record a { block = Some k })) None)) ∙ (fold-roll-Tree Node of.view_step (Tree-F.Call (Some r) x (Some (record a { block = Some k })) None) ∙
     ap2 (λ is b. node.call (part.boxed (Some r)) x (node.one (node.arguments is (part.boxed (Some k)))) b) (items-fused _ (λ e. refl) (λ e. refl) a.items.items) (refl))
 call-with (Some r) x a (Some k) (Some b) =
     ap view (sym (variant.rolls-Call (Some r) x (Some (record a { block = Some k })) (Some b))) ∙ (fold-roll-Tree Node of.view_step (Tree-F.Call (Some r) x (Some (record a { block = Some k })) (Some b)) ∙
     ap2 (λ is b. node.call (part.boxed (Some r)) x (node.one (node.arguments is (part.boxed (Some k)))) b) (items-fused _ (λ e. refl) (λ e. refl) a.items.items) (ap node.one (same-definition b (parameters-fused _ (λ x. refl) (λ e. refl) b.parameters.required.items)
-        (fused of.optional_of part.optional_node _ (λ p. refl) b.parameters.optional.items) (parameters-fused _ (λ x. refl) (λ e. refl) b.parameters.post.items))))
+    (fused of.optional_of part.optional_node _ (λ p. refl) b.parameters.optional.items) (parameters-fused _ (λ x. refl) (λ e. refl) b.parameters.post.items))))
 
 pub view-Call : (r : Option (Box Tree Global)) (x : Bytes) (a : Option (Arguments Tree)) (b : Option (Definition Tree))
     → view (tree.Call r x a b) ≡ node.call (part.boxed r) x (part.arguments a) (part.block b)
@@ -254,13 +254,13 @@ view-Call None x None None =
 view-Call None x None (Some b) =
     ap view (sym (variant.rolls-Call None x None (Some b))) ∙ (fold-roll-Tree Node of.view_step (Tree-F.Call None x None (Some b)) ∙
     ap (λ b. node.call (part.boxed None) x node.none b) (ap node.one (same-definition b (parameters-fused _ (λ x. refl) (λ e. refl) b.parameters.required.items)
-        (fused of.optional_of part.optional_node _ (λ p. refl) b.parameters.optional.items) (parameters-fused _ (λ x. refl) (λ e. refl) b.parameters.post.items))))
+    (fused of.optional_of part.optional_node _ (λ p. refl) b.parameters.optional.items) (parameters-fused _ (λ x. refl) (λ e. refl) b.parameters.post.items))))
 view-Call (Some r) x None None =
     ap view (sym (variant.rolls-Call (Some r) x None None)) ∙ (fold-roll-Tree Node of.view_step (Tree-F.Call (Some r) x None None))
 view-Call (Some r) x None (Some b) =
     ap view (sym (variant.rolls-Call (Some r) x None (Some b))) ∙ (fold-roll-Tree Node of.view_step (Tree-F.Call (Some r) x None (Some b)) ∙
     ap (λ b. node.call (part.boxed (Some r)) x node.none b) (ap node.one (same-definition b (parameters-fused _ (λ x. refl) (λ e. refl) b.parameters.required.items)
-        (fused of.optional_of part.optional_node _ (λ p. refl) b.parameters.optional.items) (parameters-fused _ (λ x. refl) (λ e. refl) b.parameters.post.items))))
+    (fused of.optional_of part.optional_node _ (λ p. refl) b.parameters.optional.items) (parameters-fused _ (λ x. refl) (λ e. refl) b.parameters.post.items))))
 
 super-with : (a : Arguments Tree) (k : Option (Box Tree Global)) (b : Option (Definition Tree)) (at : ℕ)
     → view (tree.Super (Some (record a { block = k })) b at) ≡ node.super_node (part.arguments (Some (record a { block = k }))) (part.block b)
@@ -270,14 +270,14 @@ super-with a None None at =
 super-with a None (Some b) at =
     ap view (sym (variant.rolls-Super (Some (record a { block = None })) (Some b) at)) ∙ (fold-roll-Tree Node of.view_step (Tree-F.Super (Some (record a { block = None })) (Some b) at) ∙
     ap2 (λ is b. node.super_node (node.one (node.arguments is (part.boxed None))) b) (items-fused _ (λ e. refl) (λ e. refl) a.items.items) (ap node.one (same-definition b (parameters-fused _ (λ x. refl) (λ e. refl) b.parameters.required.items)
-        (fused of.optional_of part.optional_node _ (λ p. refl) b.parameters.optional.items) (parameters-fused _ (λ x. refl) (λ e. refl) b.parameters.post.items))))
+    (fused of.optional_of part.optional_node _ (λ p. refl) b.parameters.optional.items) (parameters-fused _ (λ x. refl) (λ e. refl) b.parameters.post.items))))
 super-with a (Some k) None at =
     ap view (sym (variant.rolls-Super (Some (record a { block = Some k })) None at)) ∙ (fold-roll-Tree Node of.view_step (Tree-F.Super (Some (record a { block = Some k })) None at) ∙
     ap2 (λ is b. node.super_node (node.one (node.arguments is (part.boxed (Some k)))) b) (items-fused _ (λ e. refl) (λ e. refl) a.items.items) (refl))
 super-with a (Some k) (Some b) at =
     ap view (sym (variant.rolls-Super (Some (record a { block = Some k })) (Some b) at)) ∙ (fold-roll-Tree Node of.view_step (Tree-F.Super (Some (record a { block = Some k })) (Some b) at) ∙
     ap2 (λ is b. node.super_node (node.one (node.arguments is (part.boxed (Some k)))) b) (items-fused _ (λ e. refl) (λ e. refl) a.items.items) (ap node.one (same-definition b (parameters-fused _ (λ x. refl) (λ e. refl) b.parameters.required.items)
-        (fused of.optional_of part.optional_node _ (λ p. refl) b.parameters.optional.items) (parameters-fused _ (λ x. refl) (λ e. refl) b.parameters.post.items))))
+    (fused of.optional_of part.optional_node _ (λ p. refl) b.parameters.optional.items) (parameters-fused _ (λ x. refl) (λ e. refl) b.parameters.post.items))))
 
 pub view-Super : (a : Option (Arguments Tree)) (b : Option (Definition Tree)) (at : ℕ)
     → view (tree.Super a b at) ≡ node.super_node (part.arguments a) (part.block b)
@@ -287,6 +287,6 @@ view-Super None None at =
 view-Super None (Some b) at =
     ap view (sym (variant.rolls-Super None (Some b) at)) ∙ (fold-roll-Tree Node of.view_step (Tree-F.Super None (Some b) at) ∙
     ap (λ b. node.super_node node.none b) (ap node.one (same-definition b (parameters-fused _ (λ x. refl) (λ e. refl) b.parameters.required.items)
-        (fused of.optional_of part.optional_node _ (λ p. refl) b.parameters.optional.items) (parameters-fused _ (λ x. refl) (λ e. refl) b.parameters.post.items))))
+    (fused of.optional_of part.optional_node _ (λ p. refl) b.parameters.optional.items) (parameters-fused _ (λ x. refl) (λ e. refl) b.parameters.post.items))))
 
 pub ruleset views = (view-Array, view-Text, view-SymbolText, view-Hash, view-If, view-Unless, view-Case, view-Index, view-Yield, view-Return, view-Break, view-Next, view-Lambda, view-Define, view-Class, view-Module, view-Statements, view-For, view-Outside, view-Targets, view-MultipleAssign, view-Begin, view-Call, view-Super)
