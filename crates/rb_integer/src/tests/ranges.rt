@@ -241,9 +241,15 @@ fn other_ends(rt: HostRuntime) {
 
 #[test]
 fn items_by_index(rt: HostRuntime) {
-    let whole = integers(i64::MIN, i64::MAX, false);
+    let whole = Ends {
+        bounds: Bounds::Integers(i64::MIN, i64::MAX),
+        is_exclusive: false,
+    };
     assert_eq!(rt; whole.item(0), Item::Integer(i64::MIN));
     assert_eq!(rt; whole.item(u64::MAX), Item::Integer(i64::MAX));
-    let letters = strings(b'a', b'z', true);
+    let letters = Ends {
+        bounds: Bounds::Bytes(b'a', b'z'),
+        is_exclusive: true,
+    };
     assert_eq!(rt; letters.item(24), Item::Byte(b'y'));
 }
