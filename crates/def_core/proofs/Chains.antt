@@ -53,3 +53,24 @@ unfolding chain chain_within
 chain_is st sound c is =
     ap (λ rest. c ∷ (class_at st.objects c).included ++ rest)
     (rest_of_chain st sound c.0 (class_at st.objects c).superclass (above_bounded st sound c.0 c is (omega arith)))
+
+lineage_bounds : (st : Store) → Sound st → (n m : ℕ) (c : Option ObjId) → Bounded st n c → Bounded st m c → lineage_within n st.objects c ≡ lineage_within m st.objects c
+unfolding lineage_within
+lineage_bounds st sound zero zero c b d = refl
+lineage_bounds st sound zero (suc m) None b d = refl
+lineage_bounds st sound zero (suc m) (Some c) b d = absurd (omega (arith, b.1))
+lineage_bounds st sound (suc n) zero None b d = refl
+lineage_bounds st sound (suc n) zero (Some c) b d = absurd (omega (arith, d.1))
+lineage_bounds st sound (suc n) (suc m) None b d = refl
+lineage_bounds st sound (suc n) (suc m) (Some c) b d =
+    ap (λ rest. c ∷ rest) (lineage_bounds st sound n m (class_at st.objects c).superclass (above_bounded st sound n c b.0 b.1) (above_bounded st sound m c d.0 d.1))
+
+rest_of_lineage : (st : Store) → Sound st → (n : ℕ) (p : Option ObjId) → Bounded st n p → lineage_within n st.objects p ≡ lineage_above st.objects p
+unfolding lineage lineage_within
+rest_of_lineage st sound zero None b = refl
+rest_of_lineage st sound (suc n) None b = refl
+rest_of_lineage st sound n (Some p) b = lineage_bounds st sound n (suc p.0) (Some p) b (b.0, omega arith)
+
+pub lineage_is : (st : Store) → Sound st → (c : ObjId) → Is (census st) ClassOrModule c → lineage st.objects c ≡ c ∷ lineage_above st.objects (class_at st.objects c).superclass
+unfolding lineage lineage_within
+lineage_is st sound c is = ap (λ rest. c ∷ rest) (rest_of_lineage st sound c.0 (class_at st.objects c).superclass (above_bounded st sound c.0 c is (omega arith)))
