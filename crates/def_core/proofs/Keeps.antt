@@ -1,0 +1,78 @@
+-- Changes of the contents of a class keep a store sound.
+use Rattle.std.proofs.Common.{◌≡◌, ◌≢◌, ℕ, ◌<◌, List, [], ◌∷◌, length, get_or, set, Bool, true, false, cond, refl, ap, sym, ◌∙◌, subst, arith, length-set}
+use Rattle.std.specs.Prelude.{Option, Some, None, slice_get, nat_eq}
+use Rattle.std.proofs.lemmas.List.{get_or-set_same, get_or-set_other}
+use Rattle.std.proofs.lemmas.Bool.Decides.{nat_tests}
+use Rattle.rb_value.specs.declared.value.ObjId.{ObjId}
+use Rattle.rb_value.specs.declared.value.SymId.{SymId}
+use Rattle.rb_value.specs.declared.method.Method.{Method}
+use Rattle.rb_value.specs.declared.method.MethodEntry.{MethodEntry}
+use Rattle.rb_value.specs.declared.method.Visibility.{Visibility}
+use Rattle.rb_value.specs.declared.object.Object.{Object}
+use Rattle.rb_value.specs.declared.kind.ClassContents.{ClassContents}
+use Rattle.rb_value.specs.declared.kind.Kind.TheVariants as kind
+use Rattle.rb_value.specs.declared.kind.Sort.{Sort}
+use Rattle.rb_value.specs.CoreClass.{number_of}
+use Rattle.indexmap.specs.IndexMap.{insert_entry}
+use Rattle.def_core.specs.Store.{Store, object_at, absent}
+use Rattle.def_core.specs.Classes.{class_at, with_class}
+use Rattle.def_core.specs.Changes.{with_method, with_default, visibility_for}
+use Rattle.def_core.specs.Sound.{sorts_of, census, Census, ClassOrModule, Is, IsSymbol, AllAre, SoundMethod, SoundEntry, SoundClass, SoundObject, Sound}
+use Rattle.def_core.proofs.Sorts.{sorts-with_class}
+use Rattle.def_core.proofs.Roles.{is_within, is_plays, sound_class}
+
+-- what holds of each member still holds where one is replaced
+each_still : (P : ℕ → Object → Type 0) (xs : List Object) (i : ℕ) (o : Object) → i < length xs → P i o → (n : ℕ) → P n (get_or xs n absent) → P n (get_or (set xs i o) n absent)
+each_still P xs i o within new n old = elim (nat_eq n i) as (λ b. nat_eq n i ≡ b → P n (get_or (set xs i o) n absent)) [
+  | true ↦ λ e. let same : i ≡ n = grind (arith, nat_tests, e) in
+      subst (λ (k : ℕ). P k (get_or (set xs i o) k absent)) same (subst (P i) (sym (get_or-set_same xs i o absent within)) new)
+  | false ↦ λ e. let other : n ≢ i = grind (arith, nat_tests, e) in subst (P n) (sym (get_or-set_other xs i n o absent other)) old
+] refl
+
+pub sound_with_class : (st : Store) → Sound st → (c : ObjId) (k : ClassContents) → Is (census st) ClassOrModule c → k.form ≡ (class_at st.objects c).form
+    → SoundClass (census st) c.0 k → Sound (record st { objects = with_class st.objects c k })
+sound_with_class st sound c k is form new =
+    let after : Object = record (object_at st.objects c) { kind = kind.Class k } in
+    let within = is_within st ClassOrModule c is in
+    let old = sound.objects c.0 within in
+    let same : sorts_of (with_class st.objects c k) ≡ sorts_of st.objects = sorts-with_class st.objects c k (is_plays st ClassOrModule c is) form in
+    let here : SoundObject (census st) c.0 after = record { class = old.class; singleton = old.singleton; variables = old.variables; kind = new } in
+    record {
+      objects = λ n h. subst (λ (ss : List Sort). SoundObject (record { sorts = ss; symbols = length st.symbols }) n (get_or (with_class st.objects c k) n absent)) (sym same)
+        (each_still (SoundObject (census st)) st.objects c.0 after within here n (sound.objects n (rw length-set at h)));
+      core = λ q. ap (λ (ss : List Sort). slice_get ss (number_of q)) same ∙ sound.core q;
+    }
+
+entry_kept : (k : Census) (table : List (ℕ × MethodEntry)) (n : ℕ) (e : MethodEntry) → AllAre (SoundEntry k) table → SoundEntry k (n, e) → AllAre (SoundEntry k) (insert_entry nat_eq table n e)
+entry_kept k [] n e all new = (new, tt)
+entry_kept k (x ∷ xs) n e all new = elim (nat_eq n x.0) as (λ b. AllAre (SoundEntry k) (cond b ((x.0, e) ∷ xs) (x ∷ insert_entry nat_eq xs n e))) [
+  | true ↦ ((all.0.0, new.1), all.1)
+  | false ↦ (all.0, entry_kept k xs n e all.1 new)
+]
+
+pub sound_with_method : (st : Store) → Sound st → (c : ObjId) (name : SymId) (m : Method) (v : Visibility) → Is (census st) ClassOrModule c → IsSymbol (census st) name
+    → SoundMethod (census st) m → Sound (with_method st c name m v)
+unfolding with_method
+sound_with_method st sound c name m v is symbol method =
+    let old = sound_class st sound c is in
+    sound_with_class st sound c _ is refl (record {
+      name = old.name;
+      superclass = old.superclass;
+      module_root = old.module_root;
+      included = old.included;
+      constants = old.constants;
+      methods = entry_kept (census st) (class_at st.objects c).methods name.0 (record { method = m; visibility = visibility_for st name v }) old.methods (symbol.below, method);
+    })
+
+pub sound_with_default : (st : Store) → Sound st → (c : ObjId) (v : Visibility) → Is (census st) ClassOrModule c → Sound (record st { objects = with_default st.objects c v })
+unfolding with_default
+sound_with_default st sound c v is =
+    let old = sound_class st sound c is in
+    sound_with_class st sound c _ is refl (record {
+      name = old.name;
+      superclass = old.superclass;
+      module_root = old.module_root;
+      included = old.included;
+      constants = old.constants;
+      methods = old.methods;
+    })

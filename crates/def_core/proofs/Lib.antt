@@ -1,0 +1,4 @@
+pub mod Sorts
+pub mod Roles
+pub mod Chains
+pub mod Keeps

@@ -1,0 +1,94 @@
+-- The store at the start (ISO/IEC 30170:2012, 15): the core classes and modules by their numbers, then the main
+-- object, with the core methods.
+use Rattle.std.specs.Prelude.{ℕ, ◌+◌, List, [], ◌∷◌, ◌++◌, map, filter, not, nat_eq, length, codes, Option, Some, None, if◌then◌else◌}
+use Rattle.rb_value.specs.declared.value.Value.TheVariants.{Obj}
+use Rattle.rb_value.specs.declared.value.ObjId.{ObjId}
+use Rattle.rb_value.specs.declared.method.Visibility.TheVariants.{Public}
+use Rattle.rb_value.specs.declared.method.Method.TheVariants as method
+use Rattle.rb_value.specs.declared.object.Object.{Object}
+use Rattle.rb_value.specs.declared.kind.ClassContents.{ClassContents}
+use Rattle.rb_value.specs.declared.kind.ClassForm.TheVariants as form
+use Rattle.rb_value.specs.declared.kind.Constant.{Constant}
+use Rattle.rb_value.specs.declared.kind.Kind.TheVariants as kind
+use Rattle.rb_value.specs.declared.core_class.CoreClass.{CoreClass}
+use Rattle.rb_value.specs.declared.core_class.CoreClass.TheVariants as class
+use Rattle.rb_value.specs.CoreClass as table
+pub use Rattle.rb_value.specs.CoreClass.{core_classes}
+use Rattle.def_core.specs.Store.{Store, core, fresh, object_number, symbol_number}
+use Rattle.def_core.specs.Changes.{intern, with_method, Interned}
+use Rattle.def_core.specs.Rows.{integer_names, range_names}
+
+-- the symbol of a core class's name has the class's number
+abbrev pub constant_for : CoreClass → Constant
+constant_for c = record { name = symbol_number (table.number_of c); value = Obj (core c) }
+
+-- all of these classes but Enumerator::Yielder
+abbrev pub constants_for : List CoreClass → List Constant
+constants_for classes = map constant_for (filter (λ c. not (nat_eq (table.number_of c) 19)) classes)
+
+-- the constants of Object
+unfoldable pub object_constants : List Constant
+object_constants = constants_for core_classes
+
+abbrev pub constants_of : CoreClass → List Constant
+constants_of c =
+    if nat_eq (table.number_of c) 0 then object_constants
+    else (if nat_eq (table.number_of c) 18 then (record { name = symbol_number 38; value = Obj (core class.Yielder) }) ∷ [] else [])
+
+-- Object includes Kernel
+abbrev pub included_in : CoreClass → List ObjId
+included_in c = if nat_eq (table.number_of c) 0 then core class.Kernel ∷ [] else []
+
+abbrev pub object_of : Option CoreClass → Option ObjId
+object_of None = None
+object_of (Some c) = Some (core c)
+
+abbrev pub superclass_of : CoreClass → Option ObjId
+superclass_of c = object_of (table.superclass_of c)
+
+unfoldable pub core_contents : CoreClass → ClassContents
+core_contents c = record {
+  form = if table.is_module c then form.Module else form.Class;
+  name = Some (symbol_number (table.number_of c));
+  superclass = superclass_of c;
+  included = included_in c;
+  constants = constants_of c;
+  visibility = Public;
+  methods = [];
+}
+
+unfoldable pub core_object : CoreClass → Object
+core_object c = record {
+  class = if table.is_module c then core class.Module else core class.Class;
+  singleton = None;
+  variables = [];
+  kind = kind.Class (core_contents c);
+}
+
+-- the classes, modules and the main object, without methods and symbols
+unfoldable pub nameless : Store
+nameless = record { objects = map core_object core_classes ++ fresh (core class.Object) kind.Plain ∷ []; symbols = [] }
+
+unfoldable pub with_names : Store → List (List ℕ) → Store
+with_names st [] = st
+with_names st (name ∷ names) = with_names (intern st name).store names
+
+-- the names of the core classes are all different, so their symbols have the numbers of the classes, and the name
+-- `Yielder` has the next
+unfoldable pub bare : Store
+bare = (intern (with_names nameless (map table.name_of core_classes)) (codes "Yielder")).store
+
+-- the main object
+abbrev pub main_object : ObjId
+main_object = object_number 38
+
+-- the core methods of a class, whose rows have the numbers from n on
+abbrev pub with_row : CoreClass → ℕ → Interned → Store
+with_row c n named = with_method named.store (core c) named.symbol (method.Core n) Public
+
+unfoldable pub with_rows : Store → CoreClass → ℕ → List (List ℕ) → Store
+with_rows st c n [] = st
+with_rows st c n (name ∷ names) = with_rows (with_row c n (intern st name)) c (n + 1) names
+
+unfoldable pub opening : Store
+opening = with_rows (with_rows bare class.Integer 0 integer_names) class.Range (length integer_names) range_names
