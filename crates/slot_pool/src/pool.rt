@@ -125,22 +125,33 @@ impl<T: Copy> SlotPool<T> {
         self.slots[b.0 * PLACES + i] = v;
     }
 
-    /// The value at a place of the pool: place 64 b + i is place i of block b.
-    #[inline]
-    pub fn read_at(&self, place: usize) -> T
-        requires { IsLive self.now (place / 64) }
-        ensures { slice_get (values self.now (place / 64)) (place % 64) ≡ Some result }
+    /// The place in the pool of place `i` of a block.
+    pub fn place(&self, b: BlockId, i: usize) -> usize
+        requires live { IsLive self.now b.0 }
+        requires within { i < 64 }
+        ensures { result ≡ 64 * b.0 + i }
     {
-        self.slots[place]
+        // The sum fits, since the pool has a place of that number.
+        let _ = &self.count;
+        b.0 * PLACES + i
     }
 
-    /// Writes a place of the pool: place 64 b + i is place i of block b.
+    /// The value `i` places behind the place `start` of the pool: place 64 b + i is place i of block b.
     #[inline]
-    pub fn write_at(&mut self, place: usize, v: T)
-        requires { IsLive self.old (place / 64) }
-        ensures { self.new ≡ written self.old (place / 64) (place % 64) v }
+    pub fn read_at(&self, start: usize, i: usize) -> T
+        requires { IsLive self.now ((start + i) / 64) }
+        ensures { slice_get (values self.now ((start + i) / 64)) ((start + i) % 64) ≡ Some result }
     {
-        self.slots[place] = v;
+        self.slots[start + i]
+    }
+
+    /// Writes the place `i` places behind the place `start` of the pool: place 64 b + i is place i of block b.
+    #[inline]
+    pub fn write_at(&mut self, start: usize, i: usize, v: T)
+        requires { IsLive self.old ((start + i) / 64) }
+        ensures { self.new ≡ written self.old ((start + i) / 64) ((start + i) % 64) v }
+    {
+        self.slots[start + i] = v;
     }
 
     /// Writes `v` into the places `from` to `to` of a block, the last one left out.

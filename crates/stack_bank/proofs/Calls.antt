@@ -72,7 +72,7 @@ pub record Ends (old new : Blocks) (hs : List Held) (k : ℕ) (h : Held) (to : B
 
 pub closes : (old new : Blocks) (hs : List Held) (k : ℕ) (h : Held) (after : List ℕ) → IsSound old hs → IsStack hs k h → Drops old new h.table after 0 → Ends old new hs k (record { live = false; length = 0; table = after }) (closed (see old hs) k)
 closes old new hs k h after sound at drops =
-    let changed : Changes old new hs k (record { live = false; length = 0; table = after }) = changes old new hs k h (record { live = false; length = 0; table = after }) sound at drops.moves (record { sized = rw drops.front (omega arith); closed = λ _. refl }) in
+    let changed : Changes old new hs k (record { live = false; length = 0; table = after }) = changes old new hs k h (record { live = false; length = 0; table = after }) sound at drops.moves (record { sized = rw drops.front (omega arith); fits = omega arith; closed = λ _. refl }) in
     record {
       sound = changed.sound;
       seen_as = changed.seen_as ∙ rw drops.front refl;
@@ -84,7 +84,7 @@ shrinks old new hs k n keep h after sound at s within keep_is drops =
     let g : Held = record { live = h.live; length = h.length - n; table = after } in
     let enough : keep ≤ length h.table = omega (arith, s.sized) in
     let sized : length after ≡ blocks_for m = ap length drops.front ∙ (length-take-le keep h.table enough ∙ keep_is) in
-    let changed : Changes old new hs k g = changes old new hs k h g sound at drops.moves (record { sized = sized; closed = λ dead. cc (s.live, dead) }) in
+    let changed : Changes old new hs k g = changes old new hs k h g sound at drops.moves (record { sized = sized; fits = omega (arith, s.fits); closed = λ dead. cc (s.live, dead) }) in
     let slots : slots_of new after m ≡ take m (slots_of old h.table h.length) = first_slots old new h.table after h.length m keep s.sized (omega arith) keep_is drops in
     let size : length (slots_of old h.table h.length) ≡ h.length = length-slots_of old h.table h.length in
     let after_is : after ≡ take (blocks_for m) h.table = drops.front ∙ ap (λ j. take j h.table) keep_is in
@@ -97,14 +97,14 @@ shrinks old new hs k n keep h after sound at s within keep_is drops =
 
 pub grows_sound : {T E : Type 0} (r : Result T E) (old new : Blocks) (hs : List Held) (k n : ℕ) (before h : Held) → IsSound old hs → IsStack hs k before → IsSeen old hs k before → OnOk r (StackGrows old new before h n) → OnErr r (new ≡ old) → OnErr r (h ≡ before) → IsSound new (set hs k h)
 grows_sound (Ok u) old new hs k n before h sound at s grows same_blocks same_stack =
-    (changes old new hs k before h sound at grows.moves (record { sized = grows.sized; closed = λ dead. cc (s.live, grows.live, dead) })).sound
+    (changes old new hs k before h sound at grows.moves (record { sized = grows.sized; fits = grows.fits; closed = λ dead. cc (s.live, grows.live, dead) })).sound
 grows_sound (Err e) old new hs k n before h sound at s grows same_blocks same_stack =
     let same : set hs k h ≡ hs = ap (set hs k) (same_stack ∙ sym (at.is before)) ∙ set-get_or hs k before in
     rw (same, same_blocks) sound
 
 pub grows_ok : {T E : Type 0} (r : Result T E) (old new : Blocks) (hs : List Held) (k n : ℕ) (before h : Held) → IsSound old hs → IsStack hs k before → IsSeen old hs k before → OnOk r (StackGrows old new before h n) → OnOk r (Grows (see old hs) (see new (set hs k h)) k n)
 grows_ok (Ok u) old new hs k n before h sound at s grows =
-    let changed : Changes old new hs k h = changes old new hs k before h sound at grows.moves (record { sized = grows.sized; closed = λ dead. cc (s.live, grows.live, dead) }) in
+    let changed : Changes old new hs k h = changes old new hs k before h sound at grows.moves (record { sized = grows.sized; fits = grows.fits; closed = λ dead. cc (s.live, grows.live, dead) }) in
     record {
       stacks = ap (λ b. b.stacks) changed.seen_as ∙ rw (seen_live new h (grows.live ∙ s.live), grows.slots, s.slots) refl;
       more = grows.more;
@@ -137,7 +137,7 @@ opens blocks items after x pushed is sound =
     let hs : List Held = map held items in
     let now : map held after ≡ hs ++ no_stack ∷ [] = ap (map held) pushed ∙ (map_push held items x ∙ ap (λ h. hs ++ h ∷ []) is) in
     rw now (record {
-      whole = All-push IsWhole hs no_stack sound.whole (record { sized = omega arith; closed = λ dead. refl });
+      whole = All-push IsWhole hs no_stack sound.whole (record { sized = omega arith; fits = omega arith; closed = λ dead. refl });
       full = λ s j. rw (table_pushed hs s) (sound.full s j);
       apart = λ s t i j. rw (table_pushed hs s, table_pushed hs t) (sound.apart s t i j);
       total = ap (sum_by length) (map_push table_of hs no_stack) ∙ (sum_by_push length (map table_of hs) [] ∙ omega (arith, sound.total));

@@ -4,3 +4,4 @@ pub mod Tables
 pub mod Slots
 pub mod Sound
 pub mod Calls
+pub mod Reach

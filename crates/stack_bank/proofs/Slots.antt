@@ -1,5 +1,5 @@
 -- The slots of one stack.
-use Rattle.std.proofs.Common.{◌≡◌, ◌≢◌, ◌⊎◌, ℕ, ◌+◌, ◌-◌, ◌*◌, ◌/◌, ◌%◌, ◌<◌, ◌≤◌, min, List, [], ◌∷◌, ◌++◌, Bool, length, get_or, set, take, map, replicate, refl, ap, sym, ◌∙◌, subst, arith, inl, inr}
+use Rattle.std.proofs.Common.{◌≡◌, ◌≢◌, ◌⊎◌, ℕ, ◌+◌, ◌-◌, ◌*◌, ◌^◌, ◌/◌, ◌%◌, ◌<◌, ◌≤◌, min, List, [], ◌∷◌, ◌++◌, Bool, length, get_or, set, take, map, replicate, refl, ap, sym, ◌∙◌, subst, arith, inl, inr}
 use Rattle.std.specs.Prelude.{Option, Some, None, IsSome}
 use Rattle.std.specs.List.{range_with_len}
 use Rattle.std.proofs.lemmas.Bool.{cases_lt, cases_eq}
@@ -33,8 +33,8 @@ slots_same old new table n sized same = same_lists _ _ (length-slots_of new tabl
 abbrev pub stack_of : Bool → ℕ → List ℕ → Held
 stack_of live n table = record { live = live; length = n; table = table }
 
-pub stack_grows : (mid : Pool Slot) (old : Pool Slot) (new : Blocks) (table after : List ℕ) (live : Bool) (n more blocks : ℕ) → length table ≡ blocks_for n → Clears old mid table n more → Adds mid.blocks new table after blocks → blocks + length table ≡ blocks_for (n + more) → StackGrows old.blocks new (stack_of live n table) (stack_of live (n + more) after) more
-stack_grows mid old new table after live n more blocks sized clears adds size =
+pub stack_grows : (mid : Pool Slot) (old : Pool Slot) (new : Blocks) (table after : List ℕ) (live : Bool) (n more blocks : ℕ) → length table ≡ blocks_for n → Clears old mid table n more → Adds mid.blocks new table after blocks → blocks + length table ≡ blocks_for (n + more) → n + more < 2 ^ 64 → StackGrows old.blocks new (stack_of live n table) (stack_of live (n + more) after) more
+stack_grows mid old new table after live n more blocks sized clears adds size fits =
     let after_length : length after ≡ length table + blocks = ap length adds.behind ∙ (length-append table adds.more ∙ ap (λ k. length table + k) adds.size) in
     let in_front : (i : ℕ) → i / 64 < length table → slot_at new after i ≡ slot_at mid.blocks table i = λ i within.
       let b : ℕ = get_or table (i / 64) 0 in
@@ -57,6 +57,7 @@ stack_grows mid old new table after live n more blocks sized clears adds size =
       live = refl;
       size = refl;
       sized = omega arith;
+      fits = fits;
       more = adds.more;
       behind = adds.behind;
       slots = same_lists _ _ (length-slots_of new after (n + more) ∙ sym (length-append (slots_of old.blocks table n) (replicate more nil) ∙ omega (arith, length-slots_of old.blocks table n, length-replicate more nil))) (λ i d in_list.
@@ -109,9 +110,9 @@ slot_written blocks table n i b v holds sized within is =
       ]))
 
 -- the same, by what the calls on the way say
-pub stack_grown : (pool mid : Pool Slot) (old new : Blocks) (table between after : List ℕ) (live : Bool) (n more size blocks : ℕ) → pool.blocks ≡ old → between ≡ table → size ≡ n + more → length table ≡ blocks_for n → blocks + length table ≡ blocks_for size → Clears pool mid between n more → Adds mid.blocks new between after blocks → StackGrows old new (stack_of live n table) (stack_of live size after) more
-stack_grown pool mid old new table between after live n more size blocks same same_table size_is sized enough clears adds =
+pub stack_grown : (pool mid : Pool Slot) (old new : Blocks) (table between after : List ℕ) (live : Bool) (n more size blocks : ℕ) → pool.blocks ≡ old → between ≡ table → size ≡ n + more → length table ≡ blocks_for n → blocks + length table ≡ blocks_for size → Clears pool mid between n more → Adds mid.blocks new between after blocks → n + more < 2 ^ 64 → StackGrows old new (stack_of live n table) (stack_of live size after) more
+stack_grown pool mid old new table between after live n more size blocks same same_table size_is sized enough clears adds fits =
     let clears' : Clears pool mid table n more = subst (λ t. Clears pool mid t n more) same_table clears in
     let adds' : Adds mid.blocks new table after blocks = subst (λ t. Adds mid.blocks new t after blocks) same_table adds in
-    let grown : StackGrows pool.blocks new (stack_of live n table) (stack_of live (n + more) after) more = stack_grows mid pool new table after live n more blocks sized clears' adds' (omega arith) in
+    let grown : StackGrows pool.blocks new (stack_of live n table) (stack_of live (n + more) after) more = stack_grows mid pool new table after live n more blocks sized clears' adds' (omega arith) fits in
     subst (λ k. StackGrows old new (stack_of live n table) (stack_of live k after) more) (sym size_is) (subst (λ b. StackGrows b new (stack_of live n table) (stack_of live (n + more) after) more) same grown)

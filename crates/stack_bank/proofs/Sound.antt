@@ -1,5 +1,5 @@
 -- All stacks of a bank.
-use Rattle.std.proofs.Common.{◌≡◌, ◌≢◌, ◌⊎◌, ℕ, ◌+◌, ◌-◌, ◌<◌, ◌≤◌, List, [], ◌∷◌, ◌++◌, length, get_or, set, map, Bool, true, false, refl, ap, sym, ◌∙◌, subst, arith, inl, inr}
+use Rattle.std.proofs.Common.{◌≡◌, ◌≢◌, ◌⊎◌, ℕ, ◌+◌, ◌-◌, ◌^◌, ◌<◌, ◌≤◌, List, [], ◌∷◌, ◌++◌, length, get_or, set, map, Bool, true, false, refl, ap, sym, ◌∙◌, subst, arith, inl, inr}
 use Rattle.std.specs.Prelude.{Option, Some, None, IsSome, unwrap_or, sum_by, All, if◌then◌else◌}
 use Rattle.std.proofs.lemmas.Bool.{cases_lt, cases_eq}
 use Rattle.std.proofs.lemmas.List.{same_lists, map-set, length-map, length-set, get_or-map, get_or_past, get_or-set_same, get_or-set_other}
@@ -131,6 +131,7 @@ pub record IsSeen (blocks : Blocks) (hs : List Held) (k : ℕ) (h : Held) : Type
   pub table : get_or (map table_of hs) k [] ≡ h.table
   pub holds : HoldsTable blocks h.table
   pub sized : length h.table ≡ blocks_for h.length
+  pub fits : h.length < 2 ^ 64
 
 pub seen_at : (blocks : Blocks) (hs : List Held) (k : ℕ) (h : Held) → IsSound blocks hs → IsStack hs k h → IsSome (get_or (map (seen blocks) hs) k None) → IsSeen blocks hs k h
 seen_at blocks hs k h sound at some =
@@ -145,6 +146,7 @@ seen_at blocks hs k h sound at some =
       table = table;
       holds = subst (HoldsTable blocks) table (holds_at blocks hs k sound);
       sized = (whole_at blocks hs k h sound at).sized;
+      fits = (whole_at blocks hs k h sound at).fits;
     }
 
 -- ---- what the calls leave

@@ -1,5 +1,5 @@
 -- How a bank keeps its stacks: the blocks of its pool, and for each stack a table of those that hold it.
-use Rattle.std.specs.Prelude.{◌≡◌, ◌≢◌, ℕ, ◌+◌, ◌*◌, ◌/◌, ◌%◌, ◌<◌, ◌≤◌, List, [], ◌∷◌, ◌++◌, Option, Some, None, Bool, true, false, length, take, map, replicate, unwrap_or, sum_by, IsSome, All, if◌then◌else◌}
+use Rattle.std.specs.Prelude.{◌≡◌, ◌≢◌, ℕ, ◌+◌, ◌*◌, ◌^◌, ◌/◌, ◌%◌, ◌<◌, ◌≤◌, List, [], ◌∷◌, ◌++◌, Option, Some, None, Bool, true, false, length, take, map, replicate, unwrap_or, sum_by, IsSome, All, if◌then◌else◌}
 use Rattle.std.specs.List.{slice_index_or, range_with_len}
 use Rattle.rb_value.specs.declared.exit.Slot.{Slot}
 use Rattle.slot_pool.specs.Pool.{Pool, live_blocks}
@@ -88,6 +88,7 @@ pub record StackGrows (old new : Blocks) (before after : Held) (n : ℕ) : Type 
   pub live : after.live ≡ before.live
   pub size : after.length ≡ before.length + n
   pub sized : length after.table ≡ blocks_for after.length
+  pub fits : after.length < 2 ^ 64
   pub more : List ℕ
   pub behind : after.table ≡ before.table ++ more
   pub slots : slots_of new after.table after.length ≡ slots_of old before.table before.length ++ replicate n nil
@@ -99,6 +100,7 @@ table_at hs s = slice_index_or (map table_of hs) s []
 
 pub record IsWhole (h : Held) : Type 0 where
   pub sized : length h.table ≡ blocks_for h.length
+  pub fits : h.length < 2 ^ 64
   pub closed : h.live ≡ false → h.length ≡ 0
 
 pub record IsSound (blocks : Blocks) (hs : List Held) : Type 0 where

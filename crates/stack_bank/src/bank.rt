@@ -76,6 +76,14 @@ impl StackBank {
         stack.length = length;
     }
 
+    /// How many slots a stack has.
+    pub fn len(&self, id: StackId) -> usize
+        requires { IsLive self.now id.0 }
+        ensures { result ≡ length (slots self.now id.0) }
+    {
+        self.stacks[id.0 as usize].length
+    }
+
     /// Slot `i` of a stack.
     pub fn get(&self, id: StackId, i: usize) -> Slot
         requires live { IsLive self.now id.0 }

@@ -9,10 +9,10 @@
 
 pub mod bank;
 mod blocks;
-
+pub mod window;
 
 pub use bank::{StackBank, StackId};
-
+pub use window::Window;
 
 #[cfg(test)]
 mod tests;
