@@ -7,9 +7,7 @@
 #![tactic(auto)]
 
 pub mod chain;
-
 pub mod methods;
 
 pub use chain::{Chain, included_in, superclass_of};
-
 pub use methods::{default_visibility, own_entry, own_method, set_default, set_method};

@@ -139,8 +139,8 @@ sorts_grow st o = map-append (λ (x : Object). sort_of x.kind) st.objects (o ∷
 pub one_more : (st : Store) (o : Object) → Extends (census st) (census (with_object st o))
 one_more st o = record {
   roles = λ r id is.
-    let f = found (sorts_of st.objects) id.0 r is.holds in
-    record { holds = ap (plays_at r) (ap (λ (ss : List Sort). slice_get ss id.0) (sorts_grow st o) ∙ there_still _ _ id.0 f.0 f.1) ∙ f.2 };
+      let f = found (sorts_of st.objects) id.0 r is.holds in
+      record { holds = ap (plays_at r) (ap (λ (ss : List Sort). slice_get ss id.0) (sorts_grow st o) ∙ there_still _ _ id.0 f.0 f.1) ∙ f.2 };
   names = λ n h. h;
 }
 
@@ -149,13 +149,13 @@ pub sound_with_object : (st : Store) → Sound st → (o : Object) → SoundObje
 sound_with_object st sound o new = record {
   objects = λ n h. elim (nat_lt n (length st.objects)) as (λ b. nat_lt n (length st.objects) ≡ b → SoundObject (census (with_object st o)) n (get_or (st.objects ++ o ∷ []) n absent)) [
     | true ↦ λ b.
-      let within : n < length st.objects = grind (arith, nat_tests, b) in
-      subst (SoundObject (census (with_object st o)) n) (sym (get_or_append_left st.objects (o ∷ []) absent n within))
-      (object_grows _ _ (one_more st o) n (get_or st.objects n absent) (sound.objects n within))
+        let within : n < length st.objects = grind (arith, nat_tests, b) in
+        subst (SoundObject (census (with_object st o)) n) (sym (get_or_append_left st.objects (o ∷ []) absent n within))
+        (object_grows _ _ (one_more st o) n (get_or st.objects n absent) (sound.objects n within))
     | false ↦ λ b.
-      let last : length st.objects ≡ n = grind (arith, nat_tests, b, rw length-append at h) in
-      subst (λ (m : ℕ). SoundObject (census (with_object st o)) m (get_or (st.objects ++ o ∷ []) m absent)) last
-      (subst (SoundObject (census (with_object st o)) (length st.objects)) (sym (get_or_push st.objects o absent (length st.objects) refl)) (object_grows _ _ (one_more st o) (length st.objects) o new))
+        let last : length st.objects ≡ n = grind (arith, nat_tests, b, rw length-append at h) in
+        subst (λ (m : ℕ). SoundObject (census (with_object st o)) m (get_or (st.objects ++ o ∷ []) m absent)) last
+        (subst (SoundObject (census (with_object st o)) (length st.objects)) (sym (get_or_push st.objects o absent (length st.objects) refl)) (object_grows _ _ (one_more st o) (length st.objects) o new))
   ] refl;
   core = λ q. ap (λ (ss : List Sort). slice_get ss (number_of q)) (sorts_grow st o) ∙ there_still _ _ (number_of q) _ (sound.core q);
 }
