@@ -39,7 +39,7 @@ sound_with_class st sound c k is form new =
     let here : SoundObject (census st) c.0 after = record { class = old.class; singleton = old.singleton; variables = old.variables; kind = new } in
     record {
       objects = λ n h. subst (λ (ss : List Sort). SoundObject (record { sorts = ss; symbols = length st.symbols }) n (get_or (with_class st.objects c k) n absent)) (sym same)
-        (each_still (SoundObject (census st)) st.objects c.0 after within here n (sound.objects n (rw length-set at h)));
+          (each_still (SoundObject (census st)) st.objects c.0 after within here n (sound.objects n (rw length-set at h)));
       core = λ q. ap (λ (ss : List Sort). slice_get ss (number_of q)) same ∙ sound.core q;
     }
 

@@ -16,7 +16,7 @@ use Rattle.def_core.specs.Sound.{sorts_of, census, Role, Superclass, Module, Cla
 use Rattle.def_core.proofs.Sorts.{sort_at-sorts, length-sorts}
 
 -- the sort of an object that has a role
-found : (xs : List Sort) (n : ℕ) (r : Role) → plays_at r (slice_get xs n) ≡ true → (s : Sort) × (slice_get xs n ≡ Some s) × (plays r s ≡ true)
+pub found : (xs : List Sort) (n : ℕ) (r : Role) → plays_at r (slice_get xs n) ≡ true → (s : Sort) × (slice_get xs n ≡ Some s) × (plays r s ≡ true)
 found xs n r h = elim (slice_get xs n) as (λ o. slice_get xs n ≡ o → plays_at r o ≡ true → (s : Sort) × (slice_get xs n ≡ Some s) × (plays r s ≡ true)) [
   | None ↦ λ _ e. absurd (true≢false (sym e))
   | Some s ↦ λ is e. (s, is, e)

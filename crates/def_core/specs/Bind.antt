@@ -1,5 +1,5 @@
 -- How arguments become the values of parameters (ISO/IEC 30170:2012, 11.3.3 and 13.3.3).
-use Rattle.std.specs.Prelude.{ℕ, ◌+◌, ◌-◌, List, [], ◌∷◌, ◌++◌, Bool, true, false, not, ◌&&◌, ◌||◌, nat_lt, nat_eq, length, take, drop, min, replicate, if◌then◌else◌, Option, Some, None}
+use Rattle.std.specs.Prelude.{ℕ, ◌+◌, ◌-◌, List, [], ◌∷◌, ◌++◌, Bool, true, false, not, ◌&&◌, ◌||◌, nat_lt, nat_eq, length, take, drop, min, replicate, get_or, if◌then◌else◌, Option, Some, None}
 use Rattle.rb_value.specs.declared.value.Value.{Value}
 use Rattle.rb_value.specs.declared.value.Value.TheVariants.{Nil, True, False, Int, Sym, Obj}
 use Rattle.rb_value.specs.declared.object.Object.{Object}
@@ -52,18 +52,17 @@ abbrev pub elements_or : Option (List Value) → List Value → List Value
 elements_or None args = args
 elements_or (Some a) args = a
 
--- one Array in place of its elements
+-- the elements of one Array alone
 abbrev pub spread : List Object → List Value → List Value
-spread objects [] = []
-spread objects (v ∷ []) = elements_or (elements_in objects v) (v ∷ [])
-spread objects (v ∷ w ∷ vs) = v ∷ w ∷ vs
+spread objects args = if nat_eq (length args) 1 then elements_or (elements_in objects (get_or args 0 Nil)) args else args
 
--- as many as a Proc of this shape wants: nil for what is missing, and nothing that is too much
-abbrev pub padded : Shape → List Value → List Value
-padded s args = args ++ replicate (least s - length args) Nil
+-- nil for each that is missing up to so many
+abbrev pub padded : ℕ → List Value → List Value
+padded n args = args ++ replicate (n - length args) Nil
 
+-- as many as a Proc of this shape wants: nothing that is too much, and nil for what is missing
 abbrev pub fitted : Shape → List Value → List Value
-fitted s args = if s.rest then padded s args else take (most s) (padded s args)
+fitted s args = padded (least s) (if s.rest then args else take (most s) args)
 
 abbrev pub arguments : List Object → Shape → BindKind → List Value → List Value
 arguments objects s Method args = args

@@ -5,24 +5,52 @@ use rb_value::{CoreClass, ObjId, SymId, Value};
 #[derive(Clone, Copy, Debug, PartialEq, Eq)]
 pub enum Cause {
     /// No method of that name is found for a receiver of the class.
-    UndefinedMethod { name: SymId, class: ObjId },
-    PrivateMethod { name: SymId, class: ObjId },
-    ProtectedMethod { name: SymId, class: ObjId },
+    UndefinedMethod {
+        name: SymId,
+        class: ObjId,
+    },
+    PrivateMethod {
+        name: SymId,
+        class: ObjId,
+    },
+    ProtectedMethod {
+        name: SymId,
+        class: ObjId,
+    },
     /// No method of that name is found above the running one.
-    NoSuperMethod { name: SymId, class: ObjId },
+    NoSuperMethod {
+        name: SymId,
+        class: ObjId,
+    },
     SuperOutside,
     /// A name alone is neither a variable nor a method.
-    UndefinedName { name: SymId, class: ObjId },
+    UndefinedName {
+        name: SymId,
+        class: ObjId,
+    },
     /// A constant isn't found; the scope is there where it is written before the name.
-    UninitializedConstant { scope: Option<ObjId>, name: SymId },
+    UninitializedConstant {
+        scope: Option<ObjId>,
+        name: SymId,
+    },
     /// The class has no method of that name to change.
-    UndefinedInClass { name: SymId, class: ObjId },
+    UndefinedInClass {
+        name: SymId,
+        class: ObjId,
+    },
     /// So many arguments were given, and at least and at most so many were expected; none stands for no bound.
-    WrongCount { given: u64, least: u64, most: Option<u64> },
+    WrongCount {
+        given: u64,
+        least: u64,
+        most: Option<u64>,
+    },
     NegativeExponent,
     NoBlockGiven,
     /// Values of these classes can't be compared.
-    Incomparable { left: ObjId, right: ObjId },
+    Incomparable {
+        left: ObjId,
+        right: ObjId,
+    },
     ComparisonFailed,
     BadRange,
     InvalidInteger,
@@ -32,7 +60,10 @@ pub enum Cause {
     BadBase,
     TooFewItems,
     /// A value of the first class was expected, and one of the second was given.
-    Expected { class: ObjId, got: ObjId },
+    Expected {
+        class: ObjId,
+        got: ObjId,
+    },
     /// An instruction, by its name, meets a value that it isn't made for.
     WrongValue(SymId),
     RescueNotClass,
@@ -57,10 +88,14 @@ pub enum Cause {
     DoubleResume,
     RootYield,
     /// An Enumerator has no further item; its source gave the result.
-    IterationEnd { result: Value },
+    IterationEnd {
+        result: Value,
+    },
     StackTooDeep,
     /// The program ends with the status.
-    Exit { status: u8 },
+    Exit {
+        status: u8,
+    },
     Unhandled,
 }
 
@@ -81,7 +116,11 @@ impl Cause {
             Cause::UndefinedName { name: _, class: _ }
             | Cause::UninitializedConstant { scope: _, name: _ }
             | Cause::UndefinedInClass { name: _, class: _ } => CoreClass::NameError,
-            Cause::WrongCount { given: _, least: _, most: _ }
+            Cause::WrongCount {
+                given: _,
+                least: _,
+                most: _,
+            }
             | Cause::NegativeExponent
             | Cause::NoBlockGiven
             | Cause::Incomparable { left: _, right: _ }
@@ -105,16 +144,12 @@ impl Cause {
             | Cause::NoVariable => CoreClass::TypeError,
             Cause::IndexOutOfRange(_) => CoreClass::IndexError,
             Cause::KeyNotFound(_) => CoreClass::KeyError,
-            Cause::IntegerOverflow
-            | Cause::StringTooLong
-            | Cause::CharOutOfRange(_) => CoreClass::RangeError,
+            Cause::IntegerOverflow | Cause::StringTooLong | Cause::CharOutOfRange(_) =>
+                CoreClass::RangeError,
             Cause::DividedByZero => CoreClass::ZeroDivisionError,
-            Cause::UnexpectedReturn
-            | Cause::BreakFromProc
-            | Cause::NoBlockToYield => CoreClass::LocalJumpError,
-            Cause::DeadFiber
-            | Cause::DoubleResume
-            | Cause::RootYield => CoreClass::FiberError,
+            Cause::UnexpectedReturn | Cause::BreakFromProc | Cause::NoBlockToYield =>
+                CoreClass::LocalJumpError,
+            Cause::DeadFiber | Cause::DoubleResume | Cause::RootYield => CoreClass::FiberError,
             Cause::IterationEnd { result: _ } => CoreClass::StopIteration,
             Cause::StackTooDeep => CoreClass::SystemStackError,
             Cause::Exit { status: _ } => CoreClass::SystemExit,

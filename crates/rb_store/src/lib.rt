@@ -12,3 +12,6 @@ pub mod store;
 mod symbols;
 
 pub use store::Store;
+
+#[cfg(test)]
+mod tests;

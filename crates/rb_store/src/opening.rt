@@ -9,7 +9,8 @@ use crate::store::Store;
 use crate::symbols::Symbols;
 use rb_base::List;
 use rb_value::{
-    ClassContents, ClassForm, Constant, CoreClass, Kind, Method, MethodTable, ObjId, Object, SymId, Value, Visibility,
+    ClassContents, ClassForm, Constant, CoreClass, Kind, Method, MethodTable, ObjId, Object, SymId,
+    Value, Visibility,
 };
 use std::alloc::{AllocError, Global};
 
@@ -180,7 +181,11 @@ fn core_contents(alloc: Global, class: CoreClass) -> Result<ClassContents, Alloc
     let included = included_in(alloc, class)?;
     let constants = constants_of(alloc, class)?;
     Ok(ClassContents {
-        form: if class.is_module() { ClassForm::Module } else { ClassForm::Class },
+        form: if class.is_module() {
+            ClassForm::Module
+        } else {
+            ClassForm::Class
+        },
         name: Some(SymId(class.number())),
         superclass: superclass_of(class),
         included,

@@ -44,7 +44,9 @@ impl Store {
         let object = &mut self.objects[class.0 as usize];
         self.changes = raised(self.changes, object.kind.sort());
         match &mut object.kind {
-            Kind::Class(contents) => contents.methods.set(name, MethodEntry { method, visibility }),
+            Kind::Class(contents) => contents
+                .methods
+                .set(name, MethodEntry { method, visibility }),
             _ => unreachable!(),
         }
     }

@@ -26,8 +26,8 @@ rows-preserved c =
     let is : plays ClassOrModule (sort_at c.intern.new.self.store.objects c.class_object-object.result) ≡ true = plays_still _ _ c.class_object-object.result ClassOrModule e (rw c.class_object-object.ensures c.requires.is_class) in
     record {
       same =
-        rw (c.in_ok-put_method.ensures.ok, c.class_object-object.ensures, c.in_ok-symbol.ensures.symbol, c.in_ok-symbol.ensures.ok)
-        (rows_step (λ name. name.now) _ _ _ _ c.args.names.now _ within ∙ c.rows.invariant.same);
+          rw (c.in_ok-put_method.ensures.ok, c.class_object-object.ensures, c.in_ok-symbol.ensures.symbol, c.in_ok-symbol.ensures.ok)
+          (rows_step (λ name. name.now) _ _ _ _ c.args.names.now _ within ∙ c.rows.invariant.same);
       sorts = ap (λ (st : Store). sorts_of st.objects) c.in_ok-put_method.ensures.ok ∙ sorts-with_method c.intern.new.self.store c.class_object-object.result _ _ _ is ∙ e;
     }
 

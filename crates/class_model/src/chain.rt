@@ -1,0 +1,101 @@
+//! The walk along the chain of a class.
+ghost use Rattle.std.specs.Prelude.{◌≡◌, ◌<◌, ◌∷◌, [], length, drop, filter, not};
+ghost use Rattle.def_core.specs.Classes as classes;
+ghost use Rattle.def_core.specs.Sound.{Sound, census, Is, ClassOrModule};
+ghost use Rattle.class_model.specs.Chain.{left, IsWalk, IsMember, Steps};
+
+use rb_store::Store;
+use rb_value::{Kind, ObjId};
+
+/// A walk along the chain of a class: the modules of the last class that are left, and the superclass that follows.
+#[derive(Clone, Copy)]
+pub struct Chain<'a> {
+    store: &'a Store,
+    included: &'a [ObjId],
+    at: usize,
+    above: Option<ObjId>,
+}
+
+/// The modules that a class or module includes, in the order of look-up. It takes no memory.
+#[tactic(auto, using(def_core::proofs::Roles::is_within))]
+pub fn included_in(st: &Store, class: ObjId) -> &[ObjId]
+    requires { Is (census st.now.store) ClassOrModule class }
+    ensures { result.now ≡ (classes.class_at st.now.store.objects class).included }
+{
+    match &st.get(class).kind {
+        Kind::Class(contents) => contents.included.as_slice(),
+        _ => &[],
+    }
+}
+
+/// The superclass of a class. It takes no memory.
+#[tactic(auto, using(def_core::proofs::Roles::is_within))]
+pub fn superclass_of(st: &Store, class: ObjId) -> Option<ObjId>
+    requires { Is (census st.now.store) ClassOrModule class }
+    ensures { result ≡ (classes.class_at st.now.store.objects class).superclass }
+{
+    match &st.get(class).kind {
+        Kind::Class(contents) => contents.superclass,
+        _ => None,
+    }
+}
+
+impl<'a> Chain<'a> {
+    /// The walk along the chain of a class or module, from itself on. It takes no memory.
+    pub fn of(store: &'a Store, class: ObjId) -> Chain<'a>
+        requires sound { Sound store.now.store }
+        requires class { Is (census store.now.store) ClassOrModule class }
+        ensures left { left result ≡ classes.chain store.now.store.objects class }
+        ensures walk { IsWalk result }
+        ensures store { result.store.now ≡ store.now }
+    {
+        Chain {
+            store,
+            included: &[],
+            at: 0,
+            above: Some(class),
+        }
+    }
+
+    /// The walk along what follows a class in its chain.
+    #[tactic(auto, using(crate::proofs::Walks::chain_behind, crate::proofs::Walks::above_is_class, crate::proofs::Walks::included_are_classes))]
+    fn behind(store: &'a Store, class: ObjId) -> Chain<'a>
+        requires sound { Sound store.now.store }
+        requires class { Is (census store.now.store) ClassOrModule class }
+        ensures left { classes.chain store.now.store.objects class ≡ class ∷ left result }
+        ensures walk { IsWalk result }
+        ensures store { result.store.now ≡ store.now }
+    {
+        let included = included_in(store, class);
+        let above = superclass_of(store, class);
+        Chain {
+            store,
+            included,
+            at: 0,
+            above,
+        }
+    }
+
+    /// The next member. It takes no memory.
+    #[tactic(auto, using(crate::proofs::Walks::member_at))]
+    pub fn next(&mut self) -> Option<ObjId>
+        requires { IsWalk self.old }
+        ensures step { Steps (left self.old) result (left self.new) }
+        ensures member { IsMember self.old result }
+        ensures walk { IsWalk self.new }
+        ensures store { self.new.store.now ≡ self.old.store.now }
+    {
+        if self.at < self.included.len() {
+            let module = self.included[self.at];
+            self.at += 1;
+            return Some(module);
+        }
+        match self.above {
+            Some(class) => {
+                *self = Chain::behind(self.store, class);
+                Some(class)
+            }
+            None => None,
+        }
+    }
+}
