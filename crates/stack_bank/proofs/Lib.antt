@@ -5,3 +5,4 @@ pub mod Slots
 pub mod Sound
 pub mod Calls
 pub mod Reach
+pub mod Staying

@@ -5,15 +5,16 @@ use Rattle.std.proofs.lemmas.Option.{slice_get-get_or}
 use Rattle.rb_value.specs.declared.exit.Slot.{Slot}
 use Rattle.rb_value.specs.Slot.{read}
 use Rattle.std.proofs.lemmas.Bool.{cases_lt, cases_eq}
-use Rattle.std.proofs.lemmas.List.{map-set, map_push, length-map, length_push, get_or-map, get_or_past, get_or_push, get_or_append_left, get_or_default, get_or-set_same, get_or-set_other}
+use Rattle.std.proofs.lemmas.List.{map-set, map_push, length-map, length-set, length_push, set_past, get_or-map, get_or_past, get_or_push, get_or_append_left, get_or_default, get_or-set_same, get_or-set_other}
 use Rattle.std.proofs.lemmas.List.Elements.{All-push, All-set}
 use Rattle.rb_value.specs.declared.value.Value.{Value}
 use Rattle.stack_bank.specs.Bank.{Bank, IsLive, slots, with_slot}
 use Rattle.rb_value.specs.declared.exit.Slot.TheVariants.{V}
+use Rattle.stack_bank.proofs.Staying.{live_set}
 use Rattle.vm_env.specs.declared.envs.Env.{Env as Stored}
 use Rattle.vm_env.specs.Env.{Env, Open, Closed, contents, env, Lies, IsOpen, MeetsNot, MeetsNone, Writes, WritesAt, WritesOne, closed}
 use Rattle.vm_env.specs.Inside.{Kept, kept, seen, IsWhole, Apart, IsSound}
-use Rattle.vm_env.proofs.Windows.{window, contents_here, contents_other, window_bound, window_value}
+use Rattle.vm_env.proofs.Windows.{window, slots_here, slots_other, contents_here, contents_other, window_bound, window_value}
 
 -- ---- the environment of a number
 
@@ -216,3 +217,47 @@ pub same_entry : (items : List Stored) (e : ℕ) (x y : Stored) → x ≡ get_or
 same_entry items e x y x_is y_is there =
     let within : e < length items = omega (arith, length-map (map kept items) seen, length-map items kept) in
     y_is ∙ (get_or_default items e y x within ∙ sym x_is)
+
+-- ---- what a write keeps
+
+slots_kept : (bank : Bank) (id p k : ℕ) (v : Slot) → IsLive bank k → IsLive (with_slot bank id p v) k × (length (slots (with_slot bank id p v) k) ≡ length (slots bank k))
+slots_kept bank id p k v live = elim (cases_eq k id) as (λ _. IsLive (with_slot bank id p v) k × (length (slots (with_slot bank id p v) k) ≡ length (slots bank k))) [
+    | inl same ↦
+      let here : slots (with_slot bank id p v) id ≡ set (slots bank id) p v = slots_here bank id p v (subst (IsLive bank) same live) in
+      (live_set bank.stacks id k (set (slots bank id) p v) live, ap (λ n. length (slots (with_slot bank id p v) n)) same ∙ (ap length here ∙ (length-set (slots bank id) p v ∙ ap (λ n. length (slots bank n)) (sym same))))
+    | inr differs ↦ (live_set bank.stacks id k (set (slots bank id) p v) live, ap length (slots_other bank id k p v differs))
+  ]
+
+lies_kept : (bank : Bank) (id p : ℕ) (v : Slot) (x : Env) → Lies bank x → Lies (with_slot bank id p v) x
+lies_kept bank id p v (Open stack base n) lies =
+    let kept = slots_kept bank id p stack v lies.0 in
+    (kept.0, rw kept.1 lies.1)
+lies_kept bank id p v (Closed values) lies = tt
+
+writes_lie : (x : Env) (old new : List Env) (bank after : Bank) (e i other : ℕ) (v : Value) → WritesAt x old new bank after e i v → Lies bank (env old other) → Lies after (env new other)
+writes_lie (Open stack base n) old new bank after e i other v writes lies = rw (writes.0, writes.1) (lies_kept bank stack (base + i) (V v) (env old other) lies)
+writes_lie (Closed values) old new bank after e i other v writes lies =
+    rw (writes.0, writes.1) (elim (cases_eq other e) as (λ _. Lies bank (env (set old e (Closed (set values i v))) other)) [
+      | inl same ↦ elim (cases_lt e (length old)) as (λ _. Lies bank (env (set old e (Closed (set values i v))) other)) [
+        | inl below ↦ rw (ap (env (set old e (Closed (set values i v)))) same ∙ get_or-set_same old e (Closed (set values i v)) (Closed []) below) tt
+        | inr past ↦ rw (set_past old e (Closed (set values i v)) past) lies
+      ]
+      | inr differs ↦ rw (get_or-set_other old e other (Closed (set values i v)) (Closed []) differs) lies
+    ])
+
+-- windows lie within live stacks as before, and the lists have the lengths that they had
+pub write_keeps_lies : (old new : List Env) (bank after : Bank) (e i other : ℕ) (v : Value) → Writes old new bank after e i v → Lies bank (env old other) → Lies after (env new other)
+write_keeps_lies old new bank after e i other v writes lies = writes_lie (env old e) old new bank after e i other v writes lies
+
+pub write_keeps_length : (old new : List Env) (bank after : Bank) (e i other : ℕ) (v : Value) → WritesOne old new bank after e i v → length (contents after (env new other)) ≡ length (contents bank (env old other))
+write_keeps_length old new bank after e i other v one = elim (cases_eq other e) as (λ _. length (contents after (env new other)) ≡ length (contents bank (env old other))) [
+    | inl same ↦ ap (λ n. length (contents after (env new n))) same ∙ (ap length one.here ∙ (length-set (contents bank (env old e)) i v ∙ ap (λ n. length (contents bank (env old n))) (sym same)))
+    | inr differs ↦ ap length (one.others other differs)
+  ]
+
+writes_count : (x : Env) (old new : List Env) (bank after : Bank) (e i : ℕ) (v : Value) → WritesAt x old new bank after e i v → length new ≡ length old
+writes_count (Open stack base n) old new bank after e i v writes = ap length writes.0
+writes_count (Closed values) old new bank after e i v writes = ap length writes.0 ∙ length-set old e (Closed (set values i v))
+
+pub write_keeps_count : (old new : List Env) (bank after : Bank) (e i : ℕ) (v : Value) → Writes old new bank after e i v → length new ≡ length old
+write_keeps_count old new bank after e i v writes = writes_count (env old e) old new bank after e i v writes

@@ -59,10 +59,10 @@ live_within bank id live = elim (cases_lt id (length bank.stacks)) as (λ _. id 
     | inr past ↦ absurd (cc (get_or_past bank.stacks id None past))
   ]
 
-slots_here : (bank : Bank) (id p : ℕ) (v : Slot) → IsLive bank id → slots (with_slot bank id p v) id ≡ set (slots bank id) p v
+pub slots_here : (bank : Bank) (id p : ℕ) (v : Slot) → IsLive bank id → slots (with_slot bank id p v) id ≡ set (slots bank id) p v
 slots_here bank id p v live = ap (λ o. unwrap_or o []) (get_or-set_same bank.stacks id (Some (set (slots bank id) p v)) None (live_within bank id live))
 
-slots_other : (bank : Bank) (id k p : ℕ) (v : Slot) → k ≢ id → slots (with_slot bank id p v) k ≡ slots bank k
+pub slots_other : (bank : Bank) (id k p : ℕ) (v : Slot) → k ≢ id → slots (with_slot bank id p v) k ≡ slots bank k
 slots_other bank id k p v differs = ap (λ o. unwrap_or o []) (get_or-set_other bank.stacks id k (Some (set (slots bank id) p v)) None differs)
 
 -- the window that has the slot
