@@ -147,19 +147,19 @@ opens blocks items after x pushed is sound =
 
 blocks_seen : (blocks : Blocks) (h : Held) → IsWhole h → length h.table ≡ blocks_of (seen blocks h)
 blocks_seen blocks h whole = elim (h.live) as (λ t. (h.live ≡ t) → length h.table ≡ blocks_of (seen blocks h)) [
-    | true ↦ λ live. rw live (whole.sized ∙ ap blocks_for (sym (length-slots_of blocks h.table h.length)))
-    | false ↦ λ dead. rw dead (whole.sized ∙ ap blocks_for (whole.closed dead))
-  ] refl
+  | true ↦ λ live. rw live (whole.sized ∙ ap blocks_for (sym (length-slots_of blocks h.table h.length)))
+  | false ↦ λ dead. rw dead (whole.sized ∙ ap blocks_for (whole.closed dead))
+] refl
 
 pub all_blocks : (blocks : Blocks) (hs : List Held) → IsSound blocks hs → live_blocks blocks ≡ sum_by blocks_of (map (seen blocks) hs)
 all_blocks blocks hs sound =
     let lengths : length (map length (map table_of hs)) ≡ length (map blocks_of (map (seen blocks) hs)) =
-      length-map (map table_of hs) length ∙ (length-map hs table_of ∙ sym (length-map (map (seen blocks) hs) blocks_of ∙ length-map hs (seen blocks))) in
+    length-map (map table_of hs) length ∙ (length-map hs table_of ∙ sym (length-map (map (seen blocks) hs) blocks_of ∙ length-map hs (seen blocks))) in
     let same : map length (map table_of hs) ≡ map blocks_of (map (seen blocks) hs) = same_lists _ _ lengths (λ s d in_list.
-      let within : s < length hs = omega (arith, length-map (map table_of hs) length, length-map hs table_of) in
-      let h : Held = get_or hs s no_stack in
-      get_or-map length (map table_of hs) s [] d (omega (arith, length-map hs table_of))
-      ∙ (ap length (get_or-map table_of hs s no_stack [] within)
-      ∙ (blocks_seen blocks h (sound.whole s no_stack within)
-      ∙ sym (get_or-map blocks_of (map (seen blocks) hs) s None d (omega (arith, length-map hs (seen blocks))) ∙ ap blocks_of (get_or-map (seen blocks) hs s no_stack None within))))) in
+    let within : s < length hs = omega (arith, length-map (map table_of hs) length, length-map hs table_of) in
+    let h : Held = get_or hs s no_stack in
+    get_or-map length (map table_of hs) s [] d (omega (arith, length-map hs table_of))
+    ∙ (ap length (get_or-map table_of hs s no_stack [] within)
+    ∙ (blocks_seen blocks h (sound.whole s no_stack within)
+    ∙ sym (get_or-map blocks_of (map (seen blocks) hs) s None d (omega (arith, length-map hs (seen blocks))) ∙ ap blocks_of (get_or-map (seen blocks) hs s no_stack None within))))) in
     sym sound.total ∙ (sym (sum-map length (map table_of hs)) ∙ (ap sum same ∙ sum-map blocks_of (map (seen blocks) hs)))

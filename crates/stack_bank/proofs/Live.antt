@@ -21,9 +21,9 @@ full_live blocks b full = some_of_full (block_at blocks b) full
 
 pub live_within : (blocks : Blocks) (b : ℕ) → IsSome (block_at blocks b) → b < length blocks
 live_within blocks b live = elim (cases_lt b (length blocks)) as (λ _. b < length blocks) [
-    | inl below ↦ below
-    | inr past ↦ absurd (cc (get_or_past blocks b None past))
-  ]
+  | inl below ↦ below
+  | inr past ↦ absurd (cc (get_or_past blocks b None past))
+]
 
 pub same_values : (old new : Blocks) (b : ℕ) → block_at new b ≡ block_at old b → values_at new b ≡ values_at old b
 same_values old new b same = ap (λ o. unwrap_or o []) same
@@ -56,8 +56,8 @@ pub record AtEnd (xs : List ℕ) (x j : ℕ) : Type 0 where
 
 pub push_cases : (xs : List ℕ) (x j : ℕ) → j < length (xs ++ x ∷ []) → InFront xs x j ⊎ AtEnd xs x j
 push_cases xs x j within = elim (cases_lt j (length xs)) as (λ _. InFront xs x j ⊎ AtEnd xs x j) [
-    | inl below ↦ inl (record { within = below; is = get_or_append_left xs (x ∷ []) 0 j below })
-    | inr above ↦
+  | inl below ↦ inl (record { within = below; is = get_or_append_left xs (x ∷ []) 0 j below })
+  | inr above ↦
       let place : j ≡ length xs = omega (arith, length_push xs x) in
       inr (record { place = place; is = get_or_push xs x 0 j (sym place) })
-  ]
+]

@@ -41,13 +41,15 @@ lease_holds mid new table b holds leases =
 pub lease_step : (old : Blocks) (mid new : Pool Slot) (before after : List ℕ) (b : ℕ) → Moves old mid.blocks before after → Leases mid new b nil → Moves old new.blocks before (after ++ b ∷ [])
 lease_step old mid new before after b moves leases = record {
   others = λ k live outside.
-    let kept = moves.others k live outside in
-    let live_then : IsSome (block_at mid.blocks k) = rw kept.0 live in
-    let differs : k ≢ b = other_block mid.blocks k b live_then leases.not_live in
-    (leases.others k differs ∙ kept.0, λ j within. elim (push_cases after b j within) as (λ _. get_or (after ++ b ∷ []) j 0 ≢ k) [
-      | inl front ↦ λ same. kept.1 j front.within (sym front.is ∙ same)
-      | inr end ↦ λ same. differs (sym same ∙ end.is)
-    ]);
+      let kept = moves.others k live outside in
+      let live_then : IsSome (block_at mid.blocks k) = rw kept.0 live in
+      let differs : k ≢ b = other_block mid.blocks k b live_then leases.not_live in (
+        leases.others k differs ∙ kept.0,
+        λ j within. elim (push_cases after b j within) as (λ _. get_or (after ++ b ∷ []) j 0 ≢ k) [
+          | inl front ↦ λ same. kept.1 j front.within (sym front.is ∙ same)
+          | inr end ↦ λ same. differs (sym same ∙ end.is)
+        ],
+      );
   holds = lease_holds mid new after b moves.holds leases;
   count = omega (arith, moves.count, leases.live, length_push after b);
 }
@@ -59,8 +61,8 @@ give_holds mid front b holds =
     let in_all : (j : ℕ) → j < length front → j < length (front ++ b ∷ []) = λ j within. omega (arith, length_push front b) in
     let is : (j : ℕ) → j < length front → get_or (front ++ b ∷ []) j 0 ≡ get_or front j 0 = λ j within. get_or_append_left front (b ∷ []) 0 j within in
     let other : (j : ℕ) → j < length front → get_or front j 0 ≢ b = λ j within same.
-      let place : j ≡ length front = holds.apart j (length front) (in_all j within) (omega (arith, length_push front b)) (is j within ∙ (same ∙ sym (get_or_push front b 0 (length front) refl))) in
-      omega arith in
+    let place : j ≡ length front = holds.apart j (length front) (in_all j within) (omega (arith, length_push front b)) (is j within ∙ (same ∙ sym (get_or_push front b 0 (length front) refl))) in
+    omega arith in
     record {
       full = λ j within. rw (get_or-set_other mid b (get_or front j 0) None None (other j within)) (rw (is j within) at (holds.full j (in_all j within)));
       apart = λ i j in_i in_j same. holds.apart i j (in_all i in_i) (in_all j in_j) (is i in_i ∙ (same ∙ sym (is j in_j)));
@@ -73,9 +75,9 @@ give_step old mid before front b moves =
     let live : IsSome (block_at mid b) = full_live mid b (rw last at (moves.holds.full (length front) in_last)) in
     record {
       others = λ k live_k outside.
-        let kept = moves.others k live_k outside in
-        let differs : k ≢ b = λ same. kept.1 (length front) in_last (last ∙ sym same) in
-        (get_or-set_other mid b k None None differs ∙ kept.0, λ j within same. kept.1 j (omega (arith, length_push front b)) (get_or_append_left front (b ∷ []) 0 j within ∙ same));
+          let kept = moves.others k live_k outside in
+          let differs : k ≢ b = λ same. kept.1 (length front) in_last (last ∙ sym same) in
+          (get_or-set_other mid b k None None differs ∙ kept.0, λ j within same. kept.1 j (omega (arith, length_push front b)) (get_or_append_left front (b ∷ []) 0 j within ∙ same));
       holds = give_holds mid front b moves.holds;
       count = omega (arith, moves.count, live_set_none mid b live, length_push front b);
     }
@@ -88,9 +90,9 @@ write_step old mid before after b at xs moves within is full =
     let in_mid = live_within mid b live in
     record {
       others = λ k live_k outside.
-        let kept = moves.others k live_k outside in
-        let differs : k ≢ b = λ same. kept.1 at within (is ∙ sym same) in
-        (get_or-set_other mid b k (Some xs) None differs ∙ kept.0, kept.1);
+          let kept = moves.others k live_k outside in
+          let differs : k ≢ b = λ same. kept.1 at within (is ∙ sym same) in
+          (get_or-set_other mid b k (Some xs) None differs ∙ kept.0, kept.1);
       holds = record {
         full = λ j in_j. elim (cases_eq (get_or after j 0) b) as (λ _. length (values_at (set mid b (Some xs)) (get_or after j 0)) ≡ 64) [
           | inl same ↦ rw (same, get_or-set_same mid b (Some xs) None in_mid) full
@@ -106,10 +108,10 @@ write_step old mid before after b at xs moves within is full =
 pub moves_twice : (old mid new : Blocks) (before between after : List ℕ) → Moves old mid before between → Moves mid new between after → Moves old new before after
 moves_twice old mid new before between after first second = record {
   others = λ b live outside.
-    let one = first.others b live outside in
-    let live_then : IsSome (block_at mid b) = rw one.0 live in
-    let two = second.others b live_then one.1 in
-    (two.0 ∙ one.0, two.1);
+      let one = first.others b live outside in
+      let live_then : IsSome (block_at mid b) = rw one.0 live in
+      let two = second.others b live_then one.1 in
+      (two.0 ∙ one.0, two.1);
   holds = second.holds;
   count = omega (arith, first.count, second.count);
 }

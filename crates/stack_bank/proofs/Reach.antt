@@ -19,8 +19,8 @@ reaches_run blocks hs k h w n run id s within near start up_to follow =
     record {
       within = λ i in_near. rw is (omega (arith, s.sized));
       place = λ i in_near. rw is (
-        let step = follow ((w.base + i) / 64) (omega arith) (up_to i in_near) in
-        omega arith);
+          let step = follow ((w.base + i) / 64) (omega arith) (up_to i in_near) in
+          omega arith);
     }
 
 -- ---- what is at a place
@@ -83,32 +83,32 @@ reaches_kept bank after w kept reaches = record {
 -- one table is set
 table_set : (ts : List (List ℕ)) (id k j : ℕ) (t : List ℕ) → j < length (get_or ts k []) → (k ≡ id → (j < length t) × (get_or t j 0 ≡ get_or (get_or ts k []) j 0)) → (j < length (get_or (set ts id t) k [])) × (get_or (get_or (set ts id t) k []) j 0 ≡ get_or (get_or ts k []) j 0)
 table_set ts id k j t within here = elim (cases_eq k id) as (λ _. (j < length (get_or (set ts id t) k [])) × (get_or (get_or (set ts id t) k []) j 0 ≡ get_or (get_or ts k []) j 0)) [
-    | inl same ↦ elim (cases_lt id (length ts)) as (λ _. (j < length (get_or (set ts id t) k [])) × (get_or (get_or (set ts id t) k []) j 0 ≡ get_or (get_or ts k []) j 0)) [
-      | inl below ↦
+  | inl same ↦ elim (cases_lt id (length ts)) as (λ _. (j < length (get_or (set ts id t) k [])) × (get_or (get_or (set ts id t) k []) j 0 ≡ get_or (get_or ts k []) j 0)) [
+    | inl below ↦
         let is : get_or (set ts id t) k [] ≡ t = ap (λ n. get_or (set ts id t) n []) same ∙ get_or-set_same ts id t [] below in
         rw is (here same)
-      | inr past ↦ rw (set_past ts id t past) (within, refl)
-    ]
-    | inr differs ↦ rw (get_or-set_other ts id k t [] differs) (within, refl)
+    | inr past ↦ rw (set_past ts id t past) (within, refl)
   ]
+  | inr differs ↦ rw (get_or-set_other ts id k t [] differs) (within, refl)
+]
 
 pub reaches_grown : (old new : Bank) (id n : ℕ) (w : Window) → Grows old new id n → Reaches old w → Reaches new w
 reaches_grown old new id n w grows reaches = reaches_kept old new w (λ j within used.
     let set_is = table_set old.tables id w.id.0 j (table old id ++ grows.more) within (λ same.
-      let in_old : j < length (table old id) = rw same at within in
-      (omega (arith, length-append (table old id) grows.more), rw same (get_or_append_left (table old id) grows.more 0 j in_old))) in
+    let in_old : j < length (table old id) = rw same at within in
+    (omega (arith, length-append (table old id) grows.more), rw same (get_or_append_left (table old id) grows.more 0 j in_old))) in
     rw grows.tables set_is) reaches
 
 -- a stack is cut above what the window reaches of it
 pub reaches_cut : (bank : Bank) (id n : ℕ) (w : Window) → (w.id.0 ≡ id → w.base + w.near ≤ n) → Reaches bank w → Reaches (cut bank id n) w
 reaches_cut bank id n w above reaches = reaches_kept bank (cut bank id n) w (λ j within used.
     table_set bank.tables id w.id.0 j (take (blocks_for n) (table bank id)) within (λ same.
-      let in_old : j < length (table bank id) = rw same at within in
-      let reached : w.base + w.near ≤ n = above same in
-      let near : used.0 < w.near = used.1 in
-      let block : j ≡ (w.base + used.0) / 64 = used.2 in
-      let low : j < blocks_for n = omega arith in
-      (omega (arith, length-take (blocks_for n) (table bank id)), rw same (get_or-take (blocks_for n) (table bank id) j 0 low)))) reaches
+    let in_old : j < length (table bank id) = rw same at within in
+    let reached : w.base + w.near ≤ n = above same in
+    let near : used.0 < w.near = used.1 in
+    let block : j ≡ (w.base + used.0) / 64 = used.2 in
+    let low : j < blocks_for n = omega arith in
+    (omega (arith, length-take (blocks_for n) (table bank id)), rw same (get_or-take (blocks_for n) (table bank id) j 0 low)))) reaches
 
 pub reaches_closed : (bank : Bank) (id : ℕ) (w : Window) → w.id.0 ≢ id → Reaches bank w → Reaches (closed bank id) w
 reaches_closed bank id w differs reaches = reaches_kept bank (closed bank id) w (λ j within used.

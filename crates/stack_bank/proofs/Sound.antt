@@ -56,26 +56,26 @@ sound_moves old new hs k h sound within moves whole =
       full = λ s. elim (cases_eq s k) as (λ _. P s (table_at (set hs k h) s)) [
         | inl same ↦ subst (λ t. P s t) (sym (ap (table_at (set hs k h)) same ∙ here)) moves.holds.full
         | inr differs ↦ subst (λ t. P s t) (sym (table_other hs k s h differs)) (λ j in_j.
-          let kept = other_stack old new hs k s j h.table sound moves differs in_j in
-          rw (same_values old new (get_or (table_at hs s) j 0) kept.0) (sound.full s j in_j))
+            let kept = other_stack old new hs k s j h.table sound moves differs in_j in
+            rw (same_values old new (get_or (table_at hs s) j 0) kept.0) (sound.full s j in_j))
       ];
       apart = λ s t i j.
-        let Q : List ℕ → List ℕ → Type 0 = λ a b. i < length a → j < length b → get_or a i 0 ≡ get_or b j 0 → (s ≡ t) × (i ≡ j) in
-        elim (cases_eq s k) as (λ _. Q (table_at (set hs k h) s) (table_at (set hs k h) t)) [
-          | inl s_is ↦ subst (λ a. Q a (table_at (set hs k h) t)) (sym (ap (table_at (set hs k h)) s_is ∙ here)) (
-            elim (cases_eq t k) as (λ _. Q h.table (table_at (set hs k h) t)) [
-              | inl t_is ↦ subst (λ b. Q h.table b) (sym (ap (table_at (set hs k h)) t_is ∙ here)) (λ in_i in_j same. (s_is ∙ sym t_is, moves.holds.apart i j in_i in_j same))
-              | inr differs ↦ subst (λ b. Q h.table b) (sym (table_other hs k t h differs)) (λ in_i in_j same. absurd ((other_stack old new hs k t j h.table sound moves differs in_j).1 i in_i same))
-            ])
-          | inr s_differs ↦ subst (λ a. Q a (table_at (set hs k h) t)) (sym (table_other hs k s h s_differs)) (
-            elim (cases_eq t k) as (λ _. Q (table_at hs s) (table_at (set hs k h) t)) [
-              | inl t_is ↦ subst (λ b. Q (table_at hs s) b) (sym (ap (table_at (set hs k h)) t_is ∙ here)) (λ in_i in_j same. absurd ((other_stack old new hs k s i h.table sound moves s_differs in_i).1 j in_j (sym same)))
-              | inr differs ↦ subst (λ b. Q (table_at hs s) b) (sym (table_other hs k t h differs)) (λ in_i in_j same. sound.apart s t i j in_i in_j same)
-            ])
-        ];
+          let Q : List ℕ → List ℕ → Type 0 = λ a b. i < length a → j < length b → get_or a i 0 ≡ get_or b j 0 → (s ≡ t) × (i ≡ j) in
+          elim (cases_eq s k) as (λ _. Q (table_at (set hs k h) s) (table_at (set hs k h) t)) [
+            | inl s_is ↦ subst (λ a. Q a (table_at (set hs k h) t)) (sym (ap (table_at (set hs k h)) s_is ∙ here)) (
+                elim (cases_eq t k) as (λ _. Q h.table (table_at (set hs k h) t)) [
+                  | inl t_is ↦ subst (λ b. Q h.table b) (sym (ap (table_at (set hs k h)) t_is ∙ here)) (λ in_i in_j same. (s_is ∙ sym t_is, moves.holds.apart i j in_i in_j same))
+                  | inr differs ↦ subst (λ b. Q h.table b) (sym (table_other hs k t h differs)) (λ in_i in_j same. absurd ((other_stack old new hs k t j h.table sound moves differs in_j).1 i in_i same))
+                ])
+            | inr s_differs ↦ subst (λ a. Q a (table_at (set hs k h) t)) (sym (table_other hs k s h s_differs)) (
+                elim (cases_eq t k) as (λ _. Q (table_at hs s) (table_at (set hs k h) t)) [
+                  | inl t_is ↦ subst (λ b. Q (table_at hs s) b) (sym (ap (table_at (set hs k h)) t_is ∙ here)) (λ in_i in_j same. absurd ((other_stack old new hs k s i h.table sound moves s_differs in_i).1 j in_j (sym same)))
+                  | inr differs ↦ subst (λ b. Q (table_at hs s) b) (sym (table_other hs k t h differs)) (λ in_i in_j same. sound.apart s t i j in_i in_j same)
+                ])
+          ];
       total =
-        let sums : sum_by length (set (map table_of hs) k h.table) + length (get_or (map table_of hs) k []) ≡ sum_by length (map table_of hs) + length h.table = sum_by-set length (map table_of hs) k h.table [] (omega (arith, length-map hs table_of)) in
-        ap (sum_by length) (tables_set hs k h) ∙ omega (arith, sound.total, moves.count);
+          let sums : sum_by length (set (map table_of hs) k h.table) + length (get_or (map table_of hs) k []) ≡ sum_by length (map table_of hs) + length h.table = sum_by-set length (map table_of hs) k h.table [] (omega (arith, length-map hs table_of)) in
+          ap (sum_by length) (tables_set hs k h) ∙ omega (arith, sound.total, moves.count);
     }
 
 -- the other stacks are seen as before
@@ -84,11 +84,11 @@ seen_moves old new hs k h sound moves =
     let x : Option (List Slot) = seen new h in
     let lengths : length (set (map (seen new) hs) k x) ≡ length (set (map (seen old) hs) k x) = length-set (map (seen new) hs) k x ∙ (length-map hs (seen new) ∙ sym (length-set (map (seen old) hs) k x ∙ length-map hs (seen old))) in
     map-set (seen new) hs k h ∙ same_lists _ _ lengths (λ s d in_list.
-      let within : s < length hs = omega (arith, length-set (map (seen new) hs) k x, length-map hs (seen new)) in
-      elim (cases_eq s k) as (λ _. get_or (set (map (seen new) hs) k x) s d ≡ get_or (set (map (seen old) hs) k x) s d) [
-        | inl same ↦
+    let within : s < length hs = omega (arith, length-set (map (seen new) hs) k x, length-map hs (seen new)) in
+    elim (cases_eq s k) as (λ _. get_or (set (map (seen new) hs) k x) s d ≡ get_or (set (map (seen old) hs) k x) s d) [
+      | inl same ↦
           rw same (get_or-set_same (map (seen new) hs) k x d (omega (arith, length-map hs (seen new))) ∙ sym (get_or-set_same (map (seen old) hs) k x d (omega (arith, length-map hs (seen old)))))
-        | inr differs ↦
+      | inr differs ↦
           let g : Held = get_or hs s no_stack in
           let table : table_at hs s ≡ g.table = get_or-map table_of hs s no_stack [] within in
           let same_blocks : (j : ℕ) → j < length g.table → block_at new (get_or g.table j 0) ≡ block_at old (get_or g.table j 0) = subst (λ t. (j : ℕ) → j < length t → block_at new (get_or t j 0) ≡ block_at old (get_or t j 0)) table (λ j in_j. (other_stack old new hs k s j h.table sound moves differs in_j).0) in
@@ -97,7 +97,7 @@ seen_moves old new hs k h sound moves =
           ∙ (get_or-map (seen new) hs s no_stack d within
           ∙ (rw slots refl
           ∙ sym (get_or-set_other (map (seen old) hs) k s x d differs ∙ get_or-map (seen old) hs s no_stack d within)))
-      ])
+    ])
 
 -- ---- the stacks that a bank holds are those of its vector
 
@@ -109,9 +109,9 @@ stack_at items k x is within = record {
 
 live_here : (blocks : Blocks) (h : Held) → IsSome (seen blocks h) → h.live ≡ true
 live_here blocks h live = elim (h.live) as (λ t. IsSome (if t then Some (slots_of blocks h.table h.length) else None) → t ≡ true) [
-    | true ↦ λ _. refl
-    | false ↦ λ some. cc some
-  ] live
+  | true ↦ λ _. refl
+  | false ↦ λ some. cc some
+] live
 
 pub seen_live : (blocks : Blocks) (h : Held) → h.live ≡ true → seen blocks h ≡ Some (slots_of blocks h.table h.length)
 seen_live blocks h live = rw live refl
@@ -119,9 +119,9 @@ seen_live blocks h live = rw live refl
 -- the number of a live stack is the number of one
 pub live_number : (blocks : Blocks) (hs : List Held) (k : ℕ) → IsSome (get_or (map (seen blocks) hs) k None) → k < length hs
 live_number blocks hs k live = elim (cases_lt k (length hs)) as (λ _. k < length hs) [
-    | inl below ↦ below
-    | inr past ↦ absurd (cc (get_or_past (map (seen blocks) hs) k None (omega (arith, length-map hs (seen blocks)))))
-  ]
+  | inl below ↦ below
+  | inr past ↦ absurd (cc (get_or_past (map (seen blocks) hs) k None (omega (arith, length-map hs (seen blocks)))))
+]
 
 -- what is seen of stack k where it is live
 pub record IsSeen (blocks : Blocks) (hs : List Held) (k : ℕ) (h : Held) : Type 0 where

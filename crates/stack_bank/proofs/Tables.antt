@@ -28,20 +28,20 @@ pub adds_step : (old : Blocks) (mid new : Pool Slot) (before after : List ℕ) (
 adds_step old mid new before after b n adds leases = record {
   moves = lease_step old mid new before after b adds.moves leases;
   kept = λ k live.
-    let live_then : IsSome (block_at mid.blocks k) = rw (adds.kept k live) live in
-    leases.others k (other_block mid.blocks k b live_then leases.not_live) ∙ adds.kept k live;
+      let live_then : IsSome (block_at mid.blocks k) = rw (adds.kept k live) live in
+      leases.others k (other_block mid.blocks k b live_then leases.not_live) ∙ adds.kept k live;
   more = adds.more ++ b ∷ [];
   behind = ap (λ t. t ++ b ∷ []) adds.behind ∙ append_assoc before adds.more (b ∷ []);
   size = length_push adds.more b ∙ ap (λ k. k + 1) adds.size;
   nils = λ j within.
-    let in_more : j < length (adds.more ++ b ∷ []) = omega (arith, length_push adds.more b, adds.size) in
-    elim (push_cases adds.more b j in_more) as (λ _. block_at new.blocks (get_or (adds.more ++ b ∷ []) j 0) ≡ Some (replicate 64 nil)) [
-      | inl front ↦
-        let is : block_at mid.blocks (get_or adds.more j 0) ≡ Some (replicate 64 nil) = adds.nils j (omega (arith, front.within, adds.size)) in
-        let live : IsSome (block_at mid.blocks (get_or adds.more j 0)) = rw is refl in
-        rw front.is (leases.others (get_or adds.more j 0) (other_block mid.blocks (get_or adds.more j 0) b live leases.not_live) ∙ is)
-      | inr end ↦ rw end.is leases.holds
-    ];
+      let in_more : j < length (adds.more ++ b ∷ []) = omega (arith, length_push adds.more b, adds.size) in
+      elim (push_cases adds.more b j in_more) as (λ _. block_at new.blocks (get_or (adds.more ++ b ∷ []) j 0) ≡ Some (replicate 64 nil)) [
+        | inl front ↦
+            let is : block_at mid.blocks (get_or adds.more j 0) ≡ Some (replicate 64 nil) = adds.nils j (omega (arith, front.within, adds.size)) in
+            let live : IsSome (block_at mid.blocks (get_or adds.more j 0)) = rw is refl in
+            rw front.is (leases.others (get_or adds.more j 0) (other_block mid.blocks (get_or adds.more j 0) b live leases.not_live) ∙ is)
+        | inr end ↦ rw end.is leases.holds
+      ];
 }
 
 -- ---- blocks are given back
@@ -59,15 +59,15 @@ drops_step old mid before after front b is drops =
     let size : length (front ++ b ∷ []) ≡ length front + 1 = length_push front b in
     let holds = drops'.moves.holds in
     let same : (j : ℕ) → j < length front → get_or before j 0 ≡ get_or front j 0 = λ j within.
-      sym (get_or-take (length (front ++ b ∷ [])) before j 0 (omega arith)) ∙ (ap (λ t. get_or t j 0) (sym drops'.front) ∙ get_or_append_left front (b ∷ []) 0 j within) in
+    sym (get_or-take (length (front ++ b ∷ [])) before j 0 (omega arith)) ∙ (ap (λ t. get_or t j 0) (sym drops'.front) ∙ get_or_append_left front (b ∷ []) 0 j within) in
     record {
       moves = give_step old mid before front b drops'.moves;
       front = sym (take_at front (b ∷ []) (length front) refl) ∙ (ap (take (length front)) drops'.front ∙ take-take (length front) (length (front ++ b ∷ [])) before (omega arith));
       kept = λ j within.
-        let differs : get_or before j 0 ≢ b = λ eq.
+          let differs : get_or before j 0 ≢ b = λ eq.
           let place : j ≡ length front = holds.apart j (length front) (omega arith) (omega arith) (get_or_append_left front (b ∷ []) 0 j within ∙ (sym (same j within) ∙ (eq ∙ sym (get_or_push front b 0 (length front) refl)))) in
           omega arith in
-        get_or-set_other mid b (get_or before j 0) None None differs ∙ drops'.kept j (omega arith);
+          get_or-set_other mid b (get_or before j 0) None None differs ∙ drops'.kept j (omega arith);
     }
 
 -- the block that is given back is live
@@ -105,15 +105,15 @@ clears_some pool table n more b holds sized odd is =
       moves = write_step pool.blocks pool.blocks table table b (n / 64) new (moves_none pool.blocks table holds) last (sym is) new_length;
       before = λ i within. elim (cases_eq (i / 64) (n / 64)) as (λ _. slot_at (set pool.blocks b (Some new)) table i ≡ slot_at pool.blocks table i) [
         | inl same ↦
-          let at : get_or table (i / 64) 0 ≡ b = ap (λ j. get_or table j 0) same ∙ sym is in
-          rw (at, here) (part_before from (to - from) old ys (i % 64) nil (omega arith) (omega arith))
+            let at : get_or table (i / 64) 0 ≡ b = ap (λ j. get_or table j 0) same ∙ sym is in
+            rw (at, here) (part_before from (to - from) old ys (i % 64) nil (omega arith) (omega arith))
         | inr differs ↦
-          let other : get_or table (i / 64) 0 ≢ b = λ eq. differs (holds.apart (i / 64) (n / 64) (omega arith) last (eq ∙ is)) in
-          rw (get_or-set_other pool.blocks b (get_or table (i / 64) 0) (Some new) None other) refl
+            let other : get_or table (i / 64) 0 ≢ b = λ eq. differs (holds.apart (i / 64) (n / 64) (omega arith) last (eq ∙ is)) in
+            rw (get_or-set_other pool.blocks b (get_or table (i / 64) 0) (Some new) None other) refl
       ];
       behind = λ i from_on before_end in_table.
-        let same : i / 64 ≡ n / 64 = omega arith in
-        let at : get_or table (i / 64) 0 ≡ b = ap (λ j. get_or table j 0) same ∙ sym is in
-        rw (at, here) (part_inside from (to - from) old ys (i % 64) nil (omega arith) (omega arith) (omega arith) ∙ get_or-replicate (to - from) (i % 64 - from) nil nil (omega arith));
+          let same : i / 64 ≡ n / 64 = omega arith in
+          let at : get_or table (i / 64) 0 ≡ b = ap (λ j. get_or table j 0) same ∙ sym is in
+          rw (at, here) (part_inside from (to - from) old ys (i % 64) nil (omega arith) (omega arith) (omega arith) ∙ get_or-replicate (to - from) (i % 64 - from) nil nil (omega arith));
       spare = refl;
     }

@@ -35,7 +35,12 @@ fn a_window_reaches_its_slots(rt: HostRuntime) -> Result<(), Fail> {
 }
 
 /// Grows a stack and its list.
-fn grow_both(bank: &mut StackBank, stack: StackId, list: &mut Vec<Slot>, n: usize) -> Result<(), AllocError>
+fn grow_both(
+    bank: &mut StackBank,
+    stack: StackId,
+    list: &mut Vec<Slot>,
+    n: usize,
+) -> Result<(), AllocError>
     requires { IsLive bank.old stack.0 }
     ensures { (other : ℕ) → IsLive bank.old other → IsLive bank.new other }
 {
@@ -65,7 +70,12 @@ fn write_both(bank: &mut StackBank, stack: StackId, list: &mut [Slot], i: usize,
 }
 
 /// A call on a stack, and the same on its list.
-fn change_both(bank: &mut StackBank, stack: StackId, list: &mut Vec<Slot>, step: usize) -> Result<(), AllocError>
+fn change_both(
+    bank: &mut StackBank,
+    stack: StackId,
+    list: &mut Vec<Slot>,
+    step: usize,
+) -> Result<(), AllocError>
     requires live { IsLive bank.old stack.0 }
     requires few { step < 100 }
     ensures { (other : ℕ) → IsLive bank.old other → IsLive bank.new other }

@@ -39,9 +39,7 @@ impl StackBank {
         }
         let first = base / PLACES;
         let last = (base + n - 1) / PLACES;
-        let start = self
-            .pool
-            .place(BlockId(stack.blocks[first]), base % PLACES);
+        let start = self.pool.place(BlockId(stack.blocks[first]), base % PLACES);
         let run = run_end(&stack.blocks, first, last);
         let near = slots_up_to(base, n, run, last);
         Window {

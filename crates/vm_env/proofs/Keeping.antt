@@ -42,9 +42,9 @@ seen_closed k is = rw is refl
 
 open_now : (k : Kept) → IsOpen (seen k) → k.open_now ≡ true
 open_now k open_k = elim (k.open_now) as (λ t. IsOpen (if t then Open k.stack k.base k.size else Closed k.values) → t ≡ true) [
-    | true ↦ λ _. refl
-    | false ↦ λ none. absurd none
-  ] open_k
+  | true ↦ λ _. refl
+  | false ↦ λ none. absurd none
+] open_k
 
 pub is_open : (ks : List Kept) (e : ℕ) (k : Kept) → IsKept ks e k → IsOpen (env (map seen ks) e) → k.open_now ≡ true
 is_open ks e k at open_k = open_now k (subst IsOpen at.is open_k)
@@ -57,9 +57,9 @@ apart_sym (Closed values) stack base n apart = tt
 
 env_pushed : (es : List Env) (x : Env) (e : ℕ) → e ≢ length es → env (es ++ x ∷ []) e ≡ env es e
 env_pushed es x e differs = elim (cases_lt e (length es)) as (λ _. env (es ++ x ∷ []) e ≡ env es e) [
-    | inl below ↦ get_or_append_left es (x ∷ []) (Closed []) e below
-    | inr above ↦ get_or_past (es ++ x ∷ []) e (Closed []) (omega (arith, length_push es x)) ∙ sym (get_or_past es e (Closed []) above)
-  ]
+  | inl below ↦ get_or_append_left es (x ∷ []) (Closed []) e below
+  | inr above ↦ get_or_past (es ++ x ∷ []) e (Closed []) (omega (arith, length_push es x)) ∙ sym (get_or_past es e (Closed []) above)
+]
 
 captures : (es : List Env) (stack base n : ℕ) → MeetsNone es stack base n → ((d e : ℕ) → d ≢ e → Apart (env es d) (env es e)) → (d e : ℕ) → d ≢ e → Apart (env (es ++ Open stack base n ∷ []) d) (env (es ++ Open stack base n ∷ []) e)
 captures es stack base n none apart d e differs =
@@ -67,8 +67,8 @@ captures es stack base n none apart d e differs =
     let last : (k : ℕ) → k ≡ length es → env (es ++ x ∷ []) k ≡ x = λ k same. get_or_push es x (Closed []) k (sym same) in
     elim (cases_eq d (length es)) as (λ _. Apart (env (es ++ x ∷ []) d) (env (es ++ x ∷ []) e)) [
       | inl d_last ↦
-        let e_other : e ≢ length es = λ same. differs (d_last ∙ sym same) in
-        rw (last d d_last, env_pushed es x e e_other) (none e)
+          let e_other : e ≢ length es = λ same. differs (d_last ∙ sym same) in
+          rw (last d d_last, env_pushed es x e e_other) (none e)
       | inr d_other ↦ elim (cases_eq e (length es)) as (λ _. Apart (env (es ++ x ∷ []) d) (env (es ++ x ∷ []) e)) [
         | inl e_last ↦ rw (last e e_last, env_pushed es x d d_other) (apart_sym (env es d) stack base n (none d))
         | inr e_other ↦ rw (env_pushed es x d d_other, env_pushed es x e e_other) (apart d e differs)
@@ -192,9 +192,9 @@ in_room ks bank e i k after v sound at is is_after fits values =
 
 pub open_there : (es : List Env) (e : ℕ) → IsOpen (env es e) → e < length es
 open_there es e open_e = elim (cases_lt e (length es)) as (λ _. e < length es) [
-    | inl below ↦ below
-    | inr past ↦ absurd (subst IsOpen (get_or_past es e (Closed []) past) open_e)
-  ]
+  | inl below ↦ below
+  | inr past ↦ absurd (subst IsOpen (get_or_past es e (Closed []) past) open_e)
+]
 
 pub record Closes (ks : List Kept) (bank : Bank) (e : ℕ) (k : Kept) : Type 0 where
   pub sound : IsSound (set ks e k)
@@ -222,11 +222,11 @@ same_entry items e x y x_is y_is there =
 
 slots_kept : (bank : Bank) (id p k : ℕ) (v : Slot) → IsLive bank k → IsLive (with_slot bank id p v) k × (length (slots (with_slot bank id p v) k) ≡ length (slots bank k))
 slots_kept bank id p k v live = elim (cases_eq k id) as (λ _. IsLive (with_slot bank id p v) k × (length (slots (with_slot bank id p v) k) ≡ length (slots bank k))) [
-    | inl same ↦
+  | inl same ↦
       let here : slots (with_slot bank id p v) id ≡ set (slots bank id) p v = slots_here bank id p v (subst (IsLive bank) same live) in
       (live_set bank.stacks id k (set (slots bank id) p v) live, ap (λ n. length (slots (with_slot bank id p v) n)) same ∙ (ap length here ∙ (length-set (slots bank id) p v ∙ ap (λ n. length (slots bank n)) (sym same))))
-    | inr differs ↦ (live_set bank.stacks id k (set (slots bank id) p v) live, ap length (slots_other bank id k p v differs))
-  ]
+  | inr differs ↦ (live_set bank.stacks id k (set (slots bank id) p v) live, ap length (slots_other bank id k p v differs))
+]
 
 lies_kept : (bank : Bank) (id p : ℕ) (v : Slot) (x : Env) → Lies bank x → Lies (with_slot bank id p v) x
 lies_kept bank id p v (Open stack base n) lies =
@@ -251,9 +251,9 @@ write_keeps_lies old new bank after e i other v writes lies = writes_lie (env ol
 
 pub write_keeps_length : (old new : List Env) (bank after : Bank) (e i other : ℕ) (v : Value) → WritesOne old new bank after e i v → length (contents after (env new other)) ≡ length (contents bank (env old other))
 write_keeps_length old new bank after e i other v one = elim (cases_eq other e) as (λ _. length (contents after (env new other)) ≡ length (contents bank (env old other))) [
-    | inl same ↦ ap (λ n. length (contents after (env new n))) same ∙ (ap length one.here ∙ (length-set (contents bank (env old e)) i v ∙ ap (λ n. length (contents bank (env old n))) (sym same)))
-    | inr differs ↦ ap length (one.others other differs)
-  ]
+  | inl same ↦ ap (λ n. length (contents after (env new n))) same ∙ (ap length one.here ∙ (length-set (contents bank (env old e)) i v ∙ ap (λ n. length (contents bank (env old n))) (sym same)))
+  | inr differs ↦ ap length (one.others other differs)
+]
 
 writes_count : (x : Env) (old new : List Env) (bank after : Bank) (e i : ℕ) (v : Value) → WritesAt x old new bank after e i v → length new ≡ length old
 writes_count (Open stack base n) old new bank after e i v writes = ap length writes.0

@@ -32,8 +32,8 @@ pub window_other : (base n p : ℕ) (xs : List Slot) (v : Slot) → ((j : ℕ) �
 window_other base n p xs v outside =
     let lengths : length (window base n (set xs p v)) ≡ length (window base n xs) = simp (length-take, length-drop, length-set) refl in
     same_lists _ _ lengths (λ j d in_list.
-      let within : j < n = omega (arith, length-take n (drop base (set xs p v))) in
-      get_or-window base n j (set xs p v) d within ∙ (get_or-set_other xs p (base + j) v d (outside j within) ∙ sym (get_or-window base n j xs d within)))
+    let within : j < n = omega (arith, length-take n (drop base (set xs p v))) in
+    get_or-window base n j (set xs p v) d within ∙ (get_or-set_other xs p (base + j) v d (outside j within) ∙ sym (get_or-window base n j xs d within)))
 
 -- ---- one value of a window
 
@@ -55,9 +55,9 @@ window_more base n i xs v front now lies within is so_far =
 
 live_within : (bank : Bank) (id : ℕ) → IsLive bank id → id < length bank.stacks
 live_within bank id live = elim (cases_lt id (length bank.stacks)) as (λ _. id < length bank.stacks) [
-    | inl below ↦ below
-    | inr past ↦ absurd (cc (get_or_past bank.stacks id None past))
-  ]
+  | inl below ↦ below
+  | inr past ↦ absurd (cc (get_or_past bank.stacks id None past))
+]
 
 pub slots_here : (bank : Bank) (id p : ℕ) (v : Slot) → IsLive bank id → slots (with_slot bank id p v) id ≡ set (slots bank id) p v
 slots_here bank id p v live = ap (λ o. unwrap_or o []) (get_or-set_same bank.stacks id (Some (set (slots bank id) p v)) None (live_within bank id live))
@@ -77,9 +77,9 @@ pub contents_other : (bank : Bank) (other : Env) (id base n i : ℕ) (v : Value)
 contents_other bank (Open stack from count) id base n i v live within apart =
     elim (cases_eq stack id) as (λ _. contents (with_slot bank id (base + i) (V v)) (Open stack from count) ≡ contents bank (Open stack from count)) [
       | inl same ↦
-        let here : slots (with_slot bank id (base + i) (V v)) stack ≡ set (slots bank stack) (base + i) (V v) = ap (slots (with_slot bank id (base + i) (V v))) same ∙ (slots_here bank id (base + i) (V v) live ∙ ap (λ k. set (slots bank k) (base + i) (V v)) (sym same)) in
-        ap (λ xs. map read (window from count xs)) here
-        ∙ ap (map read) (window_other from count (base + i) (slots bank stack) (V v) (λ j in_count. apart same j i in_count within))
+          let here : slots (with_slot bank id (base + i) (V v)) stack ≡ set (slots bank stack) (base + i) (V v) = ap (slots (with_slot bank id (base + i) (V v))) same ∙ (slots_here bank id (base + i) (V v) live ∙ ap (λ k. set (slots bank k) (base + i) (V v)) (sym same)) in
+          ap (λ xs. map read (window from count xs)) here
+          ∙ ap (map read) (window_other from count (base + i) (slots bank stack) (V v) (λ j in_count. apart same j i in_count within))
       | inr differs ↦ ap (λ xs. map read (window from count xs)) (slots_other bank id stack (base + i) (V v) differs)
     ]
 contents_other bank (Closed values) id base n i v live within apart = refl
