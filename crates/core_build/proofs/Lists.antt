@@ -1,5 +1,5 @@
 -- Lists of forms.
-use Rattle.std.proofs.Common.{◌≡◌, ◌<◌, List, [], ◌∷◌, ◌++◌, length, map, refl, ap, arith}
+use Rattle.std.proofs.Common.{◌≡◌, ◌<◌, List, [], ◌∷◌, ◌++◌, length, refl, ap, arith}
 use Rattle.rb_syntax.specs.declared.core_form.Core.{Core}
 use Rattle.rb_core.specs.CoreForm as form
 use Rattle.rb_core.specs.CoreForm.{CoreForms, forms, more, one}

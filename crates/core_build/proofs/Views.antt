@@ -1,5 +1,5 @@
 -- The form of a core, by the forms of its parts.
-use Rattle.std.proofs.Common.{◌≡◌, ℕ, Bool, Option, Some, None, List, [], ◌∷◌, map, refl, ap, sym, ◌∙◌, Vec, Box}
+use Rattle.std.proofs.Common.{◌≡◌, Option, Some, None, List, [], ◌∷◌, map, refl, ap, sym, ◌∙◌, Vec, Box}
 use Rattle.std.specs.declared.alloc.Global.{Global}
 use Rattle.rb_base.specs.declared.list.Bytes.{Bytes}
 use Rattle.rb_syntax.specs.declared.core_form.Core as core
