@@ -1,7 +1,7 @@
 -- The core of a tree, by the table of lowering (docs/core.md). `p` is what a `super` without arguments passes
 -- here, and d the number of hidden locals in use around the form. A form that has n hidden locals of its own
 -- numbers them from d on and has its parts at d + n; a body begins at 0.
-use Rattle.std.specs.Prelude.{ℕ, ◌+◌, ◌&&◌, bytes_eq, Bool, true, false, List, [], ◌∷◌, ◌++◌, map, Option, Some, None, codes, min, if◌then◌else◌}
+use Rattle.std.specs.Prelude.{ℕ, ◌+◌, ◌&&◌, bytes_eq, Bool, List, [], ◌++◌, map, None, codes, min, if◌then◌else◌}
 use Rattle.rb_syntax.specs.declared.core_form.Item.{Item}
 use Rattle.rb_syntax.specs.declared.core_form.DefinedKind.TheVariants as kind
 use Rattle.rb_syntax.specs.declared.core_form.Parameters.{Parameters}
