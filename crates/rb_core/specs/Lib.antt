@@ -1,2 +1,4 @@
 pub mod CoreForm
 pub mod View
+pub mod Parts
+pub mod Forms

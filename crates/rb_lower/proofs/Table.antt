@@ -53,32 +53,32 @@ or_assign = refl
 -- a[i] = v
 index_assign : main (node.assign (node.index a (node.one i)) v)
     ≡ form.seq (more (form.set_local (hidden 0) (form.local (codes "a"))) (more (form.set_local (hidden 1) (form.local (codes "i")))
-        (more (form.set_local (hidden 2) (form.local (codes "v")))
-        (two (form.call (form.local (hidden 0)) (codes "[]=") (two (form.local (hidden 1)) (form.local (hidden 2))) none) (form.local (hidden 2))))))
+    (more (form.set_local (hidden 2) (form.local (codes "v")))
+    (two (form.call (form.local (hidden 0)) (codes "[]=") (two (form.local (hidden 1)) (form.local (hidden 2))) none) (form.local (hidden 2))))))
 unfolding a i v main
 index_assign = refl
 
 -- a[i] += v
 index_add : main (node.operator_assign (node.index a (node.one i)) (assignment.Operation binary.Plus) v)
     ≡ form.seq (more (form.set_local (hidden 0) (form.local (codes "a"))) (two (form.set_local (hidden 1) (form.local (codes "i")))
-        (form.seq (more (form.set_local (hidden 2) (form.call (form.call (form.local (hidden 0)) (codes "[]") (one (form.local (hidden 1))) none) (codes "+") (one (form.local (codes "v"))) none))
-        (two (form.call (form.local (hidden 0)) (codes "[]=") (two (form.local (hidden 1)) (form.local (hidden 2))) none) (form.local (hidden 2)))))))
+    (form.seq (more (form.set_local (hidden 2) (form.call (form.call (form.local (hidden 0)) (codes "[]") (one (form.local (hidden 1))) none) (codes "+") (one (form.local (codes "v"))) none))
+    (two (form.call (form.local (hidden 0)) (codes "[]=") (two (form.local (hidden 1)) (form.local (hidden 2))) none) (form.local (hidden 2)))))))
 unfolding a i v main
 index_add = refl
 
 -- a, *i, v = x
 multiple : main (node.multiple_assign (node.targets (node.one a) true (node.one i) (node.one v)) (node.local (codes "x")))
     ≡ form.seq (more (form.set_local (hidden 0) (form.local (codes "x"))) (more (form.set_local (codes "a") (form.item (form.local (hidden 0)) (pos 0)))
-        (more (form.set_local (codes "i") (form.rest_of (form.local (hidden 0)) 1 1))
-        (two (form.set_local (codes "v") (form.item (form.local (hidden 0)) (negsuc 0))) (form.local (hidden 0))))))
+    (more (form.set_local (codes "i") (form.rest_of (form.local (hidden 0)) 1 1))
+    (two (form.set_local (codes "v") (form.item (form.local (hidden 0)) (negsuc 0))) (form.local (hidden 0))))))
 unfolding a i v main
 multiple = refl
 
 -- case a; when i, v; 1; end
 case_two : main (node.case_node (node.one a) (node.one (node.when_clause (node.more i (node.one v)) (node.integer (pos 1)))) node.none)
     ≡ form.seq (two (form.set_local (hidden 0) (form.local (codes "a"))) (form.cond (one (form.branch
-        (form.or_form (form.call (form.local (codes "i")) (codes "===") (one (form.local (hidden 0))) none) (form.call (form.local (codes "v")) (codes "===") (one (form.local (hidden 0))) none))
-        (form.int (pos 1)))) form.nil))
+    (form.or_form (form.call (form.local (codes "i")) (codes "===") (one (form.local (hidden 0))) none) (form.call (form.local (codes "v")) (codes "===") (one (form.local (hidden 0))) none))
+    (form.int (pos 1)))) form.nil))
 unfolding a i v main
 case_two = refl
 

@@ -5,7 +5,7 @@ use Rattle.rb_syntax.specs.declared.core_form.Item.{Item}
 use Rattle.rb_syntax.specs.declared.core_form.Item.TheVariants.{Plain, Splat}
 use Rattle.rb_core.specs.CoreForm as form
 use Rattle.rb_core.specs.CoreForm.{Name, CoreForm, CoreForms, none, more, one}
-use Rattle.core_build.specs.Forms.{send_form, asks_form}
+use Rattle.rb_core.specs.Forms.{send_form, asks_form}
 
 -- tests of which one is to be true, nested to the right
 abbrev pub any_of : CoreForms → CoreForm

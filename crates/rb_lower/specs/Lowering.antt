@@ -14,7 +14,7 @@ use Rattle.rb_tree.specs.Node.{Name, Node, Nodes}
 use Rattle.rb_core.specs.CoreForm as form
 use Rattle.rb_core.specs.CoreForm.{CoreForm, CoreForms, none, more, one, two, forms}
 use Rattle.rb_lower.specs.Names.{hidden, pattern_name, exception_name}
-use Rattle.core_build.specs.Forms.{append, first_or, sequence, after, send_form, loop_test, rescued, asks_form, asks_of_form}
+use Rattle.rb_core.specs.Forms.{append, first_or, sequence, after, send_form, loop_test, rescued, asks_form, asks_of_form}
 use Rattle.rb_lower.specs.Forms.{any_of, asked, has_block, object, passed_forms, from_front, from_back}
 use Rattle.rb_lower.specs.Parts.{is_tree, count, is_none, is_literal, joined, items_of, passed_block, parameters, target_names, passed}
 
@@ -175,7 +175,7 @@ define_of (more s ss) x n f = form.define_on s x (parameters_of n) (locals_of n)
 abbrev pub each_of : CoreForm → Nodes → CoreForms → CoreForm → CoreForm
 each_of e ts stores body =
     form.call e (codes "each") none (one (form.function
-        (record { required = target_names 0 ts; optional = []; rest = None; post = []; block = None }) [] (after stores body)))
+    (record { required = target_names 0 ts; optional = []; rest = None; post = []; block = None }) [] (after stores body)))
 
 -- a list of statements is asked about as its only one
 abbrev pub asks_only : CoreForms → CoreForm
@@ -314,7 +314,7 @@ abbrev mutual
   store p d (node.index e is) v = index_set d (core p (d + (count is + 2)) e) is (core_all p (d + (count is + 2)) is) v
   store p d (node.targets b s r a) v =
       form.seq (more (keep d v) (append (stores p (d + 1) (element d) 0 b)
-          (append (stores p (d + 1) (λ k. elements_between d b a) 0 r) (append (stores p (d + 1) (element_behind d (count a)) 0 a) (one (local_number d))))))
+      (append (stores p (d + 1) (λ k. elements_between d b a) 0 r) (append (stores p (d + 1) (element_behind d (count a)) 0 a) (one (local_number d))))))
   store p d n v = v
 
   -- an abbreviated assignment

@@ -143,7 +143,7 @@ parameters r o rest p b = record {
   optional = optional_names o;
   rest = rest_of rest;
   post = parameter_names (count r) p;
-  block = b
+  block = b;
 }
 
 abbrev pub plain : List Name → List (Item Name)

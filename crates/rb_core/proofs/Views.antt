@@ -19,7 +19,7 @@ use Rattle.rb_core.specs.CoreForm as form
 use Rattle.rb_core.specs.CoreForm.{CoreForm, CoreForms, forms, more}
 use Rattle.rb_core.specs.View as of
 use Rattle.rb_core.specs.View.{core_view}
-use Rattle.core_build.specs.Parts as part
+use Rattle.rb_core.specs.Parts as part
 
 -- two maps over a list are one
 fused : {A B : Type 0} (f : B → CoreForm) (h : A → CoreForm) (g : A → B) → ((x : A) → f (g x) ≡ h x) → (xs : List A) → forms (map f (map g xs)) ≡ forms (map h xs)

@@ -4,8 +4,8 @@ use Rattle.rb_syntax.specs.declared.core_form.Core.{Core}
 use Rattle.rb_core.specs.CoreForm as form
 use Rattle.rb_core.specs.CoreForm.{CoreForms, forms, more, one}
 use Rattle.rb_core.specs.View.{core_view}
-use Rattle.core_build.specs.Forms.{append, sequence, after}
-use Rattle.core_build.specs.Parts.{cores}
+use Rattle.rb_core.specs.Forms.{append, sequence, after}
+use Rattle.rb_core.specs.Parts.{cores}
 
 pub cores-push : (fs : List Core) (f : Core) → cores (fs ++ f ∷ []) ≡ append (cores fs) (one (core_view f))
 cores-push [] f = refl
