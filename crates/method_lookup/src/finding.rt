@@ -24,14 +24,16 @@ fn found_as(owner: ObjId, entry: MethodEntry) -> Option<Found>
 }
 
 /// The first member of the rest of a walk that has the name.
+#[tactic(auto, using(crate::proofs::Search::first_step, crate::proofs::Search::first_none, crate::proofs::Search::shorter, crate::proofs::Search::still_class))]
 fn first_of(walk: &mut Chain, st: &Store, name: SymId) -> Option<Found>
     requires walk { IsWalk walk.old }
     requires store { walk.old.store.now ≡ st.now }
     ensures { result ≡ defined.first_of st.now.store.objects (left walk.old) name }
 {
     'members: while let Some(class) = walk.next() {
-        if let Some(entry) = own_entry(st, class, name) {
-            return found_as(class, entry);
+        match own_entry(st, class, name) {
+            Some(entry) => return found_as(class, entry),
+            None => {}
         }
     }
     None
@@ -46,32 +48,5 @@ pub fn find(st: &Store, class: ObjId, name: SymId) -> Option<Found>
     ensures { result ≡ defined.find st.now.store.objects class name }
 {
     let mut walk = Chain::of(st, class);
-    first_of(&mut walk, st, name)
-}
-
-/// Walks on until the owner is behind.
-fn pass(walk: &mut Chain, owner: ObjId)
-    requires { IsWalk walk.old }
-    ensures left { left walk.new ≡ defined.behind owner (left walk.old) }
-    ensures walk { IsWalk walk.new }
-    ensures store { walk.new.store.now ≡ walk.old.store.now }
-{
-    'members: while let Some(class) = walk.next() {
-        if owner.0 == class.0 {
-            return;
-        }
-    }
-}
-
-/// The method that a super call of that name finds: as `find`, over what follows the owner of the running method. It
-/// takes no memory.
-#[tactic(auto, unfolding(def_core::specs::Find::find_super))]
-pub fn find_super(st: &Store, class: ObjId, owner: ObjId, name: SymId) -> Option<Found>
-    requires sound { Sound st.now.store }
-    requires class { Is (census st.now.store) ClassOrModule class }
-    ensures { result ≡ defined.find_super st.now.store.objects class owner name }
-{
-    let mut walk = Chain::of(st, class);
-    pass(&mut walk, owner);
     first_of(&mut walk, st, name)
 }

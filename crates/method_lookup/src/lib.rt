@@ -1,8 +1,8 @@
-//! Where a method is found, who may call it, and how arguments are bound.
+//! Where a method is found.
 //!
-//! Calls: [`find`], [`find_super`].
+//! Call: [`find`].
 #![tactic(auto)]
 
 pub mod finding;
 
-pub use finding::{find, find_super};
+pub use finding::find;
