@@ -1,0 +1,108 @@
+-- The Array of what remains is sound.
+use Rattle.std.proofs.Common.{◌≡◌, ℕ, zero, suc, ◌+◌, ◌-◌, ◌≤◌, List, [], ◌∷◌, ◌++◌, length, take, drop, replicate, true, false, not, refl, ap, sym, ◌∙◌, subst, arith, if◌then◌else◌}
+use Rattle.std.specs.Prelude.{Option, Some, None, nat_lt, nat_eq, get_or, ◌&&◌, ◌||◌}
+use Rattle.std.proofs.lemmas.Bool.Decides.{nat_tests}
+use Rattle.rb_value.specs.declared.value.Value.{Value}
+use Rattle.rb_value.specs.declared.value.Value.TheVariants.{Nil, True, False, Int, Sym, Obj}
+use Rattle.rb_value.specs.declared.method.Shape.{Shape}
+use Rattle.rb_value.specs.declared.kind.Kind.{Kind}
+use Rattle.rb_value.specs.declared.kind.Kind.TheVariants as kind
+use Rattle.rb_value.specs.declared.core_class.CoreClass.TheVariants as class
+use Rattle.def_core.specs.declared.bound.BindKind.{BindKind}
+use Rattle.def_core.specs.declared.bound.BindKind.TheVariants.{Method, Lambda, Proc}
+use Rattle.def_core.specs.Store.{Store, core, fresh, object_at, with_object}
+use Rattle.def_core.specs.Bind.{least, most, elements_of, elements_in, elements_or, spreads, spread, fitted, arguments, fits, filled, remaining}
+use Rattle.def_core.specs.Sound.{census, Census, Any, IsValue, OptionIs, AllAre, SoundKind, Sound}
+use Rattle.def_core.proofs.Roles.{is_within}
+use Rattle.def_core.proofs.Grows.{core_is_class, sound_with_object}
+
+pub fits_least : (s : Shape) (n : ℕ) → fits s n ≡ true → least s ≤ n
+fits_least s n h = elim (nat_lt n (least s)) as (λ b. nat_lt n (least s) ≡ b → (not b && (s.rest || not (nat_lt (most s) n))) ≡ true → least s ≤ n) [
+  | true ↦ λ b e. cc
+  | false ↦ λ b e. grind (arith, nat_tests, b)
+] refl h
+
+module _ {A : Type 0} (P : A → Type 0) where
+  all_append : (xs ys : List A) → AllAre P xs → AllAre P ys → AllAre P (xs ++ ys)
+  all_append [] ys h g = g
+  all_append (x ∷ xs) ys h g = (h.0, all_append xs ys h.1 g)
+
+  all_take : (n : ℕ) (xs : List A) → AllAre P xs → AllAre P (take n xs)
+  all_take zero xs h = tt
+  all_take (suc n) [] h = tt
+  all_take (suc n) (x ∷ xs) h = (h.0, all_take n xs h.1)
+
+  all_drop : (n : ℕ) (xs : List A) → AllAre P xs → AllAre P (drop n xs)
+  all_drop zero xs h = h
+  all_drop (suc n) [] h = tt
+  all_drop (suc n) (x ∷ xs) h = all_drop n xs h.1
+
+  all_replicate : (n : ℕ) (x : A) → P x → AllAre P (replicate n x)
+  all_replicate zero x h = tt
+  all_replicate (suc n) x h = (h, all_replicate n x h)
+
+elements_sound : (k : Census) (n : ℕ) (x : Kind) → SoundKind k n x → OptionIs (AllAre (IsValue k)) (elements_of x)
+elements_sound k n kind.Plain h = tt
+elements_sound k n (kind.Class c) h = tt
+elements_sound k n (kind.String s) h = tt
+elements_sound k n (kind.Array a) h = h
+elements_sound k n (kind.Hash x) h = tt
+elements_sound k n (kind.Range r) h = tt
+elements_sound k n (kind.Proc p) h = tt
+elements_sound k n (kind.CoreProc r v) h = tt
+elements_sound k n (kind.Fiber b x) h = tt
+elements_sound k n (kind.Exception m d) h = tt
+elements_sound k n (kind.Enumerator x) h = tt
+elements_sound k n (kind.Yielder b) h = tt
+
+module _ (st : Store) (sound : Sound st) where
+  in_value : (v : Value) → IsValue (census st) v → OptionIs (AllAre (IsValue (census st))) (elements_in st.objects v)
+  in_value Nil h = tt
+  in_value True h = tt
+  in_value False h = tt
+  in_value (Int n) h = tt
+  in_value (Sym s) h = tt
+  in_value (Obj id) h = elements_sound (census st) id.0 (object_at st.objects id).kind (sound.objects id.0 (is_within st Any id h)).kind
+
+  or_others : (o : Option (List Value)) (args : List Value) → OptionIs (AllAre (IsValue (census st))) o → AllAre (IsValue (census st)) args → AllAre (IsValue (census st)) (elements_or o args)
+  or_others None args h g = g
+  or_others (Some a) args h g = h
+
+  first_value : (args : List Value) → AllAre (IsValue (census st)) args → IsValue (census st) (get_or args 0 Nil)
+  first_value [] h = tt
+  first_value (x ∷ xs) h = h.0
+
+  all_spread : (args : List Value) → AllAre (IsValue (census st)) args → AllAre (IsValue (census st)) (spread st.objects args)
+  all_spread args h = elim (nat_eq (length args) 1) as (λ b. AllAre (IsValue (census st)) (if b then elements_or (elements_in st.objects (get_or args 0 Nil)) args else args)) [
+    | true ↦ or_others (elements_in st.objects (get_or args 0 Nil)) args (in_value (get_or args 0 Nil) (first_value args h)) h
+    | false ↦ h
+  ]
+
+  all_fitted : (s : Shape) (args : List Value) → AllAre (IsValue (census st)) args → AllAre (IsValue (census st)) (fitted s args)
+  all_fitted s args h =
+      all_append (IsValue (census st)) (if s.rest then args else take (most s) args) (replicate (least s - length (if s.rest then args else take (most s) args)) Nil)
+      (elim s.rest as (λ b. AllAre (IsValue (census st)) (if b then args else take (most s) args)) [
+        | true ↦ h
+        | false ↦ all_take (IsValue (census st)) (most s) args h
+      ])
+      (all_replicate (IsValue (census st)) (least s - length (if s.rest then args else take (most s) args)) Nil tt)
+
+  all_arguments : (s : Shape) (k : BindKind) (args : List Value) → AllAre (IsValue (census st)) args → AllAre (IsValue (census st)) (arguments st.objects s k args)
+  all_arguments s Method args h = h
+  all_arguments s Lambda args h = h
+  all_arguments s Proc args h = all_fitted s (if spreads s then spread st.objects args else args) (elim (spreads s) as (λ b. AllAre (IsValue (census st)) (if b then spread st.objects args else args)) [
+    | true ↦ all_spread args h
+    | false ↦ h
+  ])
+
+  -- the Array of the arguments that remain
+  pub sound_rest : (after : Store) (s : Shape) (k : BindKind) (args given others : List Value) → AllAre (IsValue (census st)) args → given ≡ arguments st.objects s k args
+      → others ≡ remaining s given → after ≡ with_object st (fresh (core class.Array) (kind.Array others)) → Sound after
+  sound_rest after s k args given others all g o a =
+      let taken = arguments st.objects s k args in
+      let here : AllAre (IsValue (census st)) others =
+      subst (AllAre (IsValue (census st))) (sym (o ∙ ap (remaining s) g))
+      (all_drop (IsValue (census st)) (s.required + filled s (length taken)) (take (length taken - s.post) taken)
+      (all_take (IsValue (census st)) (length taken - s.post) taken (all_arguments s k args all))) in
+      subst Sound (sym a)
+      (sound_with_object st sound (fresh (core class.Array) (kind.Array others)) (record { class = core_is_class st sound class.Array refl; singleton = tt; variables = tt; kind = here }))
