@@ -22,9 +22,9 @@ pub record IsWalk (w : Chain) : Type 0 where
   pub included : AllAre (Is (census w.store.now.store) ClassOrModule) w.included.now
   pub above : OptionIs (Is (census w.store.now.store) ClassOrModule) w.above
 
--- the member at the front, and the rest behind it
+-- the member at the front, and the rest behind it; no member at the end, where the walk stays
 abbrev pub Steps : List ObjId → Option ObjId → List ObjId → Type 0
-Steps before None after = before ≡ []
+Steps before None after = (before ≡ []) × (after ≡ [])
 Steps before (Some c) after = before ≡ c ∷ after
 
 -- a member is a class or module of the store

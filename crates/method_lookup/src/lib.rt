@@ -3,6 +3,4 @@
 //! Call: [`find`].
 #![tactic(auto)]
 
-pub mod finding;
-
-pub use finding::find;
+pub use class_model::find;

@@ -1,7 +1,7 @@
 use Rattle.std.proofs.Common.{◌≡◌, length}
 use Rattle.def_core.specs.Find.{first_of}
 use Rattle.class_model.specs.Chain.{left, IsWalk}
-use Rattle.method_lookup.proofs.finding.first_of.Given as goal
+use Rattle.class_model.proofs.finding.first_of.Given as goal
 
 abbrev pub invariant-members : goal.invariant-members
 invariant-members l = record {

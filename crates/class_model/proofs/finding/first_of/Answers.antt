@@ -3,8 +3,8 @@ use Rattle.std.specs.Prelude.{Option}
 use Rattle.rb_value.specs.declared.method.MethodEntry.{MethodEntry}
 use Rattle.def_core.specs.Find.{found_or, first_of}
 use Rattle.class_model.specs.Chain.{left}
-use Rattle.method_lookup.proofs.Search.{first_step}
-use Rattle.method_lookup.proofs.finding.first_of.Goals as goal
+use Rattle.class_model.proofs.Search.{first_step}
+use Rattle.class_model.proofs.finding.first_of.Goals as goal
 
 pub returns-in-Some-own_entry : goal.returns-in-Some-own_entry
 returns-in-Some-own_entry c =

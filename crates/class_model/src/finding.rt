@@ -4,7 +4,8 @@ ghost use Rattle.def_core.specs.Find as defined;
 ghost use Rattle.def_core.specs.Sound.{Sound, census, Is, ClassOrModule};
 ghost use Rattle.class_model.specs.Chain.{left, IsWalk};
 
-use class_model::{Chain, own_entry};
+use crate::chain::Chain;
+use crate::methods::own_entry;
 use def_core::Found;
 use rb_store::Store;
 use rb_value::{Method, MethodEntry, ObjId, SymId};
@@ -23,9 +24,10 @@ fn found_as(owner: ObjId, entry: MethodEntry) -> Option<Found>
     }
 }
 
-/// The first member of the rest of a walk that has the name.
+/// The method of the first member of the rest of a walk that has the name, and none where that entry is undefined. It
+/// takes no memory.
 #[tactic(auto, using(crate::proofs::Search::first_step, crate::proofs::Search::first_none, crate::proofs::Search::shorter, crate::proofs::Search::still_class))]
-fn first_of(walk: &mut Chain, st: &Store, name: SymId) -> Option<Found>
+pub fn first_of(walk: &mut Chain, st: &Store, name: SymId) -> Option<Found>
     requires walk { IsWalk walk.old }
     requires store { walk.old.store.now ≡ st.now }
     ensures { result ≡ defined.first_of st.now.store.objects (left walk.old) name }
