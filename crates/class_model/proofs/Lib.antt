@@ -1,2 +1,4 @@
 pub mod Walks
+pub mod Lineages
+pub mod Filters
 pub mod Search

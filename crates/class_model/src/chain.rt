@@ -2,8 +2,10 @@
 ghost use Rattle.std.specs.Prelude.{◌≡◌, ◌<◌, ◌∷◌, [], length, drop, filter, not};
 ghost use Rattle.def_core.specs.Classes as classes;
 ghost use Rattle.def_core.specs.Sound.{Sound, census, Is, ClassOrModule};
+ghost use Rattle.class_model.specs.AncestorsLeft.{ancestors_left, IsAncestry};
 ghost use Rattle.class_model.specs.Chain.{left, IsWalk, IsMember, Steps};
 
+use crate::ancestry::Ancestors;
 use rb_store::Store;
 use rb_value::{Kind, ObjId};
 
@@ -28,16 +30,35 @@ pub fn included_in(st: &Store, class: ObjId) -> &[ObjId]
     }
 }
 
+/// The superclass of a class; none of any other object. It takes no memory.
+pub(crate) fn above(st: &Store, id: ObjId) -> Option<ObjId>
+    requires { id.0 < length st.now.store.objects }
+    ensures { result ≡ (classes.class_at st.now.store.objects id).superclass }
+{
+    match &st.get(id).kind {
+        Kind::Class(contents) => contents.superclass,
+        _ => None,
+    }
+}
+
 /// The superclass of a class. It takes no memory.
 #[tactic(auto, using(def_core::proofs::Roles::is_within))]
 pub fn superclass_of(st: &Store, class: ObjId) -> Option<ObjId>
     requires { Is (census st.now.store) ClassOrModule class }
     ensures { result ≡ (classes.class_at st.now.store.objects class).superclass }
 {
-    match &st.get(class).kind {
-        Kind::Class(contents) => contents.superclass,
-        _ => None,
-    }
+    above(st, class)
+}
+
+/// The members of the chain of a class or module that are no singleton classes, itself among them
+/// (ISO/IEC 30170:2012, 13.1). It takes no memory.
+pub fn ancestors(st: &Store, class: ObjId) -> Ancestors
+    requires sound { Sound st.now.store }
+    requires class { Is (census st.now.store) ClassOrModule class }
+    ensures left { ancestors_left result ≡ classes.ancestors st.now.store.objects class }
+    ensures ancestry { IsAncestry result }
+{
+    Ancestors::of(st, class)
 }
 
 impl<'a> Chain<'a> {

@@ -1,14 +1,19 @@
-//! Classes and modules of a store: their methods, their ancestors, and where a method is found.
+//! Classes and modules of a store: their methods, their ancestors, where the look-up of a value's methods begins, and
+//! where a method is found.
 //!
-//! Type: [`Chain`]. Calls: [`set_method`], [`set_default`], [`default_visibility`], [`own_method`], [`own_entry`],
-//! [`included_in`], [`superclass_of`], [`find`], [`first_of`].
+//! Types: [`Chain`], [`Ancestors`](ancestry::Ancestors). Calls: [`set_method`], [`set_default`],
+//! [`default_visibility`], [`own_method`], [`own_entry`], [`included_in`], [`superclass_of`], [`ancestors`],
+//! [`class_of`], [`plain_class_of`], [`find`], [`first_of`].
 //! Each call wants a sound store and classes or modules of it, and leaves the store sound.
 #![tactic(auto)]
 
+pub mod ancestry;
 pub mod chain;
 pub mod finding;
 pub mod methods;
+pub mod receiver;
 
-pub use chain::{Chain, included_in, superclass_of};
+pub use chain::{Chain, ancestors, included_in, superclass_of};
 pub use finding::{find, first_of};
 pub use methods::{default_visibility, own_entry, own_method, set_default, set_method};
+pub use receiver::{class_of, plain_class_of};

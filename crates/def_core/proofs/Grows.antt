@@ -1,6 +1,8 @@
 -- A store that gets one more object stays sound.
-use Rattle.std.proofs.Common.{◌≡◌, ◌⊎◌, inl, inr, ℕ, ◌<◌, ◌≤◌, List, [], ◌∷◌, ◌++◌, length, map, get_or, Bool, true, false, refl, ap, sym, ◌∙◌, subst, arith, length-append}
+use Rattle.std.proofs.Common.{◌≡◌, ℕ, ◌<◌, List, [], ◌∷◌, ◌++◌, length, get_or, true, false, refl, ap, sym, ◌∙◌, subst, arith, length-append}
 use Rattle.std.specs.Prelude.{Option, Some, None, slice_get, nat_lt}
+use Rattle.std.specs.List.{position}
+use Rattle.std.specs.Str.{bytes_eq}
 use Rattle.std.proofs.lemmas.Option.{slice_get_within, slice_get-get_or, get_or_from_slice_get}
 use Rattle.std.proofs.lemmas.List.{map-append, get_or_append_left, get_or_push}
 use Rattle.std.proofs.lemmas.Bool.Decides.{nat_tests}
@@ -10,7 +12,6 @@ use Rattle.rb_value.specs.declared.value.ObjId.{ObjId}
 use Rattle.rb_value.specs.declared.value.SymId.{SymId}
 use Rattle.rb_value.specs.declared.method.Method.{Method}
 use Rattle.rb_value.specs.declared.method.Method.TheVariants as method
-use Rattle.rb_value.specs.declared.method.MethodEntry.{MethodEntry}
 use Rattle.rb_value.specs.declared.key.KeyPart.{KeyPart}
 use Rattle.rb_value.specs.declared.key.KeyPart.TheVariants as part
 use Rattle.rb_value.specs.declared.key.Key.{Key}
@@ -26,10 +27,10 @@ use Rattle.rb_value.specs.declared.kind.Sort.{Sort}
 use Rattle.rb_value.specs.declared.core_class.CoreClass.{CoreClass}
 use Rattle.rb_value.specs.CoreClass.{number_of, is_module}
 use Rattle.rb_value.specs.Sort.{sort_of}
-use Rattle.def_core.specs.Store.{Store, absent, with_object}
-use Rattle.def_core.specs.Sound.{sorts_of, census, Census, Role, Any, Module, ClassOrModule, Proc, Fiber, Array, Superclass, Class, SingletonClass, plays, plays_at, Is, IsSymbol, IsValue, OptionIs, AllAre, SoundMethod, SoundEntry, SoundVariable, SoundConstant, IsSuperclass, SoundClass, SoundPart, SoundKey, SoundPair, SoundHash, SoundProc, SoundSource, SoundEnumerator, SoundKind, SoundObject, core_sort, Sound}
-use Rattle.def_core.proofs.Roles.{found}
-use Rattle.def_core.proofs.Sorts.{length-sorts}
+use Rattle.def_core.specs.Store.{Store, absent, with_object, next_number}
+use Rattle.def_core.specs.Changes.{intern, intern_at}
+use Rattle.def_core.specs.Sound.{sorts_of, census, Census, Role, Any, Module, ClassOrModule, Proc, Fiber, Array, Superclass, Class, SingletonClass, plays, plays_at, Is, IsSymbol, IsValue, OptionIs, AllAre, SoundMethod, SoundEntry, SoundVariable, SoundConstant, IsSuperclass, SoundClass, SoundPart, SoundKey, SoundPair, SoundSource, SoundKind, SoundObject, core_sort, Sound}
+use Rattle.def_core.proofs.Roles.{found, is_by_sort}
 
 -- what is there in one census is there in the other
 pub record Extends (k l : Census) : Type 0 where
@@ -163,3 +164,43 @@ sound_with_object st sound o new = record {
 -- a core class is a class
 pub core_is_class : (st : Store) → Sound st → (c : CoreClass) → is_module c ≡ false → Is (census st) Class (record { 0 = number_of c })
 core_is_class st sound c plain = record { holds = ap (plays_at Class) (sound.core c ∙ ap (λ b. Some (core_sort b)) plain) }
+
+-- the new object has each role that its sort plays
+pub new_role : (st : Store) (o : Object) (r : Role) → plays r (sort_of o.kind) ≡ true → Is (census (with_object st o)) r (next_number st)
+new_role st o r h =
+    let longer : length st.objects < length (st.objects ++ o ∷ []) = rw length-append (omega arith) in
+    is_by_sort (with_object st o) r (next_number st) longer
+    (ap (λ (x : Object). plays r (sort_of x.kind)) (get_or_push st.objects o absent (length st.objects) refl) ∙ h)
+
+-- a store that gets more names of symbols
+pub more_names : (st : Store) (names : List (List ℕ)) → Extends (census st) (census (record st { symbols = st.symbols ++ names }))
+more_names st names = record {
+  roles = λ r id is. record { holds = is.holds };
+  names = λ n h. rw length-append (omega (arith, h));
+}
+
+pub sound_with_symbols : (st : Store) → Sound st → (names : List (List ℕ)) → Sound (record st { symbols = st.symbols ++ names })
+sound_with_symbols st sound names = record {
+  objects = λ n h. object_grows _ _ (more_names st names) n (get_or st.objects n absent) (sound.objects n h);
+  core = sound.core;
+}
+
+same_names : (k : Census) → Extends k k
+same_names k = record { roles = λ r id is. is; names = λ n h. h }
+
+-- a name as a symbol keeps all that is there
+pub interned : (st : Store) (name : List ℕ) → Extends (census st) (census (intern st name).store)
+unfolding intern
+interned st name = by (position (bytes_eq name) st.symbols)
+  where
+    by : (p : Option ℕ) → Extends (census st) (census (intern_at st name p).store)
+    by None = more_names st (name ∷ [])
+    by (Some i) = same_names (census st)
+
+pub sound_with_interned : (st : Store) → Sound st → (name : List ℕ) → Sound (intern st name).store
+unfolding intern
+sound_with_interned st sound name = by (position (bytes_eq name) st.symbols)
+  where
+    by : (p : Option ℕ) → Sound (intern_at st name p).store
+    by None = sound_with_symbols st sound (name ∷ [])
+    by (Some i) = sound

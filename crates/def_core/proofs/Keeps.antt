@@ -1,6 +1,6 @@
 -- Changes of the contents of a class keep a store sound.
-use Rattle.std.proofs.Common.{◌≡◌, ◌≢◌, ℕ, ◌<◌, List, [], ◌∷◌, length, get_or, set, Bool, true, false, cond, refl, ap, sym, ◌∙◌, subst, arith, length-set}
-use Rattle.std.specs.Prelude.{Option, Some, None, slice_get, nat_eq}
+use Rattle.std.proofs.Common.{◌≡◌, ◌≢◌, ℕ, ◌<◌, List, [], ◌∷◌, length, get_or, set, true, false, cond, refl, ap, sym, ◌∙◌, subst, arith, length-set}
+use Rattle.std.specs.Prelude.{Some, slice_get, nat_eq}
 use Rattle.std.proofs.lemmas.List.{get_or-set_same, get_or-set_other}
 use Rattle.std.proofs.lemmas.Bool.Decides.{nat_tests}
 use Rattle.rb_value.specs.declared.value.ObjId.{ObjId}
@@ -13,12 +13,13 @@ use Rattle.rb_value.specs.declared.kind.ClassContents.{ClassContents}
 use Rattle.rb_value.specs.declared.kind.Kind.TheVariants as kind
 use Rattle.rb_value.specs.declared.kind.Sort.{Sort}
 use Rattle.rb_value.specs.CoreClass.{number_of}
+use Rattle.rb_value.specs.Sort.{sort_of}
 use Rattle.indexmap.specs.IndexMap.{insert_entry}
-use Rattle.def_core.specs.Store.{Store, object_at, absent}
+use Rattle.def_core.specs.Store.{Store, object_at, sort_at, set_object, absent}
 use Rattle.def_core.specs.Classes.{class_at, with_class}
 use Rattle.def_core.specs.Changes.{with_method, with_default, visibility_for}
-use Rattle.def_core.specs.Sound.{sorts_of, census, Census, ClassOrModule, Is, IsSymbol, AllAre, SoundMethod, SoundEntry, SoundClass, SoundObject, Sound}
-use Rattle.def_core.proofs.Sorts.{sorts-with_class}
+use Rattle.def_core.specs.Sound.{sorts_of, census, Census, SingletonClass, ClassOrModule, Is, IsSymbol, AllAre, SoundMethod, SoundEntry, SoundClass, SoundObject, Sound}
+use Rattle.def_core.proofs.Sorts.{sorts-set, same_class_sort}
 use Rattle.def_core.proofs.Roles.{is_within, is_plays, sound_class}
 
 -- what holds of each member still holds where one is replaced
@@ -29,19 +30,33 @@ each_still P xs i o within new n old = elim (nat_eq n i) as (λ b. nat_eq n i �
   | false ↦ λ e. let other : n ≢ i = grind (arith, nat_tests, e) in subst (P n) (sym (get_or-set_other xs i n o absent other)) old
 ] refl
 
+-- an object of the same sort that is sound in the place of another
+pub sound_with_set : (st : Store) → Sound st → (id : ObjId) (o : Object) → id.0 < length st.objects → sort_of o.kind ≡ sort_at st.objects id
+    → SoundObject (census st) id.0 o → Sound (record st { objects = set_object st.objects id o })
+sound_with_set st sound id o within sort new =
+    let same : sorts_of (set_object st.objects id o) ≡ sorts_of st.objects = sorts-set st.objects id o sort in
+    record {
+      objects = λ n h. subst (λ (ss : List Sort). SoundObject (record { sorts = ss; symbols = length st.symbols }) n (get_or (set_object st.objects id o) n absent)) (sym same)
+          (each_still (SoundObject (census st)) st.objects id.0 o within new n (sound.objects n (rw length-set at h)));
+      core = λ q. ap (λ (ss : List Sort). slice_get ss (number_of q)) same ∙ sound.core q;
+    }
+
 pub sound_with_class : (st : Store) → Sound st → (c : ObjId) (k : ClassContents) → Is (census st) ClassOrModule c → k.form ≡ (class_at st.objects c).form
     → SoundClass (census st) c.0 k → Sound (record st { objects = with_class st.objects c k })
 sound_with_class st sound c k is form new =
-    let after : Object = record (object_at st.objects c) { kind = kind.Class k } in
     let within = is_within st ClassOrModule c is in
     let old = sound.objects c.0 within in
-    let same : sorts_of (with_class st.objects c k) ≡ sorts_of st.objects = sorts-with_class st.objects c k (is_plays st ClassOrModule c is) form in
-    let here : SoundObject (census st) c.0 after = record { class = old.class; singleton = old.singleton; variables = old.variables; kind = new } in
-    record {
-      objects = λ n h. subst (λ (ss : List Sort). SoundObject (record { sorts = ss; symbols = length st.symbols }) n (get_or (with_class st.objects c k) n absent)) (sym same)
-          (each_still (SoundObject (census st)) st.objects c.0 after within here n (sound.objects n (rw length-set at h)));
-      core = λ q. ap (λ (ss : List Sort). slice_get ss (number_of q)) same ∙ sound.core q;
-    }
+    sound_with_set st sound c (record (object_at st.objects c) { kind = kind.Class k }) within
+    (same_class_sort st.objects c k (is_plays st ClassOrModule c is) form)
+    (record { class = old.class; singleton = old.singleton; variables = old.variables; kind = new })
+
+-- an object gets a singleton class
+pub sound_with_singleton : (st : Store) → Sound st → (id s : ObjId) → id.0 < length st.objects → Is (census st) SingletonClass s
+    → Sound (record st { objects = set_object st.objects id (record (object_at st.objects id) { singleton = Some s }) })
+sound_with_singleton st sound id s within is =
+    let old = sound.objects id.0 within in
+    sound_with_set st sound id (record (object_at st.objects id) { singleton = Some s }) within refl
+    (record { class = old.class; singleton = is; variables = old.variables; kind = old.kind })
 
 entry_kept : (k : Census) (table : List (ℕ × MethodEntry)) (n : ℕ) (e : MethodEntry) → AllAre (SoundEntry k) table → SoundEntry k (n, e) → AllAre (SoundEntry k) (insert_entry nat_eq table n e)
 entry_kept k [] n e all new = (new, tt)

@@ -1,18 +1,16 @@
 -- What is known of an object that has a role.
-use Rattle.std.proofs.Common.{◌≡◌, ℕ, ◌<◌, List, length, get_or, Bool, true, false, refl, ap, sym, ◌∙◌, subst, arith, true≢false}
-use Rattle.std.specs.Prelude.{Option, Some, None, slice_get}
-use Rattle.std.proofs.lemmas.Option.{get_or_from_slice_get, slice_get_within}
+use Rattle.std.proofs.Common.{◌≡◌, ℕ, ◌<◌, List, length, true, refl, ap, sym, ◌∙◌, subst, true≢false}
+use Rattle.std.specs.Prelude.{Some, None, slice_get}
+use Rattle.std.proofs.lemmas.Option.{get_or_from_slice_get, slice_get_within, slice_get-get_or}
 use Rattle.rb_value.specs.declared.value.ObjId.{ObjId}
-use Rattle.rb_value.specs.declared.object.Object.{Object}
 use Rattle.rb_value.specs.declared.kind.Kind.{Kind}
 use Rattle.rb_value.specs.declared.kind.Kind.TheVariants as kind
-use Rattle.rb_value.specs.declared.kind.ClassContents.{ClassContents}
 use Rattle.rb_value.specs.declared.kind.Sort.{Sort}
 use Rattle.rb_value.specs.declared.kind.Sort.TheVariants as sort
 use Rattle.rb_value.specs.Sort.{sort_of}
 use Rattle.def_core.specs.Store.{Store, object_at, sort_at}
 use Rattle.def_core.specs.Classes.{contents_of, class_at}
-use Rattle.def_core.specs.Sound.{sorts_of, census, Role, Superclass, Module, ClassOrModule, plays, plays_at, Is, OptionIs, IsSuperclass, SoundClass, SoundKind, SoundObject, Sound}
+use Rattle.def_core.specs.Sound.{sorts_of, census, Role, Class, SingletonClass, Superclass, Module, ClassOrModule, plays, plays_at, Is, SoundClass, SoundKind, Sound}
 use Rattle.def_core.proofs.Sorts.{sort_at-sorts, length-sorts}
 
 -- the sort of an object that has a role
@@ -74,6 +72,49 @@ superclass_is_class st = with_role st Superclass ClassOrModule superclass_sort
 
 pub module_is_class : (st : Store) (id : ObjId) → Is (census st) Module id → Is (census st) ClassOrModule id
 module_is_class st = with_role st Module ClassOrModule module_sort
+
+-- classes and singleton classes can be superclasses
+class_sort : (s : Sort) → plays Class s ≡ true → plays Superclass s ≡ true
+class_sort sort.Plain h = cc
+class_sort sort.Class h = refl
+class_sort sort.Singleton h = cc
+class_sort sort.Module h = cc
+class_sort sort.String h = cc
+class_sort sort.Array h = cc
+class_sort sort.Hash h = cc
+class_sort sort.Range h = cc
+class_sort sort.Proc h = cc
+class_sort sort.Fiber h = cc
+class_sort sort.Exception h = cc
+class_sort sort.Enumerator h = cc
+class_sort sort.Yielder h = cc
+
+singleton_sort : (s : Sort) → plays SingletonClass s ≡ true → plays Superclass s ≡ true
+singleton_sort sort.Plain h = cc
+singleton_sort sort.Class h = cc
+singleton_sort sort.Singleton h = refl
+singleton_sort sort.Module h = cc
+singleton_sort sort.String h = cc
+singleton_sort sort.Array h = cc
+singleton_sort sort.Hash h = cc
+singleton_sort sort.Range h = cc
+singleton_sort sort.Proc h = cc
+singleton_sort sort.Fiber h = cc
+singleton_sort sort.Exception h = cc
+singleton_sort sort.Enumerator h = cc
+singleton_sort sort.Yielder h = cc
+
+pub class_is_superclass : (st : Store) (id : ObjId) → Is (census st) Class id → Is (census st) Superclass id
+class_is_superclass st = with_role st Class Superclass class_sort
+
+pub singleton_is_superclass : (st : Store) (id : ObjId) → Is (census st) SingletonClass id → Is (census st) Superclass id
+singleton_is_superclass st = with_role st SingletonClass Superclass singleton_sort
+
+-- an object has each role that its sort plays
+pub is_by_sort : (st : Store) (r : Role) (id : ObjId) → id.0 < length st.objects → plays r (sort_at st.objects id) ≡ true → Is (census st) r id
+is_by_sort st r id within h =
+    let there : id.0 < length (sorts_of st.objects) = rw (length-sorts st.objects) within in
+    record { holds = ap (plays_at r) (slice_get-get_or (sorts_of st.objects) id.0 sort.Plain there ∙ ap Some (sort_at-sorts st.objects id)) ∙ h }
 
 sound_contents : (st : Store) (n : ℕ) (k : Kind) → plays ClassOrModule (sort_of k) ≡ true → SoundKind (census st) n k → SoundClass (census st) n (contents_of k)
 sound_contents st n kind.Plain h s = absurd (true≢false (sym h))

@@ -1,5 +1,5 @@
 -- The sorts of the objects of a store, which changes of contents leave.
-use Rattle.std.proofs.Common.{◌≡◌, ℕ, ◌<◌, List, length, map, get_or, set, Bool, true, false, refl, ap, sym, ◌∙◌, subst}
+use Rattle.std.proofs.Common.{◌≡◌, List, length, get_or, true, refl, ap, sym, ◌∙◌}
 use Rattle.std.proofs.lemmas.List.{length-map}
 use Rattle.std.proofs.Math.ListN.{get_or-map}
 use Rattle.std.proofs.Math.Seq.{map-set_same}
@@ -17,7 +17,7 @@ use Rattle.rb_value.specs.Sort.{sort_of, sort_of_form}
 use Rattle.def_core.specs.Store.{Store, object_at, sort_at, set_object, absent}
 use Rattle.def_core.specs.Classes.{contents_of, class_at, with_class}
 use Rattle.def_core.specs.Changes.{with_method}
-use Rattle.def_core.specs.Sound.{sorts_of, plays, ClassOrModule, Role}
+use Rattle.def_core.specs.Sound.{sorts_of, plays, ClassOrModule}
 
 pub length-sorts : (objects : List Object) → length (sorts_of objects) ≡ length objects
 length-sorts objects = length-map objects (λ o. sort_of o.kind)
@@ -43,9 +43,11 @@ class_sort (kind.Exception m d) h = cc
 class_sort (kind.Enumerator e) h = cc
 class_sort (kind.Yielder b) h = cc
 
+pub same_class_sort : (objects : List Object) (c : ObjId) (k : ClassContents) → plays ClassOrModule (sort_at objects c) ≡ true → k.form ≡ (class_at objects c).form → sort_of_form k.form ≡ sort_at objects c
+same_class_sort objects c k is same = ap sort_of_form same ∙ sym (class_sort (object_at objects c).kind is)
+
 pub sorts-with_class : (objects : List Object) (c : ObjId) (k : ClassContents) → plays ClassOrModule (sort_at objects c) ≡ true → k.form ≡ (class_at objects c).form → sorts_of (with_class objects c k) ≡ sorts_of objects
-sorts-with_class objects c k is same =
-    sorts-set objects c (record (object_at objects c) { kind = kind.Class k }) (ap sort_of_form same ∙ sym (class_sort (object_at objects c).kind is))
+sorts-with_class objects c k is same = sorts-set objects c (record (object_at objects c) { kind = kind.Class k }) (same_class_sort objects c k is same)
 
 pub sorts-with_method : (st : Store) (c : ObjId) (name : SymId) (m : Method) (v : Visibility) → plays ClassOrModule (sort_at st.objects c) ≡ true → sorts_of (with_method st c name m v).objects ≡ sorts_of st.objects
 unfolding with_method

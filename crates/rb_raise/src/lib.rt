@@ -1,0 +1,11 @@
+//! The exceptions that the language itself raises: for a cause, a new String with its text, and the failure from which
+//! the exception is made.
+//!
+//! Calls: [`raise`]; and [`new_string`], by which it makes the String.
+#![tactic(auto)]
+
+mod messages;
+pub mod raising;
+mod text;
+
+pub use raising::{new_string, raise};
