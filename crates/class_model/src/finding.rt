@@ -11,7 +11,7 @@ use rb_store::Store;
 use rb_value::{Method, MethodEntry, ObjId, SymId};
 
 /// What an entry of that owner is to the search: an undefined one ends it with nothing.
-fn found_as(owner: ObjId, entry: MethodEntry) -> Option<Found>
+pub fn found_as(owner: ObjId, entry: MethodEntry) -> Option<Found>
     ensures { result ≡ defined.found_as owner entry.visibility entry.method }
 {
     match entry.method {

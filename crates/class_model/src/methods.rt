@@ -5,6 +5,7 @@ ghost use Rattle.def_core.specs.Classes.{class_at};
 ghost use Rattle.def_core.specs.Find.{entry_of};
 ghost use Rattle.def_core.specs.Changes.{with_method, with_default};
 ghost use Rattle.def_core.specs.Sound.{Sound, census, Is, ClassOrModule, IsSymbol, SoundMethod};
+ghost use Rattle.rb_store.specs.Counted.{IsCounted};
 ghost use Rattle.class_model.specs.Methods.{method_of};
 
 use rb_base::Steps;
@@ -29,6 +30,7 @@ pub fn set_method(
     ensures ok { OnOk result (st.new.store ≡ with_method st.old.store class name method visibility) }
     ensures err { OnErr result (st.new.store ≡ st.old.store) }
     ensures sound { Sound st.new.store }
+    ensures counted { IsCounted st.old st.new }
 {
     st.put_method(class, name, method, visibility)?;
     Ok(())
@@ -41,6 +43,7 @@ pub fn set_default(st: &mut Store, class: ObjId, visibility: Visibility)
     requires class { Is (census st.old.store) ClassOrModule class }
     ensures store { st.new.store ≡ record st.old.store { objects = with_default st.old.store.objects class visibility } }
     ensures sound { Sound st.new.store }
+    ensures counted { IsCounted st.old st.new }
 {
     st.put_default(class, visibility);
 }

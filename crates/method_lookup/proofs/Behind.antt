@@ -1,7 +1,8 @@
--- One step of a walk past an owner.
-use Rattle.std.proofs.Common.{◌≡◌, ◌<◌, List, [], ◌∷◌, length, refl, arith, if◌then◌else◌}
+-- One step of a walk to an owner.
+use Rattle.std.proofs.Common.{◌≡◌, List, [], ◌∷◌, false, ◌||◌, refl, if◌then◌else◌}
 use Rattle.rb_value.specs.declared.value.ObjId.{ObjId}
 use Rattle.def_core.specs.Store.{same_object}
+use Rattle.def_core.specs.Classes.{is_member}
 use Rattle.def_core.specs.Find.{behind}
 
 pub behind_step : (owner c : ObjId) (before after : List ObjId) → before ≡ c ∷ after → behind owner before ≡ (if same_object owner c then after else behind owner after)
@@ -10,5 +11,8 @@ behind_step owner c before after h = rw h refl
 pub behind_end : (owner : ObjId) (before : List ObjId) → before ≡ [] → behind owner before ≡ []
 behind_end owner before h = rw h refl
 
-pub shorter : (c : ObjId) (before after : List ObjId) → before ≡ c ∷ after → length after < length before
-shorter c before after h = rw h (omega arith)
+pub member_step : (owner c : ObjId) (before after : List ObjId) → before ≡ c ∷ after → is_member before owner ≡ (same_object owner c || is_member after owner)
+member_step owner c before after h = rw h refl
+
+pub member_end : (owner : ObjId) (before : List ObjId) → before ≡ [] → is_member before owner ≡ false
+member_end owner before h = rw h refl

@@ -1,5 +1,5 @@
 -- The Array of what remains is sound.
-use Rattle.std.proofs.Common.{◌≡◌, ℕ, zero, suc, ◌+◌, ◌-◌, ◌≤◌, List, [], ◌∷◌, ◌++◌, length, take, drop, replicate, true, false, not, refl, ap, sym, ◌∙◌, subst, arith, if◌then◌else◌}
+use Rattle.std.proofs.Common.{◌≡◌, ℕ, ◌+◌, ◌-◌, ◌≤◌, List, [], ◌∷◌, length, take, replicate, true, false, not, refl, ap, sym, ◌∙◌, subst, arith, if◌then◌else◌}
 use Rattle.std.specs.Prelude.{Option, Some, None, nat_lt, nat_eq, get_or, ◌&&◌, ◌||◌}
 use Rattle.std.proofs.lemmas.Bool.Decides.{nat_tests}
 use Rattle.rb_value.specs.declared.value.Value.{Value}
@@ -14,6 +14,7 @@ use Rattle.def_core.specs.Store.{Store, core, fresh, object_at, with_object}
 use Rattle.def_core.specs.Bind.{least, most, elements_of, elements_in, elements_or, spreads, spread, fitted, arguments, fits, filled, remaining}
 use Rattle.def_core.specs.Sound.{census, Census, Any, IsValue, OptionIs, AllAre, SoundKind, Sound}
 use Rattle.def_core.proofs.Roles.{is_within}
+use Rattle.method_lookup.proofs.Lists.{all_append, all_take, all_drop, all_replicate}
 use Rattle.def_core.proofs.Grows.{core_is_class, sound_with_object}
 
 pub fits_least : (s : Shape) (n : ℕ) → fits s n ≡ true → least s ≤ n
@@ -21,25 +22,6 @@ fits_least s n h = elim (nat_lt n (least s)) as (λ b. nat_lt n (least s) ≡ b 
   | true ↦ λ b e. cc
   | false ↦ λ b e. grind (arith, nat_tests, b)
 ] refl h
-
-module _ {A : Type 0} (P : A → Type 0) where
-  all_append : (xs ys : List A) → AllAre P xs → AllAre P ys → AllAre P (xs ++ ys)
-  all_append [] ys h g = g
-  all_append (x ∷ xs) ys h g = (h.0, all_append xs ys h.1 g)
-
-  all_take : (n : ℕ) (xs : List A) → AllAre P xs → AllAre P (take n xs)
-  all_take zero xs h = tt
-  all_take (suc n) [] h = tt
-  all_take (suc n) (x ∷ xs) h = (h.0, all_take n xs h.1)
-
-  all_drop : (n : ℕ) (xs : List A) → AllAre P xs → AllAre P (drop n xs)
-  all_drop zero xs h = h
-  all_drop (suc n) [] h = tt
-  all_drop (suc n) (x ∷ xs) h = all_drop n xs h.1
-
-  all_replicate : (n : ℕ) (x : A) → P x → AllAre P (replicate n x)
-  all_replicate zero x h = tt
-  all_replicate (suc n) x h = (h, all_replicate n x h)
 
 elements_sound : (k : Census) (n : ℕ) (x : Kind) → SoundKind k n x → OptionIs (AllAre (IsValue k)) (elements_of x)
 elements_sound k n kind.Plain h = tt

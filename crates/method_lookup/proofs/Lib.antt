@@ -1,3 +1,7 @@
 pub mod Behind
-pub mod Ranges
 pub mod Binds
+pub mod Caches
+pub mod Goes
+pub mod Lists
+pub mod Probes
+pub mod Ranges

@@ -10,7 +10,7 @@ use rb_store::Store;
 use rb_value::{ObjId, SymId};
 
 /// Takes a walk past the owner; past its end where the owner isn't on it.
-#[tactic(auto, using(crate::proofs::Behind::behind_step, crate::proofs::Behind::behind_end, crate::proofs::Behind::shorter))]
+#[tactic(auto, using(crate::proofs::Behind::behind_step, crate::proofs::Behind::behind_end, class_model::proofs::Search::shorter))]
 fn pass(walk: &mut Chain, owner: ObjId)
     requires { IsWalk walk.old }
     ensures left { left walk.new ≡ defined.behind owner (left walk.old) }

@@ -1,11 +1,9 @@
 -- The place of a name in a list of names.
-use Rattle.std.proofs.Common.{◌≡◌, ℕ, suc, ◌+◌, ◌<◌, ◌≤◌, ◌||◌, List, [], ◌∷◌, ◌++◌, length, map, Bool, true, false, cond, refl, ap, sym, ◌∙◌, arith, not, if◌then◌else◌}
-use Rattle.std.specs.Prelude.{Some, None, Option, nat_lt}
+use Rattle.std.proofs.Common.{◌≡◌, ℕ, suc, ◌+◌, ◌≤◌, ◌||◌, List, [], ◌∷◌, ◌++◌, length, map, Bool, true, false, cond, refl, ap, sym, ◌∙◌, arith, not, if◌then◌else◌}
+use Rattle.std.specs.Prelude.{Some, None, nat_lt}
 use Rattle.std.specs.Str.{bytes_eq}
 use Rattle.std.specs.List.{position, position_or_len, prefix_len, list_any}
-use Rattle.std.proofs.lemmas.Grind.{common_steps}
 use Rattle.std.proofs.lemmas.List.{length-map, map-append}
-use Rattle.std.proofs.lemmas.Option.{none-some}
 
 pub prefix_len-map : {A B : Type 0} (f : A → B) (p : B → Bool) (xs : List A) → prefix_len p (map f xs) ≡ prefix_len (λ x. p (f x)) xs
 prefix_len-map f p [] = refl

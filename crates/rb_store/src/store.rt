@@ -4,6 +4,7 @@ ghost use Rattle.rb_value.specs.Sort.{sort_of};
 ghost use Rattle.def_core.specs.Store.{object_at, sort_at, set_object, with_object, next_number, name_at, core};
 ghost use Rattle.def_core.specs.Changes as defined;
 ghost use Rattle.rb_store.specs.Held.{changes_after};
+ghost use Rattle.rb_store.specs.Counted.{IsCounted};
 
 use crate::symbols::Symbols;
 use rb_value::{CoreClass, ObjId, Object, Sort, SymId};
@@ -69,10 +70,12 @@ impl Store {
     }
 
     /// Puts an object behind the others, and gives its number. Where memory runs out all is as before.
+    #[tactic(auto, using(crate::proofs::Counted::added_counted, crate::proofs::Counted::unchanged))]
     pub fn add(&mut self, object: Object) -> Result<ObjId, AllocError>
         ensures number { IfOk result (λ id. id ≡ next_number self.old.store) }
         ensures ok { OnOk result (self.new.store ≡ with_object self.old.store object) }
         ensures changes { self.new.changes ≡ self.old.changes }
+        ensures counted { IsCounted self.old self.new }
         ensures err { OnErr result (self.new.store ≡ self.old.store) }
     {
         let id = ObjId(self.objects.len() as u64);
@@ -81,12 +84,14 @@ impl Store {
     }
 
     /// Puts an object of the same sort in the place of another, which it gives back. It takes no memory.
+    #[tactic(auto, using(crate::proofs::Counted::set_counted))]
     pub fn set(&mut self, id: ObjId, object: Object) -> Object
         requires there { id.0 < length self.old.store.objects }
         requires sort { sort_of object.kind ≡ sort_at self.old.store.objects id }
         ensures old { result ≡ object_at self.old.store.objects id }
         ensures objects { self.new.store ≡ record self.old.store { objects = set_object self.old.store.objects id object } }
         ensures changes { self.new.changes ≡ changes_after self.old.changes (sort_of object.kind) }
+        ensures counted { IsCounted self.old self.new }
     {
         self.changes = raised(self.changes, object.kind.sort());
         mem::replace(&mut self.objects[id.0 as usize], object)
@@ -101,12 +106,14 @@ impl Store {
     }
 
     /// The symbol of a name, which is added where it isn't there. Where memory runs out all is as before.
+    #[tactic(auto, using(crate::proofs::Counted::interned_counted, crate::proofs::Counted::unchanged))]
     pub fn intern(&mut self, name: &[u8]) -> Result<SymId, AllocError>
         ensures symbol { IfOk result (λ s. s ≡ (defined.intern self.old.store name.now).symbol) }
         ensures ok { OnOk result (self.new.store ≡ (defined.intern self.old.store name.now).store) }
         ensures within { IfOk result (λ s. s.0 < length self.new.store.symbols) }
         ensures objects { OnOk result (self.new.store.objects ≡ self.old.store.objects) }
         ensures changes { self.new.changes ≡ self.old.changes }
+        ensures counted { IsCounted self.old self.new }
         ensures err { OnErr result (self.new.store ≡ self.old.store) }
     {
         match self.symbols.place_of(name) {

@@ -1,4 +1,4 @@
-use Rattle.std.proofs.Common.{◌≡◌, ◌<◌, length, arith, sym, ◌∙◌}
+use Rattle.std.proofs.Common.{◌<◌, length, arith, sym, ◌∙◌}
 use Rattle.rb_value.specs.CoreClass.{name_of}
 use Rattle.rb_store.proofs.Rows.{names_step, names_end}
 use Rattle.rb_store.proofs.store.Store.add_names.Goals as goal

@@ -1,5 +1,4 @@
-use Rattle.std.proofs.Common.{◌≡◌, ◌<◌, ◌+◌, length, arith, sym, ◌∙◌, ap, refl, List, ℕ, add-zero, true}
-use Rattle.rb_value.specs.declared.object.Object.{Object}
+use Rattle.std.proofs.Common.{◌≡◌, ◌<◌, length, arith, sym, ◌∙◌, ap, refl, add-zero, true}
 use Rattle.def_core.specs.Store.{Store, sort_at}
 use Rattle.def_core.specs.Sound.{sorts_of, plays, ClassOrModule}
 use Rattle.def_core.proofs.Sorts.{sorts-with_method}

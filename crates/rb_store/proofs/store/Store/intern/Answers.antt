@@ -1,4 +1,4 @@
-use Rattle.std.proofs.Common.{◌≡◌, sym, ◌∙◌, ap, refl}
+use Rattle.std.proofs.Common.{refl}
 use Rattle.def_core.specs.Changes.{intern}
 use Rattle.rb_store.proofs.store.Store.intern.Goals as goal
 

@@ -1,13 +1,12 @@
-use Rattle.std.proofs.Common.{◌≡◌, ◌<◌, ℕ, List, length, map, arith, ap, sym, ◌∙◌, true}
+use Rattle.std.proofs.Common.{map, arith, ap, ◌∙◌}
 use Rattle.std.specs.Prelude.{codes}
 use Rattle.rb_value.specs.CoreClass.{core_classes, name_of}
-use Rattle.rb_value.specs.declared.object.Object.{Object}
 use Rattle.rb_value.specs.declared.core_class.CoreClass.TheVariants as class
 use Rattle.def_core.specs.Store.{Store, core}
 use Rattle.def_core.specs.Changes.{intern}
 use Rattle.def_core.specs.Rows.{integer_names, range_names}
 use Rattle.def_core.specs.Sound.{sorts_of, ClassOrModule}
-use Rattle.rb_store.specs.Opening.{opening, bare, nameless, with_names, with_rows}
+use Rattle.rb_store.specs.Opening.{opening, bare, with_names, with_rows}
 use Rattle.rb_store.proofs.Rows.{there_still, plays_still, nameless_length, nameless_integer, nameless_range}
 use Rattle.rb_store.proofs.store.Store.new.Goals as goal
 

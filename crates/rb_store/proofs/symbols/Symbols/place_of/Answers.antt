@@ -1,4 +1,4 @@
-use Rattle.std.proofs.Common.{◌≡◌, sym, ◌∙◌}
+use Rattle.std.proofs.Common.{sym, ◌∙◌}
 use Rattle.std.specs.Str.{bytes_eq}
 use Rattle.rb_store.proofs.Names.{position-map}
 use Rattle.rb_store.proofs.symbols.Symbols.place_of.Goals as goal

@@ -1,4 +1,3 @@
-use Rattle.std.proofs.Common.{◌≡◌}
 use Rattle.rb_store.proofs.Names.{pushed}
 use Rattle.rb_store.proofs.symbols.Symbols.push.Goals as goal
 
