@@ -1,3 +1,5 @@
 pub mod Methods
 pub mod Chain
 pub mod AncestorsLeft
+pub mod Singletons
+pub mod Including

@@ -10,10 +10,14 @@
 pub mod ancestry;
 pub mod chain;
 pub mod finding;
+pub mod inclusion;
 pub mod methods;
 pub mod receiver;
+pub mod singletons;
 
 pub use chain::{Chain, ancestors, included_in, superclass_of};
 pub use finding::{find, first_of};
+pub use inclusion::{include, is_in_chain};
 pub use methods::{default_visibility, own_entry, own_method, set_default, set_method};
 pub use receiver::{class_of, plain_class_of};
+pub use singletons::singleton;
