@@ -6,3 +6,5 @@ pub mod Attaching
 pub mod Members
 pub mod Making
 pub mod Included
+pub mod Constants
+pub mod Naming

@@ -1,6 +1,6 @@
 -- An object and its superclasses: the classes whose singleton classes it may have.
 use Rattle.std.proofs.Common.{◌≡◌, ℕ, suc, zero, ◌<◌, List, [], ◌∷◌, length, Bool, true, false, refl, ap, sym, ◌∙◌, subst, true≢false}
-use Rattle.std.specs.Prelude.{Option, Some, None}
+use Rattle.std.specs.Prelude.{Option, Some, None, unwrap_or}
 use Rattle.rb_value.specs.declared.value.Value.TheVariants.{Obj}
 use Rattle.rb_value.specs.declared.value.ObjId.{ObjId}
 use Rattle.rb_value.specs.declared.object.Object.{Object}
@@ -206,3 +206,8 @@ any sort.Yielder = refl
 -- an object that is there has a number of the store
 pub there : (st : Store) (id : ObjId) → id.0 < length st.objects → Is (census st) Any id
 there st id within = is_by_sort st Any id within (any (sort_at st.objects id))
+
+-- a parent, or else Object
+pub parent_or_object : (st : Store) → Sound st → (p : Option ObjId) → OptionIs (Is (census st) Class) p → Is (census st) Superclass (unwrap_or p (core class.Object))
+parent_or_object st sound None h = core_is st sound class.Object refl
+parent_or_object st sound (Some p) h = class_is_superclass st p h

@@ -3,3 +3,5 @@ pub mod Chain
 pub mod AncestorsLeft
 pub mod Singletons
 pub mod Including
+pub mod Given
+pub mod Growth
