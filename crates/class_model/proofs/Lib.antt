@@ -8,3 +8,4 @@ pub mod Making
 pub mod Included
 pub mod Constants
 pub mod Naming
+pub mod Found
