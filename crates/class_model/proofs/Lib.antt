@@ -2,3 +2,10 @@ pub mod Walks
 pub mod Lineages
 pub mod Filters
 pub mod Search
+pub mod Attaching
+pub mod Members
+pub mod Making
+pub mod Included
+pub mod Constants
+pub mod Naming
+pub mod Found

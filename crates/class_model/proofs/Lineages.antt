@@ -1,6 +1,6 @@
 -- An object and its superclasses: the classes whose singleton classes it may have.
 use Rattle.std.proofs.Common.{◌≡◌, ℕ, suc, zero, ◌<◌, List, [], ◌∷◌, length, Bool, true, false, refl, ap, sym, ◌∙◌, subst, true≢false}
-use Rattle.std.specs.Prelude.{Option, Some, None}
+use Rattle.std.specs.Prelude.{Option, Some, None, unwrap_or}
 use Rattle.rb_value.specs.declared.value.Value.TheVariants.{Obj}
 use Rattle.rb_value.specs.declared.value.ObjId.{ObjId}
 use Rattle.rb_value.specs.declared.object.Object.{Object}
@@ -12,11 +12,12 @@ use Rattle.rb_value.specs.declared.kind.Kind.TheVariants as kind
 use Rattle.rb_value.specs.declared.kind.Sort.{Sort}
 use Rattle.rb_value.specs.declared.kind.Sort.TheVariants as sort
 use Rattle.rb_value.specs.declared.core_class.CoreClass.{CoreClass}
+use Rattle.rb_value.specs.declared.core_class.CoreClass.TheVariants as class
 use Rattle.rb_value.specs.CoreClass.{is_module}
 use Rattle.rb_value.specs.Sort.{sort_of, sort_of_form}
 use Rattle.def_core.specs.Store.{Store, object_at, sort_at, core}
 use Rattle.def_core.specs.Classes.{contents_of, class_at, lineage_within, lineage, nearest_singleton, singletons_from, class_of}
-use Rattle.def_core.specs.Sound.{census, Census, Role, Class, SingletonClass, Superclass, ClassOrModule, plays, Is, OptionIs, IsSuperclass, SoundClass, SoundKind, Sound}
+use Rattle.def_core.specs.Sound.{census, Census, Any, Class, SingletonClass, Superclass, ClassOrModule, plays, Is, OptionIs, IsSuperclass, SoundClass, SoundKind, Sound}
 use Rattle.def_core.proofs.Roles.{superclass_is_class, class_is_superclass, singleton_is_superclass, is_by_sort, is_within}
 use Rattle.def_core.proofs.Grows as grows
 use Rattle.def_core.proofs.Chains.{lineage_is, lineage_above}
@@ -66,6 +67,9 @@ above_is_below st sound id p within h =
     let above : IsSuperclass (census st) id.0 p = subst (OptionIs (IsSuperclass (census st) id.0)) h (above_is st sound id within) in
     (is_within st Superclass p above.0, above.1)
 
+pub no_superclass : (st : Store) → Sound st → (id : ObjId) → id.0 < length st.objects → plays Superclass (sort_at st.objects id) ≡ false → (class_at st.objects id).superclass ≡ None
+no_superclass st sound id within h = root (census st) id.0 (object_at st.objects id).kind (sound.objects id.0 within).kind h
+
 -- an object without a superclass is alone
 lineage_root : (objects : List Object) (id : ObjId) → (class_at objects id).superclass ≡ None → lineage objects id ≡ id ∷ []
 unfolding lineage lineage_within
@@ -96,7 +100,7 @@ lineage_of st sound id within = by (plays Superclass (sort_at st.objects id)) re
     by : (b : Bool) → plays Superclass (sort_at st.objects id) ≡ b → lineage st.objects id ≡ id ∷ lineage_above st.objects (class_at st.objects id).superclass
     by true h = lineage_is st sound id (is_by_sort st ClassOrModule id within (superclass_sort (sort_at st.objects id) h))
     by false h =
-        let top = root (census st) id.0 (object_at st.objects id).kind (sound.objects id.0 within).kind h in
+        let top = no_superclass st sound id within h in
         lineage_root st.objects id top ∙ ap (λ p. id ∷ lineage_above st.objects p) (sym top)
 
 from_lineage : (objects : List Object) (id : ObjId) (s : Sort) → plays Superclass s ≡ true → singletons_from objects id s ≡ lineage objects id
@@ -134,7 +138,7 @@ singletons_from_lineage st sound id within = by (plays Superclass (sort_at st.ob
   where
     by : (b : Bool) → plays Superclass (sort_at st.objects id) ≡ b → singletons_from st.objects id (sort_at st.objects id) ≡ lineage st.objects id
     by true h = from_lineage st.objects id _ h
-    by false h = from_itself st.objects id _ h ∙ sym (lineage_root st.objects id (root (census st) id.0 (object_at st.objects id).kind (sound.objects id.0 within).kind h))
+    by false h = from_itself st.objects id _ h ∙ sym (lineage_root st.objects id (no_superclass st sound id within h))
 
 pub singleton_here : (st : Store) → Sound st → (id other s : ObjId) → id.0 < length st.objects → (object_at st.objects id).singleton ≡ Some s
     → nearest_singleton st.objects (lineage st.objects id) other ≡ s
@@ -172,3 +176,38 @@ core_is_class st sound c plain = superclass_is_class st _ (core_is st sound c pl
 pub class_of_object : (st : Store) → Sound st → (id : ObjId) → id.0 < length st.objects → nearest_singleton st.objects (lineage st.objects id) (object_at st.objects id).class ≡ class_of st.objects (Obj id)
 unfolding class_of
 class_of_object st sound id within = ap (λ (cs : List ObjId). nearest_singleton st.objects cs (object_at st.objects id).class) (sym (singletons_from_lineage st sound id within))
+
+pub class_is_core : (st : Store) → Sound st → Is (census st) Superclass (core class.Class)
+class_is_core st sound = core_is st sound class.Class refl
+
+-- a superclass, if any, is there
+pub above_there : (st : Store) → Sound st → (id : ObjId) → id.0 < length st.objects → OptionIs (λ p. p.0 < length st.objects) (class_at st.objects id).superclass
+above_there st sound id within = by _ (above_is st sound id within)
+  where
+    by : (o : Option ObjId) → OptionIs (IsSuperclass (census st) id.0) o → OptionIs (λ p. p.0 < length st.objects) o
+    by None h = tt
+    by (Some p) h = is_within st Superclass p h.0
+
+any : (s : Sort) → plays Any s ≡ true
+any sort.Plain = refl
+any sort.Class = refl
+any sort.Singleton = refl
+any sort.Module = refl
+any sort.String = refl
+any sort.Array = refl
+any sort.Hash = refl
+any sort.Range = refl
+any sort.Proc = refl
+any sort.Fiber = refl
+any sort.Exception = refl
+any sort.Enumerator = refl
+any sort.Yielder = refl
+
+-- an object that is there has a number of the store
+pub there : (st : Store) (id : ObjId) → id.0 < length st.objects → Is (census st) Any id
+there st id within = is_by_sort st Any id within (any (sort_at st.objects id))
+
+-- a parent, or else Object
+pub parent_or_object : (st : Store) → Sound st → (p : Option ObjId) → OptionIs (Is (census st) Class) p → Is (census st) Superclass (unwrap_or p (core class.Object))
+parent_or_object st sound None h = core_is st sound class.Object refl
+parent_or_object st sound (Some p) h = class_is_superclass st p h

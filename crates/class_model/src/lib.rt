@@ -9,11 +9,20 @@
 
 pub mod ancestry;
 pub mod chain;
+pub mod definition;
+mod failing;
 pub mod finding;
+pub mod inclusion;
 pub mod methods;
 pub mod receiver;
+pub mod singletons;
 
 pub use chain::{Chain, ancestors, included_in, superclass_of};
+pub use definition::{define_class, define_module, own_constant};
 pub use finding::{find, first_of};
-pub use methods::{default_visibility, own_entry, own_method, set_default, set_method};
+pub use inclusion::{include, is_in_chain};
+pub use methods::{
+    default_visibility, own_entry, own_method, set_default, set_method, set_visibility,
+};
 pub use receiver::{class_of, plain_class_of};
+pub use singletons::singleton;

@@ -1,16 +1,19 @@
 //! The methods of a class or module, and the visibility of the next one.
-ghost use Rattle.std.specs.Prelude.{◌≡◌, ◌<◌, length, OnOk, OnErr};
+ghost use Rattle.std.specs.Prelude.{◌≡◌, IfOk, OnOk, OnErr};
 ghost use Rattle.rb_base.specs.Steps.{one_more};
 ghost use Rattle.def_core.specs.Classes.{class_at};
 ghost use Rattle.def_core.specs.Find.{entry_of};
-ghost use Rattle.def_core.specs.Changes.{with_method, with_default};
-ghost use Rattle.def_core.specs.Sound.{Sound, census, Is, ClassOrModule, IsSymbol, SoundMethod};
+ghost use Rattle.def_core.specs.Changes as defined;
+ghost use Rattle.def_core.specs.Sound.{Sound, census, Is, ClassOrModule, IsSymbol, SoundMethod, Extends};
 ghost use Rattle.rb_store.specs.Counted.{IsCounted};
 ghost use Rattle.class_model.specs.Methods.{method_of};
 
+use crate::failing::fail;
+use crate::finding::find;
+use def_core::Cause;
 use rb_base::Steps;
 use rb_store::Store;
-use rb_value::{Kind, Method, MethodEntry, ObjId, SymId, Visibility};
+use rb_value::{Kind, Method, MethodEntry, ObjId, Outcome, SymId, Value, Visibility};
 use std::alloc::AllocError;
 
 /// Puts a method into the own list of a class or module (ISO/IEC 30170:2012, 13.3). `initialize` is private whatever
@@ -27,7 +30,7 @@ pub fn set_method(
     requires class { Is (census st.old.store) ClassOrModule class }
     requires name { IsSymbol (census st.old.store) name }
     requires method { SoundMethod (census st.old.store) method }
-    ensures ok { OnOk result (st.new.store ≡ with_method st.old.store class name method visibility) }
+    ensures ok { OnOk result (st.new.store ≡ defined.with_method st.old.store class name method visibility) }
     ensures err { OnErr result (st.new.store ≡ st.old.store) }
     ensures sound { Sound st.new.store }
     ensures counted { IsCounted st.old st.new }
@@ -41,7 +44,7 @@ pub fn set_method(
 pub fn set_default(st: &mut Store, class: ObjId, visibility: Visibility)
     requires sound { Sound st.old.store }
     requires class { Is (census st.old.store) ClassOrModule class }
-    ensures store { st.new.store ≡ record st.old.store { objects = with_default st.old.store.objects class visibility } }
+    ensures store { st.new.store ≡ record st.old.store { objects = defined.with_default st.old.store.objects class visibility } }
     ensures sound { Sound st.new.store }
     ensures counted { IsCounted st.old st.new }
 {
@@ -83,5 +86,36 @@ pub fn own_method(st: &Store, class: ObjId, name: SymId, steps: &mut Steps) -> O
     match own_entry(st, class, name) {
         Some(entry) => Some(entry.method),
         None => None,
+    }
+}
+
+/// Sets the visibility of the method that is found under the name; where another class or module has it, the class
+/// gets an entry of its own. `initialize` stays private. It gives nil. A name that isn't found is a NameError. Where
+/// memory runs out all is as before.
+#[tactic(auto, unfolding(def_core::specs::Changes::set_visibility), using(crate::proofs::Found::found_is_sound, def_core::proofs::Grows::extends_itself, crate::proofs::Found::extends_method))]
+pub fn set_visibility(
+    st: &mut Store,
+    class: ObjId,
+    name: SymId,
+    visibility: Visibility,
+) -> Result<Outcome, AllocError>
+    requires sound { Sound st.old.store }
+    requires class { Is (census st.old.store) ClassOrModule class }
+    requires name { IsSymbol (census st.old.store) name }
+    ensures outcome { IfOk result (λ o. o ≡ (defined.set_visibility st.old.store class name visibility).outcome) }
+    ensures store { OnOk result (st.new.store ≡ (defined.set_visibility st.old.store class name visibility).store) }
+    ensures err { OnErr result (st.new.store ≡ st.old.store) }
+    ensures sound { Sound st.new.store }
+    ensures extends { Extends (census st.old.store) (census st.new.store) }
+{
+    match find(st, class, name) {
+        Some(found) => {
+            set_method(st, class, name, found.method, visibility)?;
+            Ok(Outcome::Value(Value::Nil))
+        }
+        None => {
+            let outcome = fail(st, Cause::UndefinedInClass { name, class })?;
+            Ok(outcome)
+        }
     }
 }

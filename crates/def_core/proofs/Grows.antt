@@ -28,14 +28,10 @@ use Rattle.rb_value.specs.declared.core_class.CoreClass.{CoreClass}
 use Rattle.rb_value.specs.CoreClass.{number_of, is_module}
 use Rattle.rb_value.specs.Sort.{sort_of}
 use Rattle.def_core.specs.Store.{Store, absent, with_object, next_number}
-use Rattle.def_core.specs.Changes.{intern, intern_at}
-use Rattle.def_core.specs.Sound.{sorts_of, census, Census, Role, Any, Module, ClassOrModule, Proc, Fiber, Array, Superclass, Class, SingletonClass, plays, plays_at, Is, IsSymbol, IsValue, OptionIs, AllAre, SoundMethod, SoundEntry, SoundVariable, SoundConstant, IsSuperclass, SoundClass, SoundPart, SoundKey, SoundPair, SoundSource, SoundKind, SoundObject, core_sort, Sound}
+use Rattle.def_core.specs.declared.cause.Cause.{Cause}
+use Rattle.def_core.specs.Changes.{intern, intern_at, fails}
+use Rattle.def_core.specs.Sound.{sorts_of, census, Census, Role, Any, Module, ClassOrModule, Proc, Fiber, Array, Superclass, Class, SingletonClass, plays, plays_at, Is, IsSymbol, IsValue, OptionIs, AllAre, SoundMethod, SoundEntry, SoundVariable, SoundConstant, IsSuperclass, SoundClass, SoundPart, SoundKey, SoundPair, SoundSource, SoundKind, SoundObject, core_sort, Sound, Extends}
 use Rattle.def_core.proofs.Roles.{found, is_by_sort}
-
--- what is there in one census is there in the other
-pub record Extends (k l : Census) : Type 0 where
-  pub roles : (r : Role) (id : ObjId) → Is k r id → Is l r id
-  pub names : (n : ℕ) → n < k.symbols → n < l.symbols
 
 module _ (k l : Census) (e : Extends k l) where
   symbol : (s : SymId) → IsSymbol k s → IsSymbol l s
@@ -134,16 +130,20 @@ there_still xs ys n s h =
     let longer : n < length (xs ++ ys) = rw length-append (omega (arith, within)) in
     slice_get-get_or (xs ++ ys) n s longer ∙ ap Some (get_or_append_left xs ys s n within ∙ get_or_from_slice_get xs n s s h)
 
-sorts_grow : (st : Store) (o : Object) → sorts_of (with_object st o).objects ≡ sorts_of st.objects ++ sort_of o.kind ∷ []
-sorts_grow st o = map-append (λ (x : Object). sort_of x.kind) st.objects (o ∷ [])
+sorts_grow : (st : Store) (more : List Object) → sorts_of (st.objects ++ more) ≡ sorts_of st.objects ++ sorts_of more
+sorts_grow st more = map-append (λ (x : Object). sort_of x.kind) st.objects more
 
-pub one_more : (st : Store) (o : Object) → Extends (census st) (census (with_object st o))
-one_more st o = record {
+-- objects that come behind the others
+pub more_objects : (st : Store) (more : List Object) → Extends (census st) (census (record st { objects = st.objects ++ more }))
+more_objects st more = record {
   roles = λ r id is.
       let f = found (sorts_of st.objects) id.0 r is.holds in
-      record { holds = ap (plays_at r) (ap (λ (ss : List Sort). slice_get ss id.0) (sorts_grow st o) ∙ there_still _ _ id.0 f.0 f.1) ∙ f.2 };
+      record { holds = ap (plays_at r) (ap (λ (ss : List Sort). slice_get ss id.0) (sorts_grow st more) ∙ there_still _ _ id.0 f.0 f.1) ∙ f.2 };
   names = λ n h. h;
 }
+
+pub one_more : (st : Store) (o : Object) → Extends (census st) (census (with_object st o))
+one_more st o = more_objects st (o ∷ [])
 
 -- a new object that is sound in the store before it
 pub sound_with_object : (st : Store) → Sound st → (o : Object) → SoundObject (census st) (length st.objects) o → Sound (with_object st o)
@@ -158,7 +158,7 @@ sound_with_object st sound o new = record {
         subst (λ (m : ℕ). SoundObject (census (with_object st o)) m (get_or (st.objects ++ o ∷ []) m absent)) last
         (subst (SoundObject (census (with_object st o)) (length st.objects)) (sym (get_or_push st.objects o absent (length st.objects) refl)) (object_grows _ _ (one_more st o) (length st.objects) o new))
   ] refl;
-  core = λ q. ap (λ (ss : List Sort). slice_get ss (number_of q)) (sorts_grow st o) ∙ there_still _ _ (number_of q) _ (sound.core q);
+  core = λ q. ap (λ (ss : List Sort). slice_get ss (number_of q)) (sorts_grow st (o ∷ [])) ∙ there_still _ _ (number_of q) _ (sound.core q);
 }
 
 -- a core class is a class
@@ -185,8 +185,20 @@ sound_with_symbols st sound names = record {
   core = sound.core;
 }
 
-same_names : (k : Census) → Extends k k
-same_names k = record { roles = λ r id is. is; names = λ n h. h }
+pub extends_itself : (k : Census) → Extends k k
+extends_itself k = record { roles = λ r id is. is; names = λ n h. h }
+
+pub extends_both : (k l m : Census) → Extends k l → Extends l m → Extends k m
+extends_both k l m e f = record { roles = λ r id is. f.roles r id (e.roles r id is); names = λ n h. f.names n (e.names n h) }
+
+-- a store with objects of the same sorts
+pub same_objects : (st : Store) (objects : List Object) → sorts_of objects ≡ sorts_of st.objects → Extends (census st) (census (record st { objects = objects }))
+same_objects st objects e = subst (λ (ss : List Sort). Extends (census st) (record { sorts = ss; symbols = length st.symbols })) (sym e) (extends_itself (census st))
+
+-- the text of an exception is a new object
+pub raised : (st : Store) (c : Cause) → Extends (census st) (census (fails st c).store)
+unfolding fails
+raised st c = one_more st _
 
 -- a name as a symbol keeps all that is there
 pub interned : (st : Store) (name : List ℕ) → Extends (census st) (census (intern st name).store)
@@ -195,7 +207,7 @@ interned st name = by (position (bytes_eq name) st.symbols)
   where
     by : (p : Option ℕ) → Extends (census st) (census (intern_at st name p).store)
     by None = more_names st (name ∷ [])
-    by (Some i) = same_names (census st)
+    by (Some i) = extends_itself (census st)
 
 pub sound_with_interned : (st : Store) → Sound st → (name : List ℕ) → Sound (intern st name).store
 unfolding intern

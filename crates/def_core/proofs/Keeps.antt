@@ -1,8 +1,9 @@
 -- Changes of the contents of a class keep a store sound.
-use Rattle.std.proofs.Common.{◌≡◌, ◌≢◌, ℕ, ◌<◌, List, [], ◌∷◌, length, get_or, set, true, false, cond, refl, ap, sym, ◌∙◌, subst, arith, length-set}
+use Rattle.std.proofs.Common.{◌≡◌, ◌≢◌, ℕ, ◌<◌, List, [], ◌∷◌, ◌++◌, length, get_or, set, true, false, cond, refl, ap, sym, ◌∙◌, subst, arith, length-set}
 use Rattle.std.specs.Prelude.{Some, slice_get, nat_eq}
 use Rattle.std.proofs.lemmas.List.{get_or-set_same, get_or-set_other}
 use Rattle.std.proofs.lemmas.Bool.Decides.{nat_tests}
+use Rattle.rb_value.specs.declared.value.Value.{Value}
 use Rattle.rb_value.specs.declared.value.ObjId.{ObjId}
 use Rattle.rb_value.specs.declared.value.SymId.{SymId}
 use Rattle.rb_value.specs.declared.method.Method.{Method}
@@ -10,6 +11,7 @@ use Rattle.rb_value.specs.declared.method.MethodEntry.{MethodEntry}
 use Rattle.rb_value.specs.declared.method.Visibility.{Visibility}
 use Rattle.rb_value.specs.declared.object.Object.{Object}
 use Rattle.rb_value.specs.declared.kind.ClassContents.{ClassContents}
+use Rattle.rb_value.specs.declared.kind.Constant.{Constant}
 use Rattle.rb_value.specs.declared.kind.Kind.TheVariants as kind
 use Rattle.rb_value.specs.declared.kind.Sort.{Sort}
 use Rattle.rb_value.specs.CoreClass.{number_of}
@@ -17,8 +19,8 @@ use Rattle.rb_value.specs.Sort.{sort_of}
 use Rattle.indexmap.specs.IndexMap.{insert_entry}
 use Rattle.def_core.specs.Store.{Store, object_at, sort_at, set_object, absent}
 use Rattle.def_core.specs.Classes.{class_at, with_class}
-use Rattle.def_core.specs.Changes.{with_method, with_default, visibility_for}
-use Rattle.def_core.specs.Sound.{sorts_of, census, Census, SingletonClass, ClassOrModule, Is, IsSymbol, AllAre, SoundMethod, SoundEntry, SoundClass, SoundObject, Sound}
+use Rattle.def_core.specs.Changes.{with_method, with_default, with_constant, visibility_for}
+use Rattle.def_core.specs.Sound.{sorts_of, census, Census, SingletonClass, ClassOrModule, Is, IsSymbol, IsValue, AllAre, SoundConstant, SoundMethod, SoundEntry, SoundClass, SoundObject, Sound}
 use Rattle.def_core.proofs.Sorts.{sorts-set, same_class_sort}
 use Rattle.def_core.proofs.Roles.{is_within, is_plays, sound_class}
 
@@ -91,3 +93,21 @@ sound_with_default st sound c v is =
       constants = old.constants;
       methods = old.methods;
     })
+
+-- a new constant that is one of the store
+pub sound_with_constant : (st : Store) → Sound st → (c : ObjId) (name : SymId) (v : Value) → Is (census st) ClassOrModule c → IsSymbol (census st) name → IsValue (census st) v
+    → Sound (record st { objects = with_constant st.objects c name v })
+sound_with_constant st sound c name v is symbol value =
+    let old = sound_class st sound c is in
+    sound_with_class st sound c _ is refl (record {
+      name = old.name;
+      superclass = old.superclass;
+      module_root = old.module_root;
+      included = old.included;
+      constants = behind (class_at st.objects c).constants old.constants;
+      methods = old.methods;
+    })
+  where
+    behind : (ks : List Constant) → AllAre (SoundConstant (census st)) ks → AllAre (SoundConstant (census st)) (ks ++ (record { name = name; value = v }) ∷ [])
+    behind [] h = ((symbol, value), tt)
+    behind (k ∷ ks) h = (h.0, behind ks h.1)

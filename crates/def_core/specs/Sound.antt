@@ -201,6 +201,11 @@ pub record Is (k : Census) (r : Role) (id : ObjId) : Type 0 where
 pub record IsSymbol (k : Census) (s : SymId) : Type 0 where
   pub below : s.0 < k.symbols
 
+-- what is there in one census is there in the other, with each role that it has
+pub record Extends (k l : Census) : Type 0 where
+  pub roles : (r : Role) (id : ObjId) → Is k r id → Is l r id
+  pub names : (n : ℕ) → n < k.symbols → n < l.symbols
+
 abbrev pub IsValue : Census → Value → Type 0
 IsValue k Nil = Unit {0}
 IsValue k True = Unit {0}

@@ -21,9 +21,9 @@ fn anonymous(form: ClassForm) -> &'static [u8]
     }
 }
 
-/// What texts show of a class or module.
+/// What texts show of a class or module: its name, or `#<Class>` or `#<Module>` where it has none. It takes no memory.
 #[tactic(auto, unfolding(def_core::specs::Texts::class_name), using(def_core::proofs::Roles::is_within, crate::proofs::Names::named_by_symbol))]
-fn class_name(st: &Store, class: ObjId) -> &[u8]
+pub fn class_name(st: &Store, class: ObjId) -> &[u8]
     requires sound { Sound st.now.store }
     requires class { Is (census st.now.store) ClassOrModule class }
     ensures { result.now ≡ texts.class_name st.now.store class }

@@ -1,7 +1,7 @@
 //! The store at the start: the core classes and modules, the main object, and the core methods.
 ghost use Rattle.std.specs.Prelude.{◌≡◌, ◌<◌, ◌+◌, ◌^◌, ◌++◌, ◌∷◌, [], map, length, true, IfOk, OnOk};
 ghost use Rattle.def_core.specs.Store.{sort_at, core};
-ghost use Rattle.def_core.specs.Sound.{plays, ClassOrModule, sorts_of};
+ghost use Rattle.def_core.specs.Sound.{plays, ClassOrModule, sorts_of, Sound};
 ghost use Rattle.rb_value.specs.CoreClass.{number_of, name_of};
 ghost use Rattle.rb_store.specs.Opening as opening;
 
@@ -269,7 +269,8 @@ impl Store {
 
     /// The store at the start: the core classes and modules, the main object, and the core methods.
     pub fn new(alloc: Global) -> Result<Store, AllocError>
-        ensures { IfOk result (λ store. store.store ≡ opening.opening) }
+        ensures store { IfOk result (λ store. store.store ≡ opening.opening) }
+        ensures sound { IfOk result (λ store. Sound store.store) }
     {
         let mut store = Store::nameless(alloc)?;
         store.add_names(&CORE_CLASSES)?;

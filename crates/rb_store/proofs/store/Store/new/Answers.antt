@@ -1,13 +1,14 @@
-use Rattle.std.proofs.Common.{map, arith, ap, ◌∙◌}
+use Rattle.std.proofs.Common.{◌≡◌, ◌<◌, ℕ, List, length, map, arith, ap, sym, ◌∙◌, subst, true}
 use Rattle.std.specs.Prelude.{codes}
 use Rattle.rb_value.specs.CoreClass.{core_classes, name_of}
 use Rattle.rb_value.specs.declared.core_class.CoreClass.TheVariants as class
 use Rattle.def_core.specs.Store.{Store, core}
 use Rattle.def_core.specs.Changes.{intern}
 use Rattle.def_core.specs.Rows.{integer_names, range_names}
-use Rattle.def_core.specs.Sound.{sorts_of, ClassOrModule}
-use Rattle.rb_store.specs.Opening.{opening, bare, with_names, with_rows}
+use Rattle.def_core.specs.Sound.{sorts_of, ClassOrModule, Sound}
+use Rattle.rb_store.specs.Opening.{opening, bare, nameless, with_names, with_rows}
 use Rattle.rb_store.proofs.Rows.{there_still, plays_still, nameless_length, nameless_integer, nameless_range}
+use Rattle.rb_store.proofs.Start.{opening_sound}
 use Rattle.rb_store.proofs.store.Store.new.Goals as goal
 
 pub add_rows-requires-clause-there : goal.add_rows-requires-clause-there
@@ -30,10 +31,13 @@ add_rows-requires-2-clause-is_class c =
     let e = c.in_ok-intern.ensures.objects ∙ c.in_ok-add_names.ensures.objects ∙ ap (λ (st : Store). st.objects) c.in_ok-store.ensures in
     plays_still _ _ (core class.Range) ClassOrModule (c.in_ok-add_rows.ensures.objects ∙ ap sorts_of e) nameless_range
 
-pub returns : goal.returns
+pub returns-clause-store : goal.returns-clause-store
 unfolding opening bare core_classes integer_names range_names
-returns c =
+returns-clause-store c =
     let named = c.in_ok-add_names.ensures.ok ∙ ap (λ (st : Store). with_names st (map name_of core_classes)) c.in_ok-store.ensures in
     let all = c.in_ok-intern.ensures.ok ∙ ap (λ (st : Store). (intern st (codes "Yielder")).store) named in
     let first = c.in_ok-add_rows.ensures.ok ∙ ap (λ (st : Store). with_rows st class.Integer 0 integer_names) all in
     c.in_ok-add_rows-2.ensures.ok ∙ ap (λ (st : Store). with_rows st class.Range 39 range_names) first
+
+pub returns-clause-sound : goal.returns-clause-sound
+returns-clause-sound c = subst Sound (sym (returns-clause-store c)) opening_sound

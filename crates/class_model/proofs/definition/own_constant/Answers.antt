@@ -1,0 +1,16 @@
+use Rattle.std.proofs.Common.{◌≡◌, List, ap, sym, ◌∙◌, subst}
+use Rattle.rb_value.specs.declared.object.Object.{Object}
+use Rattle.rb_value.specs.declared.kind.Constant.{Constant}
+use Rattle.rb_value.specs.declared.kind.Kind.{Kind}
+use Rattle.def_core.specs.Classes.{contents_of, class_at}
+use Rattle.def_core.specs.Changes.{constant_in}
+use Rattle.def_core.specs.Sound.{census, IsValue, OptionIs}
+use Rattle.class_model.proofs.Constants.{own_is_value}
+use Rattle.class_model.proofs.definition.own_constant.Goals as goal
+
+pub returns-in-Class-clause-there : goal.returns-in-Class-clause-there
+returns-in-Class-clause-there c =
+    let st = c.args.st.now.store in
+    let class = ap (λ (k : Kind). (contents_of k).constants) (sym (ap (λ (o : Object). o.kind) c.get.ensures) ∙ c.in-Class.is) in
+    let value = c.constant_in.ensures ∙ ap (λ (ks : List Constant). constant_in ks c.args.name) (c.as_slice.ensures ∙ sym class) in
+    subst (OptionIs (IsValue (census st))) (sym value) (own_is_value st c.requires.sound c.args.class c.args.name c.requires.class)

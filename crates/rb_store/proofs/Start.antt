@@ -1,0 +1,318 @@
+-- The store at the start is sound.
+use Rattle.std.proofs.Common.{◌≡◌, ℕ, zero, suc, ◌+◌, ◌<◌, ◌≤◌, List, [], ◌∷◌, ◌++◌, length, map, filter, not, get_or, Bool, true, false, cond, if◌then◌else◌, refl, ap, sym, ◌∙◌, subst, arith, lit<, lit≤, length-append}
+use Rattle.std.specs.Prelude.{Option, Some, None, nat_eq, nat_lt, slice_get}
+use Rattle.std.specs.List.{position}
+use Rattle.std.specs.Str.{bytes_eq}
+use Rattle.std.proofs.lemmas.Bool.Decides.{nat_tests}
+use Rattle.std.proofs.lemmas.List.Quantifiers.{position-Some}
+use Rattle.rb_value.specs.declared.object.Object.{Object}
+use Rattle.rb_value.specs.declared.method.Method.TheVariants as method
+use Rattle.rb_value.specs.declared.method.Visibility.TheVariants.{Public}
+use Rattle.rb_value.specs.declared.kind.ClassForm.TheVariants as form
+use Rattle.rb_value.specs.declared.kind.Kind.TheVariants as kind
+use Rattle.rb_value.specs.declared.kind.Sort.{Sort}
+use Rattle.rb_value.specs.declared.kind.Sort.TheVariants as sort
+use Rattle.rb_value.specs.declared.core_class.CoreClass.{CoreClass}
+use Rattle.rb_value.specs.declared.core_class.CoreClass.TheVariants as class
+use Rattle.rb_value.specs.CoreClass.{core_classes, number_of, is_module}
+use Rattle.def_core.specs.Store.{Store, absent, core, fresh}
+use Rattle.def_core.specs.Changes.{intern, intern_at}
+use Rattle.def_core.specs.Rows.{rows, is_row, integer_names, range_names}
+use Rattle.def_core.specs.Sound.{sorts_of, census, Census, Role, Any, Class, Module, ClassOrModule, plays, plays_at, Is, IsSymbol, OptionIs, AllAre, SoundConstant, IsSuperclass, SoundObject, core_sort, Sound}
+use Rattle.def_core.proofs.Roles.{class_is_superclass, superclass_is_class}
+use Rattle.def_core.proofs.Grows.{sound_with_interned, core_is_class, interned}
+use Rattle.def_core.proofs.Keeps.{sound_with_method}
+use Rattle.rb_store.specs.Opening.{constant_for, constants_for, object_constants, constants_of, included_in, superclass_of, core_contents, core_object, nameless, with_names, bare, with_row, with_rows, opening}
+
+-- the sorts of the core classes and the main object, in their order
+abbrev start_sorts : List Sort
+start_sorts = sort.Class ∷ sort.Module ∷ sort.Class ∷ sort.Class ∷ sort.Module ∷ sort.Module ∷ sort.Class ∷ sort.Class ∷ sort.Class ∷ sort.Class ∷ sort.Class ∷ sort.Class ∷ sort.Class ∷ sort.Class ∷ sort.Class ∷ sort.Class ∷ sort.Class ∷ sort.Class ∷ sort.Class ∷ sort.Class ∷ sort.Class ∷ sort.Class ∷ sort.Class ∷ sort.Class ∷ sort.Class ∷ sort.Class ∷ sort.Class ∷ sort.Class ∷ sort.Class ∷ sort.Class ∷ sort.Class ∷ sort.Class ∷ sort.Class ∷ sort.Class ∷ sort.Class ∷ sort.Class ∷ sort.Class ∷ sort.Class ∷ sort.Plain ∷ []
+
+abbrev start : Census
+start = record { sorts = start_sorts; symbols = 39 }
+
+core_at : (c : CoreClass) → slice_get start_sorts (number_of c) ≡ Some (core_sort (is_module c))
+core_at class.Object = refl
+core_at class.Kernel = refl
+core_at class.Module = refl
+core_at class.Class = refl
+core_at class.Comparable = refl
+core_at class.Enumerable = refl
+core_at class.Numeric = refl
+core_at class.Integer = refl
+core_at class.NilClass = refl
+core_at class.TrueClass = refl
+core_at class.FalseClass = refl
+core_at class.String = refl
+core_at class.Symbol = refl
+core_at class.Array = refl
+core_at class.Hash = refl
+core_at class.Range = refl
+core_at class.Proc = refl
+core_at class.Fiber = refl
+core_at class.Enumerator = refl
+core_at class.Yielder = refl
+core_at class.Exception = refl
+core_at class.ScriptError = refl
+core_at class.NotImplementedError = refl
+core_at class.SystemExit = refl
+core_at class.SystemStackError = refl
+core_at class.StandardError = refl
+core_at class.ArgumentError = refl
+core_at class.FiberError = refl
+core_at class.IndexError = refl
+core_at class.KeyError = refl
+core_at class.StopIteration = refl
+core_at class.LocalJumpError = refl
+core_at class.NameError = refl
+core_at class.NoMethodError = refl
+core_at class.RangeError = refl
+core_at class.RuntimeError = refl
+core_at class.TypeError = refl
+core_at class.ZeroDivisionError = refl
+
+any_core : (b : Bool) → plays Any (core_sort b) ≡ true
+any_core true = refl
+any_core false = refl
+
+is_there : (c : CoreClass) → Is start Any (core c)
+is_there c = record { holds = ap (plays_at Any) (core_at c) ∙ any_core (is_module c) }
+
+number_below : (c : CoreClass) → number_of c < 39
+number_below class.Object = lit< tt
+number_below class.Kernel = lit< tt
+number_below class.Module = lit< tt
+number_below class.Class = lit< tt
+number_below class.Comparable = lit< tt
+number_below class.Enumerable = lit< tt
+number_below class.Numeric = lit< tt
+number_below class.Integer = lit< tt
+number_below class.NilClass = lit< tt
+number_below class.TrueClass = lit< tt
+number_below class.FalseClass = lit< tt
+number_below class.String = lit< tt
+number_below class.Symbol = lit< tt
+number_below class.Array = lit< tt
+number_below class.Hash = lit< tt
+number_below class.Range = lit< tt
+number_below class.Proc = lit< tt
+number_below class.Fiber = lit< tt
+number_below class.Enumerator = lit< tt
+number_below class.Yielder = lit< tt
+number_below class.Exception = lit< tt
+number_below class.ScriptError = lit< tt
+number_below class.NotImplementedError = lit< tt
+number_below class.SystemExit = lit< tt
+number_below class.SystemStackError = lit< tt
+number_below class.StandardError = lit< tt
+number_below class.ArgumentError = lit< tt
+number_below class.FiberError = lit< tt
+number_below class.IndexError = lit< tt
+number_below class.KeyError = lit< tt
+number_below class.StopIteration = lit< tt
+number_below class.LocalJumpError = lit< tt
+number_below class.NameError = lit< tt
+number_below class.NoMethodError = lit< tt
+number_below class.RangeError = lit< tt
+number_below class.RuntimeError = lit< tt
+number_below class.TypeError = lit< tt
+number_below class.ZeroDivisionError = lit< tt
+
+superclass_is : (c : CoreClass) → OptionIs (IsSuperclass start (number_of c)) (superclass_of c)
+superclass_is class.Object = tt
+superclass_is class.Kernel = tt
+superclass_is class.Module = (record { holds = refl }, lit< tt)
+superclass_is class.Class = (record { holds = refl }, lit< tt)
+superclass_is class.Comparable = tt
+superclass_is class.Enumerable = tt
+superclass_is class.Numeric = (record { holds = refl }, lit< tt)
+superclass_is class.Integer = (record { holds = refl }, lit< tt)
+superclass_is class.NilClass = (record { holds = refl }, lit< tt)
+superclass_is class.TrueClass = (record { holds = refl }, lit< tt)
+superclass_is class.FalseClass = (record { holds = refl }, lit< tt)
+superclass_is class.String = (record { holds = refl }, lit< tt)
+superclass_is class.Symbol = (record { holds = refl }, lit< tt)
+superclass_is class.Array = (record { holds = refl }, lit< tt)
+superclass_is class.Hash = (record { holds = refl }, lit< tt)
+superclass_is class.Range = (record { holds = refl }, lit< tt)
+superclass_is class.Proc = (record { holds = refl }, lit< tt)
+superclass_is class.Fiber = (record { holds = refl }, lit< tt)
+superclass_is class.Enumerator = (record { holds = refl }, lit< tt)
+superclass_is class.Yielder = (record { holds = refl }, lit< tt)
+superclass_is class.Exception = (record { holds = refl }, lit< tt)
+superclass_is class.ScriptError = (record { holds = refl }, lit< tt)
+superclass_is class.NotImplementedError = (record { holds = refl }, lit< tt)
+superclass_is class.SystemExit = (record { holds = refl }, lit< tt)
+superclass_is class.SystemStackError = (record { holds = refl }, lit< tt)
+superclass_is class.StandardError = (record { holds = refl }, lit< tt)
+superclass_is class.ArgumentError = (record { holds = refl }, lit< tt)
+superclass_is class.FiberError = (record { holds = refl }, lit< tt)
+superclass_is class.IndexError = (record { holds = refl }, lit< tt)
+superclass_is class.KeyError = (record { holds = refl }, lit< tt)
+superclass_is class.StopIteration = (record { holds = refl }, lit< tt)
+superclass_is class.LocalJumpError = (record { holds = refl }, lit< tt)
+superclass_is class.NameError = (record { holds = refl }, lit< tt)
+superclass_is class.NoMethodError = (record { holds = refl }, lit< tt)
+superclass_is class.RangeError = (record { holds = refl }, lit< tt)
+superclass_is class.RuntimeError = (record { holds = refl }, lit< tt)
+superclass_is class.TypeError = (record { holds = refl }, lit< tt)
+superclass_is class.ZeroDivisionError = (record { holds = refl }, lit< tt)
+
+module_root : (c : CoreClass) → (if is_module c then form.Module else form.Class) ≡ form.Module → superclass_of c ≡ None
+module_root class.Object e = refl
+module_root class.Kernel e = refl
+module_root class.Module e = cc
+module_root class.Class e = cc
+module_root class.Comparable e = refl
+module_root class.Enumerable e = refl
+module_root class.Numeric e = cc
+module_root class.Integer e = cc
+module_root class.NilClass e = cc
+module_root class.TrueClass e = cc
+module_root class.FalseClass e = cc
+module_root class.String e = cc
+module_root class.Symbol e = cc
+module_root class.Array e = cc
+module_root class.Hash e = cc
+module_root class.Range e = cc
+module_root class.Proc e = cc
+module_root class.Fiber e = cc
+module_root class.Enumerator e = cc
+module_root class.Yielder e = cc
+module_root class.Exception e = cc
+module_root class.ScriptError e = cc
+module_root class.NotImplementedError e = cc
+module_root class.SystemExit e = cc
+module_root class.SystemStackError e = cc
+module_root class.StandardError e = cc
+module_root class.ArgumentError e = cc
+module_root class.FiberError e = cc
+module_root class.IndexError e = cc
+module_root class.KeyError e = cc
+module_root class.StopIteration e = cc
+module_root class.LocalJumpError e = cc
+module_root class.NameError e = cc
+module_root class.NoMethodError e = cc
+module_root class.RangeError e = cc
+module_root class.RuntimeError e = cc
+module_root class.TypeError e = cc
+module_root class.ZeroDivisionError e = cc
+
+constants_are : (cs : List CoreClass) → AllAre (SoundConstant start) (constants_for cs)
+constants_are [] = tt
+constants_are (c ∷ cs) = elim (not (nat_eq (number_of c) 19)) as (λ b. AllAre (SoundConstant start) (map constant_for (cond b (c ∷ filter (λ x. not (nat_eq (number_of x) 19)) cs) (filter (λ x. not (nat_eq (number_of x) 19)) cs)))) [
+  | true ↦ ((record { below = number_below c }, is_there c), constants_are cs)
+  | false ↦ constants_are cs
+]
+
+own_constants : (c : CoreClass) → AllAre (SoundConstant start) (constants_of c)
+unfolding object_constants
+own_constants c = elim (nat_eq (number_of c) 0) as (λ b. AllAre (SoundConstant start) (if b then object_constants else (if nat_eq (number_of c) 18 then (record { name = record { 0 = 38 }; value = (constant_for class.Yielder).value }) ∷ [] else []))) [
+  | true ↦ constants_are core_classes
+  | false ↦ elim (nat_eq (number_of c) 18) as (λ b. AllAre (SoundConstant start) (if b then (record { name = record { 0 = 38 }; value = (constant_for class.Yielder).value }) ∷ [] else [])) [
+    | true ↦ ((record { below = lit< tt }, is_there class.Yielder), tt)
+    | false ↦ tt
+  ]
+]
+
+included_are : (c : CoreClass) → AllAre (Is start Module) (included_in c)
+included_are c = elim (nat_eq (number_of c) 0) as (λ b. AllAre (Is start Module) (if b then core class.Kernel ∷ [] else [])) [
+  | true ↦ (record { holds = refl }, tt)
+  | false ↦ tt
+]
+
+class_of_class : (c : CoreClass) → Is start Class (if is_module c then core class.Module else core class.Class)
+class_of_class c = elim (is_module c) as (λ b. Is start Class (if b then core class.Module else core class.Class)) [
+  | true ↦ record { holds = refl }
+  | false ↦ record { holds = refl }
+]
+
+core_sound : (c : CoreClass) → SoundObject start (number_of c) (core_object c)
+unfolding core_object core_contents
+core_sound c = record {
+  class = class_of_class c;
+  singleton = tt;
+  variables = tt;
+  kind = record {
+    name = record { below = number_below c };
+    superclass = superclass_is c;
+    module_root = module_root c;
+    included = included_are c;
+    constants = own_constants c;
+    methods = tt;
+  };
+}
+
+main_sound : SoundObject start 38 (fresh (core class.Object) kind.Plain)
+main_sound = record { class = record { holds = refl }; singleton = tt; variables = tt; kind = tt }
+
+-- objects that are sound with the numbers from n on
+abbrev SoundFrom : ℕ → List Object → Type 0
+SoundFrom n [] = Unit {0}
+SoundFrom n (o ∷ os) = SoundObject start n o × SoundFrom (suc n) os
+
+sound_at : (n : ℕ) (os : List Object) (i : ℕ) → SoundFrom n os → i < length os → SoundObject start (n + i) (get_or os i absent)
+sound_at n [] i all h = absurd (omega (arith, h))
+sound_at n (o ∷ os) zero all h = let e : n + zero ≡ n = omega arith in rw e all.0
+sound_at n (o ∷ os) (suc i) all h = let e : n + suc i ≡ suc n + i = omega arith in rw e (sound_at (suc n) os i all.1 (omega (arith, h)))
+
+nameless_sound : SoundFrom 0 nameless.objects
+unfolding nameless core_classes
+nameless_sound = (core_sound class.Object, (core_sound class.Kernel, (core_sound class.Module, (core_sound class.Class, (core_sound class.Comparable, (core_sound class.Enumerable, (core_sound class.Numeric, (core_sound class.Integer, (core_sound class.NilClass, (core_sound class.TrueClass, (core_sound class.FalseClass, (core_sound class.String, (core_sound class.Symbol, (core_sound class.Array, (core_sound class.Hash, (core_sound class.Range, (core_sound class.Proc, (core_sound class.Fiber, (core_sound class.Enumerator, (core_sound class.Yielder, (core_sound class.Exception, (core_sound class.ScriptError, (core_sound class.NotImplementedError, (core_sound class.SystemExit, (core_sound class.SystemStackError, (core_sound class.StandardError, (core_sound class.ArgumentError, (core_sound class.FiberError, (core_sound class.IndexError, (core_sound class.KeyError, (core_sound class.StopIteration, (core_sound class.LocalJumpError, (core_sound class.NameError, (core_sound class.NoMethodError, (core_sound class.RangeError, (core_sound class.RuntimeError, (core_sound class.TypeError, (core_sound class.ZeroDivisionError, (main_sound, tt)))))))))))))))))))))))))))))))))))))))
+
+nameless_sorts : sorts_of nameless.objects ≡ start_sorts
+unfolding nameless core_classes core_object core_contents
+nameless_sorts = refl
+
+bare_objects : bare.objects ≡ nameless.objects
+unfolding bare with_names intern nameless core_classes
+bare_objects = refl
+
+bare_symbols : length bare.symbols ≡ 39
+unfolding bare with_names intern nameless core_classes
+bare_symbols = refl
+
+bare_census : census bare ≡ start
+bare_census =
+    ap (λ (os : List Object). record { sorts = sorts_of os; symbols = length bare.symbols }) bare_objects
+    ∙ ap (λ (ss : List Sort). record { sorts = ss; symbols = length bare.symbols }) nameless_sorts
+    ∙ ap (λ (n : ℕ). record { sorts = start_sorts; symbols = n }) bare_symbols
+
+bare_sound : Sound bare
+bare_sound = record {
+  objects = λ n h.
+      subst (λ (k : Census). SoundObject k n (get_or bare.objects n absent)) (sym bare_census)
+      (subst (λ (os : List Object). SoundObject start n (get_or os n absent)) (sym bare_objects)
+      (let within : n < length nameless.objects = subst (λ (os : List Object). n < length os) bare_objects h in
+      let e : 0 + n ≡ n = omega arith in
+      subst (λ (m : ℕ). SoundObject start m (get_or nameless.objects n absent)) e (sound_at 0 nameless.objects n nameless_sound within)));
+  core = λ c. ap (λ (k : Census). slice_get k.sorts (number_of c)) bare_census ∙ core_at c;
+}
+
+interned_symbol : (st : Store) (name : List ℕ) → IsSymbol (census (intern st name).store) (intern st name).symbol
+unfolding intern
+interned_symbol st name = by (position (bytes_eq name) st.symbols) refl
+  where
+    by : (p : Option ℕ) → position (bytes_eq name) st.symbols ≡ p → IsSymbol (census (intern_at st name p).store) (intern_at st name p).symbol
+    by None e = record { below = rw length-append (omega arith) }
+    by (Some i) e = record { below = (position-Some (bytes_eq name) st.symbols i [] e).0 }
+
+row_is : (n : ℕ) → n < 51 → is_row n ≡ true
+unfolding rows integer_names range_names
+row_is n h =
+    let enough : 51 ≤ length rows = lit≤ tt in
+    grind (arith, nat_tests, enough, h)
+
+rows_sound : (st : Store) → Sound st → (c : CoreClass) → is_module c ≡ false → (n : ℕ) (names : List (List ℕ)) → n + length names ≤ 51 → Sound (with_rows st c n names)
+unfolding with_rows
+rows_sound st sound c plain n [] h = sound
+rows_sound st sound c plain n (name ∷ names) h =
+    let named = sound_with_interned st sound name in
+    let is = superclass_is_class (intern st name).store (core c) (class_is_superclass (intern st name).store (core c) (core_is_class (intern st name).store named c plain)) in
+    rows_sound (with_row c n (intern st name))
+    (sound_with_method (intern st name).store named (core c) (intern st name).symbol (method.Core n) Public is (interned_symbol st name) (row_is n (omega (arith, h))))
+    c plain (n + 1) names (omega (arith, h))
+
+pub opening_sound : Sound opening
+unfolding opening integer_names range_names
+opening_sound = rows_sound _ (rows_sound bare bare_sound class.Integer refl 0 integer_names (lit≤ tt)) class.Range refl 39 range_names (lit≤ tt)
