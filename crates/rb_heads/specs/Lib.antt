@@ -1,0 +1,4 @@
+pub mod Names
+pub mod Sections
+pub mod Groups
+pub mod Primary
