@@ -10,14 +10,14 @@ use Rattle.def_core.specs.Store.{Store, core, sort_at}
 use Rattle.def_core.specs.Changes.{intern}
 use Rattle.def_core.specs.Sound.{sorts_of, plays, Role, ClassOrModule}
 use Rattle.def_core.proofs.Sorts.{is_there, same_sort}
-use Rattle.rb_store.specs.Opening.{with_names, with_row, with_rows, nameless, core_object, core_contents}
+use Rattle.rb_store.specs.Opening.{with_names, with_row, with_rows, nameless, core_object, core_contents, range_singleton}
 
 pub names_step : {A : Type 0} (f : A → List ℕ) (st : Store) (i : ℕ) (names : List A) (d : A) → i < length names
     → with_names (intern st (f (get_or names i d))).store (map f (drop (i + 1) names)) ≡ with_names st (map f (drop i names))
 unfolding with_names
 names_step f st i names d h = rw (drop_more names i d) refl
 
-pub rows_step : {A : Type 0} (f : A → List ℕ) (st : Store) (c : CoreClass) (first i : ℕ) (names : List A) (d : A) → i < length names
+pub rows_step : {A : Type 0} (f : A → List ℕ) (st : Store) (c : ObjId) (first i : ℕ) (names : List A) (d : A) → i < length names
     → with_rows (with_row c (first + i) (intern st (f (get_or names i d)))) c (first + (i + 1)) (map f (drop (i + 1) names)) ≡ with_rows st c (first + i) (map f (drop i names))
 unfolding with_rows
 rows_step f st c first i names d h =
@@ -34,12 +34,12 @@ pub names_end : {A : Type 0} (f : A → List ℕ) (st : Store) (i : ℕ) (names 
 unfolding with_names
 names_end f st i names h = rw (drop_all i names) refl
 
-pub rows_end : {A : Type 0} (f : A → List ℕ) (st : Store) (c : CoreClass) (n i : ℕ) (names : List A) → length names ≤ i → with_rows st c n (map f (drop i names)) ≡ st
+pub rows_end : {A : Type 0} (f : A → List ℕ) (st : Store) (c : ObjId) (n i : ℕ) (names : List A) → length names ≤ i → with_rows st c n (map f (drop i names)) ≡ st
 unfolding with_rows
 rows_end f st c n i names h = rw (drop_all i names) refl
 
 -- the classes of the rows stand in the first store
-pub nameless_length : length nameless.objects ≡ 39
+pub nameless_length : length nameless.objects ≡ 41
 unfolding nameless core_classes
 nameless_length = refl
 
@@ -50,3 +50,7 @@ nameless_integer = refl
 pub nameless_range : plays ClassOrModule (sort_at nameless.objects (core class.Range)) ≡ true
 unfolding nameless core_classes core_object core_contents
 nameless_range = refl
+
+pub nameless_singleton : plays ClassOrModule (sort_at nameless.objects range_singleton) ≡ true
+unfolding nameless core_classes core_object core_contents
+nameless_singleton = refl

@@ -1,11 +1,12 @@
 -- The store at the start is sound.
 use Rattle.std.proofs.Common.{◌≡◌, ℕ, zero, suc, ◌+◌, ◌<◌, ◌≤◌, List, [], ◌∷◌, ◌++◌, length, map, filter, not, get_or, Bool, true, false, cond, if◌then◌else◌, refl, ap, sym, ◌∙◌, subst, arith, lit<, lit≤, length-append}
-use Rattle.std.specs.Prelude.{Option, Some, None, nat_eq, nat_lt, slice_get}
+use Rattle.std.specs.Prelude.{Option, Some, None, nat_eq, nat_lt, slice_get, codes}
 use Rattle.std.specs.List.{position}
 use Rattle.std.specs.Str.{bytes_eq}
 use Rattle.std.proofs.lemmas.Bool.Decides.{nat_tests}
 use Rattle.std.proofs.lemmas.List.Quantifiers.{position-Some}
 use Rattle.rb_value.specs.declared.object.Object.{Object}
+use Rattle.rb_value.specs.declared.value.ObjId.{ObjId}
 use Rattle.rb_value.specs.declared.method.Method.TheVariants as method
 use Rattle.rb_value.specs.declared.method.Visibility.TheVariants.{Public}
 use Rattle.rb_value.specs.declared.kind.ClassForm.TheVariants as form
@@ -18,15 +19,16 @@ use Rattle.rb_value.specs.CoreClass.{core_classes, number_of, is_module}
 use Rattle.def_core.specs.Store.{Store, absent, core, fresh}
 use Rattle.def_core.specs.Changes.{intern, intern_at}
 use Rattle.def_core.specs.Rows.{rows, is_row, integer_names, range_names}
-use Rattle.def_core.specs.Sound.{sorts_of, census, Census, Role, Any, Class, Module, ClassOrModule, plays, plays_at, Is, IsSymbol, OptionIs, AllAre, SoundConstant, IsSuperclass, SoundObject, core_sort, Sound}
-use Rattle.def_core.proofs.Roles.{class_is_superclass, superclass_is_class}
-use Rattle.def_core.proofs.Grows.{sound_with_interned, core_is_class, interned}
+use Rattle.def_core.specs.Sound.{sorts_of, census, Census, Role, Any, Class, Module, ClassOrModule, Superclass, SingletonClass, plays, plays_at, Is, IsSymbol, OptionIs, AllAre, SoundConstant, IsSuperclass, SoundObject, core_sort, Sound}
+use Rattle.def_core.proofs.Roles.{is_plays}
+use Rattle.def_core.proofs.Sorts.{sorts-with_method}
+use Rattle.def_core.proofs.Grows.{sound_with_interned, interned}
 use Rattle.def_core.proofs.Keeps.{sound_with_method}
-use Rattle.rb_store.specs.Opening.{constant_for, constants_for, object_constants, constants_of, included_in, superclass_of, core_contents, core_object, nameless, with_names, bare, with_row, with_rows, opening}
+use Rattle.rb_store.specs.Opening.{constant_for, constants_for, object_constants, constants_of, included_in, superclass_of, core_contents, core_object, nameless, with_names, bare, with_row, with_rows, opening, object_singleton, range_singleton, singleton_of, singleton_object}
 
--- the sorts of the core classes and the main object, in their order
+-- the sorts of the core classes, the main object and the two singleton classes, in their order
 abbrev start_sorts : List Sort
-start_sorts = sort.Class ∷ sort.Module ∷ sort.Class ∷ sort.Class ∷ sort.Module ∷ sort.Module ∷ sort.Class ∷ sort.Class ∷ sort.Class ∷ sort.Class ∷ sort.Class ∷ sort.Class ∷ sort.Class ∷ sort.Class ∷ sort.Class ∷ sort.Class ∷ sort.Class ∷ sort.Class ∷ sort.Class ∷ sort.Class ∷ sort.Class ∷ sort.Class ∷ sort.Class ∷ sort.Class ∷ sort.Class ∷ sort.Class ∷ sort.Class ∷ sort.Class ∷ sort.Class ∷ sort.Class ∷ sort.Class ∷ sort.Class ∷ sort.Class ∷ sort.Class ∷ sort.Class ∷ sort.Class ∷ sort.Class ∷ sort.Class ∷ sort.Plain ∷ []
+start_sorts = sort.Class ∷ sort.Module ∷ sort.Class ∷ sort.Class ∷ sort.Module ∷ sort.Module ∷ sort.Class ∷ sort.Class ∷ sort.Class ∷ sort.Class ∷ sort.Class ∷ sort.Class ∷ sort.Class ∷ sort.Class ∷ sort.Class ∷ sort.Class ∷ sort.Class ∷ sort.Class ∷ sort.Class ∷ sort.Class ∷ sort.Class ∷ sort.Class ∷ sort.Class ∷ sort.Class ∷ sort.Class ∷ sort.Class ∷ sort.Class ∷ sort.Class ∷ sort.Class ∷ sort.Class ∷ sort.Class ∷ sort.Class ∷ sort.Class ∷ sort.Class ∷ sort.Class ∷ sort.Class ∷ sort.Class ∷ sort.Class ∷ sort.Plain ∷ sort.Singleton ∷ sort.Singleton ∷ []
 
 abbrev start : Census
 start = record { sorts = start_sorts; symbols = 39 }
@@ -227,11 +229,20 @@ class_of_class c = elim (is_module c) as (λ b. Is start Class (if b then core c
   | false ↦ record { holds = refl }
 ]
 
+singleton_is : (c : CoreClass) → OptionIs (Is start SingletonClass) (singleton_of c)
+singleton_is c = elim (nat_eq (number_of c) 0) as (λ b. OptionIs (Is start SingletonClass) (if b then Some object_singleton else (if nat_eq (number_of c) 15 then Some range_singleton else None))) [
+  | true ↦ record { holds = refl }
+  | false ↦ elim (nat_eq (number_of c) 15) as (λ b. OptionIs (Is start SingletonClass) (if b then Some range_singleton else None)) [
+    | true ↦ record { holds = refl }
+    | false ↦ tt
+  ]
+]
+
 core_sound : (c : CoreClass) → SoundObject start (number_of c) (core_object c)
 unfolding core_object core_contents
 core_sound c = record {
   class = class_of_class c;
-  singleton = tt;
+  singleton = singleton_is c;
   variables = tt;
   kind = record {
     name = record { below = number_below c };
@@ -246,6 +257,14 @@ core_sound c = record {
 main_sound : SoundObject start 38 (fresh (core class.Object) kind.Plain)
 main_sound = record { class = record { holds = refl }; singleton = tt; variables = tt; kind = tt }
 
+singleton_sound : (n : ℕ) (superclass : ObjId) → Is start Superclass superclass → superclass.0 < n → SoundObject start n (singleton_object superclass)
+singleton_sound n superclass is below = record {
+  class = record { holds = refl };
+  singleton = tt;
+  variables = tt;
+  kind = record { name = tt; superclass = (is, below); module_root = λ e. cc; included = tt; constants = tt; methods = tt };
+}
+
 -- objects that are sound with the numbers from n on
 abbrev SoundFrom : ℕ → List Object → Type 0
 SoundFrom n [] = Unit {0}
@@ -258,7 +277,7 @@ sound_at n (o ∷ os) (suc i) all h = let e : n + suc i ≡ suc n + i = omega ar
 
 nameless_sound : SoundFrom 0 nameless.objects
 unfolding nameless core_classes
-nameless_sound = (core_sound class.Object, (core_sound class.Kernel, (core_sound class.Module, (core_sound class.Class, (core_sound class.Comparable, (core_sound class.Enumerable, (core_sound class.Numeric, (core_sound class.Integer, (core_sound class.NilClass, (core_sound class.TrueClass, (core_sound class.FalseClass, (core_sound class.String, (core_sound class.Symbol, (core_sound class.Array, (core_sound class.Hash, (core_sound class.Range, (core_sound class.Proc, (core_sound class.Fiber, (core_sound class.Enumerator, (core_sound class.Yielder, (core_sound class.Exception, (core_sound class.ScriptError, (core_sound class.NotImplementedError, (core_sound class.SystemExit, (core_sound class.SystemStackError, (core_sound class.StandardError, (core_sound class.ArgumentError, (core_sound class.FiberError, (core_sound class.IndexError, (core_sound class.KeyError, (core_sound class.StopIteration, (core_sound class.LocalJumpError, (core_sound class.NameError, (core_sound class.NoMethodError, (core_sound class.RangeError, (core_sound class.RuntimeError, (core_sound class.TypeError, (core_sound class.ZeroDivisionError, (main_sound, tt)))))))))))))))))))))))))))))))))))))))
+nameless_sound = (core_sound class.Object, (core_sound class.Kernel, (core_sound class.Module, (core_sound class.Class, (core_sound class.Comparable, (core_sound class.Enumerable, (core_sound class.Numeric, (core_sound class.Integer, (core_sound class.NilClass, (core_sound class.TrueClass, (core_sound class.FalseClass, (core_sound class.String, (core_sound class.Symbol, (core_sound class.Array, (core_sound class.Hash, (core_sound class.Range, (core_sound class.Proc, (core_sound class.Fiber, (core_sound class.Enumerator, (core_sound class.Yielder, (core_sound class.Exception, (core_sound class.ScriptError, (core_sound class.NotImplementedError, (core_sound class.SystemExit, (core_sound class.SystemStackError, (core_sound class.StandardError, (core_sound class.ArgumentError, (core_sound class.FiberError, (core_sound class.IndexError, (core_sound class.KeyError, (core_sound class.StopIteration, (core_sound class.LocalJumpError, (core_sound class.NameError, (core_sound class.NoMethodError, (core_sound class.RangeError, (core_sound class.RuntimeError, (core_sound class.TypeError, (core_sound class.ZeroDivisionError, (main_sound, (singleton_sound 39 (core class.Class) (record { holds = refl }) (lit< tt), (singleton_sound 40 object_singleton (record { holds = refl }) (lit< tt), tt)))))))))))))))))))))))))))))))))))))))))
 
 nameless_sorts : sorts_of nameless.objects ≡ start_sorts
 unfolding nameless core_classes core_object core_contents
@@ -289,6 +308,14 @@ bare_sound = record {
   core = λ c. ap (λ (k : Census). slice_get k.sorts (number_of c)) bare_census ∙ core_at c;
 }
 
+intern_objects : (st : Store) (name : List ℕ) → (intern st name).store.objects ≡ st.objects
+unfolding intern
+intern_objects st name = by (position (bytes_eq name) st.symbols)
+  where
+    by : (p : Option ℕ) → (intern_at st name p).store.objects ≡ st.objects
+    by None = refl
+    by (Some i) = refl
+
 interned_symbol : (st : Store) (name : List ℕ) → IsSymbol (census (intern st name).store) (intern st name).symbol
 unfolding intern
 interned_symbol st name = by (position (bytes_eq name) st.symbols) refl
@@ -297,22 +324,50 @@ interned_symbol st name = by (position (bytes_eq name) st.symbols) refl
     by None e = record { below = rw length-append (omega arith) }
     by (Some i) e = record { below = (position-Some (bytes_eq name) st.symbols i [] e).0 }
 
-row_is : (n : ℕ) → n < 51 → is_row n ≡ true
+row_is : (n : ℕ) → n < 52 → is_row n ≡ true
 unfolding rows integer_names range_names
 row_is n h =
-    let enough : 51 ≤ length rows = lit≤ tt in
+    let enough : 52 ≤ length rows = lit≤ tt in
     grind (arith, nat_tests, enough, h)
 
-rows_sound : (st : Store) → Sound st → (c : CoreClass) → is_module c ≡ false → (n : ℕ) (names : List (List ℕ)) → n + length names ≤ 51 → Sound (with_rows st c n names)
+-- a core method keeps the sort of each object
+row_sorts : (st : Store) (c : ObjId) (n : ℕ) (name : List ℕ) → Is (census st) ClassOrModule c → sorts_of (with_row c n (intern st name)).objects ≡ sorts_of st.objects
+row_sorts st c n name is =
+    let there = (interned st name).roles ClassOrModule c is in
+    sorts-with_method (intern st name).store c (intern st name).symbol (method.Core n) Public (is_plays (intern st name).store ClassOrModule c there)
+    ∙ ap sorts_of (intern_objects st name)
+
+same_role : (st other : Store) (r : Role) (id : ObjId) → sorts_of other.objects ≡ sorts_of st.objects → Is (census st) r id → Is (census other) r id
+same_role st other r id e is = record { holds = ap (λ ss. plays_at r (slice_get ss id.0)) e ∙ is.holds }
+
+rows_sorts : (st : Store) (c : ObjId) (n : ℕ) (names : List (List ℕ)) → Is (census st) ClassOrModule c → sorts_of (with_rows st c n names).objects ≡ sorts_of st.objects
 unfolding with_rows
-rows_sound st sound c plain n [] h = sound
-rows_sound st sound c plain n (name ∷ names) h =
-    let named = sound_with_interned st sound name in
-    let is = superclass_is_class (intern st name).store (core c) (class_is_superclass (intern st name).store (core c) (core_is_class (intern st name).store named c plain)) in
+rows_sorts st c n [] is = refl
+rows_sorts st c n (name ∷ names) is =
+    let e = row_sorts st c n name is in
+    rows_sorts (with_row c n (intern st name)) c (n + 1) names (same_role st _ ClassOrModule c e is) ∙ e
+
+rows_sound : (st : Store) → Sound st → (c : ObjId) → Is (census st) ClassOrModule c → (n : ℕ) (names : List (List ℕ)) → n + length names ≤ 52 → Sound (with_rows st c n names)
+unfolding with_rows
+rows_sound st sound c is n [] h = sound
+rows_sound st sound c is n (name ∷ names) h =
+    let there = (interned st name).roles ClassOrModule c is in
     rows_sound (with_row c n (intern st name))
-    (sound_with_method (intern st name).store named (core c) (intern st name).symbol (method.Core n) Public is (interned_symbol st name) (row_is n (omega (arith, h))))
-    c plain (n + 1) names (omega (arith, h))
+    (sound_with_method (intern st name).store (sound_with_interned st sound name) c (intern st name).symbol (method.Core n) Public there (interned_symbol st name) (row_is n (omega (arith, h))))
+    c (same_role st _ ClassOrModule c (row_sorts st c n name is) is) (n + 1) names (omega (arith, h))
+
+bare_role : (id : ObjId) → Is start ClassOrModule id → Is (census bare) ClassOrModule id
+bare_role id is = subst (λ (k : Census). Is k ClassOrModule id) (sym bare_census) is
 
 pub opening_sound : Sound opening
 unfolding opening integer_names range_names
-opening_sound = rows_sound _ (rows_sound bare bare_sound class.Integer refl 0 integer_names (lit≤ tt)) class.Range refl 39 range_names (lit≤ tt)
+opening_sound =
+    let integer = bare_role (core class.Integer) (record { holds = refl }) in
+    let range = bare_role (core class.Range) (record { holds = refl }) in
+    let own = bare_role range_singleton (record { holds = refl }) in
+    let first = rows_sound bare bare_sound (core class.Integer) integer 0 integer_names (lit≤ tt) in
+    let with_integer = rows_sorts bare (core class.Integer) 0 integer_names integer in
+    let range_there = same_role bare _ ClassOrModule (core class.Range) with_integer range in
+    let second = rows_sound _ first (core class.Range) range_there 39 range_names (lit≤ tt) in
+    let own_there = same_role _ _ ClassOrModule range_singleton (rows_sorts _ (core class.Range) 39 range_names range_there ∙ with_integer) own in
+    rows_sound _ second range_singleton own_there 51 (codes "new" ∷ []) (lit≤ tt)

@@ -15,6 +15,7 @@ use Rattle.rb_value.specs.declared.core_class.CoreClass.TheVariants as class
 use Rattle.rb_value.specs.CoreClass as table
 pub use Rattle.rb_value.specs.CoreClass.{core_classes}
 use Rattle.def_core.specs.Store.{Store, core, fresh, object_number, symbol_number}
+use Rattle.def_core.specs.Classes.{empty_class}
 use Rattle.def_core.specs.Changes.{intern, with_method, Interned}
 use Rattle.def_core.specs.Rows.{integer_names, range_names}
 
@@ -57,17 +58,36 @@ core_contents c = record {
   methods = [];
 }
 
+-- the singleton class of Range, which has its own methods, and that of its superclass Object
+abbrev pub object_singleton : ObjId
+object_singleton = object_number 39
+
+abbrev pub range_singleton : ObjId
+range_singleton = object_number 40
+
+abbrev pub singleton_of : CoreClass → Option ObjId
+singleton_of c =
+    if nat_eq (table.number_of c) 0 then Some object_singleton
+    else (if nat_eq (table.number_of c) 15 then Some range_singleton else None)
+
+abbrev pub singleton_object : ObjId → Object
+singleton_object superclass = fresh (core class.Class) (kind.Class (empty_class form.Singleton (Some superclass)))
+
 unfoldable pub core_object : CoreClass → Object
 core_object c = record {
   class = if table.is_module c then core class.Module else core class.Class;
-  singleton = None;
+  singleton = singleton_of c;
   variables = [];
   kind = kind.Class (core_contents c);
 }
 
+-- what stands behind the core classes and modules: the main object and the singleton classes
+abbrev pub others : List Object
+others = fresh (core class.Object) kind.Plain ∷ singleton_object (core class.Class) ∷ singleton_object object_singleton ∷ []
+
 -- the classes, modules and the main object, without methods and symbols
 unfoldable pub nameless : Store
-nameless = record { objects = map core_object core_classes ++ fresh (core class.Object) kind.Plain ∷ []; symbols = [] }
+nameless = record { objects = map core_object core_classes ++ others; symbols = [] }
 
 unfoldable pub with_names : Store → List (List ℕ) → Store
 with_names st [] = st
@@ -83,12 +103,15 @@ abbrev pub main_object : ObjId
 main_object = object_number 38
 
 -- the core methods of a class, whose rows have the numbers from n on
-abbrev pub with_row : CoreClass → ℕ → Interned → Store
-with_row c n named = with_method named.store (core c) named.symbol (method.Core n) Public
+abbrev pub with_row : ObjId → ℕ → Interned → Store
+with_row c n named = with_method named.store c named.symbol (method.Core n) Public
 
-unfoldable pub with_rows : Store → CoreClass → ℕ → List (List ℕ) → Store
+unfoldable pub with_rows : Store → ObjId → ℕ → List (List ℕ) → Store
 with_rows st c n [] = st
 with_rows st c n (name ∷ names) = with_rows (with_row c n (intern st name)) c (n + 1) names
 
+-- the rows of the table (def_core, Rows): those of Integer, those of Range, and `new` of Range itself
 unfoldable pub opening : Store
-opening = with_rows (with_rows bare class.Integer 0 integer_names) class.Range (length integer_names) range_names
+opening =
+    with_rows (with_rows (with_rows bare (core class.Integer) 0 integer_names) (core class.Range) (length integer_names) range_names)
+    range_singleton (length integer_names + length range_names) (codes "new" ∷ [])

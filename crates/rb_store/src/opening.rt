@@ -1,8 +1,8 @@
 //! The store at the start: the core classes and modules, the main object, and the core methods.
 ghost use Rattle.std.specs.Prelude.{◌≡◌, ◌<◌, ◌+◌, ◌^◌, ◌++◌, ◌∷◌, [], map, length, true, IfOk, OnOk};
-ghost use Rattle.def_core.specs.Store.{sort_at, core};
+ghost use Rattle.def_core.specs.Store.{sort_at, fresh};
 ghost use Rattle.def_core.specs.Sound.{plays, ClassOrModule, sorts_of, Sound};
-ghost use Rattle.rb_value.specs.CoreClass.{number_of, name_of};
+ghost use Rattle.rb_value.specs.CoreClass.{name_of};
 ghost use Rattle.rb_store.specs.Opening as opening;
 
 use crate::store::Store;
@@ -113,8 +113,16 @@ const RANGE_METHODS: [&[u8]; 12] = [
     b"inspect",
 ];
 
+/// The methods of Range itself.
+const RANGE_OWN_METHODS: [&[u8]; 1] = [b"new"];
+
 /// The number of the symbol `Yielder`.
 const YIELDER: u64 = 38;
+
+/// The numbers of the singleton classes of Object and of Range.
+const OBJECT_SINGLETON: u64 = 39;
+
+const RANGE_SINGLETON: u64 = 40;
 
 fn constant_for(class: CoreClass) -> Constant
     ensures { result ≡ opening.constant_for class }
@@ -174,6 +182,19 @@ fn superclass_of(class: CoreClass) -> Option<ObjId>
     }
 }
 
+/// The singleton class of a core class, which Object and Range have.
+fn singleton_of(class: CoreClass) -> Option<ObjId>
+    ensures { result ≡ opening.singleton_of class }
+{
+    if class.number() == 0 {
+        Some(ObjId(OBJECT_SINGLETON))
+    } else if class.number() == 15 {
+        Some(ObjId(RANGE_SINGLETON))
+    } else {
+        None
+    }
+}
+
 #[tactic(auto, unfolding(crate::specs::Opening::core_contents))]
 fn core_contents(alloc: Global, class: CoreClass) -> Result<ClassContents, AllocError>
     ensures { IfOk result (λ contents. contents ≡ opening.core_contents class) }
@@ -202,7 +223,7 @@ fn core_object(alloc: Global, class: CoreClass) -> Result<Object, AllocError>
     let contents = core_contents(alloc, class)?;
     Ok(Object {
         class: ObjId(if class.is_module() { 2 } else { 3 }),
-        singleton: None,
+        singleton: singleton_of(class),
         variables: List::new(alloc),
         kind: Kind::Class(contents),
     })
@@ -218,6 +239,34 @@ fn core_objects(alloc: Global, classes: &[CoreClass]) -> Result<Vec<Object>, All
     Ok(objects)
 }
 
+/// An object with a class and contents alone.
+fn plain_object(alloc: Global, class: ObjId, kind: Kind) -> Object
+    ensures { result ≡ fresh class kind }
+{
+    Object {
+        class,
+        singleton: None,
+        variables: List::new(alloc),
+        kind,
+    }
+}
+
+/// A singleton class without methods.
+fn singleton_object(alloc: Global, superclass: ObjId) -> Object
+    ensures { result ≡ opening.singleton_object superclass }
+{
+    let contents = ClassContents {
+        form: ClassForm::Singleton,
+        name: None,
+        superclass: Some(superclass),
+        included: List::new(alloc),
+        constants: List::new(alloc),
+        visibility: Visibility::Public,
+        methods: MethodTable::new(alloc),
+    };
+    plain_object(alloc, ObjId(3), Kind::Class(contents))
+}
+
 impl Store {
     /// The store of the core classes and the main object, without methods and symbols.
     #[tactic(auto, unfolding(rb_value::specs::CoreClass::core_classes, crate::specs::Opening::nameless))]
@@ -225,12 +274,9 @@ impl Store {
         ensures { IfOk result (λ store. store.store ≡ opening.nameless) }
     {
         let mut objects = core_objects(alloc, &CORE_CLASSES)?;
-        objects.push(Object {
-            class: ObjId(0),
-            singleton: None,
-            variables: List::new(alloc),
-            kind: Kind::Plain,
-        })?;
+        objects.push(plain_object(alloc, ObjId(0), Kind::Plain))?;
+        objects.push(singleton_object(alloc, ObjId(3)))?;
+        objects.push(singleton_object(alloc, ObjId(OBJECT_SINGLETON)))?;
         Ok(Store {
             alloc,
             objects,
@@ -251,18 +297,17 @@ impl Store {
     }
 
     /// Adds the core methods of a class, whose rows have the numbers from `first` on.
-    fn add_rows(&mut self, class: CoreClass, first: u16, names: &[&[u8]]) -> Result<(), AllocError>
-        requires there { number_of class < length self.old.store.objects }
-        requires is_class { plays ClassOrModule (sort_at self.old.store.objects (core class)) ≡ true }
+    fn add_rows(&mut self, class: ObjId, first: u16, names: &[&[u8]]) -> Result<(), AllocError>
+        requires there { class.0 < length self.old.store.objects }
+        requires is_class { plays ClassOrModule (sort_at self.old.store.objects class) ≡ true }
         requires rows { first + length names.now < 2 ^ 16 }
         ensures ok { OnOk result (self.new.store ≡ opening.with_rows self.old.store class first (map (λ name. name.now) names.now)) }
         ensures objects { OnOk result (sorts_of self.new.store.objects ≡ sorts_of self.old.store.objects) }
     {
-        let object = self.class_object(class);
         'rows: for (i, name) in names.iter().enumerate() {
             let symbol = self.intern(name)?;
             let row = Method::Core(first + i as u16);
-            self.put_method(object, symbol, row, Visibility::Public)?;
+            self.put_method(class, symbol, row, Visibility::Public)?;
         }
         Ok(())
     }
@@ -275,8 +320,9 @@ impl Store {
         let mut store = Store::nameless(alloc)?;
         store.add_names(&CORE_CLASSES)?;
         store.intern(b"Yielder")?;
-        store.add_rows(CoreClass::Integer, 0, &INTEGER_METHODS)?;
-        store.add_rows(CoreClass::Range, 39, &RANGE_METHODS)?;
+        store.add_rows(ObjId(7), 0, &INTEGER_METHODS)?;
+        store.add_rows(ObjId(15), 39, &RANGE_METHODS)?;
+        store.add_rows(ObjId(RANGE_SINGLETON), 51, &RANGE_OWN_METHODS)?;
         Ok(store)
     }
 

@@ -6,7 +6,7 @@ use std::test::Fail;
 #[test]
 fn the_store_at_the_start(rt: HostRuntime) -> Result<(), Fail> {
     let mut store = Store::new(rt.alloc())?;
-    assert_eq!(rt; store.len(), 39);
+    assert_eq!(rt; store.len(), 41);
     let class = store.intern(b"Integer")?;
     assert!(rt; class == SymId(CoreClass::Integer.number()));
     let succ = store.intern(b"succ")?;
@@ -38,6 +38,6 @@ fn changes_count_classes_alone(rt: HostRuntime) -> Result<(), Fail> {
         variables: List::new(rt.alloc()),
         kind: Kind::Plain,
     })?;
-    assert_eq!(rt; id.0, 39);
+    assert_eq!(rt; id.0, 41);
     Ok(())
 }
