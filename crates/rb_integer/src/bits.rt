@@ -1,5 +1,6 @@
 //! Operations on bits in two's complement, and shifts (ISO/IEC 30170:2012, 15.2.8).
 ghost use Rattle.std.specs.Prelude.{◌≡◌, ◌≢◌, ◌≤◌, ℕ, min, max, ◌+◌, ◌*◌, ◌%◌, ◌^◌, ◌*ℤ◌, pos, Ok};
+ghost use Rattle.std.specs.Int.{w64, int_bit_and, int_bit_or, int_bit_xor};
 ghost use Rattle.rb_integer.specs.Bits as numbers;
 ghost use Rattle.rb_integer.specs.Bits.{bit_of};
 ghost use Rattle.rb_integer.specs.Division as division;
@@ -17,21 +18,24 @@ pub fn complement(x: i64) -> i64
 
 /// `x & y`: the bits that both have.
 pub fn bit_and(x: i64, y: i64) -> i64
-    ensures { (i : ℕ) → bit_of result i ≡ min (bit_of x i) (bit_of y i) }
+    ensures value { result ≡ int_bit_and w64 x y }
+    ensures bits { (i : ℕ) → bit_of result i ≡ min (bit_of x i) (bit_of y i) }
 {
     x & y
 }
 
 /// `x | y`: the bits that one or both have.
 pub fn bit_or(x: i64, y: i64) -> i64
-    ensures { (i : ℕ) → bit_of result i ≡ max (bit_of x i) (bit_of y i) }
+    ensures value { result ≡ int_bit_or w64 x y }
+    ensures bits { (i : ℕ) → bit_of result i ≡ max (bit_of x i) (bit_of y i) }
 {
     x | y
 }
 
 /// `x ^ y`: the bits that exactly one has.
 pub fn bit_xor(x: i64, y: i64) -> i64
-    ensures { (i : ℕ) → bit_of result i ≡ (bit_of x i + bit_of y i) % 2 }
+    ensures value { result ≡ int_bit_xor w64 x y }
+    ensures bits { (i : ℕ) → bit_of result i ≡ (bit_of x i + bit_of y i) % 2 }
 {
     x ^ y
 }

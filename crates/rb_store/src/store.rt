@@ -1,4 +1,4 @@
-ghost use Rattle.std.specs.Prelude.{◌≡◌, ◌<◌, length, IfOk, OnOk, OnErr};
+ghost use Rattle.std.specs.Prelude.{◌≡◌, ◌<◌, ◌^◌, ◌++◌, length, IfOk, OnOk, OnErr};
 ghost use Rattle.rb_value.specs.CoreClass.{number_of};
 ghost use Rattle.rb_value.specs.Sort.{sort_of};
 ghost use Rattle.def_core.specs.Store.{object_at, sort_at, set_object, with_object, next_number, name_at, core};
@@ -7,6 +7,7 @@ ghost use Rattle.rb_store.specs.Held.{changes_after};
 ghost use Rattle.rb_store.specs.Counted.{IsCounted};
 
 use crate::symbols::Symbols;
+use rb_base::List;
 use rb_value::{CoreClass, ObjId, Object, Sort, SymId};
 use std::alloc::{AllocError, Global};
 use std::marker::Model;
@@ -48,7 +49,8 @@ impl Store {
 
     /// How many objects there are.
     pub fn len(&self) -> u64
-        ensures { result ≡ length self.now.store.objects }
+        ensures count { result ≡ length self.now.store.objects }
+        ensures bounded { result < 2 ^ 63 }
     {
         self.objects.len() as u64
     }
@@ -81,6 +83,17 @@ impl Store {
         let id = ObjId(self.objects.len() as u64);
         self.objects.push(object)?;
         Ok(id)
+    }
+
+    /// Puts objects behind the others, in their order. Where memory runs out all is as before.
+    pub fn add_all(&mut self, objects: List<Object>) -> Result<(), AllocError>
+        ensures ok { OnOk result (self.new.store ≡ record self.old.store { objects = self.old.store.objects ++ objects }) }
+        ensures changes { self.new.changes ≡ self.old.changes }
+        ensures err { OnErr result (self.new.store ≡ self.old.store) }
+    {
+        let mut more = objects.into_vec();
+        self.objects.append(&mut more)?;
+        Ok(())
     }
 
     /// Puts an object of the same sort in the place of another, which it gives back. It takes no memory.

@@ -1,0 +1,10 @@
+pub mod Rows
+pub mod Counts
+pub mod Answers
+pub mod Completes
+pub mod Operands
+pub mod IntegerRows
+pub mod Escapes
+pub mod RangeRows
+pub mod NumberRows
+pub mod Laws
