@@ -1,6 +1,6 @@
 -- A method that is found is one of the store.
 use Rattle.std.proofs.Common.{◌≡◌, ℕ, zero, suc, List, [], ◌∷◌, ◌++◌, Bool, true, false, cond, refl, ap, subst, sym, ◌∙◌}
-use Rattle.std.specs.Prelude.{Option, Some, None, nat_eq}
+use Rattle.std.specs.Prelude.{not, Option, Some, None, nat_eq}
 use Rattle.std.specs.Map.{lookup}
 use Rattle.rb_value.specs.declared.value.ObjId.{ObjId}
 use Rattle.rb_value.specs.declared.value.SymId.{SymId}
@@ -11,15 +11,15 @@ use Rattle.rb_value.specs.declared.method.MethodEntry.{MethodEntry}
 use Rattle.rb_value.specs.declared.object.Object.{Object}
 use Rattle.def_core.specs.declared.found.Found.{Found}
 use Rattle.def_core.specs.Store.{Store}
-use Rattle.def_core.specs.Classes.{class_at, chain_within, chain}
-use Rattle.def_core.specs.Changes.{with_method}
+use Rattle.def_core.specs.Classes.{class_at, is_singleton, chain_within, chain, ancestors}
+use Rattle.def_core.specs.Changes.{with_method, with_default}
 use Rattle.def_core.specs.Find.{entry_of, found_as, found_or, first_of, find}
 use Rattle.def_core.specs.Sound.{Census, census, ClassOrModule, Module, Is, OptionIs, AllAre, IsSuperclass, SoundMethod, SoundEntry, Sound, Extends}
-use Rattle.def_core.proofs.Sorts.{sorts-with_method}
+use Rattle.def_core.proofs.Sorts.{sorts-with_class, sorts-with_method}
 use Rattle.def_core.proofs.Roles.{is_plays, sound_class, superclass_is_class}
 use Rattle.def_core.proofs.Grows.{same_objects}
 use Rattle.class_model.proofs.Walks.{above_is_class, included_are_classes}
-use Rattle.class_model.proofs.Members.{all_append}
+use Rattle.class_model.proofs.Members.{all_append, all_filter}
 
 abbrev SoundFound : Census → Option Found → Type 0
 SoundFound k = OptionIs (λ f. SoundMethod k f.method)
@@ -70,3 +70,12 @@ found_is_sound st sound c name is = first_is_sound st sound (chain st.objects c)
 pub extends_method : (st : Store) (c : ObjId) (name : SymId) (m : Method) (v : Visibility) → Is (census st) ClassOrModule c → Extends (census st) (census (with_method st c name m v))
 unfolding with_method
 extends_method st c name m v is = same_objects st _ (sorts-with_method st c name m v (is_plays st ClassOrModule c is))
+
+pub ancestors_are_classes : (st : Store) → Sound st → (c : ObjId) → Is (census st) ClassOrModule c → AllAre (Is (census st) ClassOrModule) (ancestors st.objects c)
+unfolding ancestors chain
+ancestors_are_classes st sound c is =
+    all_filter (Is (census st) ClassOrModule) (λ k. not (is_singleton (class_at st.objects k).form)) (chain st.objects c) (chain_is_classes st sound (suc c.0) (Some c) is)
+
+pub extends_default : (st : Store) (c : ObjId) (v : Visibility) → Is (census st) ClassOrModule c → Extends (census st) (census (record st { objects = with_default st.objects c v }))
+unfolding with_default
+extends_default st c v is = same_objects st _ (sorts-with_class st.objects c _ (is_plays st ClassOrModule c is) refl)

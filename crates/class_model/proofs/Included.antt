@@ -8,8 +8,10 @@ use Rattle.rb_value.specs.declared.kind.Sort.TheVariants as sort
 use Rattle.def_core.specs.Store.{Store, sort_at}
 use Rattle.def_core.specs.Classes.{class_at, chain}
 use Rattle.def_core.specs.Changes.{new_members, with_included}
-use Rattle.def_core.specs.Sound.{census, Role, Module, Superclass, ClassOrModule, plays, Is, AllAre, Sound}
+use Rattle.def_core.specs.Sound.{census, Role, Module, Superclass, ClassOrModule, plays, Is, AllAre, Sound, Extends}
 use Rattle.def_core.proofs.Chains.{chain_is, chain_above}
+use Rattle.def_core.proofs.Sorts.{sorts-with_class}
+use Rattle.def_core.proofs.Grows.{same_objects}
 use Rattle.def_core.proofs.Keeps.{sound_with_class}
 use Rattle.def_core.proofs.Roles.{is_within, is_plays, module_is_class, sound_class}
 use Rattle.class_model.specs.Including.{is_new}
@@ -56,3 +58,7 @@ sound_with_included st sound c m is mixin =
       constants = old.constants;
       methods = old.methods;
     })
+
+pub extends_included : (st : Store) (c m : ObjId) → Is (census st) ClassOrModule c → Extends (census st) (census (record st { objects = with_included st.objects c m }))
+unfolding with_included
+extends_included st c m is = same_objects st _ (sorts-with_class st.objects c _ (is_plays st ClassOrModule c is) refl)

@@ -1,17 +1,19 @@
 -- The singleton classes that are missing, made one after another.
-use Rattle.std.proofs.Common.{◌≡◌, ℕ, zero, suc, ◌<◌, ◌≤◌, ◌-◌, ◌++◌, List, [], ◌∷◌, length, get_or, drop, filter, refl, ap, sym, ◌∙◌, arith, drop-cons}
-use Rattle.std.specs.Prelude.{Some, None}
+use Rattle.std.proofs.Common.{◌≡◌, ℕ, zero, suc, ◌<◌, ◌≤◌, ◌-◌, ◌++◌, List, [], ◌∷◌, length, get_or, drop, filter, refl, ap, sym, ◌∙◌, arith, subst, Bool, true, false, cond, not, true≢false, drop-cons}
+use Rattle.std.specs.Prelude.{Option, Some, None, is_some, unwrap_or}
 use Rattle.std.proofs.Math.Seq.{drop-length}
 use Rattle.std.proofs.lemmas.List.Elements.{filter-append}
 use Rattle.rb_value.specs.declared.value.ObjId.{ObjId}
 use Rattle.rb_value.specs.declared.object.Object.{Object}
-use Rattle.def_core.specs.Store.{Store, sort_at}
+use Rattle.def_core.specs.Store.{Store, object_at, sort_at}
 use Rattle.def_core.specs.Classes.{class_at, lineage}
-use Rattle.def_core.specs.Changes.{make_all, missing}
-use Rattle.def_core.specs.Sound.{Sound}
+use Rattle.def_core.specs.Changes.{above, make_all, missing}
+use Rattle.def_core.specs.Sound.{census, Any, ClassOrModule, Is, AllAre, Sound}
+use Rattle.def_core.proofs.Roles.{is_within}
 use Rattle.def_core.proofs.Chains.{lineage_above}
 use Rattle.class_model.specs.Singletons.{is_missing, with_new_singleton, IsMadeInPart}
-use Rattle.class_model.proofs.Lineages.{lineage_of, singletons_from_lineage}
+use Rattle.class_model.proofs.Lineages.{lineage_of, singletons_from_lineage, singleton_is_class}
+use Rattle.class_model.proofs.Attaching.{more_attached, kept_attached, given_attached}
 
 pub make_none : (objects : List Object) (ids : List ObjId) → make_all objects (drop (length ids) ids) ≡ objects
 unfolding make_all
@@ -44,3 +46,56 @@ missing_last st sound id within h = ap (filter (is_missing st.objects)) (lineage
 pub missing_is : (st : Store) → Sound st → (id : ObjId) → id.0 < length st.objects → filter (is_missing st.objects) (lineage st.objects id) ≡ missing st.objects id
 unfolding missing
 missing_is st sound id within = ap (filter (is_missing st.objects)) (sym (singletons_from_lineage st sound id within))
+
+more_made : (objects : List Object) (ids : List ObjId) → length objects ≤ length (make_all objects ids)
+unfolding make_all
+more_made objects [] = omega arith
+more_made objects (id ∷ ids) = omega (arith, more_made objects ids, more_attached (make_all objects ids) id (above (make_all objects ids) id (sort_at (make_all objects ids) id)))
+
+kept_made : (objects : List Object) (ids : List ObjId) (k : ObjId) → AllAre (λ id. id.0 < length objects) ids → k.0 < length objects → is_some (object_at objects k).singleton ≡ true
+    → is_some (object_at (make_all objects ids) k).singleton ≡ true
+unfolding make_all
+kept_made objects [] k all there h = h
+kept_made objects (id ∷ ids) k all there h =
+    kept_attached (make_all objects ids) id (above (make_all objects ids) id (sort_at (make_all objects ids) id)) k
+    (omega (arith, all.0, more_made objects ids)) (omega (arith, there, more_made objects ids)) (kept_made objects ids k all.1 there h)
+
+given_made : (objects : List Object) (ids : List ObjId) (id : ObjId) → id.0 < length objects → is_some (object_at (make_all objects (id ∷ ids)) id).singleton ≡ true
+unfolding make_all
+given_made objects ids id there = given_attached (make_all objects ids) id (above (make_all objects ids) id (sort_at (make_all objects ids) id)) (omega (arith, there, more_made objects ids))
+
+-- the object has a singleton class then
+pub has_singleton : (st : Store) → Sound st → (id : ObjId) → id.0 < length st.objects → AllAre (λ x. x.0 < length st.objects) (missing st.objects id)
+    → is_some (object_at (make_all st.objects (missing st.objects id)) id).singleton ≡ true
+has_singleton st sound id within all =
+    let rest = filter (is_missing st.objects) (lineage_above st.objects (class_at st.objects id).superclass) in
+    let e : missing st.objects id ≡ cond (is_missing st.objects id) (id ∷ rest) rest = sym (missing_is st sound id within) ∙ ap (filter (is_missing st.objects)) (lineage_of st sound id within) in
+    subst (λ (xs : List ObjId). is_some (object_at (make_all st.objects xs) id).singleton ≡ true) (sym e)
+    (by (is_some (object_at st.objects id).singleton) refl rest (subst (AllAre (λ x. x.0 < length st.objects)) e all))
+  where
+    by : (b : Bool) → is_some (object_at st.objects id).singleton ≡ b → (rest : List ObjId) → AllAre (λ x. x.0 < length st.objects) (cond (not (is_some (object_at st.objects id).singleton)) (id ∷ rest) rest)
+        → is_some (object_at (make_all st.objects (cond (not (is_some (object_at st.objects id).singleton)) (id ∷ rest) rest)) id).singleton ≡ true
+    by true h rest = subst (λ (b : Bool). AllAre (λ x. x.0 < length st.objects) (cond (not b) (id ∷ rest) rest) → is_some (object_at (make_all st.objects (cond (not b) (id ∷ rest) rest)) id).singleton ≡ true) (sym h) (λ some. kept_made st.objects rest id some within h)
+    by false h rest = subst (λ (b : Bool). AllAre (λ x. x.0 < length st.objects) (cond (not b) (id ∷ rest) rest) → is_some (object_at (make_all st.objects (cond (not b) (id ∷ rest) rest)) id).singleton ≡ true) (sym h) (λ some. given_made st.objects rest id within)
+
+all_within : (st : Store) (ids : List ObjId) → AllAre (Is (census st) Any) ids → AllAre (λ x. x.0 < length st.objects) ids
+all_within st [] all = tt
+all_within st (id ∷ ids) all = (is_within st Any id all.0, all_within st ids all.1)
+
+pub given_is_class : (st : Store) → Sound st → (id : ObjId) → id.0 < length st.objects → is_some (object_at st.objects id).singleton ≡ true → Is (census st) ClassOrModule (unwrap_or (object_at st.objects id).singleton id)
+given_is_class st sound id within h = by (object_at st.objects id).singleton refl h
+  where
+    by : (o : Option ObjId) → (object_at st.objects id).singleton ≡ o → is_some o ≡ true → Is (census st) ClassOrModule (unwrap_or o id)
+    by None e s = absurd (true≢false (sym s))
+    by (Some x) e s = singleton_is_class st sound id x within e
+
+-- what is given as the singleton class is a class
+pub made_is_class : (st after : Store) → Sound st → Sound after → (id : ObjId) (ids : List ObjId) → Is (census st) Any id → ids ≡ missing st.objects id → AllAre (Is (census st) Any) ids
+    → after ≡ record st { objects = make_all st.objects ids } → Is (census after) ClassOrModule (unwrap_or (object_at after.objects id).singleton id)
+made_is_class st after sound later id ids is e all s =
+    let within = is_within st Any id is in
+    let some = has_singleton st sound id within (subst (AllAre (λ x. x.0 < length st.objects)) e (all_within st ids all)) in
+    let made : after.objects ≡ make_all st.objects (missing st.objects id) = ap (λ (x : Store). x.objects) s ∙ ap (make_all st.objects) e in
+    given_is_class after later id
+    (subst (λ (xs : List Object). id.0 < length xs) (sym made) (omega (arith, within, more_made st.objects (missing st.objects id))))
+    (subst (λ (xs : List Object). is_some (object_at xs id).singleton ≡ true) (sym made) some)

@@ -1,7 +1,7 @@
 //! The walk along the chain of a class.
 ghost use Rattle.std.specs.Prelude.{◌≡◌, ◌<◌, ◌∷◌, [], length, drop, filter, not};
 ghost use Rattle.def_core.specs.Classes as classes;
-ghost use Rattle.def_core.specs.Sound.{Sound, census, Is, ClassOrModule};
+ghost use Rattle.def_core.specs.Sound.{Sound, census, Is, ClassOrModule, AllAre};
 ghost use Rattle.class_model.specs.AncestorsLeft.{ancestors_left, IsAncestry};
 ghost use Rattle.class_model.specs.Chain.{left, IsWalk, IsMember, Steps};
 
@@ -52,11 +52,13 @@ pub fn superclass_of(st: &Store, class: ObjId) -> Option<ObjId>
 
 /// The members of the chain of a class or module that are no singleton classes, itself among them
 /// (ISO/IEC 30170:2012, 13.1). It takes no memory.
+#[tactic(auto, using(crate::proofs::Found::ancestors_are_classes))]
 pub fn ancestors(st: &Store, class: ObjId) -> Ancestors
     requires sound { Sound st.now.store }
     requires class { Is (census st.now.store) ClassOrModule class }
     ensures left { ancestors_left result ≡ classes.ancestors st.now.store.objects class }
     ensures ancestry { IsAncestry result }
+    ensures classes { AllAre (Is (census st.now.store) ClassOrModule) (classes.ancestors st.now.store.objects class) }
 {
     Ancestors::of(st, class)
 }

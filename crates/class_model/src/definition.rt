@@ -7,8 +7,10 @@ ghost use Rattle.def_core.specs.Classes as classes;
 ghost use Rattle.def_core.specs.Changes as defined;
 ghost use Rattle.def_core.specs.Texts as texts;
 ghost use Rattle.def_core.specs.Sound.{Sound, census, Is, Class, Superclass, ClassOrModule, IsSymbol, IsValue, OptionIs, Extends};
+ghost use Rattle.rb_store.specs.Counted.{IsCounted};
 ghost use Rattle.class_model.specs.Given.{GivesClass};
-ghost use Rattle.class_model.specs.Growth.{IsGrown, named_class};
+ghost use Rattle.class_model.specs.Growth as growth;
+ghost use Rattle.class_model.specs.Growth.{IsGrown};
 
 use crate::chain::superclass_of;
 use crate::failing::fail;
@@ -17,7 +19,7 @@ use crate::singletons::{empty_class, fresh};
 use def_core::Cause;
 use rb_raise::class_name;
 use rb_store::Store;
-use rb_value::{ClassForm, Constant, CoreClass, Kind, ObjId, Outcome, Sort, SymId, Value};
+use rb_value::{ClassForm, Constant, CoreClass, Kind, ObjId, Object, Outcome, Sort, SymId, Value};
 use std::alloc::AllocError;
 
 /// The value of the first constant of that name.
@@ -61,7 +63,7 @@ fn qualified_name(st: &Store, scope: ObjId, name: SymId) -> Result<Vec<u8>, Allo
 
 /// The name of a class or module that is defined in the scope: that of its constant, with the name of the scope
 /// before it where the scope isn't Object. Where memory runs out all is as before.
-#[tactic(auto, using(crate::proofs::Naming::grown_itself, crate::proofs::Naming::grown_interned, def_core::proofs::Grows::extends_itself, def_core::proofs::Grows::interned, def_core::proofs::Grows::sound_with_interned))]
+#[tactic(auto, using(crate::proofs::Naming::grown_itself, crate::proofs::Naming::grown_interned, def_core::proofs::Grows::extends_itself, def_core::proofs::Grows::interned, def_core::proofs::Grows::sound_with_interned, rb_store::proofs::Counted::unchanged))]
 fn full_name(st: &mut Store, scope: ObjId, name: SymId) -> Result<SymId, AllocError>
     requires sound { Sound st.old.store }
     requires scope { Is (census st.old.store) ClassOrModule scope }
@@ -72,6 +74,7 @@ fn full_name(st: &mut Store, scope: ObjId, name: SymId) -> Result<SymId, AllocEr
     ensures grown { IsGrown st.old.store st.new.store }
     ensures sound { Sound st.new.store }
     ensures extends { Extends (census st.old.store) (census st.new.store) }
+    ensures counted { IsCounted st.old st.new }
 {
     if scope.0 == st.class_object(CoreClass::Object).0 {
         return Ok(name);
@@ -79,6 +82,21 @@ fn full_name(st: &mut Store, scope: ObjId, name: SymId) -> Result<SymId, AllocEr
     let text = qualified_name(st, scope, name)?;
     let symbol = st.intern(&text)?;
     Ok(symbol)
+}
+
+/// A new class or module with a name. It takes no memory.
+fn named_class(
+    st: &Store,
+    class: CoreClass,
+    form: ClassForm,
+    superclass: Option<ObjId>,
+    name: SymId,
+) -> Object
+    ensures { result ≡ growth.named_class class form superclass name }
+{
+    let mut contents = empty_class(st.alloc(), form, superclass);
+    contents.name = Some(name);
+    fresh(st.alloc(), st.class_object(class), Kind::Class(contents))
 }
 
 /// Puts a new class or module with a name behind the other objects. Where memory runs out all is as before.
@@ -96,21 +114,20 @@ fn add_class(
     requires root { form ≡ forms.Module → superclass ≡ None }
     requires name { IsSymbol (census st.old.store) name }
     ensures number { IfOk result (λ id. id ≡ next_number st.old.store) }
-    ensures ok { OnOk result (st.new.store ≡ with_object st.old.store (named_class class form superclass name)) }
+    ensures ok { OnOk result (st.new.store ≡ with_object st.old.store (growth.named_class class form superclass name)) }
     ensures class { IfOk result (Is (census st.new.store) ClassOrModule) }
     ensures err { OnErr result (st.new.store ≡ st.old.store) }
     ensures sound { Sound st.new.store }
     ensures extends { Extends (census st.old.store) (census st.new.store) }
+    ensures counted { IsCounted st.old st.new }
 {
-    let mut contents = empty_class(st.alloc(), form, superclass);
-    contents.name = Some(name);
-    let object = fresh(st.alloc(), st.class_object(class), Kind::Class(contents));
+    let object = named_class(st, class, form, superclass, name);
     let id = st.add(object)?;
     Ok(id)
 }
 
 /// Defines a class or module as a new constant of the scope. Where memory runs out all that was there is as before.
-#[tactic(auto, using(def_core::proofs::Roles::is_within, def_core::proofs::Roles::is_plays, def_core::proofs::Keeps::sound_with_constant, crate::proofs::Naming::grown_more, crate::proofs::Naming::extends_constant, crate::proofs::Naming::class_is_value, crate::proofs::Naming::still, def_core::proofs::Grows::extends_both))]
+#[tactic(auto, using(def_core::proofs::Roles::is_within, def_core::proofs::Roles::is_plays, def_core::proofs::Keeps::sound_with_constant, crate::proofs::Naming::grown_more, crate::proofs::Naming::extends_constant, crate::proofs::Naming::class_is_value, crate::proofs::Naming::still, def_core::proofs::Grows::extends_both, rb_store::proofs::Counted::counted_then))]
 fn make_named(
     st: &mut Store,
     scope: ObjId,
@@ -131,6 +148,7 @@ fn make_named(
     ensures err { OnErr result (IsGrown st.old.store st.new.store) }
     ensures sound { Sound st.new.store }
     ensures extends { Extends (census st.old.store) (census st.new.store) }
+    ensures counted { IsCounted st.old st.new }
 {
     let symbol = full_name(st, scope, name)?;
     let id = add_class(st, class, form, superclass, symbol)?;
@@ -173,7 +191,7 @@ fn parent_agrees(parent: Option<ObjId>, superclass: Option<ObjId>) -> bool
 }
 
 /// Gives the class that stands in a constant already; the parent that is given, if any, has to be its superclass.
-#[tactic(auto, using(def_core::proofs::Roles::class_is_superclass, def_core::proofs::Roles::superclass_is_class, def_core::proofs::Roles::module_is_class, def_core::proofs::Grows::extends_itself))]
+#[tactic(auto, using(def_core::proofs::Roles::class_is_superclass, def_core::proofs::Roles::superclass_is_class, def_core::proofs::Roles::module_is_class, def_core::proofs::Grows::extends_itself, rb_store::proofs::Counted::unchanged))]
 fn reopen_class(
     st: &mut Store,
     name: SymId,
@@ -189,6 +207,7 @@ fn reopen_class(
     ensures err { OnErr result (st.new.store ≡ st.old.store) }
     ensures sound { Sound st.new.store }
     ensures extends { Extends (census st.old.store) (census st.new.store) }
+    ensures counted { IsCounted st.old st.new }
 {
     let Some(class) = class_in(st, there) else {
         return fail(st, Cause::NotClass(name));
@@ -218,6 +237,7 @@ fn define_under(
     ensures err { OnErr result (IsGrown st.old.store st.new.store) }
     ensures sound { Sound st.new.store }
     ensures extends { Extends (census st.old.store) (census st.new.store) }
+    ensures counted { IsCounted st.old st.new }
 {
     match own_constant(st, scope, name) {
         Some(there) => {
@@ -259,6 +279,7 @@ pub fn define_class(
     ensures err { OnErr result (IsGrown st.old.store st.new.store) }
     ensures sound { Sound st.new.store }
     ensures extends { Extends (census st.old.store) (census st.new.store) }
+    ensures counted { IsCounted st.old st.new }
 {
     if parent == Value::Nil {
         return define_under(st, scope, name, None);
@@ -273,7 +294,7 @@ pub fn define_class(
 }
 
 /// Gives the module that stands in a constant already.
-#[tactic(auto, using(def_core::proofs::Roles::class_is_superclass, def_core::proofs::Roles::superclass_is_class, def_core::proofs::Roles::module_is_class, def_core::proofs::Grows::extends_itself))]
+#[tactic(auto, using(def_core::proofs::Roles::class_is_superclass, def_core::proofs::Roles::superclass_is_class, def_core::proofs::Roles::module_is_class, def_core::proofs::Grows::extends_itself, rb_store::proofs::Counted::unchanged))]
 fn reopen_module(st: &mut Store, name: SymId, there: Value) -> Result<Outcome, AllocError>
     requires sound { Sound st.old.store }
     requires name { IsSymbol (census st.old.store) name }
@@ -284,6 +305,7 @@ fn reopen_module(st: &mut Store, name: SymId, there: Value) -> Result<Outcome, A
     ensures err { OnErr result (st.new.store ≡ st.old.store) }
     ensures sound { Sound st.new.store }
     ensures extends { Extends (census st.old.store) (census st.new.store) }
+    ensures counted { IsCounted st.old st.new }
 {
     match module_in(st, there) {
         Some(found) => Ok(Outcome::Value(Value::Obj(found))),
@@ -305,6 +327,7 @@ pub fn define_module(st: &mut Store, scope: ObjId, name: SymId) -> Result<Outcom
     ensures err { OnErr result (IsGrown st.old.store st.new.store) }
     ensures sound { Sound st.new.store }
     ensures extends { Extends (census st.old.store) (census st.new.store) }
+    ensures counted { IsCounted st.old st.new }
 {
     match own_constant(st, scope, name) {
         Some(there) => {

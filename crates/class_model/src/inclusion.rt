@@ -2,15 +2,17 @@
 ghost use Rattle.std.specs.Prelude.{◌≡◌, ◌++◌, ◌∷◌, [], filter, IfOk, OnOk, OnErr};
 ghost use Rattle.def_core.specs.Classes as classes;
 ghost use Rattle.def_core.specs.Changes as defined;
-ghost use Rattle.def_core.specs.Sound.{Sound, census, Is, Module, ClassOrModule, OptionIs, IsValue};
+ghost use Rattle.def_core.specs.Sound.{Sound, census, Is, Module, ClassOrModule, OptionIs, IsValue, Extends};
+ghost use Rattle.rb_store.specs.Counted.{IsCounted};
+ghost use Rattle.class_model.specs.Given.{GivesClass};
 ghost use Rattle.class_model.specs.Chain.{left, IsWalk};
 ghost use Rattle.class_model.specs.Including.{is_new};
 
 use crate::chain::{Chain, included_in};
+use crate::failing::fail;
 use crate::receiver::{core_class, plain_class_of};
 use def_core::Cause;
 use rb_base::List;
-use rb_raise::raise;
 use rb_store::Store;
 use rb_value::{CoreClass, ObjId, Outcome, Sort, Value};
 use std::alloc::AllocError;
@@ -66,7 +68,7 @@ fn new_members(st: &Store, class: ObjId, mixin: ObjId) -> Result<Vec<ObjId>, All
 }
 
 /// Includes a module in a class or module. Where memory runs out all is as before.
-#[tactic(auto, unfolding(def_core::specs::Changes::with_included), using(def_core::proofs::Roles::is_within, def_core::proofs::Roles::is_plays, def_core::proofs::Roles::module_is_class, crate::proofs::Included::sound_with_included))]
+#[tactic(auto, unfolding(def_core::specs::Changes::with_included), using(def_core::proofs::Roles::is_within, def_core::proofs::Roles::is_plays, def_core::proofs::Roles::module_is_class, crate::proofs::Included::sound_with_included, crate::proofs::Included::extends_included, def_core::proofs::Grows::extends_itself, rb_store::proofs::Counted::unchanged))]
 fn include_module(st: &mut Store, class: ObjId, mixin: ObjId) -> Result<(), AllocError>
     requires sound { Sound st.old.store }
     requires class { Is (census st.old.store) ClassOrModule class }
@@ -74,6 +76,8 @@ fn include_module(st: &mut Store, class: ObjId, mixin: ObjId) -> Result<(), Allo
     ensures ok { OnOk result (st.new.store ≡ record st.old.store { objects = defined.with_included st.old.store.objects class mixin }) }
     ensures err { OnErr result (st.new.store ≡ st.old.store) }
     ensures sound { Sound st.new.store }
+    ensures extends { Extends (census st.old.store) (census st.new.store) }
+    ensures counted { IsCounted st.old st.new }
 {
     let mut list = new_members(st, class, mixin)?;
     list.extend_from_slice(included_in(st, class))?;
@@ -108,8 +112,11 @@ pub fn include(st: &mut Store, class: ObjId, mixin: Value) -> Result<Outcome, Al
     requires mixin { IsValue (census st.old.store) mixin }
     ensures outcome { IfOk result (λ o. o ≡ (defined.include st.old.store class mixin).outcome) }
     ensures store { OnOk result (st.new.store ≡ (defined.include st.old.store class mixin).store) }
+    ensures class { IfOk result (GivesClass (census st.new.store)) }
     ensures err { OnErr result (st.new.store ≡ st.old.store) }
     ensures sound { Sound st.new.store }
+    ensures extends { Extends (census st.old.store) (census st.new.store) }
+    ensures counted { IsCounted st.old st.new }
 {
     match module_in(st, mixin) {
         Some(found) => {
@@ -119,7 +126,7 @@ pub fn include(st: &mut Store, class: ObjId, mixin: Value) -> Result<Outcome, Al
         None => {
             let expected = core_class(st, CoreClass::Module);
             let got = plain_class_of(st, mixin);
-            raise(
+            fail(
                 st,
                 Cause::Expected {
                     class: expected,

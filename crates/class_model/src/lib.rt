@@ -26,3 +26,6 @@ pub use methods::{
 };
 pub use receiver::{class_of, plain_class_of};
 pub use singletons::singleton;
+
+#[cfg(test)]
+mod tests;

@@ -18,7 +18,7 @@ use std::alloc::AllocError;
 
 /// Puts a method into the own list of a class or module (ISO/IEC 30170:2012, 13.3). `initialize` is private whatever
 /// the visibility. Where memory runs out the objects are as before.
-#[tactic(auto, using(def_core::proofs::Roles::is_within, def_core::proofs::Roles::is_plays, def_core::proofs::Keeps::sound_with_method))]
+#[tactic(auto, using(def_core::proofs::Roles::is_within, def_core::proofs::Roles::is_plays, def_core::proofs::Keeps::sound_with_method, crate::proofs::Found::extends_method, def_core::proofs::Grows::extends_itself))]
 pub fn set_method(
     st: &mut Store,
     class: ObjId,
@@ -33,6 +33,7 @@ pub fn set_method(
     ensures ok { OnOk result (st.new.store ≡ defined.with_method st.old.store class name method visibility) }
     ensures err { OnErr result (st.new.store ≡ st.old.store) }
     ensures sound { Sound st.new.store }
+    ensures extends { Extends (census st.old.store) (census st.new.store) }
     ensures counted { IsCounted st.old st.new }
 {
     st.put_method(class, name, method, visibility)?;
@@ -40,12 +41,13 @@ pub fn set_method(
 }
 
 /// Sets the visibility of the next methods of a class or module. It takes no memory.
-#[tactic(auto, using(def_core::proofs::Roles::is_within, def_core::proofs::Roles::is_plays, def_core::proofs::Keeps::sound_with_default))]
+#[tactic(auto, using(def_core::proofs::Roles::is_within, def_core::proofs::Roles::is_plays, def_core::proofs::Keeps::sound_with_default, crate::proofs::Found::extends_default))]
 pub fn set_default(st: &mut Store, class: ObjId, visibility: Visibility)
     requires sound { Sound st.old.store }
     requires class { Is (census st.old.store) ClassOrModule class }
     ensures store { st.new.store ≡ record st.old.store { objects = defined.with_default st.old.store.objects class visibility } }
     ensures sound { Sound st.new.store }
+    ensures extends { Extends (census st.old.store) (census st.new.store) }
     ensures counted { IsCounted st.old st.new }
 {
     st.put_default(class, visibility);
@@ -107,6 +109,7 @@ pub fn set_visibility(
     ensures err { OnErr result (st.new.store ≡ st.old.store) }
     ensures sound { Sound st.new.store }
     ensures extends { Extends (census st.old.store) (census st.new.store) }
+    ensures counted { IsCounted st.old st.new }
 {
     match find(st, class, name) {
         Some(found) => {

@@ -4,13 +4,15 @@ ghost use Rattle.rb_value.specs.declared.value.Value.TheVariants.{Obj};
 ghost use Rattle.def_core.specs.Store as store;
 ghost use Rattle.def_core.specs.Classes as classes;
 ghost use Rattle.def_core.specs.Changes as defined;
-ghost use Rattle.def_core.specs.Sound.{Sound, census, Is, Any, Superclass, OptionIs, AllAre, IsValue};
+ghost use Rattle.def_core.specs.Sound.{Sound, census, Is, Any, Superclass, OptionIs, AllAre, IsValue, Extends};
+ghost use Rattle.rb_store.specs.Counted.{IsCounted};
+ghost use Rattle.class_model.specs.Given.{GivesClass};
 ghost use Rattle.class_model.specs.Singletons.{is_missing, with_new_singleton, IsMadeInPart, IsHalfway};
 
 use crate::chain::above;
+use crate::failing::fail;
 use def_core::Cause;
 use rb_base::List;
-use rb_raise::raise;
 use rb_store::Store;
 use rb_value::{
     ClassContents, ClassForm, CoreClass, Kind, MethodTable, ObjId, Object, Outcome, Sort, Value,
@@ -84,7 +86,7 @@ fn superclass_for(st: &Store, id: ObjId) -> ObjId
 }
 
 /// Gives an object a new singleton class. Where memory runs out all is as before.
-#[tactic(auto, using(crate::proofs::Attaching::attached, crate::proofs::Attaching::sound_attached))]
+#[tactic(auto, using(crate::proofs::Attaching::attached, crate::proofs::Attaching::sound_attached, crate::proofs::Attaching::extends_attached, def_core::proofs::Grows::extends_itself, rb_store::proofs::Counted::counted_then))]
 fn attach(st: &mut Store, id: ObjId) -> Result<(), AllocError>
     requires sound { Sound st.old.store }
     requires there { id.0 < length st.old.store.objects }
@@ -92,6 +94,8 @@ fn attach(st: &mut Store, id: ObjId) -> Result<(), AllocError>
     ensures err { OnErr result (st.new.store ≡ st.old.store) }
     ensures more { length st.old.store.objects ≤ length st.new.store.objects }
     ensures sound { Sound st.new.store }
+    ensures extends { Extends (census st.old.store) (census st.new.store) }
+    ensures counted { IsCounted st.old st.new }
 {
     let superclass = superclass_for(st, id);
     let class = st.class_object(CoreClass::Class);
@@ -112,6 +116,8 @@ fn make_all(st: &mut Store, ids: &[ObjId]) -> Result<(), AllocError>
     ensures err { OnErr result (IsMadeInPart st.old.store ids.now st.new.store) }
     ensures more { length st.old.store.objects ≤ length st.new.store.objects }
     ensures sound { Sound st.new.store }
+    ensures extends { Extends (census st.old.store) (census st.new.store) }
+    ensures counted { IsCounted st.old st.new }
 {
     let mut left = ids.len();
     'ids: while left > 0 {
@@ -151,14 +157,17 @@ fn missing(st: &Store, id: ObjId) -> Result<Vec<ObjId>, AllocError>
 }
 
 /// The singleton class of an object, which is made where it isn't there, as are those of its superclasses.
-#[tactic(auto, unfolding(def_core::specs::Changes::singleton, def_core::specs::Changes::with_singleton), using(def_core::proofs::Roles::is_within, crate::proofs::Making::made_nothing))]
+#[tactic(auto, unfolding(def_core::specs::Changes::singleton, def_core::specs::Changes::with_singleton), using(def_core::proofs::Roles::is_within, crate::proofs::Making::made_nothing, crate::proofs::Making::made_is_class, def_core::proofs::Grows::extends_itself, rb_store::proofs::Counted::unchanged))]
 fn singleton_of(st: &mut Store, id: ObjId) -> Result<Outcome, AllocError>
     requires sound { Sound st.old.store }
     requires object { Is (census st.old.store) Any id }
     ensures outcome { IfOk result (λ o. o ≡ (defined.singleton st.old.store (Obj id)).outcome) }
     ensures store { OnOk result (st.new.store ≡ (defined.singleton st.old.store (Obj id)).store) }
+    ensures class { IfOk result (GivesClass (census st.new.store)) }
     ensures err { OnErr result (IsMadeInPart st.old.store (defined.missing st.old.store.objects id) st.new.store) }
     ensures sound { Sound st.new.store }
+    ensures extends { Extends (census st.old.store) (census st.new.store) }
+    ensures counted { IsCounted st.old st.new }
 {
     let list = missing(st, id)?;
     make_all(st, &list)?;
@@ -175,11 +184,14 @@ pub fn singleton(st: &mut Store, v: Value) -> Result<Outcome, AllocError>
     requires value { IsValue (census st.old.store) v }
     ensures outcome { IfOk result (λ o. o ≡ (defined.singleton st.old.store v).outcome) }
     ensures store { OnOk result (st.new.store ≡ (defined.singleton st.old.store v).store) }
+    ensures class { IfOk result (GivesClass (census st.new.store)) }
     ensures err { OnErr result (IsHalfway st.old.store v st.new.store) }
     ensures sound { Sound st.new.store }
+    ensures extends { Extends (census st.old.store) (census st.new.store) }
+    ensures counted { IsCounted st.old st.new }
 {
     match v {
         Value::Obj(id) => singleton_of(st, id),
-        _ => raise(st, Cause::NoSingleton),
+        _ => fail(st, Cause::NoSingleton),
     }
 }

@@ -2,10 +2,14 @@ use Rattle.std.proofs.Common.{sym, subst}
 use Rattle.rb_value.specs.declared.value.Value.TheVariants.{Obj}
 use Rattle.def_core.specs.Store.{Store}
 use Rattle.def_core.specs.Sound.{census, ClassOrModule, Is, IsSymbol, Sound, Extends}
-use Rattle.def_core.proofs.Grows.{extends_both}
+use Rattle.def_core.proofs.Roles.{is_plays}
 use Rattle.def_core.proofs.Keeps.{sound_with_constant}
 use Rattle.class_model.proofs.Naming.{extends_constant, class_is_value}
 use Rattle.class_model.proofs.definition.make_named.Goals as goal
+
+pub put_constant-requires-clause-is_class : goal.put_constant-requires-clause-is_class
+put_constant-requires-clause-is_class c =
+    is_plays c.add_class.new.st.store ClassOrModule c.args.scope (c.in_ok-id.ensures.extends.roles ClassOrModule c.args.scope (c.in_ok-symbol.ensures.extends.roles ClassOrModule c.args.scope c.requires.scope))
 
 pub returns-clause-class : goal.returns-clause-class
 returns-clause-class c =
