@@ -1,0 +1,3 @@
+pub mod Parameters
+pub mod Definitions
+pub mod Targets

@@ -1,0 +1,9 @@
+//! What the rules of the grammar build of trees for the larger forms (ISO/IEC 30170:2012, 11.3.3, 11.5.2 and 13): the
+//! parameters of methods and blocks, definitions, `alias` and `undef`.
+//!
+//! Types: [`parameters::AnyParameter`], [`definitions::MethodHead`]. Calls: those of the modules.
+#![tactic(auto)]
+
+pub mod definitions;
+pub mod parameters;
+pub mod targets;
