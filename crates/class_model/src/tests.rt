@@ -247,10 +247,10 @@ fn singleton_classes_follow_the_superclasses(rt: HostRuntime) -> Result<(), Fail
     let a = given(&rt, class_in(&rt, st, OBJECT, b"A", Value::Nil)?);
     let b = given(&rt, class_in(&rt, st, OBJECT, b"B", a)?);
     let class = Value::Obj(st.class_object(CoreClass::Class));
-    assert!(rt; dispatch(&rt, st, b) == class);
+    let of_object = given(&rt, singleton_of(&rt, st, OBJECT)?);
+    assert!(rt; dispatch(&rt, st, b) == of_object);
     let of_b = given(&rt, singleton_of(&rt, st, b)?);
     let of_a = given(&rt, singleton_of(&rt, st, a)?);
-    let of_object = given(&rt, singleton_of(&rt, st, OBJECT)?);
     assert!(rt; superclass(&rt, st, of_b) == of_a);
     assert!(rt; superclass(&rt, st, of_a) == of_object);
     assert!(rt; superclass(&rt, st, of_object) == class);
