@@ -1,6 +1,6 @@
 -- A new singleton class of an object.
 use Rattle.std.proofs.Common.{◌≡◌, ◌≢◌, ℕ, ◌<◌, ◌≤◌, ◌++◌, List, [], ◌∷◌, length, get_or, false, true, refl, ap, sym, ◌∙◌, subst, arith, length-append, length-set}
-use Rattle.std.specs.Prelude.{Option, Some, None, is_some, nat_eq}
+use Rattle.std.specs.Prelude.{Some, is_some, nat_eq}
 use Rattle.std.proofs.lemmas.List.{set-append_left, get_or_append_left, get_or-set_same, get_or-set_other}
 use Rattle.std.proofs.lemmas.Bool.Decides.{nat_tests}
 use Rattle.rb_value.specs.declared.value.ObjId.{ObjId}
@@ -11,7 +11,7 @@ use Rattle.rb_value.specs.declared.core_class.CoreClass.TheVariants as class
 use Rattle.def_core.specs.Store.{Store, core, absent, fresh, object_at, set_object, next_number, with_object}
 use Rattle.def_core.specs.Classes.{empty_class}
 use Rattle.def_core.specs.Changes.{attach}
-use Rattle.def_core.specs.Sound.{census, Any, Class, SingletonClass, Superclass, sorts_of, Is, Sound, Extends}
+use Rattle.def_core.specs.Sound.{census, SingletonClass, Superclass, sorts_of, Is, Sound, Extends}
 use Rattle.def_core.proofs.Roles.{is_within}
 use Rattle.def_core.proofs.Grows.{sound_with_object, new_role, core_is_class, one_more, same_objects, extends_both}
 use Rattle.def_core.proofs.Sorts.{sorts-set}

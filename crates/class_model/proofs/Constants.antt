@@ -1,7 +1,6 @@
 -- The constants of a class or module.
-use Rattle.std.proofs.Common.{◌≡◌, ℕ, suc, ◌<◌, List, [], ◌∷◌, length, get_or, drop, Bool, true, false, cond, ap, sym, ◌∙◌, drop-cons}
-use Rattle.std.specs.Prelude.{Option, Some, None, nat_eq}
-use Rattle.rb_value.specs.declared.value.Value.{Value}
+use Rattle.std.proofs.Common.{◌≡◌, ℕ, suc, ◌<◌, List, [], ◌∷◌, length, get_or, drop, true, false, cond, ap, drop-cons}
+use Rattle.std.specs.Prelude.{Some, nat_eq}
 use Rattle.rb_value.specs.declared.value.ObjId.{ObjId}
 use Rattle.rb_value.specs.declared.value.SymId.{SymId}
 use Rattle.rb_value.specs.declared.kind.Constant.{Constant}

@@ -1,5 +1,5 @@
 -- A method that is found is one of the store.
-use Rattle.std.proofs.Common.{◌≡◌, ℕ, zero, suc, List, [], ◌∷◌, ◌++◌, Bool, true, false, cond, refl, ap, subst, sym, ◌∙◌}
+use Rattle.std.proofs.Common.{ℕ, zero, suc, List, [], ◌∷◌, true, false, cond, refl}
 use Rattle.std.specs.Prelude.{not, Option, Some, None, nat_eq}
 use Rattle.std.specs.Map.{lookup}
 use Rattle.rb_value.specs.declared.value.ObjId.{ObjId}
@@ -8,15 +8,14 @@ use Rattle.rb_value.specs.declared.method.Visibility.{Visibility}
 use Rattle.rb_value.specs.declared.method.Method.{Method}
 use Rattle.rb_value.specs.declared.method.Method.TheVariants as method
 use Rattle.rb_value.specs.declared.method.MethodEntry.{MethodEntry}
-use Rattle.rb_value.specs.declared.object.Object.{Object}
 use Rattle.def_core.specs.declared.found.Found.{Found}
 use Rattle.def_core.specs.Store.{Store}
 use Rattle.def_core.specs.Classes.{class_at, is_singleton, chain_within, chain, ancestors}
 use Rattle.def_core.specs.Changes.{with_method, with_default}
 use Rattle.def_core.specs.Find.{entry_of, found_as, found_or, first_of, find}
-use Rattle.def_core.specs.Sound.{Census, census, ClassOrModule, Module, Is, OptionIs, AllAre, IsSuperclass, SoundMethod, SoundEntry, Sound, Extends}
+use Rattle.def_core.specs.Sound.{Census, census, ClassOrModule, Is, OptionIs, AllAre, SoundMethod, SoundEntry, Sound, Extends}
 use Rattle.def_core.proofs.Sorts.{sorts-with_class, sorts-with_method}
-use Rattle.def_core.proofs.Roles.{is_plays, sound_class, superclass_is_class}
+use Rattle.def_core.proofs.Roles.{is_plays, sound_class}
 use Rattle.def_core.proofs.Grows.{same_objects}
 use Rattle.class_model.proofs.Walks.{above_is_class, included_are_classes}
 use Rattle.class_model.proofs.Members.{all_append, all_filter}

@@ -1,14 +1,12 @@
 -- Including a module keeps a store sound.
-use Rattle.std.proofs.Common.{◌≡◌, ◌<◌, ◌++◌, List, [], ◌∷◌, length, filter, true, false, refl, ap, sym, ◌∙◌, subst}
-use Rattle.std.specs.Prelude.{Option, Some, None}
+use Rattle.std.proofs.Common.{◌≡◌, ◌++◌, [], ◌∷◌, true, false, refl, ap, sym, ◌∙◌, subst}
 use Rattle.rb_value.specs.declared.value.ObjId.{ObjId}
-use Rattle.rb_value.specs.declared.object.Object.{Object}
 use Rattle.rb_value.specs.declared.kind.Sort.{Sort}
 use Rattle.rb_value.specs.declared.kind.Sort.TheVariants as sort
 use Rattle.def_core.specs.Store.{Store, sort_at}
 use Rattle.def_core.specs.Classes.{class_at, chain}
 use Rattle.def_core.specs.Changes.{new_members, with_included}
-use Rattle.def_core.specs.Sound.{census, Role, Module, Superclass, ClassOrModule, plays, Is, AllAre, Sound, Extends}
+use Rattle.def_core.specs.Sound.{census, Module, Superclass, ClassOrModule, plays, Is, AllAre, Sound, Extends}
 use Rattle.def_core.proofs.Chains.{chain_is, chain_above}
 use Rattle.def_core.proofs.Sorts.{sorts-with_class}
 use Rattle.def_core.proofs.Grows.{same_objects}

@@ -1,6 +1,5 @@
 -- What holds of every member of a list.
 use Rattle.std.proofs.Common.{ℕ, zero, suc, ◌<◌, List, [], ◌∷◌, ◌++◌, length, get_or, filter, Bool, true, false, cond, arith}
-use Rattle.rb_value.specs.declared.value.ObjId.{ObjId}
 use Rattle.def_core.specs.Sound.{AllAre}
 
 module _ {A : Type 0} (P : A → Type 0) where

@@ -1,5 +1,5 @@
 -- A new class or module with a name.
-use Rattle.std.proofs.Common.{◌≡◌, ℕ, ◌++◌, List, [], ◌∷◌, Bool, true, false, refl, ap, sym, ◌∙◌, cond}
+use Rattle.std.proofs.Common.{◌≡◌, ℕ, ◌++◌, List, [], ◌∷◌, true, false, refl, ap, sym, ◌∙◌}
 use Rattle.std.specs.Prelude.{Option, Some, None}
 use Rattle.std.specs.List.{position}
 use Rattle.std.specs.Str.{bytes_eq}
@@ -16,7 +16,7 @@ use Rattle.rb_value.specs.CoreClass.{is_module}
 use Rattle.rb_value.specs.Sort.{sort_of_form}
 use Rattle.def_core.specs.Store.{Store, with_object, next_number}
 use Rattle.def_core.specs.Changes.{intern, intern_at, with_constant}
-use Rattle.def_core.specs.Sound.{Census, census, Role, Any, Superclass, ClassOrModule, plays, Is, IsSymbol, IsValue, OptionIs, IsSuperclass, Sound, Extends}
+use Rattle.def_core.specs.Sound.{Census, census, Role, Superclass, ClassOrModule, plays, Is, IsSymbol, IsValue, OptionIs, IsSuperclass, Sound, Extends}
 use Rattle.def_core.proofs.Sorts.{sorts-with_class}
 use Rattle.def_core.proofs.Roles.{is_within, is_plays}
 use Rattle.def_core.proofs.Grows.{sound_with_object, new_role, core_is_class, same_objects}

@@ -1,5 +1,5 @@
 -- One step of the search along a walk.
-use Rattle.std.proofs.Common.{◌≡◌, ℕ, suc, ◌<◌, List, [], ◌∷◌, length, refl, ap, sym, ◌∙◌, subst, arith}
+use Rattle.std.proofs.Common.{◌≡◌, ◌<◌, List, [], ◌∷◌, length, refl, subst, arith}
 use Rattle.std.specs.Prelude.{None}
 use Rattle.rb_value.specs.declared.value.ObjId.{ObjId}
 use Rattle.rb_value.specs.declared.value.SymId.{SymId}

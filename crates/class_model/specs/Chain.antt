@@ -1,9 +1,8 @@
 -- What a walk along a chain has left.
-use Rattle.std.specs.Prelude.{◌≡◌, ℕ, List, [], ◌∷◌, ◌++◌, drop, filter, not, Option, Some, None}
+use Rattle.std.specs.Prelude.{◌≡◌, List, [], ◌∷◌, ◌++◌, drop, Option, Some, None}
 use Rattle.rb_value.specs.declared.value.ObjId.{ObjId}
 use Rattle.rb_value.specs.declared.object.Object.{Object}
-use Rattle.def_core.specs.Store.{Store}
-use Rattle.def_core.specs.Classes.{chain, class_at, is_singleton}
+use Rattle.def_core.specs.Classes.{chain}
 use Rattle.def_core.specs.Sound.{Sound, census, Is, ClassOrModule, OptionIs, AllAre}
 use Rattle.class_model.specs.declared.chain.Chain.{Chain}
 

@@ -241,8 +241,8 @@ fn define_under(
 {
     match own_constant(st, scope, name) {
         Some(there) => {
-            let class = reopen_class(st, name, parent, there)?;
-            Ok(class)
+            let outcome = reopen_class(st, name, parent, there)?;
+            Ok(outcome)
         }
         None => {
             let superclass = parent.unwrap_or(st.class_object(CoreClass::Object));
@@ -331,8 +331,8 @@ pub fn define_module(st: &mut Store, scope: ObjId, name: SymId) -> Result<Outcom
 {
     match own_constant(st, scope, name) {
         Some(there) => {
-            let found = reopen_module(st, name, there)?;
-            Ok(found)
+            let outcome = reopen_module(st, name, there)?;
+            Ok(outcome)
         }
         None => make_named(st, scope, name, CoreClass::Module, ClassForm::Module, None),
     }

@@ -1,9 +1,10 @@
-//! Classes and modules of a store: their methods, their ancestors, where the look-up of a value's methods begins, and
-//! where a method is found.
+//! Classes and modules of a store: defining and including them, singleton classes, their methods, their ancestors,
+//! where the look-up of a value's methods begins, and where a method is found.
 //!
-//! Types: [`Chain`], [`Ancestors`](ancestry::Ancestors). Calls: [`set_method`], [`set_default`],
-//! [`default_visibility`], [`own_method`], [`own_entry`], [`included_in`], [`superclass_of`], [`ancestors`],
-//! [`class_of`], [`plain_class_of`], [`find`], [`first_of`].
+//! Types: [`Chain`], [`Ancestors`](ancestry::Ancestors). Calls that change a store: [`define_class`],
+//! [`define_module`], [`singleton`], [`include`], [`set_method`], [`set_visibility`], [`set_default`]. Calls that take
+//! no memory: [`ancestors`], [`class_of`], [`plain_class_of`], [`superclass_of`], [`included_in`], [`is_in_chain`],
+//! [`find`], [`first_of`], [`own_entry`], [`own_method`], [`own_constant`], [`default_visibility`].
 //! Each call wants a sound store and classes or modules of it, and leaves the store sound.
 #![tactic(auto)]
 

@@ -207,16 +207,32 @@ fn raised(st: &Store, outcome: Outcome, class: CoreClass, text: &[u8]) -> bool {
 /// Object, as a value.
 const OBJECT: Value = Value::Obj(ObjId(0));
 
+/// A module M, a class A, and a class B under A.
+#[derive(Clone, Copy)]
+struct Family {
+    m: Value,
+    a: Value,
+    b: Value,
+}
+
+fn relatives(rt: &impl Abort, st: &mut Store) -> Result<Family, AllocError>
+    requires { Sound st.old.store }
+    ensures { Sound st.new.store }
+{
+    let m = given(rt, module_in(rt, st, OBJECT, b"M")?);
+    let a = given(rt, class_in(rt, st, OBJECT, b"A", Value::Nil)?);
+    let b = given(rt, class_in(rt, st, OBJECT, b"B", a)?);
+    Ok(Family { m, a, b })
+}
+
 #[test]
 fn a_module_is_included_once(rt: HostRuntime) -> Result<(), Fail> {
     let mut store = Store::new(rt.alloc())?;
     let st = &mut store;
-    let m = given(&rt, module_in(&rt, st, OBJECT, b"M")?);
-    let a = given(&rt, class_in(&rt, st, OBJECT, b"A", Value::Nil)?);
-    assert!(rt; given(&rt, include_in(&rt, st, a, m)?) == a);
-    let b = given(&rt, class_in(&rt, st, OBJECT, b"B", a)?);
-    assert!(rt; given(&rt, include_in(&rt, st, b, m)?) == b);
-    let names = ancestor_names(&rt, st, b)?;
+    let of = relatives(&rt, st)?;
+    assert!(rt; given(&rt, include_in(&rt, st, of.a, of.m)?) == of.a);
+    include_in(&rt, st, of.b, of.m)?;
+    let names = ancestor_names(&rt, st, of.b)?;
     assert_eq!(rt; names.as_slice(), b"B A M Object Kernel ".as_slice());
     Ok(())
 }
@@ -225,18 +241,25 @@ fn a_module_is_included_once(rt: HostRuntime) -> Result<(), Fail> {
 fn the_last_included_module_is_first(rt: HostRuntime) -> Result<(), Fail> {
     let mut store = Store::new(rt.alloc())?;
     let st = &mut store;
-    let m = given(&rt, module_in(&rt, st, OBJECT, b"M")?);
+    let of = relatives(&rt, st)?;
     let n = given(&rt, module_in(&rt, st, OBJECT, b"N")?);
-    let c = given(&rt, class_in(&rt, st, OBJECT, b"C", Value::Nil)?);
-    let d = given(&rt, class_in(&rt, st, OBJECT, b"D", Value::Nil)?);
-    include_in(&rt, st, c, m)?;
-    include_in(&rt, st, n, m)?;
-    include_in(&rt, st, c, n)?;
-    include_in(&rt, st, d, n)?;
-    let names = ancestor_names(&rt, st, c)?;
-    assert_eq!(rt; names.as_slice(), b"C N M Object Kernel ".as_slice());
-    let names = ancestor_names(&rt, st, d)?;
-    assert_eq!(rt; names.as_slice(), b"D N M Object Kernel ".as_slice());
+    include_in(&rt, st, of.a, of.m)?;
+    include_in(&rt, st, of.a, n)?;
+    let names = ancestor_names(&rt, st, of.b)?;
+    assert_eq!(rt; names.as_slice(), b"B A N M Object Kernel ".as_slice());
+    Ok(())
+}
+
+#[test]
+fn a_module_brings_its_modules(rt: HostRuntime) -> Result<(), Fail> {
+    let mut store = Store::new(rt.alloc())?;
+    let st = &mut store;
+    let of = relatives(&rt, st)?;
+    let n = given(&rt, module_in(&rt, st, OBJECT, b"N")?);
+    include_in(&rt, st, n, of.m)?;
+    include_in(&rt, st, of.b, n)?;
+    let names = ancestor_names(&rt, st, of.b)?;
+    assert_eq!(rt; names.as_slice(), b"B N M A Object Kernel ".as_slice());
     Ok(())
 }
 
@@ -244,25 +267,34 @@ fn the_last_included_module_is_first(rt: HostRuntime) -> Result<(), Fail> {
 fn singleton_classes_follow_the_superclasses(rt: HostRuntime) -> Result<(), Fail> {
     let mut store = Store::new(rt.alloc())?;
     let st = &mut store;
-    let a = given(&rt, class_in(&rt, st, OBJECT, b"A", Value::Nil)?);
-    let b = given(&rt, class_in(&rt, st, OBJECT, b"B", a)?);
-    let class = Value::Obj(st.class_object(CoreClass::Class));
-    let of_object = given(&rt, singleton_of(&rt, st, OBJECT)?);
-    assert!(rt; dispatch(&rt, st, b) == of_object);
-    let of_b = given(&rt, singleton_of(&rt, st, b)?);
-    let of_a = given(&rt, singleton_of(&rt, st, a)?);
-    assert!(rt; superclass(&rt, st, of_b) == of_a);
-    assert!(rt; superclass(&rt, st, of_a) == of_object);
-    assert!(rt; superclass(&rt, st, of_object) == class);
-    assert!(rt; dispatch(&rt, st, b) == of_b);
-    let c = given(&rt, class_in(&rt, st, OBJECT, b"C", b)?);
-    assert!(rt; dispatch(&rt, st, c) == of_b);
-    assert!(rt; given(&rt, singleton_of(&rt, st, b)?) == of_b);
-    let main = Value::Obj(st.main_object());
-    let of_main = given(&rt, singleton_of(&rt, st, main)?);
-    assert!(rt; superclass(&rt, st, of_main) == OBJECT);
-    let refused = singleton_of(&rt, st, Value::Int(1))?;
-    assert!(rt; raised(st, refused, CoreClass::TypeError, b"can't define singleton"));
+    let of = relatives(&rt, st)?;
+    let b = given(&rt, singleton_of(&rt, st, of.b)?);
+    let a = given(&rt, singleton_of(&rt, st, of.a)?);
+    let object = given(&rt, singleton_of(&rt, st, OBJECT)?);
+    assert!(rt; superclass(&rt, st, b) == a);
+    assert!(rt; superclass(&rt, st, a) == object);
+    assert!(rt; superclass(&rt, st, object) == Value::Obj(ObjId(CoreClass::Class.number())));
+    Ok(())
+}
+
+#[test]
+fn a_class_inherits_a_singleton_class(rt: HostRuntime) -> Result<(), Fail> {
+    let mut store = Store::new(rt.alloc())?;
+    let st = &mut store;
+    let of = relatives(&rt, st)?;
+    let object = given(&rt, singleton_of(&rt, st, OBJECT)?);
+    assert!(rt; dispatch(&rt, st, of.b) == object);
+    let a = given(&rt, singleton_of(&rt, st, of.a)?);
+    assert!(rt; dispatch(&rt, st, of.b) == a);
+    Ok(())
+}
+
+#[test]
+fn numbers_have_no_singleton_class(rt: HostRuntime) -> Result<(), Fail> {
+    let mut store = Store::new(rt.alloc())?;
+    let st = &mut store;
+    let outcome = singleton_of(&rt, st, Value::Int(1))?;
+    assert!(rt; raised(st, outcome, CoreClass::TypeError, b"can't define singleton"));
     Ok(())
 }
 
@@ -270,50 +302,72 @@ fn singleton_classes_follow_the_superclasses(rt: HostRuntime) -> Result<(), Fail
 fn a_class_is_opened_again(rt: HostRuntime) -> Result<(), Fail> {
     let mut store = Store::new(rt.alloc())?;
     let st = &mut store;
-    let m = given(&rt, module_in(&rt, st, OBJECT, b"M")?);
-    let a = given(&rt, class_in(&rt, st, OBJECT, b"A", Value::Nil)?);
-    let b = given(&rt, class_in(&rt, st, m, b"B", a)?);
-    assert!(rt; given(&rt, module_in(&rt, st, OBJECT, b"M")?) == m);
-    assert!(rt; given(&rt, class_in(&rt, st, m, b"B", Value::Nil)?) == b);
-    assert!(rt; given(&rt, class_in(&rt, st, m, b"B", a)?) == b);
-    let names = ancestor_names(&rt, st, b)?;
-    assert_eq!(rt; names.as_slice(), b"M::B A Object Kernel ".as_slice());
-    let other = class_in(&rt, st, m, b"B", OBJECT)?;
+    let of = relatives(&rt, st)?;
+    assert!(rt; given(&rt, class_in(&rt, st, OBJECT, b"B", Value::Nil)?) == of.b);
+    assert!(rt; given(&rt, class_in(&rt, st, OBJECT, b"B", of.a)?) == of.b);
+    let outcome = class_in(&rt, st, OBJECT, b"B", OBJECT)?;
     assert!(rt;
         raised(
             st,
-            other,
+            outcome,
             CoreClass::TypeError,
             b"superclass mismatch for class B"
         )
     );
-    let other = class_in(&rt, st, OBJECT, b"M", Value::Nil)?;
-    assert!(rt; raised(st, other, CoreClass::TypeError, b"M is not a class"));
-    let other = module_in(&rt, st, OBJECT, b"A")?;
-    assert!(rt; raised(st, other, CoreClass::TypeError, b"A is not a module"));
-    let other = class_in(&rt, st, OBJECT, b"C", m)?;
+    Ok(())
+}
+
+#[test]
+fn a_name_has_that_of_the_scope(rt: HostRuntime) -> Result<(), Fail> {
+    let mut store = Store::new(rt.alloc())?;
+    let st = &mut store;
+    let of = relatives(&rt, st)?;
+    let c = given(&rt, class_in(&rt, st, of.m, b"C", of.b)?);
+    let names = ancestor_names(&rt, st, c)?;
+    assert_eq!(rt; names.as_slice(), b"M::C B A Object Kernel ".as_slice());
+    Ok(())
+}
+
+#[test]
+fn constants_of_another_kind(rt: HostRuntime) -> Result<(), Fail> {
+    let mut store = Store::new(rt.alloc())?;
+    let st = &mut store;
+    let of = relatives(&rt, st)?;
+    let outcome = class_in(&rt, st, OBJECT, b"M", Value::Nil)?;
+    assert!(rt; raised(st, outcome, CoreClass::TypeError, b"M is not a class"));
+    let outcome = module_in(&rt, st, OBJECT, b"A")?;
+    assert!(rt; raised(st, outcome, CoreClass::TypeError, b"A is not a module"));
+    let outcome = class_in(&rt, st, OBJECT, b"C", of.m)?;
     assert!(rt;
         raised(
             st,
-            other,
+            outcome,
             CoreClass::TypeError,
             b"superclass must be a Class"
         )
     );
-    let other = include_in(&rt, st, a, b)?;
+    Ok(())
+}
+
+#[test]
+fn only_modules_are_included(rt: HostRuntime) -> Result<(), Fail> {
+    let mut store = Store::new(rt.alloc())?;
+    let st = &mut store;
+    let of = relatives(&rt, st)?;
+    let outcome = include_in(&rt, st, of.a, of.b)?;
     assert!(rt;
         raised(
             st,
-            other,
+            outcome,
             CoreClass::TypeError,
             b"expected Module, got Class"
         )
     );
-    let other = include_in(&rt, st, a, Value::Int(1))?;
+    let outcome = include_in(&rt, st, of.a, Value::Int(1))?;
     assert!(rt;
         raised(
             st,
-            other,
+            outcome,
             CoreClass::TypeError,
             b"expected Module, got Integer"
         )
@@ -325,25 +379,31 @@ fn a_class_is_opened_again(rt: HostRuntime) -> Result<(), Fail> {
 fn a_subclass_gets_its_own_entry(rt: HostRuntime) -> Result<(), Fail> {
     let mut store = Store::new(rt.alloc())?;
     let st = &mut store;
-    let a = given(&rt, class_in(&rt, st, OBJECT, b"A", Value::Nil)?);
-    let b = given(&rt, class_in(&rt, st, OBJECT, b"B", a)?);
-    reader(&rt, st, a, b"x")?;
-    reader(&rt, st, a, b"initialize")?;
-    assert!(rt; own_visibility(&rt, st, b, b"x")?.is_none());
-    assert!(rt; set(&rt, st, b, b"x", Visibility::Private)? == Outcome::Value(Value::Nil));
-    assert!(rt; own_visibility(&rt, st, b, b"x")? == Some(Visibility::Private));
-    assert!(rt; own_visibility(&rt, st, a, b"x")? == Some(Visibility::Public));
-    assert!(rt; own_visibility(&rt, st, a, b"initialize")? == Some(Visibility::Private));
-    set(&rt, st, b, b"initialize", Visibility::Public)?;
-    assert!(rt; own_visibility(&rt, st, b, b"initialize")? == Some(Visibility::Private));
-    let other = set(&rt, st, b, b"y", Visibility::Public)?;
+    let of = relatives(&rt, st)?;
+    reader(&rt, st, of.a, b"x")?;
+    assert!(rt; set(&rt, st, of.b, b"x", Visibility::Private)? == Outcome::Value(Value::Nil));
+    assert!(rt; own_visibility(&rt, st, of.b, b"x")? == Some(Visibility::Private));
+    assert!(rt; own_visibility(&rt, st, of.a, b"x")? == Some(Visibility::Public));
+    let outcome = set(&rt, st, of.b, b"y", Visibility::Public)?;
     assert!(rt;
         raised(
             st,
-            other,
+            outcome,
             CoreClass::NameError,
             b"undefined method 'y' for class 'B'"
         )
     );
+    Ok(())
+}
+
+#[test]
+fn initialize_is_private(rt: HostRuntime) -> Result<(), Fail> {
+    let mut store = Store::new(rt.alloc())?;
+    let st = &mut store;
+    let of = relatives(&rt, st)?;
+    reader(&rt, st, of.a, b"initialize")?;
+    assert!(rt; own_visibility(&rt, st, of.a, b"initialize")? == Some(Visibility::Private));
+    set(&rt, st, of.b, b"initialize", Visibility::Public)?;
+    assert!(rt; own_visibility(&rt, st, of.b, b"initialize")? == Some(Visibility::Private));
     Ok(())
 }

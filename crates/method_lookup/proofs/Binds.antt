@@ -1,21 +1,22 @@
 -- The Array of what remains is sound.
-use Rattle.std.proofs.Common.{◌≡◌, ℕ, ◌+◌, ◌-◌, ◌≤◌, List, [], ◌∷◌, length, take, replicate, true, false, not, refl, ap, sym, ◌∙◌, subst, arith, if◌then◌else◌}
+use Rattle.std.proofs.Common.{◌≡◌, ℕ, ◌+◌, ◌-◌, ◌≤◌, List, [], ◌∷◌, length, take, replicate, true, false, not, refl, ap, sym, ◌∙◌, subst, arith, if◌then◌else◌, ◌++◌}
 use Rattle.std.specs.Prelude.{Option, Some, None, nat_lt, nat_eq, get_or, ◌&&◌, ◌||◌}
 use Rattle.std.proofs.lemmas.Bool.Decides.{nat_tests}
 use Rattle.rb_value.specs.declared.value.Value.{Value}
 use Rattle.rb_value.specs.declared.value.Value.TheVariants.{Nil, True, False, Int, Sym, Obj}
+use Rattle.rb_value.specs.declared.object.Object.{Object}
 use Rattle.rb_value.specs.declared.method.Shape.{Shape}
 use Rattle.rb_value.specs.declared.kind.Kind.{Kind}
 use Rattle.rb_value.specs.declared.kind.Kind.TheVariants as kind
 use Rattle.rb_value.specs.declared.core_class.CoreClass.TheVariants as class
 use Rattle.def_core.specs.declared.bound.BindKind.{BindKind}
 use Rattle.def_core.specs.declared.bound.BindKind.TheVariants.{Method, Lambda, Proc}
-use Rattle.def_core.specs.Store.{Store, core, fresh, object_at, with_object}
-use Rattle.def_core.specs.Bind.{least, most, elements_of, elements_in, elements_or, spreads, spread, fitted, arguments, fits, filled, remaining}
+use Rattle.def_core.specs.Store.{Store, core, fresh, object_at, next_number, with_object}
+use Rattle.def_core.specs.Bind.{least, most, elements_of, elements_in, elements_or, spreads, spread, fitted, arguments, fits, filled, front, remaining, last, values}
 use Rattle.def_core.specs.Sound.{census, Census, Any, IsValue, OptionIs, AllAre, SoundKind, Sound}
 use Rattle.def_core.proofs.Roles.{is_within}
-use Rattle.method_lookup.proofs.Lists.{all_append, all_take, all_drop, all_replicate}
-use Rattle.def_core.proofs.Grows.{core_is_class, sound_with_object}
+use Rattle.method_lookup.proofs.Lists.{all_append, all_take, all_drop, all_replicate, all_more}
+use Rattle.def_core.proofs.Grows.{core_is_class, sound_with_object, value_grows, one_more, new_role}
 
 pub fits_least : (s : Shape) (n : ℕ) → fits s n ≡ true → least s ≤ n
 fits_least s n h = elim (nat_lt n (least s)) as (λ b. nat_lt n (least s) ≡ b → (not b && (s.rest || not (nat_lt (most s) n))) ≡ true → least s ≤ n) [
@@ -88,3 +89,32 @@ module _ (st : Store) (sound : Sound st) where
       (all_take (IsValue (census st)) (length taken - s.post) taken (all_arguments s k args all))) in
       subst Sound (sym a)
       (sound_with_object st sound (fresh (core class.Array) (kind.Array others)) (record { class = core_is_class st sound class.Array refl; singleton = tt; variables = tt; kind = here }))
+
+-- the values of the parameters are values where the arguments and that of the rest are
+all_values : (k : Census) (s : Shape) (rest given : List Value) → AllAre (IsValue k) given → AllAre (IsValue k) rest → AllAre (IsValue k) (values s rest given)
+all_values k s rest given all r =
+    let nils = replicate (s.optional - filled s (length given)) Nil in
+    all_append (IsValue k) ((front s given ++ nils) ++ rest) (last s given)
+    (all_append (IsValue k) (front s given ++ nils) rest
+    (all_append (IsValue k) (front s given) nils
+    (all_take (IsValue k) (s.required + filled s (length given)) given all)
+    (all_replicate (IsValue k) (s.optional - filled s (length given)) Nil tt))
+    r)
+    (all_drop (IsValue k) (length given - s.post) given all)
+
+module _ (st : Store) (sound : Sound st) where
+  pub values_without_rest : (s : Shape) (k : BindKind) (args given list : List Value) → AllAre (IsValue (census st)) args → given ≡ arguments st.objects s k args
+      → list ≡ values s [] given → AllAre (IsValue (census st)) list
+  values_without_rest s k args given list all g l =
+      subst (AllAre (IsValue (census st))) (sym (l ∙ ap (values s []) g)) (all_values (census st) s [] (arguments st.objects s k args) (all_arguments st sound s k args all) tt)
+
+  pub values_with_rest : (after : Store) (s : Shape) (k : BindKind) (args given list others : List Value) → AllAre (IsValue (census st)) args → given ≡ arguments st.objects s k args
+      → list ≡ values s (Obj (next_number st) ∷ []) given → after ≡ with_object st (fresh (core class.Array) (kind.Array others)) → AllAre (IsValue (census after)) list
+  values_with_rest after s k args given list others all g l a =
+      let o : Object = fresh (core class.Array) (kind.Array others) in
+      let now = census (with_object st o) in
+      let taken = arguments st.objects s k args in
+      let kept : AllAre (IsValue now) taken = all_more (IsValue (census st)) (IsValue now) (value_grows (census st) now (one_more st o)) taken (all_arguments st sound s k args all) in
+      subst (λ (x : Store). AllAre (IsValue (census x)) list) (sym a)
+      (subst (AllAre (IsValue now)) (sym (l ∙ ap (values s (Obj (next_number st) ∷ [])) g))
+      (all_values now s (Obj (next_number st) ∷ []) taken kept (new_role st o Any refl, tt)))

@@ -20,3 +20,7 @@ module _ {A : Type 0} (P : A → Type 0) where
   pub all_replicate : (n : ℕ) (x : A) → P x → AllAre P (replicate n x)
   all_replicate zero x h = tt
   all_replicate (suc n) x h = (h, all_replicate n x h)
+
+pub all_more : {A : Type 0} (P Q : A → Type 0) → ((x : A) → P x → Q x) → (xs : List A) → AllAre P xs → AllAre Q xs
+all_more P Q f [] h = tt
+all_more P Q f (x ∷ xs) h = (f x h.0, all_more P Q f xs h.1)

@@ -7,6 +7,7 @@ use Rattle.rb_value.specs.declared.method.Shape.{Shape}
 use Rattle.def_core.specs.declared.bound.Bound.{Bound}
 use Rattle.def_core.specs.declared.bound.Bound.TheVariants.{Values, Wrong}
 use Rattle.def_core.specs.Bind.{least}
+use Rattle.def_core.specs.Sound.{Census, IsValue, AllAre}
 use Rattle.method_lookup.specs.declared.given.Given.{Given}
 
 -- the values, and nil for each that is missing
@@ -26,3 +27,8 @@ PadsToLeast g s = 0 < g.missing → length (all_of g) ≡ least s
 abbrev pub IsWrong : Bound → Type 0
 IsWrong (Values list n) = ⊥
 IsWrong (Wrong n) = Unit {0}
+
+-- the values of the parameters, if there are any, are values of the store
+abbrev pub HasValues : Census → Bound → Type 0
+HasValues k (Values list n) = AllAre (IsValue k) list
+HasValues k (Wrong n) = Unit {0}

@@ -6,7 +6,7 @@ ghost use Rattle.rb_value.specs.declared.kind.Kind.TheVariants as kind;
 ghost use Rattle.def_core.specs.Store.{core, fresh, next_number, with_object};
 ghost use Rattle.def_core.specs.Bind as defined;
 ghost use Rattle.def_core.specs.Sound.{Sound, census, IsValue, AllAre};
-ghost use Rattle.method_lookup.specs.Given.{all_of, rest_of, PadsToLeast, IsWrong};
+ghost use Rattle.method_lookup.specs.Given.{all_of, rest_of, PadsToLeast, IsWrong, HasValues};
 
 use crate::given::{Given, least, most};
 use def_core::{BindKind, Bound};
@@ -148,6 +148,7 @@ pub fn bind(
     ensures err { OnErr result (st.new.store ≡ st.old.store) }
     ensures changes { st.new.changes ≡ st.old.changes }
     ensures sound { Sound st.new.store }
+    ensures values { IfOk result (HasValues (census st.new.store)) }
 {
     let alloc = st.alloc();
     let given = Given::of(st, shape, kind, args);

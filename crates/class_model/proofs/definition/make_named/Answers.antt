@@ -1,7 +1,7 @@
 use Rattle.std.proofs.Common.{sym, subst}
 use Rattle.rb_value.specs.declared.value.Value.TheVariants.{Obj}
 use Rattle.def_core.specs.Store.{Store}
-use Rattle.def_core.specs.Sound.{census, ClassOrModule, Is, IsSymbol, Sound, Extends}
+use Rattle.def_core.specs.Sound.{census, ClassOrModule, Is, IsSymbol, Sound}
 use Rattle.def_core.proofs.Roles.{is_plays}
 use Rattle.def_core.proofs.Keeps.{sound_with_constant}
 use Rattle.class_model.proofs.Naming.{extends_constant, class_is_value}

@@ -1,8 +1,8 @@
-use Rattle.std.proofs.Common.{◌≡◌, List, ap, sym, ◌∙◌, subst}
+use Rattle.std.proofs.Common.{List, ap, sym, ◌∙◌, subst}
 use Rattle.rb_value.specs.declared.object.Object.{Object}
 use Rattle.rb_value.specs.declared.kind.Constant.{Constant}
 use Rattle.rb_value.specs.declared.kind.Kind.{Kind}
-use Rattle.def_core.specs.Classes.{contents_of, class_at}
+use Rattle.def_core.specs.Classes.{contents_of}
 use Rattle.def_core.specs.Changes.{constant_in}
 use Rattle.def_core.specs.Sound.{census, IsValue, OptionIs}
 use Rattle.class_model.proofs.Constants.{own_is_value}

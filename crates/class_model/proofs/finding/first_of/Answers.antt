@@ -1,4 +1,4 @@
-use Rattle.std.proofs.Common.{◌≡◌, ap, sym, ◌∙◌}
+use Rattle.std.proofs.Common.{ap, sym, ◌∙◌}
 use Rattle.std.specs.Prelude.{Option}
 use Rattle.rb_value.specs.declared.method.MethodEntry.{MethodEntry}
 use Rattle.def_core.specs.Find.{found_or, first_of}

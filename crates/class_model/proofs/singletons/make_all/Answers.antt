@@ -1,5 +1,4 @@
 use Rattle.std.proofs.Common.{◌-◌, List, get_or, arith, refl, sym, ap, ◌∙◌}
-use Rattle.rb_value.specs.declared.value.ObjId.{ObjId}
 use Rattle.rb_value.specs.declared.object.Object.{Object}
 use Rattle.def_core.specs.Store.{Store, object_number}
 use Rattle.def_core.specs.Sound.{census, Any, Is}

@@ -1,4 +1,4 @@
-use Rattle.std.proofs.Common.{◌≡◌, ◌++◌, List, [], ◌∷◌, filter, ap, sym, ◌∙◌, subst}
+use Rattle.std.proofs.Common.{◌++◌, List, [], ◌∷◌, filter, ap, sym, ◌∙◌, subst}
 use Rattle.std.proofs.lemmas.List.{append_assoc}
 use Rattle.rb_value.specs.declared.value.ObjId.{ObjId}
 use Rattle.def_core.specs.Classes.{lineage}
