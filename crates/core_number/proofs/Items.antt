@@ -1,16 +1,12 @@
 -- Items of a Range as values, and the Strings among them.
 use Rattle.std.proofs.Common.{◌≡◌, ℕ, ◌+◌, ◌<◌, List, [], ◌∷◌, ◌++◌, length, true, refl, ap, sym, ◌∙◌, subst, append_assoc, append-nil, length-append, arith}
 use Rattle.std.proofs.lemmas.List.FromFn.{map-range_with_len_more}
-use Rattle.std.proofs.lemmas.Option.{slice_get-get_or}
 use Rattle.rb_value.specs.declared.value.Value.{Value}
 use Rattle.rb_value.specs.declared.value.Value.TheVariants.{Int, Obj}
 use Rattle.rb_value.specs.declared.object.Object.{Object}
-use Rattle.rb_value.specs.declared.kind.Sort.{Sort}
-use Rattle.rb_value.specs.declared.kind.Sort.TheVariants as sort
 use Rattle.def_core.specs.Store.{Store, with_object, object_number}
-use Rattle.def_core.specs.Sound.{Sound, census, Any, Is, IsValue, AllAre, plays, plays_at, sorts_of}
+use Rattle.def_core.specs.Sound.{Sound, census, Any, Is, IsValue, AllAre}
 use Rattle.def_core.proofs.Grows.{Extends, one_more, sound_with_object}
-use Rattle.def_core.proofs.Sorts.{length-sorts}
 use Rattle.rb_integer.specs.declared.ends.Bounds.{Bounds}
 use Rattle.rb_integer.specs.declared.ends.Item.{Item}
 use Rattle.rb_integer.specs.declared.ends.Item.TheVariants.{Integer, Byte}
@@ -19,6 +15,7 @@ use Rattle.rb_raise.proofs.Strings.{sound_string}
 use Rattle.core_number.specs.Answers.{string_object}
 use Rattle.core_number.specs.RangeRows.{items, strings_of, values_from, gives_items}
 use Rattle.core_number.proofs.Objects.{sound_array}
+use Rattle.core_number.proofs.Values.{object_is}
 
 strings-append : (xs ys : List Item) → strings_of (xs ++ ys) ≡ strings_of xs ++ strings_of ys
 strings-append [] ys = refl
@@ -37,26 +34,8 @@ strings_more b k = ap strings_of (map-range_with_len_more (ends.item b) 0 k k (o
 pub values_more : (n : ℕ) (b : Bounds) (k : ℕ) → values_from n (items b (k + 1)) ≡ values_from n (items b k) ++ values_from (n + length (strings_of (items b k))) (ends.item b k ∷ [])
 values_more n b k = ap (values_from n) (map-range_with_len_more (ends.item b) 0 k k (omega arith)) ∙ values-append n _ (items b k) (ends.item b k ∷ []) refl
 
--- each object of the store is one
-any_sort : (s : Sort) → plays Any s ≡ true
-any_sort sort.Plain = refl
-any_sort sort.Class = refl
-any_sort sort.Singleton = refl
-any_sort sort.Module = refl
-any_sort sort.String = refl
-any_sort sort.Array = refl
-any_sort sort.Hash = refl
-any_sort sort.Range = refl
-any_sort sort.Proc = refl
-any_sort sort.Fiber = refl
-any_sort sort.Exception = refl
-any_sort sort.Enumerator = refl
-any_sort sort.Yielder = refl
-
 new_object : (st : Store) (o : Object) → Is (census (with_object st o)) Any (object_number (length st.objects))
-new_object st o =
-    let within : length st.objects < length (sorts_of (st.objects ++ o ∷ [])) = rw (length-sorts (st.objects ++ o ∷ []), length-append) (omega arith) in
-    record { holds = ap (plays_at Any) (slice_get-get_or (sorts_of (st.objects ++ o ∷ [])) (length st.objects) sort.Plain within) ∙ any_sort _ }
+new_object st o = object_is (with_object st o) (object_number (length st.objects)) (rw length-append (omega arith))
 
 -- the store with those objects, in which the values of the items are values
 record Grown (st : Store) (objects : List Object) (n : ℕ) (is : List Item) : Type 0 where

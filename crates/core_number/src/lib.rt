@@ -2,7 +2,8 @@
 //! (ISO/IEC 30170:2012, 15.2.8 and 15.2.14). What they give on plain numbers is rb_integer's; here are the number of
 //! arguments, their classes, the exceptions, and the Strings, Arrays and Ranges that are made.
 //!
-//! Call: [`call`]. Types: [`NumberRow`] with [`IntegerRow`] and [`RangeRow`], what a row stands for.
+//! Call: [`call`], for the rows of which [`NumberRow::is_row`] holds. Types: [`NumberRow`] with [`IntegerRow`] and
+//! [`RangeRow`], what a row stands for.
 //! Laws: [`laws_of_rows`], [`laws_of_failures`].
 #![tactic(auto)]
 

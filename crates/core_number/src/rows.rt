@@ -218,6 +218,14 @@ impl RangeRow {
 }
 
 impl NumberRow {
+    /// Whether a row is that of a method of Integer or Range.
+    #[tactic(auto, using(crate::proofs::Tables::is_row_is))]
+    pub fn is_row(row: u16) -> bool
+        ensures { result ≡ table.is_number_row row }
+    {
+        (row as usize) < METHODS.len()
+    }
+
     /// The method of a row.
     #[tactic(auto, unfolding(crate::specs::Rows::methods, crate::specs::Rows::method_at), using(crate::proofs::Tables::is_within))]
     pub fn of(row: u16) -> NumberRow
