@@ -65,11 +65,7 @@ fn is_several(target: &Target) -> bool
 
 /// Puts a target of any kind.
 #[tactic(auto, using(rb_tree::proofs::Views::views))]
-fn put_target(
-    alloc: Global,
-    list: &mut TargetList<Tree>,
-    target: Target,
-) -> Result<(), AllocError>
+fn put_target(alloc: Global, list: &mut TargetList<Tree>, target: Target) -> Result<(), AllocError>
     ensures { OnOk result (made.target_list_view list.new
         ≡ made.put_list (made.target_view target) (made.target_list_view list.old)) }
 {
