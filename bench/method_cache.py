@@ -1,0 +1,139 @@
+#!/usr/bin/env python3
+"""Measures look-ups of kept methods in the method cache, beside reads of an object. Not part of the tests.
+
+    bench/method_cache.py [TIMES]
+
+Proves and builds a program over method_lookup in a folder of its own, and runs it by turns both ways: 200,000,000
+rounds, each of which looks one of sixteen kept methods of Integer up, or gets one of sixteen objects. It prints the best
+processor time of a round of each, in nanoseconds (of three runs without a number).
+"""
+import os
+import resource
+import shutil
+import subprocess
+import sys
+import tempfile
+
+ROUNDS = 200_000_000
+
+# The crates below the program, lowest first.
+BELOW = ("rb_base", "rb_value", "def_core", "rb_store", "rb_raise", "class_model", "method_lookup")
+
+PROGRAM = """//! Looks kept methods up, or gets objects.
+#![tactic(auto)]
+
+ghost use Rattle.std.specs.Prelude.{◌≤◌, length};
+ghost use Rattle.def_core.specs.Sound.{Sound, census, Is, ClassOrModule};
+ghost use Rattle.method_lookup.specs.Cache.{GoesWith};
+
+use method_lookup::{Cache, find_cached, new_cache};
+use rb_base::Steps;
+use rb_store::Store;
+use rb_value::{CoreClass, ObjId, SymId};
+use std::alloc::AllocError;
+use std::env;
+use std::process::ExitCode;
+
+/// The symbol of the first method of Integer.
+const FIRST: u64 = 39;
+
+fn look_up(cache: &mut Cache, st: &Store, class: ObjId, rounds: u64) -> Result<u64, AllocError>
+    requires sound { Sound st.now.store }
+    requires class { Is (census st.now.store) ClassOrModule class }
+    requires goes_with { GoesWith cache.old st.now }
+{
+    let mut steps = Steps::new();
+    let mut sum: u64 = 0;
+    for round in 0..rounds {
+        let name = SymId(FIRST + round % 16);
+        if let Some(found) = find_cached(cache, st, class, name, &mut steps)? {
+            sum = sum.wrapping_add(found.owner.0);
+        }
+    }
+    Ok(sum.wrapping_add(steps.count()))
+}
+
+fn get(st: &Store, rounds: u64) -> u64
+    requires { 16 ≤ length st.now.store.objects }
+{
+    let mut sum: u64 = 0;
+    for round in 0..rounds {
+        sum = sum.wrapping_add(st.get(ObjId(round % 16)).class.0);
+    }
+    sum
+}
+
+#[tactic(auto, using(class_model::proofs::Lineages::core_is_class))]
+fn run(rt: &HostRuntime, cached: bool, rounds: u64) -> Result<u64, AllocError> {
+    let st = Store::new(rt.alloc())?;
+    if cached {
+        let mut cache = new_cache(rt.alloc());
+        return look_up(&mut cache, &st, st.class_object(CoreClass::Integer), rounds);
+    }
+    if st.len() < 16 {
+        return Ok(0);
+    }
+    Ok(get(&st, rounds))
+}
+
+fn main(rt: HostRuntime) -> ExitCode {
+    let count = match env::args(&rt) {
+        Ok(args) => args.count(),
+        Err(_) => 0,
+    };
+    // With one word the cache, else the objects; the sum is used, so that no round is left out.
+    match run(&rt, count == 2, ROUNDS) {
+        Ok(sum) if sum != 1 => ExitCode::SUCCESS,
+        _ => ExitCode::FAILURE,
+    }
+}
+""".replace("ROUNDS", str(ROUNDS))
+
+INVARIANTS = """use Rattle.method_lookup.specs.Cache.{GoesWith}
+use Rattle.cached.proofs.look_up.Given as goal
+
+abbrev pub invariant-loop-round : goal.invariant-loop-round
+invariant-loop-round l = record { goes_with : GoesWith l.cache l.st }
+"""
+
+
+def write(path, text):
+    os.makedirs(os.path.dirname(path), exist_ok=True)
+    with open(path, "w") as file:
+        file.write(text)
+
+
+def build(folder):
+    """The program, built in the folder."""
+    top = os.path.join(os.path.dirname(os.path.abspath(__file__)), "..")
+    for name in BELOW:
+        target = os.path.join(folder, "crates", name)
+        shutil.copytree(os.path.join(top, "crates", name), target, ignore=shutil.ignore_patterns("out"))
+    with open(os.path.join(top, "crates.txt")) as file:
+        lines = [line for line in file if line.split(":")[0] in BELOW]
+    own = "cached: " + " ".join(reversed(BELOW)) + " indexmap smallvec itoa\n"
+    write(os.path.join(folder, "crates.txt"), "".join(lines) + own)
+    write(os.path.join(folder, "HANDLES"), "Handles allowed: none.\n")
+    crate = os.path.join(folder, "crates", "cached")
+    write(os.path.join(crate, "src", "main.rt"), PROGRAM)
+    write(os.path.join(crate, "proofs", "look_up", "Invariants.antt"), INVARIANTS)
+    subprocess.run(["rt", "run"], cwd=crate, check=True, stdout=subprocess.DEVNULL)
+    return os.path.join(crate, "out", "cached")
+
+
+def nanoseconds(command):
+    """The processor time of a round."""
+    before = resource.getrusage(resource.RUSAGE_CHILDREN).ru_utime
+    subprocess.run(command, check=True)
+    return (resource.getrusage(resource.RUSAGE_CHILDREN).ru_utime - before) * 1e9 / ROUNDS
+
+
+def main(times):
+    with tempfile.TemporaryDirectory() as folder:
+        program = build(folder)
+        runs = [(nanoseconds([program]), nanoseconds([program, "cached"])) for _ in range(times)]
+        get, cached = (min(kind) for kind in zip(*runs))
+        print(f"get {get:.2f} ns, find_cached {cached:.2f} ns")
+
+
+main(int(sys.argv[1]) if len(sys.argv) > 1 else 3)
