@@ -10,5 +10,5 @@ returns-clause-sound c = sound_rest c.args.st.now.store c.requires.sound _ c.arg
 
 pub returns-clause-values : goal.returns-clause-values
 returns-clause-values c =
-    let list = rw c.len.ensures at c.in_ok-list-2.ensures in
+    let list = rw c.len.ensures.count at c.in_ok-list-2.ensures in
     values_with_rest c.args.st.now.store c.requires.sound _ c.args.shape c.args.kind c.args.args.now _ _ _ c.requires.args c.of-given.ensures.all list c.in_ok-add_array.ensures.ok
