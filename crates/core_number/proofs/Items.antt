@@ -6,7 +6,8 @@ use Rattle.rb_value.specs.declared.value.Value.TheVariants.{Int, Obj}
 use Rattle.rb_value.specs.declared.object.Object.{Object}
 use Rattle.def_core.specs.Store.{Store, with_object, object_number}
 use Rattle.def_core.specs.Sound.{Sound, census, Any, Is, IsValue, AllAre}
-use Rattle.def_core.proofs.Grows.{Extends, one_more, sound_with_object}
+use Rattle.def_core.proofs.Grows.{one_more, sound_with_object}
+use Rattle.def_core.specs.Sound.{Extends}
 use Rattle.rb_integer.specs.declared.ends.Bounds.{Bounds}
 use Rattle.rb_integer.specs.declared.ends.Item.{Item}
 use Rattle.rb_integer.specs.declared.ends.Item.TheVariants.{Integer, Byte}
