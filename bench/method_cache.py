@@ -7,12 +7,10 @@ Proves and builds a program over method_lookup in a folder of its own, and runs 
 rounds, each of which looks one of sixteen kept methods of Integer up, or gets one of sixteen objects. It prints the best
 processor time of a round of each, in nanoseconds (of three runs without a number).
 """
-import os
-import resource
-import shutil
-import subprocess
 import sys
 import tempfile
+
+from program import built, seconds
 
 ROUNDS = 200_000_000
 
@@ -22,7 +20,8 @@ BELOW = ("rb_base", "rb_value", "def_core", "rb_store", "rb_raise", "class_model
 PROGRAM = """//! Looks kept methods up, or gets objects.
 #![tactic(auto)]
 
-ghost use Rattle.std.specs.Prelude.{◌≤◌, length};
+ghost use Rattle.std.specs.Prelude.{◌≡◌, ◌≤◌, false, length};
+ghost use Rattle.rb_value.specs.CoreClass.{is_module};
 ghost use Rattle.def_core.specs.Sound.{Sound, census, Is, ClassOrModule};
 ghost use Rattle.method_lookup.specs.Cache.{GoesWith};
 
@@ -64,11 +63,19 @@ fn get(st: &Store, rounds: u64) -> u64
 }
 
 #[tactic(auto, using(class_model::proofs::Lineages::core_is_class))]
+fn core_class(st: &Store, class: CoreClass) -> ObjId
+    requires sound { Sound st.now.store }
+    requires plain { is_module class ≡ false }
+    ensures { Is (census st.now.store) ClassOrModule result }
+{
+    st.class_object(class)
+}
+
 fn run(rt: &HostRuntime, cached: bool, rounds: u64) -> Result<u64, AllocError> {
     let st = Store::new(rt.alloc())?;
     if cached {
         let mut cache = new_cache(rt.alloc());
-        return look_up(&mut cache, &st, st.class_object(CoreClass::Integer), rounds);
+        return look_up(&mut cache, &st, core_class(&st, CoreClass::Integer), rounds);
     }
     if st.len() < 16 {
         return Ok(0);
@@ -96,43 +103,25 @@ abbrev pub invariant-loop-round : goal.invariant-loop-round
 invariant-loop-round l = record { goes_with : GoesWith l.cache l.st }
 """
 
+ANSWERS = """use Rattle.cached.proofs.run.Goals as goal
 
-def write(path, text):
-    os.makedirs(os.path.dirname(path), exist_ok=True)
-    with open(path, "w") as file:
-        file.write(text)
-
-
-def build(folder):
-    """The program, built in the folder."""
-    top = os.path.join(os.path.dirname(os.path.abspath(__file__)), "..")
-    for name in BELOW:
-        target = os.path.join(folder, "crates", name)
-        shutil.copytree(os.path.join(top, "crates", name), target, ignore=shutil.ignore_patterns("out"))
-    with open(os.path.join(top, "crates.txt")) as file:
-        lines = [line for line in file if line.split(":")[0] in BELOW]
-    own = "cached: " + " ".join(reversed(BELOW)) + " indexmap smallvec itoa\n"
-    write(os.path.join(folder, "crates.txt"), "".join(lines) + own)
-    write(os.path.join(folder, "HANDLES"), "Handles allowed: none.\n")
-    crate = os.path.join(folder, "crates", "cached")
-    write(os.path.join(crate, "src", "main.rt"), PROGRAM)
-    write(os.path.join(crate, "proofs", "look_up", "Invariants.antt"), INVARIANTS)
-    subprocess.run(["rt", "run"], cwd=crate, check=True, stdout=subprocess.DEVNULL)
-    return os.path.join(crate, "out", "cached")
+pub look_up-requires-clause-goes_with : goal.look_up-requires-clause-goes_with
+look_up-requires-clause-goes_with c = c.new_cache-cache.ensures.goes_with _
+"""
 
 
-def nanoseconds(command):
-    """The processor time of a round."""
-    before = resource.getrusage(resource.RUSAGE_CHILDREN).ru_utime
-    subprocess.run(command, check=True)
-    return (resource.getrusage(resource.RUSAGE_CHILDREN).ru_utime - before) * 1e9 / ROUNDS
+FILES = {
+    "src/main.rt": PROGRAM,
+    "proofs/look_up/Invariants.antt": INVARIANTS,
+    "proofs/run/Answers.antt": ANSWERS,
+}
 
 
 def main(times):
     with tempfile.TemporaryDirectory() as folder:
-        program = build(folder)
-        runs = [(nanoseconds([program]), nanoseconds([program, "cached"])) for _ in range(times)]
-        get, cached = (min(kind) for kind in zip(*runs))
+        program = built(folder, "cached", BELOW, FILES)
+        runs = [(seconds([program]), seconds([program, "cached"])) for _ in range(times)]
+        get, cached = (min(kind) * 1e9 / ROUNDS for kind in zip(*runs))
         print(f"get {get:.2f} ns, find_cached {cached:.2f} ns")
 
 

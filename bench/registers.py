@@ -7,19 +7,13 @@ Proves and builds a program over stack_bank in a folder of its own, and runs it 
 rounds, each of which reads one slot and writes another. It prints the best processor time of each (of three without a
 number) and their ratio, which is to stay below 1.3.
 """
-import os
-import resource
-import shutil
-import subprocess
 import sys
 import tempfile
 
-CRATES = """rb_base:
-slot_pool:
-rb_value: rb_base indexmap smallvec
-stack_bank: slot_pool rb_value rb_base
-registers: stack_bank slot_pool rb_value rb_base
-"""
+from program import built, seconds
+
+# The crates below the program, lowest first.
+BELOW = ("rb_base", "slot_pool", "rb_value", "stack_bank")
 
 PROGRAM = """//! Reads and writes registers through a window of a stack, or places of a vector.
 #![tactic(auto)]
@@ -100,37 +94,12 @@ invariant-loop-round l = record {
 """
 
 
-def write(path, text):
-    os.makedirs(os.path.dirname(path), exist_ok=True)
-    with open(path, "w") as file:
-        file.write(text)
-
-
-def build(folder):
-    """The program, built in the folder."""
-    crates = os.path.join(os.path.dirname(os.path.abspath(__file__)), "..", "crates")
-    for name in ("rb_base", "rb_value", "slot_pool", "stack_bank"):
-        target = os.path.join(folder, "crates", name)
-        shutil.copytree(os.path.join(crates, name), target, ignore=shutil.ignore_patterns("out"))
-    write(os.path.join(folder, "crates.txt"), CRATES)
-    write(os.path.join(folder, "HANDLES"), "Handles allowed: none.\n")
-    crate = os.path.join(folder, "crates", "registers")
-    write(os.path.join(crate, "src", "main.rt"), PROGRAM)
-    write(os.path.join(crate, "proofs", "through_window", "Invariants.antt"), INVARIANTS)
-    subprocess.run(["rt", "run"], cwd=crate, check=True, stdout=subprocess.DEVNULL)
-    return os.path.join(crate, "out", "registers")
-
-
-def seconds(command):
-    """The processor time of a run."""
-    before = resource.getrusage(resource.RUSAGE_CHILDREN).ru_utime
-    subprocess.run(command, check=True)
-    return resource.getrusage(resource.RUSAGE_CHILDREN).ru_utime - before
+FILES = {"src/main.rt": PROGRAM, "proofs/through_window/Invariants.antt": INVARIANTS}
 
 
 def main(times):
     with tempfile.TemporaryDirectory() as folder:
-        program = build(folder)
+        program = built(folder, "registers", BELOW, FILES)
         runs = [(seconds([program]), seconds([program, "window"])) for _ in range(times)]
         vector, window = (min(kind) for kind in zip(*runs))
         print(f"vector {vector:.2f} s, window {window:.2f} s, ratio {window / vector:.2f}")

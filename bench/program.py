@@ -1,0 +1,39 @@
+"""A program of its own over some of the crates, built in a folder, and the processor time of its runs."""
+import os
+import resource
+import shutil
+import subprocess
+
+TOP = os.path.join(os.path.dirname(os.path.abspath(__file__)), "..")
+
+
+def write(path, text):
+    os.makedirs(os.path.dirname(path), exist_ok=True)
+    with open(path, "w") as file:
+        file.write(text)
+
+
+def built(folder, name, below, files):
+    """The program of that name over these crates, the lowest first. `files` has its files by their paths in its crate."""
+    for crate in below:
+        target = os.path.join(folder, "crates", crate)
+        shutil.copytree(os.path.join(TOP, "crates", crate), target, ignore=shutil.ignore_patterns("out"))
+    with open(os.path.join(TOP, "crates.txt")) as file:
+        lines = {line.split(":")[0]: line.split(":")[1].split() for line in file if ":" in line}
+    others = {crate for one in below for crate in lines[one]} - set(below)
+    own = name + ": " + " ".join([*reversed(below), *sorted(others)])
+    listed = [one + ": " + " ".join(lines[one]) for one in below]
+    write(os.path.join(folder, "crates.txt"), "\n".join([*listed, own]) + "\n")
+    write(os.path.join(folder, "HANDLES"), "Handles allowed: none.\n")
+    crate = os.path.join(folder, "crates", name)
+    for path, text in files.items():
+        write(os.path.join(crate, path), text)
+    subprocess.run(["rt", "run"], cwd=crate, check=True, stdout=subprocess.DEVNULL)
+    return os.path.join(crate, "out", name)
+
+
+def seconds(command):
+    """The processor time of a run."""
+    before = resource.getrusage(resource.RUSAGE_CHILDREN).ru_utime
+    subprocess.run(command, check=True)
+    return resource.getrusage(resource.RUSAGE_CHILDREN).ru_utime - before
