@@ -1,10 +1,10 @@
 -- What is found in a list of nodes, as a fold.
-use Rattle.std.proofs.Common.{◌≡◌, List, [], ◌∷◌, Option, Box, Vec, fold, map, refl, ap, sym, ◌∙◌}
+use Rattle.std.proofs.Common.{◌≡◌, List, [], ◌∷◌, Option, Vec, fold, map, refl, ap, sym, ◌∙◌}
 use Rattle.std.specs.declared.alloc.Global.{Global}
 use Rattle.rb_tree.specs.Node.{Node, nodes}
-use Rattle.rb_tree.specs.View.{view}
-use Rattle.rb_tree.specs.declared.tree.Tree as tree
-use Rattle.rb_tree.specs.declared.tree.Tree.{Tree}
+use Rattle.rb_tree.specs.View.{Tree, form_view}
+use Rattle.rb_tree.specs.declared.tree.TreeForm as tree
+use Rattle.rb_tree.specs.declared.tree.TreeForm.{TreeForm}
 use Rattle.rb_tree.specs.declared.tree.WhenClause.{WhenClause}
 use Rattle.rb_tree.specs.Parts as part
 use Rattle.outside_search.specs.Search.{found, found_all}
@@ -16,13 +16,13 @@ found_all-nodes best [] = refl
 found_all-nodes best (n ∷ ns) = found_all-nodes (found best n) ns
 
 -- a case, part after part
-pub found-case : (best : Option Found) (t : Tree) (s : Option (Box Tree Global)) (v : Vec (WhenClause Tree) Global) (o : Option (Box Tree Global))
+pub found-case : (best : Option Found) (t : TreeForm) (s : Option Tree) (v : Vec (WhenClause Tree) Global) (o : Option Tree)
     (ws : List (WhenClause Tree)) (r1 r2 r3 : Option Found) → t ≡ tree.Case s v o → ws ≡ v.items → r1 ≡ found_all best (part.boxed s)
-    → r2 ≡ fold found r1 (map part.when_node ws) → r3 ≡ found_all r2 (part.boxed o) → r3 ≡ found best (view t)
+    → r2 ≡ fold found r1 (map part.when_node ws) → r3 ≡ found_all r2 (part.boxed o) → r3 ≡ found best (form_view t)
 found-case best t s v o ws r1 r2 r3 is items e1 e2 e3 =
     let middle : r2 ≡ found_all (found_all best (part.boxed s)) (nodes (map part.when_node v.items)) =
     e2 ∙ (ap (λ ws. fold found r1 (map part.when_node ws)) items ∙ (ap (λ b. fold found b (map part.when_node v.items)) e1 ∙ sym (found_all-nodes (found_all best (part.boxed s)) (map part.when_node v.items)))) in
-    e3 ∙ (ap (λ b. found_all b (part.boxed o)) middle ∙ sym (ap (found best) (ap view is ∙ view-Case s v o)))
+    e3 ∙ (ap (λ b. found_all b (part.boxed o)) middle ∙ sym (ap (found best) (ap form_view is ∙ view-Case s v o)))
 
 pub ruleset folds = found_all-nodes
 

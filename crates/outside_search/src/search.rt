@@ -1,7 +1,7 @@
 //! The search of a tree's parts in the order of the text. Each function takes what was found before and gives
 //! what is found with its own part.
 ghost use Rattle.std.specs.Prelude.{◌≡◌, fold, map};
-ghost use Rattle.rb_tree.specs.View.{view};
+ghost use Rattle.rb_tree.specs.View.{form_view, view};
 ghost use Rattle.outside_search.specs.Search.{earlier, found, found_all};
 ghost use Rattle.rb_tree.specs.Parts.{item_node, pair_node, branch_node, piece_node, boxed, arguments, parameter_node, optional_node, definition_node, block, rescue_node, begin_node, when_node, targets_node, scope_node};
 
@@ -9,7 +9,7 @@ use crate::construct::Found;
 use rb_syntax::{Branch, Item, Outside, Pair};
 use rb_tree::{
     Arguments, Definition, OptionalParameter, Parameter, Piece, RescueBody, RescueClause, Scope,
-    TargetList, Tree, WhenClause,
+    TargetList, Tree, TreeForm, WhenClause,
 };
 
 fn earlier_of(best: Option<Found>, what: Outside, at: u32) -> Option<Found>
@@ -27,97 +27,98 @@ fn earlier_of(best: Option<Found>, what: Outside, at: u32) -> Option<Found>
     }
 }
 
-/// The parts of a tree.
+/// What a tree's form holds.
 #[cycle(search)]
 #[tactic(auto, using(crate::proofs::Folds::views_and_folds))]
-pub fn find(best: Option<Found>, tree: &Tree) -> Option<Found>
-    ensures { result ≡ found best (view tree.now) }
+pub fn find(best: Option<Found>, form: &TreeForm) -> Option<Found>
+    ensures { result ≡ found best (form_view form.now) }
 {
-    match tree {
-        Tree::Nil
-        | Tree::True
-        | Tree::False
-        | Tree::SelfReference
-        | Tree::Integer(_)
-        | Tree::Symbol(_)
-        | Tree::Words(_)
-        | Tree::Symbols(_)
-        | Tree::Local(_)
-        | Tree::InstanceVariable(_)
-        | Tree::GlobalVariable(_)
-        | Tree::Constant(_)
-        | Tree::TopConstant(_)
-        | Tree::Retry { at: _ }
-        | Tree::Alias(_, _)
-        | Tree::Undef(_) => best,
-        Tree::Text(pieces) | Tree::SymbolText(pieces) => find_pieces(best, pieces),
-        Tree::ScopedConstant(e, _) | Tree::Not(e) | Tree::Unary(_, e) | Tree::Defined(e) => {
-            find(best, e)
-        }
-        Tree::Array(items)
-        | Tree::Yield { items, at: _ }
-        | Tree::Return { items, at: _ }
-        | Tree::Break { items, at: _ }
-        | Tree::Next { items, at: _ } => find_items(best, items),
-        Tree::Hash(pairs) => find_pairs(best, pairs),
-        Tree::Statements(list) => find_all(best, list),
-        Tree::Operation(a, _, b)
-        | Tree::And(a, b)
-        | Tree::Or(a, b)
-        | Tree::RescueModifier(a, b)
-        | Tree::Assign(a, b)
-        | Tree::OperatorAssign(a, _, b)
-        | Tree::SingletonClass(a, b) => find(find(best, a), b),
-        Tree::Range { from, to, .. } => find(find(best, from), to),
-        Tree::If {
+    match form {
+        TreeForm::Nil
+        | TreeForm::True
+        | TreeForm::False
+        | TreeForm::SelfReference
+        | TreeForm::Integer(_)
+        | TreeForm::Symbol(_)
+        | TreeForm::Words(_)
+        | TreeForm::Symbols(_)
+        | TreeForm::Local(_)
+        | TreeForm::InstanceVariable(_)
+        | TreeForm::GlobalVariable(_)
+        | TreeForm::Constant(_)
+        | TreeForm::TopConstant(_)
+        | TreeForm::Retry { at: _ }
+        | TreeForm::Alias(_, _)
+        | TreeForm::Undef(_) => best,
+        TreeForm::Text(pieces) | TreeForm::SymbolText(pieces) => find_pieces(best, pieces),
+        TreeForm::ScopedConstant(e, _)
+        | TreeForm::Not(e)
+        | TreeForm::Unary(_, e)
+        | TreeForm::Defined(e) => { find(best, e) }
+        TreeForm::Array(items)
+        | TreeForm::Yield { items, at: _ }
+        | TreeForm::Return { items, at: _ }
+        | TreeForm::Break { items, at: _ }
+        | TreeForm::Next { items, at: _ } => find_items(best, items),
+        TreeForm::Hash(pairs) => find_pairs(best, pairs),
+        TreeForm::Statements(list) => find_all(best, list),
+        TreeForm::Operation(a, _, b)
+        | TreeForm::And(a, b)
+        | TreeForm::Or(a, b)
+        | TreeForm::RescueModifier(a, b)
+        | TreeForm::Assign(a, b)
+        | TreeForm::OperatorAssign(a, _, b)
+        | TreeForm::SingletonClass(a, b) => find(find(best, a), b),
+        TreeForm::Range { from, to, .. } => find(find(best, from), to),
+        TreeForm::If {
             branches,
             otherwise,
         } => find_boxed(find_branches(best, branches), otherwise),
-        Tree::Unless {
+        TreeForm::Unless {
             test,
             body,
             otherwise,
         } => find_boxed(find(find(best, test), body), otherwise),
-        Tree::While { test, body, .. } => find(find(best, test), body),
-        Tree::For {
+        TreeForm::While { test, body, .. } => find(find(best, test), body),
+        TreeForm::For {
             targets,
             items,
             body,
         } => find(find(find_all(best, targets), items), body),
-        Tree::Case {
+        TreeForm::Case {
             subject,
             clauses,
             otherwise,
         } => find_boxed(find_whens(find_boxed(best, subject), clauses), otherwise),
-        Tree::Begin(body) => find_begin(best, body),
-        Tree::Call {
+        TreeForm::Begin(body) => find_begin(best, body),
+        TreeForm::Call {
             receiver,
             arguments,
             block,
             ..
         } => find_block(find_arguments(find_boxed(best, receiver), arguments), block),
-        Tree::Index(e, items) => find_items(find(best, e), items),
-        Tree::Super {
+        TreeForm::Index(e, items) => find_items(find(best, e), items),
+        TreeForm::Super {
             arguments,
             block,
             ..
         } => find_block(find_arguments(best, arguments), block),
-        Tree::Lambda(definition) => find_definition(best, definition),
-        Tree::MultipleAssign(targets, value) => find(find_targets(best, targets), value),
-        Tree::Targets(targets) => find_targets(best, targets),
-        Tree::Define {
+        TreeForm::Lambda(definition) => find_definition(best, definition),
+        TreeForm::MultipleAssign(targets, value) => find(find_targets(best, targets), value),
+        TreeForm::Targets(targets) => find_targets(best, targets),
+        TreeForm::Define {
             singleton,
             definition,
             ..
         } => find_definition(find_boxed(best, singleton), definition),
-        Tree::Class {
+        TreeForm::Class {
             scope,
             parent,
             body,
             ..
         } => find(find_boxed(find_scope(best, scope), parent), body),
-        Tree::Module { scope, body, .. } => find(find_scope(best, scope), body),
-        Tree::Outside { what, at, parts } => find_all(earlier_of(best, *what, *at), parts),
+        TreeForm::Module { scope, body, .. } => find(find_scope(best, scope), body),
+        TreeForm::Outside { what, at, parts } => find_all(earlier_of(best, *what, *at), parts),
     }
 }
 
@@ -133,7 +134,7 @@ fn find_all(best: Option<Found>, trees: &[Tree]) -> Option<Found>
 }
 
 #[cycle(search)]
-fn find_boxed(best: Option<Found>, tree: &Option<Box<Tree>>) -> Option<Found>
+fn find_boxed(best: Option<Found>, tree: &Option<Tree>) -> Option<Found>
     ensures { result ≡ found_all best (boxed tree.now) }
 {
     match tree {

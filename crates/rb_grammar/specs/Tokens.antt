@@ -55,6 +55,9 @@ unfoldable pub behind : List Token → List Token
 behind [] = []
 behind (t ∷ ts) = ts
 
+abbrev pub skip_if : Bool → List Token → List Token
+skip_if more ts = if more then behind ts else ts
+
 abbrev pub bytes_of : TokenKind → List ℕ
 bytes_of (kinds.Identifier x) = x
 bytes_of (kinds.Constant x) = x

@@ -74,6 +74,14 @@ pub fn skip(tokens: &[Token]) -> &[Token]
     }
 }
 
+/// The tokens behind the one at the front where there is `more`, or else all of them.
+pub fn skip_if(more: bool, tokens: &[Token]) -> &[Token]
+    ensures value { result.now ≡ front.skip_if more tokens.now }
+    ensures within { length result.now ≤ length tokens.now }
+{
+    if more { skip(tokens) } else { tokens }
+}
+
 /// The bytes of the token at the front, or none where it has none.
 #[tactic(auto, unfolding(crate::specs::Tokens::bytes_at))]
 pub fn bytes_at(tokens: &[Token]) -> &[u8]

@@ -1,10 +1,9 @@
-//! Trees of the grammar, one variant for each rule. A tree that stands inside another is behind a `Box` or in a
-//! `Vec`; contracts see the whole as a `Node` (specs/Node.antt, specs/View.antt).
+//! Trees of the grammar, one variant for each rule. A tree is a box, also inside another; contracts see the whole as a `Node` (specs/Node.antt, specs/View.antt).
 //!
 //! For the crates above, specs/Parts.antt has the nodes of a tree's parts, and proofs/Views.antt the node of each tree
 //! whose parts lie in lists and options.
 //!
-//! Types: [`Tree`] with its parts, [`BinaryOperator`], [`UnaryOperator`], [`AssignmentOperator`].
+//! Types: [`Tree`], a box over a [`TreeForm`] with its parts, [`BinaryOperator`], [`UnaryOperator`], [`AssignmentOperator`].
 #![tactic(auto)]
 
 pub mod operator;
@@ -13,5 +12,5 @@ pub mod tree;
 pub use operator::{AssignmentOperator, BinaryOperator, UnaryOperator};
 pub use tree::{
     Arguments, Definition, OptionalParameter, Parameter, ParameterList, Piece, RescueBody,
-    RescueClause, RestParameter, Scope, TargetList, Tree, WhenClause,
+    RescueClause, RestParameter, Scope, TargetList, Tree, TreeForm, WhenClause,
 };
