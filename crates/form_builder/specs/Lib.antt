@@ -1,0 +1,4 @@
+pub mod Parameters
+pub mod Definitions
+pub mod Targets
+pub mod Sections
