@@ -1,0 +1,4 @@
+pub mod Literals
+pub mod Brackets
+pub mod Parameters
+pub mod Definitions
