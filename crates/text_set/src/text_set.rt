@@ -1,0 +1,74 @@
+ghost use Rattle.std.specs.Prelude.{◌≡◌, [], length, not, take, IfOk, OnOk};
+ghost use Rattle.rb_syntax.specs.Names.{is_among, with_name};
+ghost use Rattle.text_set.specs.Sets.{texts};
+
+use indexmap::IndexSet;
+use std::alloc::{AllocError, Global};
+use std::marker::Model;
+
+/// Different texts, seen as their list.
+#[derive(Drop)]
+pub struct TextSet<'a> {
+    texts: IndexSet<&'a [u8]>,
+}
+
+impl<'a> Model for TextSet<'a> {
+    ghost use Rattle.std.specs.Prelude as prelude;
+    ghost use Rattle.text_set.specs.Sets as shown;
+
+    ghost Value = { prelude.List (prelude.List prelude.ℕ) };
+
+    ghost view = { λ s. shown.texts s.texts.keys };
+}
+
+impl<'a> TextSet<'a> {
+    /// The set of no text. It takes no memory.
+    pub fn new(alloc: Global) -> TextSet<'a>
+        ensures { result ≡ [] }
+    {
+        TextSet {
+            texts: IndexSet::new(alloc),
+        }
+    }
+
+    /// Adds a text, and says whether it wasn't there yet.
+    #[tactic(auto, using(crate::proofs::Sets::set_laws))]
+    pub fn add(&mut self, text: &'a [u8]) -> Result<bool, AllocError>
+        ensures set { OnOk result (self.new ≡ with_name self.old text.now) }
+        ensures fresh { IfOk result (λ new. new ≡ not (is_among text.now self.old)) }
+    {
+        let new = self.texts.insert(text)?;
+        Ok(new)
+    }
+
+    /// Whether a text is there.
+    #[tactic(auto, using(crate::proofs::Sets::set_laws))]
+    pub fn contains(&self, text: &[u8]) -> bool
+        ensures { result ≡ is_among text.now self.now }
+    {
+        self.texts.contains(text)
+    }
+
+    /// How many texts there are.
+    #[tactic(auto, using(crate::proofs::Sets::set_laws))]
+    pub fn len(&self) -> usize
+        ensures { result ≡ length self.now }
+    {
+        self.texts.len()
+    }
+
+    /// The texts as a slice.
+    pub fn as_slice(&self) -> &[&'a [u8]]
+        ensures { texts result.now ≡ self.now }
+    {
+        self.texts.as_slice()
+    }
+
+    /// Keeps the first `len` texts.
+    #[tactic(auto, using(crate::proofs::Sets::set_laws))]
+    pub fn truncate(&mut self, len: usize)
+        ensures { self.new ≡ take len self.old }
+    {
+        self.texts.truncate(len);
+    }
+}
