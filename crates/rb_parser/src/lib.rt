@@ -1,0 +1,15 @@
+//! The parser of the whole language: from tokens to a tree of the grammar (docs/language.md).
+//!
+//! Type: [`ParseError`]. Calls: [`parse`], and [`derive`], which lets a word stand anywhere.
+#![tactic(auto)]
+
+pub mod error;
+pub mod level;
+pub mod parser;
+#[cfg(test)]
+mod print;
+#[cfg(test)]
+mod tests;
+
+pub use error::ParseError;
+pub use parser::{derive, parse};

@@ -1,0 +1,80 @@
+ghost use Rattle.std.specs.Prelude.{◌≡◌, ◌≤◌, IfErr};
+ghost use Rattle.rb_tree.specs.View.{view};
+ghost use Rattle.rb_grammar.specs.Reads.{Gives};
+ghost use Rattle.rb_parser.specs.Program as grammar;
+
+use crate::error::ParseError;
+use crate::level::{Level, levels_above, release};
+use rb_grammar::failure::{Failure, syntax};
+use rb_grammar::tokens::first;
+use rb_grammar::word::Word;
+use rb_heads::names::Names;
+use rb_syntax::Token;
+use rb_tree::Tree;
+use rule_base::Inner;
+use statement_rules::statements::statements;
+use std::alloc::Global;
+use tree_rules::{RuleError, check};
+
+/// The place of the token with which so many are left, or else the end of a text of `size` bytes.
+fn place(tokens: &[Token], left: usize, size: u32) -> u32
+    ensures value { result ≡ grammar.place tokens.now left size }
+    ensures within { result ≤ size }
+{
+    match tokens.get(tokens.len().saturating_sub(left)) {
+        Some(token) => token.at.min(size),
+        None => size,
+    }
+}
+
+/// Whether a word is the end of the tokens.
+fn is_finish(word: Word) -> bool
+    ensures { result ≡ grammar.is_finish word }
+{
+    matches!(word, Word::Finish)
+}
+
+fn program<I: Inner>(inner: &I, alloc: Global, tokens: &[Token]) -> Result<Tree, Failure>
+    ensures { Gives view result (grammar.program_over (I.inside inner.now) tokens.now) }
+{
+    let mut names = Names::new(alloc);
+    let (tree, rest) = statements(inner, alloc, &mut names, tokens)?;
+    if is_finish(first(rest)) {
+        Ok(tree)
+    } else {
+        Err(syntax(rest))
+    }
+}
+
+/// The tree that the grammar derives from the tokens of a text of `size` bytes.
+#[tactic(auto, unfolding(crate::specs::Program::program))]
+pub fn derive(alloc: Global, tokens: &[Token], size: u32) -> Result<Tree, ParseError>
+    ensures tree { grammar.Derives result (grammar.tree_of tokens.now size) }
+    ensures place { IfErr result (λ e. grammar.IsWithin size e) }
+{
+    let Ok(levels) = levels_above(alloc, tokens.len()) else {
+        return Err(ParseError::NoMemory);
+    };
+    let read = program(&levels, alloc, tokens);
+    release(levels);
+    match read {
+        Ok(tree) => Ok(tree),
+        Err(Failure::Syntax { left }) => Err(ParseError::Syntax {
+            at: place(tokens, left, size),
+        }),
+        Err(Failure::NoMemory) => Err(ParseError::NoMemory),
+    }
+}
+
+/// The tree of the tokens of a text of `size` bytes, in which each word may stand where it stands.
+pub fn parse(alloc: Global, tokens: &[Token], size: u32) -> Result<Tree, ParseError>
+    ensures tree { grammar.Parses result (grammar.tree_of tokens.now size) }
+    ensures place { IfErr result (λ e. grammar.IsWithin size e) }
+{
+    let tree = derive(alloc, tokens, size)?;
+    match check(alloc, &tree) {
+        Ok(()) => Ok(tree),
+        Err(RuleError::Misplaced { at }) => Err(ParseError::Syntax { at: at.min(size) }),
+        Err(RuleError::NoMemory) => Err(ParseError::NoMemory),
+    }
+}
