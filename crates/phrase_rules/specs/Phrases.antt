@@ -17,6 +17,7 @@ use Rattle.rb_grammar.specs.declared.word.Modifier.{Modifier}
 use Rattle.rb_grammar.specs.declared.word.Modifier.TheVariants as modifiers
 use Rattle.rb_heads.specs.Primary.{start_at, block_at, allows_command, is_statement, of_value, in_command, is_comma_word}
 use Rattle.rb_heads.specs.declared.primary.BlockStyle.{BlockStyle}
+use Rattle.rb_heads.specs.declared.primary.BlockStyle.TheVariants as styles
 use Rattle.rb_heads.specs.declared.primary.DoOwner.{DoOwner}
 use Rattle.rb_heads.specs.declared.primary.Place.{Place}
 use Rattle.rb_heads.specs.declared.primary.Place.TheVariants as places
@@ -149,9 +150,10 @@ module _ (inside : Inside) where
 
   abbrev pub command_by : Option BlockStyle → CalleeNode → ListNode → Names → Tokens → DoOwner → Read PhraseNode
   command_by None c l names ts owner = Ok (plain_command c l, names, ts)
-  command_by (Some style) c l names ts owner = block_command style c l names ts owner
+  command_by (Some styles.Brace) c l names ts owner = Ok (plain_command c l, names, ts)
+  command_by (Some styles.Do) c l names ts owner = block_command styles.Do c l names ts owner
 
-  -- the arguments of a command, and its block
+  -- the arguments of a command, and its block, which is none in braces
   unfoldable pub command : CalleeNode → Names → Tokens → DoOwner → Read PhraseNode
   command c names ts owner = inside.list names ts (in_command owner) >>= (λ r. command_by (block_at owner r.2) c r.0 r.1 r.2 owner)
 

@@ -92,7 +92,7 @@ fn plain_command(alloc: Global, callee: Callee, listed: Listed) -> Result<Phrase
     Ok(Phrase { tree, sort })
 }
 
-/// The arguments of a command, and its block.
+/// The arguments of a command, and its block, which is none in braces.
 #[tactic(auto, unfolding(crate::specs::Phrases::command))]
 fn command<'a, I: Inner>(
     inner: &I,
@@ -107,8 +107,11 @@ fn command<'a, I: Inner>(
 {
     let (listed, rest) = inner.list(alloc, names, tokens, owner.in_command())?;
     match block_at(owner, rest) {
-        Some(style) => block_command(inner, alloc, names, callee, listed, style, rest, owner),
-        None => Ok((plain_command(alloc, callee, listed)?, rest)),
+        Some(BlockStyle::Do) => {
+            let style = BlockStyle::Do;
+            block_command(inner, alloc, names, callee, listed, style, rest, owner)
+        }
+        Some(BlockStyle::Brace) | None => Ok((plain_command(alloc, callee, listed)?, rest)),
     }
 }
 

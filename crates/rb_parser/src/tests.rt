@@ -217,6 +217,8 @@ fn blocks(rt: HostRuntime) -> Result<(), Fail> {
             ("foo 1 do 2 end.bar", "(foo(1){|;| (2)}.bar)"),
             ("foo 1 do 2 end + 3", "Syntax { at: 15 }"),
             ("foo(&a) { }", "Syntax { at: 8 }"),
+            ("foo 1 { }", "Syntax { at: 6 }"),
+            ("a.b 1 { }", "Syntax { at: 6 }"),
             (
                 "a.each { |x| x }.map { 1 }",
                 "(~a.each{| x;| (x)}.map{|;| (1)})",
