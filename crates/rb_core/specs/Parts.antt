@@ -1,17 +1,16 @@
 -- The forms that the parts of a core stand for.
-use Rattle.std.specs.Prelude.{List, Option, Some, None, map, Box}
-use Rattle.std.specs.declared.alloc.Global.{Global}
-use Rattle.rb_syntax.specs.declared.core_form.Core.{Core}
+use Rattle.std.specs.Prelude.{List, Option, Some, None, map}
 use Rattle.rb_syntax.specs.declared.core_form.Item.{Item}
 use Rattle.rb_syntax.specs.declared.core_form.Item.TheVariants.{Plain, Splat}
 use Rattle.rb_syntax.specs.declared.core_form.Pair.{Pair}
 use Rattle.rb_syntax.specs.declared.core_form.Branch.{Branch}
-use Rattle.rb_syntax.specs.declared.core_form.Clause.{Clause}
-use Rattle.rb_syntax.specs.declared.core_form.Receiver.{Receiver}
-use Rattle.rb_syntax.specs.declared.core_form.Receiver.TheVariants.{To, Absent, Bare}
+use Rattle.rb_core.specs.declared.term.Clause.{Clause}
+use Rattle.rb_core.specs.declared.term.BeginForm.{BeginForm}
+use Rattle.rb_core.specs.declared.term.Receiver.{Receiver}
+use Rattle.rb_core.specs.declared.term.Receiver.TheVariants.{To, Absent, Bare}
 use Rattle.rb_core.specs.CoreForm as form
 use Rattle.rb_core.specs.CoreForm.{CoreForm, CoreForms, forms}
-use Rattle.rb_core.specs.View.{core_view}
+use Rattle.rb_core.specs.View.{Core, core_view}
 
 abbrev pub cores : List Core → CoreForms
 cores cs = forms (map core_view cs)
@@ -35,9 +34,9 @@ branch_form b = form.branch (core_view b.test) (core_view b.body)
 abbrev pub branches : List (Branch Core) → CoreForms
 branches bs = forms (map branch_form bs)
 
-abbrev pub boxed : Option (Box Core Global) → CoreForms
+abbrev pub boxed : Option Core → CoreForms
 boxed None = form.none
-boxed (Some b) = form.one (core_view b.value)
+boxed (Some c) = form.one (core_view c)
 
 abbrev pub clause_form : Clause Core → CoreForm
 clause_form c = form.clause (cores c.classes.items) (boxed c.target) (core_view c.body)
@@ -45,7 +44,10 @@ clause_form c = form.clause (cores c.classes.items) (boxed c.target) (core_view 
 abbrev pub clauses : List (Clause Core) → CoreForms
 clauses cs = forms (map clause_form cs)
 
+abbrev pub begin_form : BeginForm Core → CoreForm
+begin_form b = form.begin_form (core_view b.body) (clauses b.clauses.items) (boxed b.otherwise) (boxed b.ensure)
+
 abbrev pub receiver_form : Receiver Core → CoreForm
-receiver_form (To r) = core_view r.value
+receiver_form (To r) = core_view r
 receiver_form Absent = form.absent
 receiver_form Bare = form.bare

@@ -1,5 +1,11 @@
-//! The core form that a `Core` stands for, without where it lies in memory. There is no code here: lowering, the
-//! counts of a body and the generator say what they do by these definitions (specs/CoreForm.antt, specs/View.antt).
-//! specs/Parts.antt has the forms of a core's parts, proofs/Views.antt the form of each core whose parts lie in lists
-//! and options.
+//! Core forms: what is left of a source once names are known and every construct of the surface language is written
+//! with a few. A core is a box, also inside another; contracts see the whole as a `CoreForm` (specs/CoreForm.antt,
+//! specs/View.antt). specs/Forms.antt has the forms that several constructs become, specs/Parts.antt the forms of a
+//! core's parts, and proofs/Views.antt the form of each core whose parts lie in lists and options.
+//!
+//! Types: [`Core`], a box over a [`Term`] with its parts.
 #![tactic(auto)]
+
+pub mod term;
+
+pub use term::{BeginForm, Clause, Core, Function, Receiver, Term};
