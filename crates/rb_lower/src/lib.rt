@@ -1,11 +1,41 @@
-//! The core of a tree: what lowering from trees of the grammar to core forms gives (docs/core.md), by definitions
-//! in specs/: Names (the names that lowering makes), Parts (what is read off nodes), Lowering (the table), and
-//! Refusal (which construct outside the language is refused).
+//! From trees of the grammar to cores, by the table of lowering (docs/core.md; the table is a definition of lower_rows).
+//! The first construct outside the language is sought before anything is made; what is left is total. Which construct
+//! is refused stands in specs/Refusal.antt.
 //!
-//! Type: [`LowerError`]. Calls: [`names::hidden_name`], [`names::pattern_parameter`].
+//! Type: [`LowerError`]. Call: [`lower`].
 #![tactic(auto)]
 
 pub mod error;
-pub mod names;
+
+ghost use Rattle.std.specs.Prelude.{◌≡◌, [], None, IfOk, IfErr};
+ghost use Rattle.rb_core.specs.View.{core_view};
+ghost use Rattle.rb_tree.specs.View.{view};
+ghost use Rattle.outside_search.specs.Search.{found};
+ghost use Rattle.lower_rows.specs.Lowering.{core};
+ghost use Rattle.rb_lower.specs.Refusal.{Refuses};
 
 pub use error::LowerError;
+use lower_rows::Lower;
+use outside_search::first_outside;
+use rb_core::Core;
+use rb_tree::Tree;
+use std::alloc::Global;
+
+/// The core of a tree. `Outside` comes exactly where the tree has a construct outside the language; it is the one
+/// with the least place, and of those with one place the first in the text.
+pub fn lower(alloc: Global, tree: &Tree) -> Result<Core, LowerError>
+    ensures lowered { IfOk result (λ c. core_view c ≡ core [] 0 (view tree.now)) }
+    ensures accepted { IfOk result (λ _. found None (view tree.now) ≡ None) }
+    ensures refused { IfErr result (Refuses (found None (view tree.now))) }
+{
+    match first_outside(tree) {
+        Some(found) => Err(LowerError::Outside {
+            what: found.what,
+            at: found.at,
+        }),
+        None => {
+            let core = tree.lower(alloc, &[], 0)?;
+            Ok(core)
+        }
+    }
+}
