@@ -1,0 +1,2 @@
+pub mod Splats
+pub mod Widths
