@@ -1,0 +1,66 @@
+-- What follows of a name that is called.
+use Rattle.std.proofs.Common.{◌≡◌, true, false, not, ◌&&◌, Option, Some, None, is_some, Ok, inl, inr, refl, sym}
+use Rattle.std.proofs.lemmas.Bool.{cases_Bool, and_parts}
+use Rattle.rb_syntax.specs.declared.punctuator.Punctuator.TheVariants as marks
+use Rattle.rb_grammar.specs.Tokens.{first, behind, bytes_at}
+use Rattle.rb_grammar.specs.Starts.{is_open_parenthesis, opens_arguments, begins_argument}
+use Rattle.rb_grammar.specs.declared.word.Word.{Word}
+use Rattle.rb_grammar.specs.declared.word.Word.TheVariants as words
+use Rattle.rb_heads.specs.Names.{is_known}
+use Rattle.rb_heads.specs.Primary.{primary_at, block_at, allows_command, is_name_word}
+use Rattle.rb_heads.specs.declared.primary.DoOwner.{DoOwner}
+use Rattle.rb_heads.specs.declared.primary.Place.{Place}
+use Rattle.rb_heads.specs.declared.primary.Primary.TheVariants as primaries
+use Rattle.tree_builder.specs.Calls.{CalleeNode, callee, is_target}
+use Rattle.operand_rules.specs.Operands.{is_outside_name, suffix}
+use Rattle.rule_base.specs.Reading.{Names, Tokens, Inside}
+use Rattle.grammar_reads.specs.Rules.{is_blockless, is_alone, takes_target}
+use Rattle.grammar_reads.proofs.Results.{differs, not_true}
+use Rattle.grammar_reads.proofs.Facts.{is_head, Settled}
+
+pub none_there : {A : Type 0} (o : Option A) → not (is_some o) ≡ true → o ≡ None
+none_there None h = refl
+none_there (Some x) h = differs (sym h)
+
+module _ (place : Place) (owner : DoOwner) (ts : Tokens) (h : is_alone place owner ts ≡ true) where
+  alone_parts : (opens_arguments ts ≡ false) × (block_at owner ts ≡ None) × ((allows_command place && begins_argument ts) ≡ false)
+  alone_parts =
+      let p = and_parts (not (opens_arguments ts)) (is_blockless owner ts && not (allows_command place && begins_argument ts)) h in
+      let q = and_parts (is_blockless owner ts) (not (allows_command place && begins_argument ts)) p.1 in
+      (not_true (opens_arguments ts) p.0, none_there (block_at owner ts) q.0, not_true (allows_command place && begins_argument ts) q.1)
+
+  -- a callee alone
+  pub alone_read : (i : Inside) (c : CalleeNode) (names : Names) → suffix i c names ts owner ≡ Ok (callee c, names, ts)
+  unfolding suffix
+  alone_read i c names = rw (alone_parts.0, alone_parts.1) refl
+
+  pub alone_settled : (c : CalleeNode) → (is_target (callee c) && takes_target place (first ts)) ≡ false → Settled (callee c) place ts
+  alone_settled c free = (alone_parts.2, free)
+
+pub name_head : (w : Word) → is_name_word w ≡ true → is_head w ≡ true
+name_head words.Identifier h = refl
+name_head words.Constant h = refl
+name_head words.MethodName h = refl
+name_head w h = differs (sym h)
+
+pub name_plain : (w : Word) → is_name_word w ≡ true → (is_open_parenthesis w ≡ false) × (is_outside_name w ≡ false)
+name_plain words.Identifier h = (refl, refl)
+name_plain words.Constant h = (refl, refl)
+name_plain words.MethodName h = (refl, refl)
+name_plain w h = differs (sym h)
+
+pub opened_word : (ts : Tokens) → opens_arguments ts ≡ true → first ts ≡ words.Mark marks.OpenParenthesis
+unfolding opens_arguments
+opened_word ts h = by_word (first ts) (and_parts (is_open_parenthesis (first ts)) _ h).0
+  where
+    by_word : (w : Word) → is_open_parenthesis w ≡ true → w ≡ words.Mark marks.OpenParenthesis
+    by_word (words.Mark marks.OpenParenthesis) g = refl
+    by_word w g = differs (sym g)
+
+-- a name before arguments in parentheses is called
+pub name_primary : (names : Names) (ts : Tokens) (w : Word) → first ts ≡ w → is_name_word w ≡ true → opens_arguments (behind ts) ≡ true → primary_at names ts ≡ primaries.Name
+unfolding primary_at
+name_primary names ts words.Identifier there h opened = elim (cases_Bool (is_known (bytes_at ts) names)) [ inl known ↦ rw (there, known, opened) refl | inr other ↦ rw (there, other) refl ]
+name_primary names ts words.Constant there h opened = rw (there, opened) refl
+name_primary names ts words.MethodName there h opened = rw there refl
+name_primary names ts w there h opened = differs (sym h)

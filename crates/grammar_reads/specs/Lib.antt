@@ -1,0 +1,6 @@
+pub mod Rules
+pub mod Derives
+pub mod Expressions
+pub mod Example
+pub mod ListExample
+pub mod CommandExample
