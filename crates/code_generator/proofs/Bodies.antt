@@ -1,16 +1,16 @@
 -- The code of a form is a program of one body, within the bounds of a file.
-use Rattle.std.proofs.Common.{◌≡◌, ℕ, ◌+◌, ◌<◌, ◌≤◌, ◌^◌, List, [], ◌∷◌, ◌∙◌, refl, length, arith, Bool, true, false, if◌then◌else◌, inr}
+use Rattle.std.proofs.Common.{◌≡◌, ◌+◌, ◌<◌, ◌^◌, [], ◌∷◌, refl, length, arith, Bool, true, false, if◌then◌else◌, inr}
 use Rattle.std.specs.Prelude.{codes}
 use Rattle.std.specs.List.{All}
 use Rattle.std.proofs.lemmas.List.Elements.{All-cons, All-nil}
 use Rattle.rb_syntax.specs.Form.{Form}
 use Rattle.rb_syntax.specs.Names.{names_of}
 use Rattle.rb_syntax.specs.Limits.{IsWithin}
-use Rattle.rite_code.specs.Code.{AreDistinct, IsText, IsItem, IsBody, IsForest, none, node, IsWhole}
+use Rattle.rite_code.specs.Code.{AreDistinct, IsText, IsItem, IsBody, none, node, IsWhole}
 use Rattle.rite_code.specs.declared.operation.Operation.TheVariants.{Stop}
-use Rattle.code_generator.specs.Gen.{gen, len, first_free, width, symbols_of, calls_puts, operations_of, full_body, full_code}
-use Rattle.code_generator.proofs.Bounds.{within_registers, within_code}
-use Rattle.code_generator.proofs.Pieces.{total, total_append, gen_len}
+use Rattle.code_generator.specs.Gen.{gen, len, first_free, calls_puts, operations_of, full_body, full_code}
+use Rattle.code_generator.proofs.Bounds.{within_code}
+use Rattle.code_generator.proofs.Pieces.{total_append, gen_len}
 use Rattle.code_generator.proofs.Compiled.{bytes_of, length_bytes}
 
 pub length_code : (f : Form) → length (bytes_of (operations_of f)) ≡ len f + 1

@@ -1,6 +1,6 @@
 -- Each instruction of a form passes the checks of the verifier.
-use Rattle.std.proofs.Common.{◌≡◌, ℕ, ◌+◌, ◌<◌, ◌≤◌, ℤ, pos, negsuc, List, [], ◌∷◌, ◌++◌, refl, sym, ◌∙◌, ap, subst, arith, Bool, true, false, length, Some, None, ◌||◌, ◌&&◌, nat_eq, nat_lt, nat_le, cond, max, get_or}
-use Rattle.std.specs.Prelude.{◌+ℤ◌, ◌-ℤ◌, codes}
+use Rattle.std.proofs.Common.{◌≡◌, ℕ, ◌+◌, ◌<◌, ◌≤◌, ℤ, pos, negsuc, List, [], ◌∷◌, ◌++◌, refl, sym, ◌∙◌, ap, subst, arith, Bool, true, false, None, ◌||◌, ◌&&◌, nat_lt, nat_le, cond, max, get_or}
+use Rattle.std.specs.Prelude.{◌+ℤ◌, codes}
 use Rattle.std.specs.List.{list_all}
 use Rattle.std.proofs.Math.Nat.{max-le}
 use Rattle.std.proofs.lemmas.Bool.{le-leb, lt-ltb}
@@ -10,7 +10,7 @@ use Rattle.rb_syntax.specs.Limits.{arity, count}
 use Rattle.rb_syntax.specs.declared.operator.Operator.TheVariants.{Plus, Minus, Times, Equal, Less, LessEqual, Greater, GreaterEqual}
 use Rattle.rite_code.specs.Code.{Program}
 use Rattle.rite_code.specs.declared.operation.Operation.{Operation}
-use Rattle.rite_code.specs.declared.operation.Operation.TheVariants.{Move, LoadI, LoadI16, LoadI32, LoadNil, Jmp, JmpNot, SSend}
+use Rattle.rite_code.specs.declared.operation.Operation.TheVariants.{Move, LoadI, LoadI16, LoadI32, LoadNil, Jmp, JmpNot}
 use Rattle.rite_code.specs.Shape.{size_of}
 use Rattle.def_machine.specs.State.{body_at}
 use Rattle.code_outline.specs.Layout.{Standing, is_start}
@@ -19,7 +19,7 @@ use Rattle.code_verifier.specs.Needs.{registers_of, symbols_of, entry_of, distan
 use Rattle.code_verifier.specs.Checks.{jump_holds, leads_to_start, place_holds}
 use Rattle.code_generator.specs.Gen.{distance, load_number, action_of, action_size, before_operands, is_puts, register_of, len, len_all, len_rest, gen, gen_operands, gen_all, gen_rest, width, operands_width, all_width}
 use Rattle.code_generator.proofs.cases.Strict.{size_is}
-use Rattle.code_generator.proofs.Pieces.{total, total_append, gen_len}
+use Rattle.code_generator.proofs.Pieces.{total, gen_len}
 use Rattle.code_generator.proofs.Generated.{Fine, AllFine}
 
 -- What an instruction needs in a main program of so many registers, symbols and bytes, whose instructions start

@@ -22,3 +22,7 @@ pub mod Layouts
 pub mod Verified
 pub mod Nothing
 pub mod Programs
+pub mod Budgets
+pub mod Scopes
+pub mod Within
+pub mod Absent

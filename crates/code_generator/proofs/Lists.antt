@@ -1,10 +1,10 @@
 -- Forms in front of others.
-use Rattle.std.proofs.Common.{◌≡◌, List, [], ◌∷◌, ◌++◌, Option, Some, None, map, refl, sym, ap, ◌∙◌}
+use Rattle.std.proofs.Common.{◌≡◌, ◌≤◌, ◌<◌, List, [], ◌∷◌, ◌++◌, Option, Some, None, length, map, refl, sym, ap, ◌∙◌, arith}
+use Rattle.rb_core.specs.CoreForm.{CoreForm, forms as cores}
 use Rattle.rb_syntax.specs.Form.{Form, Forms, none, more, forms}
-use Rattle.rb_syntax.specs.View.{◌>>=◌, form_of, all_of}
-use Rattle.rb_syntax.specs.declared.core_form.Core.{Core}
+use Rattle.code_generator.specs.Built.{◌>>=◌, form_of, all_of}
 use Rattle.code_generator.specs.declared.tree.Tree.{Tree}
-use Rattle.code_generator.specs.Emission.{form, all_forms, before, before_all}
+use Rattle.code_generator.specs.Emission.{form, all_forms, only_form, before, before_all}
 
 before_push : (gs : List Form) (f : Form) (fs : Forms) → before gs (more f fs) ≡ before (gs ++ f ∷ []) fs
 before_push [] f fs = refl
@@ -22,13 +22,39 @@ map_push : (ts : List Tree) (t : Tree) → map form (ts ++ t ∷ []) ≡ map for
 map_push [] t = refl
 map_push (s ∷ ts) t = ap (λ l. form s ∷ l) (map_push ts t)
 
--- one more tree
-pub trees_step : (whole : Option Forms) (ts us : List Tree) (t : Tree) (core : Core) (cores rest : List Core) → whole ≡ before_all (map form ts) (all_of (map form_of cores)) → cores ≡ core ∷ rest → form_of core ≡ Some (form t) → us ≡ ts ++ t ∷ [] → whole ≡ before_all (map form us) (all_of (map form_of rest))
-trees_step whole ts us t core cores rest w e h p =
-    w ∙ ap (λ cs. before_all (map form ts) (all_of (map form_of cs))) e
-    ∙ ap (λ o. before_all (map form ts) (o >>= (λ y. all_of (map form_of rest) >>= (λ ys. Some (more y ys))))) h
-    ∙ before_all_push (map form ts) (form t) (all_of (map form_of rest))
-    ∙ ap (λ gs. before_all gs (all_of (map form_of rest))) (sym (map_push ts t) ∙ ap (map form) (sym p))
+-- one more tree, of any list whose members have forms
+pub trees_step : {A : Type 0} (v : A → CoreForm) (whole : Option Forms) (ts us : List Tree) (t : Tree) (a : A) (all rest : List A)
+    → whole ≡ before_all (map form ts) (all_of (cores (map v all))) → all ≡ a ∷ rest → form_of (v a) ≡ Some (form t) → us ≡ ts ++ t ∷ []
+    → whole ≡ before_all (map form us) (all_of (cores (map v rest)))
+trees_step v whole ts us t a all rest w e h p =
+    w ∙ ap (λ cs. before_all (map form ts) (all_of (cores (map v cs)))) e
+    ∙ ap (λ o. before_all (map form ts) (o >>= (λ y. all_of (cores (map v rest)) >>= (λ ys. Some (more y ys))))) h
+    ∙ before_all_push (map form ts) (form t) (all_of (cores (map v rest)))
+    ∙ ap (λ gs. before_all gs (all_of (cores (map v rest)))) (sym (map_push ts t) ∙ ap (map form) (sym p))
 
-pub trees_end : (whole : Option Forms) (ts : List Tree) (rest : List Core) → whole ≡ before_all (map form ts) (all_of (map form_of rest)) → rest ≡ [] → whole ≡ Some (all_forms ts)
-trees_end whole ts rest w e = w ∙ ap (λ cs. before_all (map form ts) (all_of (map form_of cs))) e ∙ ap Some (before_none (map form ts))
+-- a list with a member that has no form
+pub trees_stop : {A : Type 0} (v : A → CoreForm) (whole : Option Forms) (ts : List Tree) (a : A) (all rest : List A)
+    → whole ≡ before_all (map form ts) (all_of (cores (map v all))) → all ≡ a ∷ rest → form_of (v a) ≡ None → whole ≡ None
+trees_stop v whole ts a all rest w e h =
+    w ∙ ap (λ cs. before_all (map form ts) (all_of (cores (map v cs)))) e
+    ∙ ap (λ o. before_all (map form ts) (o >>= (λ y. all_of (cores (map v rest)) >>= (λ ys. Some (more y ys))))) h
+
+pub trees_end : {A : Type 0} (v : A → CoreForm) (whole : Option Forms) (ts : List Tree) (rest : List A)
+    → whole ≡ before_all (map form ts) (all_of (cores (map v rest))) → rest ≡ [] → whole ≡ Some (all_forms ts)
+trees_end v whole ts rest w e = w ∙ ap (λ cs. before_all (map form ts) (all_of (cores (map v cs)))) e ∙ ap Some (before_none (map form ts))
+
+pub only_none : (ts : List Tree) → length ts ≡ 0 → only_form (all_forms ts) ≡ None
+only_none [] h = refl
+only_none (t ∷ ts) h = absurd (omega (arith, h))
+
+pub only_many : (ts : List Tree) → 1 < length ts → only_form (all_forms ts) ≡ None
+only_many [] h = absurd (omega (arith, h))
+only_many (t ∷ []) h = absurd (omega (arith, h))
+only_many (t ∷ (u ∷ ts)) h = refl
+
+pub only_last : (ts : List Tree) (t : Tree) → length (ts ++ t ∷ []) ≤ 1 → only_form (all_forms (ts ++ t ∷ [])) ≡ Some (form t)
+only_last [] t h = refl
+only_last (s ∷ []) t h = absurd (omega (arith, h))
+only_last (s ∷ (u ∷ ts)) t h = absurd (omega (arith, h))
+
+pub ruleset only_laws = (only_none, only_many, only_last)

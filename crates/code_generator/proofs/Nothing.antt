@@ -1,12 +1,12 @@
 -- A program without a line.
-use Rattle.std.proofs.Common.{◌≡◌, ℕ, zero, suc, ◌+◌, ◌*◌, ◌<◌, ◌≤◌, List, [], ◌∷◌, refl, sym, ◌∙◌, ap, arith, Bool, true, false, length, Option, Some, None, inr}
+use Rattle.std.proofs.Common.{◌≡◌, ℕ, zero, suc, ◌+◌, ◌*◌, ◌≤◌, List, [], refl, sym, ◌∙◌, ap, arith, true, false, inr}
 use Rattle.std.proofs.lemmas.List.Elements.{All-cons, All-nil}
 use Rattle.rb_syntax.specs.Form.{Form, seq, none}
-use Rattle.rite_code.specs.Code.{Program, IsText, IsItem, IsBody, none as no_tree, node, IsWhole}
+use Rattle.rite_code.specs.Code.{IsText, IsItem, IsBody, none as no_tree, node, IsWhole}
 use Rattle.rite_code.specs.Spelling.{encoding, decode_at, decode_wide_at, front, narrow_front}
 use Rattle.rite_code.specs.Table.{opcode_of, opcodes}
 use Rattle.def_eval.specs.Steps.{times, Follows}
-use Rattle.def_eval.specs.Seen.{Seen, Ended, Over, over}
+use Rattle.def_eval.specs.Seen.{Ended, over}
 use Rattle.def_eval.specs.Configuration.{Config, Halt, opening, seen}
 use Rattle.def_eval.specs.Transition.{go}
 use Rattle.def_machine.specs.State.{State, Off, start, shown}

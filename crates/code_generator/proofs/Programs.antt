@@ -1,5 +1,5 @@
 -- What holds of the code of each form within the limits.
-use Rattle.std.proofs.Common.{◌≡◌, Bool, true, false, cond, refl, subst, sym}
+use Rattle.std.proofs.Common.{Bool, true, false, cond}
 use Rattle.rb_syntax.specs.Form.{Form, strict, local, set_local, seq, cond as cond_form, while_form, none, more}
 use Rattle.rb_syntax.specs.Limits.{IsWithin}
 use Rattle.rite_code.specs.Code.{Program, IsWhole}

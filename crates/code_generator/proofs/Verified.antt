@@ -1,7 +1,6 @@
 -- No check of the verifier fails in the code of a form.
-use Rattle.std.proofs.Common.{◌≡◌, ℕ, suc, ◌+◌, ◌<◌, ◌≤◌, List, [], ◌∷◌, ◌++◌, refl, sym, ◌∙◌, ap, subst, arith, Bool, true, false, length, map, drop, Option, Some, None, ◌||◌, nat_eq, nat_lt, cond, get_or, append_assoc}
+use Rattle.std.proofs.Common.{◌≡◌, ℕ, ◌+◌, ◌<◌, List, [], ◌∷◌, ◌++◌, refl, sym, ◌∙◌, ap, subst, arith, Bool, true, false, length, Option, None, ◌||◌, nat_eq, nat_lt, get_or, append_assoc}
 use Rattle.std.specs.Prelude.{codes}
-use Rattle.std.proofs.lemmas.List.{append-nil}
 use Rattle.std.proofs.lemmas.Bool.{eq-eqb, eqb-true, le-leb, lt-ltb}
 use Rattle.rb_syntax.specs.Form.{Form}
 use Rattle.rb_syntax.specs.Names.{names_of}
@@ -12,15 +11,12 @@ use Rattle.rite_code.specs.declared.operation.Operation.{Operation}
 use Rattle.rite_code.specs.declared.operation.Operation.TheVariants.{Stop}
 use Rattle.rite_code.specs.Instruction.{narrow}
 use Rattle.rite_code.specs.Shape.{size_of}
-use Rattle.def_machine.specs.State.{body_at}
 use Rattle.code_outline.specs.Layout.{Standing, layout, end_of, is_start}
-use Rattle.code_outline.specs.Makers.{Made, made_by, made_in, made_from, first_maker, maker_of, child_made}
-use Rattle.code_verifier.specs.Checks.{Bad, first, cause_of, bad, instructions_bad, end_bad, catches_bad, read_whole, body_bad, bodies_bad, first_bad}
+use Rattle.code_outline.specs.Makers.{Made, made_in, made_from, first_maker, maker_of, child_made}
+use Rattle.code_verifier.specs.Checks.{Bad, first, cause_of, bad, instructions_bad, end_bad, read_whole, body_bad, bodies_bad, first_bad}
 use Rattle.code_verifier.specs.Verified.{IsVerified}
-use Rattle.code_generator.specs.Gen.{len, gen, width, symbols_of, operations_of, full_body, full_code, first_free}
-use Rattle.code_generator.proofs.Bounds.{within_registers}
-use Rattle.code_generator.proofs.Pieces.{HasAt, total, gen_len}
-use Rattle.code_generator.proofs.Generated.{Fine}
+use Rattle.code_generator.specs.Gen.{len, gen, operations_of, full_body, full_code, first_free}
+use Rattle.code_generator.proofs.Pieces.{total, gen_len}
 use Rattle.code_generator.proofs.Compiled.{bytes_of, length_bytes, fine_code, has_code}
 use Rattle.code_generator.proofs.Layouts.{placed_from, layout_is, end_is}
 use Rattle.code_generator.proofs.Bodies.{length_code}

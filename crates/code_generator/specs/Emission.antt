@@ -1,10 +1,14 @@
 -- What the generator's own types mean.
-use Rattle.std.specs.Prelude.{List, [], ◌∷◌, map, Option, Some, None, bytes_eq, codes, if◌then◌else◌, IsTrue}
+use Rattle.std.specs.Prelude.{List, [], ◌∷◌, map, Option, Some, None, true, false, IsTrue, Vec}
+use Rattle.std.specs.declared.alloc.Global.{Global}
 use Rattle.rb_syntax.specs.Form.{Name, Action, Form, Forms, none, more, forms, one, two, give_nil, give_true, give_int, call_operator, call_puts, strict, local, set_local, seq, cond, while_form}
 use Rattle.rb_syntax.specs.Limits.{is_number}
-use Rattle.rb_syntax.specs.View.{form_of, operator_named, ◌>>=◌}
-use Rattle.rb_syntax.specs.declared.core_form.Core.{Core}
-use Rattle.rb_syntax.specs.declared.core_form.Branch.{Branch}
+use Rattle.rb_core.specs.CoreForm as core
+use Rattle.rb_core.specs.CoreForm.{CoreForm, CoreForms}
+use Rattle.rb_core.specs.declared.term.Receiver.{Receiver}
+use Rattle.rb_core.specs.declared.term.Receiver.TheVariants.{To, Absent, Bare}
+use Rattle.core_parts.specs.Parts.{Boxed}
+use Rattle.code_generator.specs.Built.{◌>>=◌, form_of, all_of, call_of}
 use Rattle.code_generator.specs.declared.tree.Tree.{Tree, fold-Tree}
 use Rattle.code_generator.specs.declared.tree.Tree.TheOpen.{Tree-F}
 
@@ -32,6 +36,16 @@ abbrev pub form_in : Option Tree → Option Form
 form_in None = None
 form_in (Some t) = Some (form t)
 
+abbrev pub forms_in : Option (Vec Tree Global) → Option Forms
+forms_in None = None
+forms_in (Some ts) = Some (all_forms ts.items)
+
+-- the only one of some forms
+abbrev pub only_form : Forms → Option Form
+only_form none = None
+only_form (more f none) = Some f
+only_form (more f (more g gs)) = None
+
 -- forms in front of others
 abbrev pub before : List Form → Forms → Forms
 before [] xs = xs
@@ -41,13 +55,14 @@ abbrev pub before_all : List Form → Option Forms → Option Forms
 before_all fs None = None
 before_all fs (Some xs) = Some (before fs xs)
 
+-- the form of a call, by what it is sent to
+abbrev pub called : {T : Type 0} → (T → CoreForm) → Receiver (Boxed T) → Name → CoreForms → CoreForms → Option Form
+called v (To a) x is core.none = call_of false (form_of (v a.value)) x (all_of is)
+called v Absent x is core.none = call_of true None x (all_of is)
+called v Bare x is core.none = None
+called v r x is (core.more b bs) = None
+
 -- forms from the forms of their parts
-abbrev pub operation_form : Option Form → Name → Option Form → Option Form
-operation_form a name b = a >>= (λ x. b >>= (λ y. operator_named name >>= (λ o. Some (strict (call_operator o) (two x y)))))
-
-abbrev pub puts_form : Name → Option Form → Option Form
-puts_form name e = e >>= (λ y. if bytes_eq name (codes "puts") then Some (strict call_puts (one y)) else None)
-
 abbrev pub set_form : Name → Option Form → Option Form
 set_form x e = e >>= (λ v. Some (set_local x v))
 
@@ -56,10 +71,6 @@ cond_form test body other = test >>= (λ t. body >>= (λ e. other >>= (λ o. Som
 
 abbrev pub loop_form : Option Form → Option Form → Option Form
 loop_form t b = t >>= (λ test. b >>= (λ body. Some (while_form test body)))
-
--- a branch with the forms of its parts
-abbrev pub branch_forms : Branch Core → Branch (Option Form)
-branch_forms b = record { test = form_of b.test; body = form_of b.body }
 
 -- the numbers of a form have 32 bits
 abbrev pub IsNumbered : Action → Type 0

@@ -3,3 +3,4 @@ pub mod Gen
 pub mod Implements
 pub mod Witness
 pub mod Narrow
+pub mod Built

@@ -1,7 +1,8 @@
 //! The nodes of a tree, from parts that may be none.
-ghost use Rattle.std.specs.Prelude.{◌≡◌, IfOk};
-ghost use Rattle.rb_syntax.specs.View.{operator_named};
-ghost use Rattle.code_generator.specs.Emission.{form_in, operation_form, puts_form, set_form, cond_form, loop_form};
+ghost use Rattle.std.specs.Prelude.{◌≡◌, true, false, None, IfOk};
+ghost use Rattle.rb_syntax.specs.Operator.{operator_named};
+ghost use Rattle.code_generator.specs.Built.{call_of, lines_of, operation_of, puts_of};
+ghost use Rattle.code_generator.specs.Emission.{all_forms, cond_form, form, form_in, forms_in, loop_form, only_form, set_form};
 
 use crate::tree::Tree;
 use rb_base::Bytes;
@@ -9,7 +10,7 @@ use rb_syntax::Operator;
 use std::alloc::{AllocError, Global};
 
 /// The operator of a name, if it is one.
-#[tactic(auto, unfolding(rb_syntax::specs::View::operator_named))]
+#[tactic(auto, unfolding(rb_syntax::specs::Operator::operator_named))]
 fn operator_of(name: &[u8]) -> Option<Operator>
     ensures { result ≡ operator_named name.now }
 {
@@ -34,17 +35,29 @@ fn operator_of(name: &[u8]) -> Option<Operator>
     }
 }
 
-/// The call of an operator by its name.
-pub fn operate(
-    alloc: Global,
-    a: Option<Tree>,
-    name: &[u8],
-    b: Option<Tree>,
-) -> Result<Option<Tree>, AllocError>
-    ensures { IfOk result (λ tree. form_in tree ≡ operation_form (form_in a) name.now (form_in b)) }
+/// The only tree of some, if there is one.
+#[tactic(auto, using(crate::proofs::Lists::only_laws))]
+fn only(trees: Vec<Tree>) -> Option<Tree>
+    ensures { form_in result ≡ only_form (all_forms trees.items) }
 {
-    match (a, b, operator_of(name)) {
-        (Some(a), Some(b), Some(operator)) => {
+    let mut trees = trees;
+    if trees.len() > 1 {
+        return None;
+    }
+    trees.pop()
+}
+
+/// The call of an operator by its name, with one item.
+fn operation(
+    alloc: Global,
+    a: Tree,
+    name: &[u8],
+    items: Vec<Tree>,
+) -> Result<Option<Tree>, AllocError>
+    ensures { IfOk result (λ tree. form_in tree ≡ operation_of (form a) name.now (all_forms items.items)) }
+{
+    match (only(items), operator_of(name)) {
+        (Some(b), Some(operator)) => {
             let a = Box::new(alloc, a)?;
             let b = Box::new(alloc, b)?;
             Ok(Some(Tree::Operate(operator, a, b)))
@@ -53,13 +66,52 @@ pub fn operate(
     }
 }
 
-/// The call of puts on self.
-pub fn puts(alloc: Global, name: &[u8], e: Option<Tree>) -> Result<Option<Tree>, AllocError>
-    ensures { IfOk result (λ tree. form_in tree ≡ puts_form name.now (form_in e)) }
+/// The call of an operator by its name.
+pub fn operate(
+    alloc: Global,
+    a: Option<Tree>,
+    name: &[u8],
+    items: Option<Vec<Tree>>,
+) -> Result<Option<Tree>, AllocError>
+    ensures { IfOk result (λ tree. form_in tree ≡ call_of false (form_in a) name.now (forms_in items)) }
 {
-    match e {
+    match (a, items) {
+        (Some(a), Some(items)) => operation(alloc, a, name, items),
+        _ => Ok(None),
+    }
+}
+
+/// The call of puts on self, with one item.
+fn line(alloc: Global, name: &[u8], items: Vec<Tree>) -> Result<Option<Tree>, AllocError>
+    ensures { IfOk result (λ tree. form_in tree ≡ puts_of name.now (all_forms items.items)) }
+{
+    match only(items) {
         Some(e) if name == b"puts".as_slice() => Ok(Some(Tree::Puts(Box::new(alloc, e)?))),
         _ => Ok(None),
+    }
+}
+
+/// The call of puts on self.
+pub fn puts(
+    alloc: Global,
+    name: &[u8],
+    items: Option<Vec<Tree>>,
+) -> Result<Option<Tree>, AllocError>
+    ensures { IfOk result (λ tree. form_in tree ≡ call_of true None name.now (forms_in items)) }
+{
+    match items {
+        Some(items) => line(alloc, name, items),
+        None => Ok(None),
+    }
+}
+
+/// Lines in order.
+pub fn seq(lines: Option<Vec<Tree>>) -> Option<Tree>
+    ensures { form_in result ≡ lines_of (forms_in lines) }
+{
+    match lines {
+        Some(lines) => Some(Tree::Seq(lines)),
+        None => None,
     }
 }
 

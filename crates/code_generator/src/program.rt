@@ -1,20 +1,22 @@
 //! The code of a main program.
-ghost use Rattle.std.specs.Prelude.{◌≡◌, [], ◌∷◌, IfOk, MatchOption};
+ghost use Rattle.std.specs.Prelude.{◌≡◌, [], ◌∷◌, IfOk};
 ghost use Rattle.rite_code.specs.Code.{IsWhole};
 ghost use Rattle.rb_syntax.specs.Limits.{IsWithin};
-ghost use Rattle.rb_syntax.specs.View.{form_of};
+ghost use Rattle.rb_core.specs.View.{core_view};
+ghost use Rattle.code_generator.specs.Built as built;
 ghost use Rattle.code_generator.specs.Gen.{any_calls_puts, code_of, symbols_of};
 ghost use Rattle.code_generator.specs.Gen as gen;
 ghost use Rattle.code_generator.specs.Emission.{form, all_forms};
 
 use crate::assembly::Assembly;
 use crate::emit::emit;
-use crate::from_core::tree_of;
+use crate::formed::Formed;
+use crate::limits::is_within;
 use crate::measure::width_of;
 use crate::names::collect;
 use crate::tree::Tree;
 use rb_base::{Bytes, List};
-use rb_syntax::Core;
+use rb_core::Core;
 use rite_code::{Code, Irep, Operation};
 use std::alloc::{AllocError, Global};
 
@@ -131,13 +133,33 @@ fn main_program(alloc: Global, tree: &Tree) -> Result<Code, AllocError>
     }
 }
 
-/// The code of a core form that stands for a form within the limits. The error is that memory ran out.
-pub fn generate(alloc: Global, core: &Core) -> Result<Code, AllocError>
-    requires { MatchOption (form_of core.now) ⊥ IsWithin }
-    ensures { IfOk result (λ code. MatchOption (form_of core.now) ⊥ (λ form. code ≡ code_of form)) }
+/// A program that is nil has no lines.
+fn of_program(alloc: Global, tree: Tree) -> Tree
+    ensures { form result ≡ built.of_program (form tree) }
 {
-    match tree_of(alloc, core)? {
-        Some(tree) => main_program(alloc, &tree),
-        None => unreachable!(),
+    match tree {
+        Tree::Nil => Tree::Seq(Vec::new(alloc)),
+        other => other,
+    }
+}
+
+/// The code of a form within the limits, or none.
+#[tactic(auto, using(crate::proofs::Within::is_within_means))]
+fn code_within(alloc: Global, tree: &Tree) -> Result<Option<Code>, AllocError>
+    ensures { IfOk result (λ code. code ≡ built.code_within (form tree.now)) }
+{
+    if !is_within(alloc, tree)? {
+        return Ok(None);
+    }
+    Ok(Some(main_program(alloc, tree)?))
+}
+
+/// The code of a core that the generator builds, or none where it doesn't. The error is that memory ran out.
+pub fn generate(alloc: Global, core: &Core) -> Result<Option<Code>, AllocError>
+    ensures { IfOk result (λ code. code ≡ built.code_built (core_view core.now)) }
+{
+    match core.tree(alloc)? {
+        Some(tree) => code_within(alloc, &of_program(alloc, tree)),
+        None => Ok(None),
     }
 }

@@ -58,6 +58,7 @@ after_outside c outsides.GlobalAlias = contexts.Operand
 after_outside c outsides.FlipFlop = contexts.Operand
 after_outside c outsides.SplatClause = contexts.Operand
 after_outside c outsides.PatternMatch = contexts.Operand
+after_outside c outsides.Unbuilt = contexts.Operand
 
 -- what a token says of the next one
 unfoldable pub after : Context → TokenKind → Context

@@ -76,6 +76,7 @@ IsOutside text p outsides.GlobalAlias end = ⊥
 IsOutside text p outsides.FlipFlop end = ⊥
 IsOutside text p outsides.SplatClause end = ⊥
 IsOutside text p outsides.PatternMatch end = ⊥
+IsOutside text p outsides.Unbuilt end = ⊥
 
 -- A token of a kind stands from a place to its end. The openings, insides and ends of literals are told by what is
 -- open: `ReadsFrom` reads them.

@@ -55,12 +55,12 @@ Wrote before after seen = (after.out ≡ with_more before.out (output_of seen)) 
 abbrev pub WroteFront : Told → Told → Seen → Type 0
 WroteFront before after seen = (k : ℕ) × (after.out ≡ with_more before.out (take k (output_of seen)))
 
--- why a text is refused: for a cause of the compiler, which no construct is yet
+-- why a text is refused: for a cause of the compiler
 abbrev pub RefusesText : List ℕ → Refusal → Type 0
 RefusesText text (refusals.Syntax at) = Refuses text (compile_errors.Syntax at)
 RefusesText text refusals.TooDeep = Refuses text compile_errors.TooDeep
 RefusesText text (refusals.TooLarge what count) = Refuses text (compile_errors.TooLarge what count)
-RefusesText text (refusals.Outside what at) = ⊥
+RefusesText text (refusals.Outside what at) = Refuses text (compile_errors.Outside what at)
 RefusesText text refusals.NotRite = ⊥
 RefusesText text (refusals.Foreign name) = ⊥
 RefusesText text (refusals.Truncated at) = ⊥

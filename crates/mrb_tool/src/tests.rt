@@ -87,6 +87,13 @@ fn runs_sources(rt: HostRuntime) -> Result<(), Fail> {
         ("puts 1 # one", "1\n"),
         ("a = 010\nputs a", "8\n"),
         ("a = 1 +\n2\nputs a # three", "3\n"),
+        ("a = 1 +\n2\nputs a\na\n-1", "3\n"),
+        ("puts -1", "-1\n"),
+        ("puts(1)", "1\n"),
+        ("puts 1 if 2 > 1", "1\n"),
+        ("a = true; puts a", "true\n"),
+        ("puts(a = 3); 4", "3\n"),
+        ("nil", ""),
         ("puts 1_000", "1000\n"),
         ("", ""),
         (";;\n ; \n", ""),
@@ -150,37 +157,73 @@ fn stops_after_its_turns(rt: HostRuntime) -> Result<(), Fail> {
     Ok(())
 }
 
-#[test]
-fn refuses_texts(rt: HostRuntime) -> Result<(), Fail> {
-    let texts = [
-        "puts (1",
-        "puts b",
-        "puts1",
-        "puts(1)",
-        "puts 1x",
-        "a = 09",
-        "a = 2147483648",
-        "if 1 < 2; end puts 1",
-        "if = 3",
-        "a = true",
-        "puts -1",
-        "if true; b = 1; end; puts b",
-        "while true; puts 1",
-        "puts 1 +",
-        "puts \"one\"",
-    ];
-    for text in texts {
-        let left = exec(rt.alloc(), text.as_bytes(), None)?;
+/// Each text is refused with a line that begins so, and no file is made.
+fn all_refused(rt: &impl Abort, alloc: Global, rows: &[(&str, &str)]) -> Result<(), Fail> {
+    for (text, line) in rows {
+        let left = exec(alloc, text.as_bytes(), None)?;
         assert!(rt; matches!(left.end, End::Refused(_)), "{text}");
         assert_eq!(rt; left.end.status(), 121, "{text}");
-        assert!(rt;
-            left.err.bytes().starts_with(b"refused: Syntax at "),
-            "{text}"
-        );
+        assert!(rt; left.err.bytes().starts_with(line.as_bytes()), "{text}");
         assert_eq!(rt; left.out.bytes().len(), 0, "{text}");
         assert!(rt; left.files.get("one.mrb").is_none(), "{text}");
     }
     Ok(())
+}
+
+#[test]
+fn refuses_texts_that_are_no_program(rt: HostRuntime) -> Result<(), Fail> {
+    all_refused(
+        &rt,
+        rt.alloc(),
+        &[
+            ("puts (1", "refused: Syntax at 7\n"),
+            ("puts 1x", "refused: Syntax at "),
+            ("a = 09", "refused: Syntax at "),
+            ("if 1 < 2; end puts 1", "refused: Syntax at 14\n"),
+            ("if = 3", "refused: Syntax at 3\n"),
+            ("while true; puts 1", "refused: Syntax at 18\n"),
+            ("puts 1 +", "refused: Syntax at 8\n"),
+            ("break", "refused: Syntax at 0\n"),
+        ],
+    )
+}
+
+#[test]
+fn refuses_constructs_outside_the_language(rt: HostRuntime) -> Result<(), Fail> {
+    all_refused(
+        &rt,
+        rt.alloc(),
+        &[
+            ("x = 1; x&.y", "refused: Outside SafeNavigation at 8\n"),
+            (
+                "p 9223372036854775808",
+                "refused: Outside WideInteger at 2\n",
+            ),
+            ("/a/; 1.5", "refused: Outside Regexp at 0\n"),
+            ("puts 1.5; /a/", "refused: Outside Float at 5\n"),
+        ],
+    )
+}
+
+#[test]
+fn refuses_what_is_not_built(rt: HostRuntime) -> Result<(), Fail> {
+    let unbuilt = "refused: Outside Unbuilt at 0\n";
+    all_refused(
+        &rt,
+        rt.alloc(),
+        &[
+            ("puts b", unbuilt),
+            ("puts1", unbuilt),
+            ("a = 2147483648", unbuilt),
+            ("if true; b = 1; end; puts b", unbuilt),
+            ("puts \"one\"", unbuilt),
+            ("puts 1, 2", unbuilt),
+            ("puts(*1)", unbuilt),
+            ("1.foo(2)", unbuilt),
+            ("begin; puts 1; end while false", unbuilt),
+            ("def f; end", unbuilt),
+        ],
+    )
 }
 
 /// `puts` of 1 in so many parentheses.
@@ -203,11 +246,48 @@ fn refuses_deep_texts(rt: HostRuntime) -> Result<(), Fail> {
     let left = exec(alloc, &nested(alloc, 50)?, None)?;
     assert_eq!(rt; left.out.bytes(), b"1\n".as_slice());
     let left = exec(alloc, &nested(alloc, 256)?, None)?;
-    assert!(rt; left.err.bytes().starts_with(b"refused: Syntax at "));
+    assert_eq!(rt; left.out.bytes(), b"1\n".as_slice());
     let left = exec(alloc, &nested(alloc, 257)?, None)?;
     assert_eq!(rt; left.err.bytes(), b"refused: TooDeep\n".as_slice());
     assert_eq!(rt; left.end.status(), 121);
     assert!(rt; left.files.get("one.mrb").is_none());
+    Ok(())
+}
+
+/// The three lines `a = nil`, a lambda, and `a` with so many indexes.
+fn indexes(alloc: Global, levels: usize) -> Result<Vec<u8>, Fail> {
+    let mut source = Vec::new(alloc);
+    source.extend_from_slice(b"a = nil\na = lambda { |x| a }\na")?;
+    for _ in 0..levels {
+        source.extend_from_slice(b"[0]")?;
+    }
+    Ok(source)
+}
+
+/// So many names, each with the next as its argument, and 1.
+fn names(alloc: Global, count: usize) -> Result<Vec<u8>, Fail> {
+    let mut source = Vec::new(alloc);
+    source.push(b'x')?;
+    for _ in 1..count {
+        source.extend_from_slice(b" x")?;
+    }
+    source.extend_from_slice(b" 1")?;
+    Ok(source)
+}
+
+#[test]
+fn counts_indexes_and_arguments_as_levels(rt: HostRuntime) -> Result<(), Fail> {
+    let alloc = rt.alloc();
+    let unbuilt = b"refused: Outside Unbuilt at 0\n".as_slice();
+    let deep = b"refused: TooDeep\n".as_slice();
+    let left = exec(alloc, &indexes(alloc, 255)?, None)?;
+    assert_eq!(rt; left.err.bytes(), unbuilt);
+    let left = exec(alloc, &indexes(alloc, 256)?, None)?;
+    assert_eq!(rt; left.err.bytes(), deep);
+    let left = exec(alloc, &names(alloc, 257)?, None)?;
+    assert_eq!(rt; left.err.bytes(), unbuilt);
+    let left = exec(alloc, &names(alloc, 258)?, None)?;
+    assert_eq!(rt; left.err.bytes(), deep);
     Ok(())
 }
 

@@ -1,17 +1,14 @@
 -- What holds of the code of a form within the limits.
-use Rattle.std.proofs.Common.{◌≡◌, ℕ, ◌+◌, ◌^◌, ◌<◌, ◌≤◌, List, [], ◌∷◌, ◌++◌, Option, Some, None, refl, sym, ap, ◌∙◌, subst, arith, length, length-append, Bool, true, false, cond, map}
+use Rattle.std.proofs.Common.{ℕ, ◌+◌, ◌^◌, ◌<◌, List, [], ◌∷◌, Option, Some, None, sym, subst, arith, length, length-append, Bool, true, false, cond}
 use Rattle.std.specs.Prelude.{MatchOption, codes}
-use Rattle.std.specs.Int.{to_be_bytes, w16, w32}
+use Rattle.rb_compile.specs.Compiled.{IsCodeOf}
 use Rattle.rb_syntax.specs.Form.{Form}
 use Rattle.rb_syntax.specs.Limits.{IsWithin}
-use Rattle.rb_syntax.specs.Names.{names_of}
 use Rattle.rite_code.specs.Code.{Program, IsWhole}
-use Rattle.rite_code.specs.declared.code.Irep.{Irep}
-use Rattle.rite_code.specs.declared.operation.Operation.TheVariants.{Stop}
 use Rattle.rite_file.specs.File.{canonical, record_of}
 use Rattle.code_verifier.specs.Verified.{IsVerified}
 use Rattle.rite_code.specs.Spelling.{encoding}
-use Rattle.code_generator.specs.Gen.{code_of, nothing_code, gen, len, width, operations_of, first_free, symbols_of, calls_puts}
+use Rattle.code_generator.specs.Gen.{code_of, nothing_code, width, operations_of, first_free, calls_puts}
 use Rattle.code_generator.specs.Implements.{Implements}
 use Rattle.code_generator.proofs.Bounds.{within_code}
 use Rattle.code_generator.proofs.Bodies.{length_code}
@@ -41,18 +38,18 @@ short_nothing = omega arith
 pub short_code : (f : Form) → IsWithin f → length (canonical (code_of f)) < 2 ^ 32
 short_code f w = either f (λ (c : Program). length (canonical c) < 2 ^ 32) short_nothing (short_file (calls_puts f) (first_free f) (first_free f + width f) (bytes_of (operations_of f)) (code_size f w))
 
-pub implements_of : (o : Option Form) (c : Program) → MatchOption o ⊥ IsWithin → MatchOption o ⊥ (λ f. c ≡ code_of f) → MatchOption o ⊥ (Implements c)
-implements_of None c w e = w
-implements_of (Some f) c w e = subst (λ (d : Program). Implements d f) (sym e) (compiled f w)
+pub implements_of : (o : Option Form) (c : Program) → IsCodeOf c o → MatchOption o ⊥ (Implements c)
+implements_of None c h = absurd h
+implements_of (Some f) c (w, e) = subst (λ (d : Program). Implements d f) (sym e) (compiled f w)
 
-pub whole_of : (o : Option Form) (c : Program) → MatchOption o ⊥ IsWithin → MatchOption o ⊥ (λ f. c ≡ code_of f) → IsWhole c
-whole_of None c w e = absurd w
-whole_of (Some f) c w e = subst IsWhole (sym e) (code_is_whole f w)
+pub whole_of : (o : Option Form) (c : Program) → IsCodeOf c o → IsWhole c
+whole_of None c h = absurd h
+whole_of (Some f) c (w, e) = subst IsWhole (sym e) (code_is_whole f w)
 
-pub verified_of : (o : Option Form) (c : Program) → MatchOption o ⊥ IsWithin → MatchOption o ⊥ (λ f. c ≡ code_of f) → IsVerified c
-verified_of None c w e = absurd w
-verified_of (Some f) c w e = subst IsVerified (sym e) (code_verified f w)
+pub verified_of : (o : Option Form) (c : Program) → IsCodeOf c o → IsVerified c
+verified_of None c h = absurd h
+verified_of (Some f) c (w, e) = subst IsVerified (sym e) (code_verified f w)
 
-pub short_of : (o : Option Form) (c : Program) → MatchOption o ⊥ IsWithin → MatchOption o ⊥ (λ f. c ≡ code_of f) → length (canonical c) < 2 ^ 32
-short_of None c w e = absurd w
-short_of (Some f) c w e = subst (λ (d : Program). length (canonical d) < 2 ^ 32) (sym e) (short_code f w)
+pub short_of : (o : Option Form) (c : Program) → IsCodeOf c o → length (canonical c) < 2 ^ 32
+short_of None c h = absurd h
+short_of (Some f) c (w, e) = subst (λ (d : Program). length (canonical d) < 2 ^ 32) (sym e) (short_code f w)

@@ -1,26 +1,42 @@
--- When a text isn't compiled.
-use Rattle.std.specs.Prelude.{◌≡◌, ℕ, ◌≤◌, ◌<◌, List, None, length, Result, Ok, Err}
-use Rattle.rb_syntax.specs.declared.token.Token.{Token}
+-- The code of a text, and when a text isn't compiled.
+use Rattle.std.specs.Prelude.{◌≡◌, ◌⊎◌, ℕ, ◌<◌, List, length, Option, Some, None, is_some, true}
+use Rattle.rb_syntax.specs.Form.{Form}
+use Rattle.rb_syntax.specs.Limits.{IsWithin}
+use Rattle.rite_code.specs.Code.{Program}
+use Rattle.rb_syntax.specs.declared.count.Count.{Count}
 use Rattle.rb_syntax.specs.declared.count.Count.TheVariants.{Source}
-use Rattle.rb_lexer.specs.Lexing.{tokens_of}
-use Rattle.rb_depth.specs.Levels.{deep}
-use Rattle.path_front.specs.Language.{form_in}
+use Rattle.rb_syntax.specs.declared.outside.Outside.{Outside as Construct}
+use Rattle.rb_syntax.specs.declared.outside.Outside.TheVariants.{Unbuilt}
+use Rattle.rb_core.specs.CoreForm.{CoreForm}
+use Rattle.rb_front.specs.Front as front
+use Rattle.rb_front.specs.Front.{core_of}
+use Rattle.rb_front.specs.declared.error.FrontError.TheVariants as front_errors
+use Rattle.core_counts.specs.Counts.{need}
+use Rattle.core_counts.specs.Limits.{first_excess}
+use Rattle.code_generator.specs.Built.{built}
+use Rattle.code_generator.specs.Gen.{code_of}
 use Rattle.rb_compile.specs.declared.error.CompileError.{CompileError}
 use Rattle.rb_compile.specs.declared.error.CompileError.TheVariants.{TooLarge, Syntax, TooDeep, Outside, NoMemory}
 
--- there are no tokens, for a cause at that place, or they are at most 256 deep and not in the language
-abbrev pub IsNoProgram : Result (List Token) ℕ → ℕ → Type 0
-IsNoProgram (Err place) at = at ≡ place
-IsNoProgram (Ok tokens) at = (deep tokens ≤ 256) × (form_in tokens ≡ None)
+-- the code of a form within the limits of the generator
+abbrev pub IsCodeOf : Program → Option Form → Type 0
+IsCodeOf code None = ⊥
+IsCodeOf code (Some f) = IsWithin f × (code ≡ code_of f)
 
-abbrev pub IsTooDeep : Result (List Token) ℕ → Type 0
-IsTooDeep (Err place) = ⊥
-IsTooDeep (Ok tokens) = 256 < deep tokens
+-- the text has a core that the generator doesn't build
+abbrev pub IsUnbuilt : List ℕ → Construct → ℕ → Type 0
+IsUnbuilt text what at = (what ≡ Unbuilt) × (at ≡ 0) × (c : CoreForm) × (core_of text ≡ Some c) × (built c ≡ None)
 
--- each cause holds of other texts than the next, and of none that is in the language
+-- the text has a core that the generator builds, of which this is the first count that exceeds its limit
+abbrev pub IsPastLimit : List ℕ → Count → ℕ → Type 0
+IsPastLimit text what count =
+    (c : CoreForm) × (core_of text ≡ Some c) × (is_some (built c) ≡ true) × (first_excess (need c) ≡ Some (record { what = what; count = count }))
+
+-- Each cause holds of other texts than the next, and of none that is compiled: a long text, none of the language, a
+-- construct outside the language, one that isn't built, a count past its limit.
 abbrev pub Refuses : List ℕ → CompileError → Type 0
-Refuses text (TooLarge what count) = (16777216 < length text) × (what ≡ Source) × (count ≡ 16777217)
-Refuses text (Syntax at) = (length text ≤ 16777216) × IsNoProgram (tokens_of text) at × (at ≤ length text)
-Refuses text TooDeep = (length text ≤ 16777216) × IsTooDeep (tokens_of text)
-Refuses text (Outside what at) = ⊥
+Refuses text (TooLarge what count) = (16777216 < length text) × (what ≡ Source) × (count ≡ 16777217) ⊎ IsPastLimit text what count
+Refuses text (Syntax at) = front.Refuses text (front_errors.Syntax at)
+Refuses text TooDeep = front.Refuses text front_errors.TooDeep
+Refuses text (Outside what at) = front.Refuses text (front_errors.Outside what at) ⊎ IsUnbuilt text what at
 Refuses text NoMemory = Unit {0}

@@ -1,16 +1,21 @@
--- The language: which texts are in it, and the form of each.
-use Rattle.std.specs.Prelude.{ℕ, nat_le, if◌then◌else◌, List, length, Option, None, Result, Ok, Err}
-use Rattle.rb_syntax.specs.declared.token.Token.{Token}
+-- The language as it is built: which texts are in it, and the form of each.
+use Rattle.std.specs.Prelude.{ℕ, List, Option, Some, None}
 use Rattle.rb_syntax.specs.Form.{Form}
-use Rattle.rb_lexer.specs.Lexing.{tokens_of}
-use Rattle.rb_depth.specs.Levels.{deep}
-use Rattle.path_front.specs.Language.{form_in}
+use Rattle.rb_core.specs.CoreForm.{CoreForm}
+use Rattle.rb_front.specs.Front.{core_of}
+use Rattle.core_counts.specs.Counts.{need}
+use Rattle.core_counts.specs.Limits.{first_excess}
+use Rattle.core_counts.specs.declared.excess.Excess.{Excess}
+use Rattle.code_generator.specs.Built.{◌>>=◌, built}
 
--- the form of what was read, where that is tokens at most 256 deep
-abbrev pub form_read : Result (List Token) ℕ → Option Form
-form_read (Err at) = None
-form_read (Ok tokens) = if nat_le (deep tokens) 256 then form_in tokens else None
+abbrev pub unless_past : Option Excess → Form → Option Form
+unless_past None f = Some f
+unless_past (Some e) f = None
 
--- the form of the tokens of a text of at most 16777216 bytes
+-- the form of a core that the generator builds and of which no count exceeds its limit
+abbrev pub form_of_core : CoreForm → Option Form
+form_of_core c = built c >>= unless_past (first_excess (need c))
+
+-- the form of a text
 unfoldable pub program_of : List ℕ → Option Form
-program_of text = if nat_le (length text) 16777216 then form_read (tokens_of text) else None
+program_of text = core_of text >>= form_of_core

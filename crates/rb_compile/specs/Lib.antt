@@ -1,3 +1,3 @@
-pub mod Front
+pub mod Errors
 pub mod Language
 pub mod Compiled

@@ -3,55 +3,65 @@
 //! Type: [`CompileError`]. Call: [`compile`].
 #![tactic(auto)]
 
-ghost use Rattle.std.specs.Prelude.{◌≡◌, ◌<◌, ◌^◌, length, IfOk, IfErr, MatchOption};
-ghost use Rattle.rb_syntax.specs.View.{form_of};
-ghost use Rattle.rb_syntax.specs.Limits.{IsWithin};
+ghost use Rattle.std.specs.Prelude.{◌≡◌, ◌<◌, ◌^◌, Some, length, IfOk, IfErr, MatchOption};
+ghost use Rattle.rb_core.specs.View.{core_view};
+ghost use Rattle.rb_front.specs.Front.{core_of};
 ghost use Rattle.rite_file.specs.File.{canonical};
 ghost use Rattle.code_verifier.specs.Verified.{IsVerified};
 ghost use Rattle.rite_code.specs.Code.{IsWhole};
 ghost use Rattle.code_generator.specs.Implements.{Implements};
 ghost use Rattle.rb_compile.specs.Language.{program_of};
-ghost use Rattle.rb_compile.specs.Compiled.{Refuses};
+ghost use Rattle.rb_compile.specs.Compiled.{IsCodeOf, Refuses};
 
 pub mod error;
 
+use code_generator::generate;
+use core_counts::first_past_limit;
 pub use error::CompileError;
-use rb_lexer::{depth, lex};
-use rb_syntax::{Core, Count};
+use rb_core::Core;
+use rb_front::read;
+use rb_syntax::Outside;
 use rite_code::Code;
 use std::alloc::Global;
 
-/// The most bytes of a text.
-const LONGEST: usize = 16_777_216;
-
-/// The most levels of its tokens.
-const DEEPEST: u32 = 256;
-
 /// The core of the text.
-#[tactic(auto, unfolding(crate::specs::Language::program_of))]
 fn core_of(alloc: Global, text: &[u8]) -> Result<Core, CompileError>
-    ensures form { IfOk result (λ core. form_of core ≡ program_of text.now) }
-    ensures within { IfOk result (λ core. MatchOption (form_of core) ⊥ IsWithin) }
+    ensures core { IfOk result (λ c. core_of text.now ≡ Some (core_view c)) }
     ensures refused { IfErr result (Refuses text.now) }
 {
-    if text.len() > LONGEST {
-        return Err(CompileError::TooLarge {
-            what: Count::Source,
-            count: 16_777_217,
+    let core = read(alloc, text)?;
+    Ok(core)
+}
+
+/// The code of the core of the text, where the generator builds it and no count exceeds its limit.
+#[tactic(auto, using(crate::proofs::Coded::refused_unbuilt))]
+fn code_of(alloc: Global, text: &[u8], core: &Core) -> Result<Code, CompileError>
+    requires { core_of text.now ≡ Some (core_view core.now) }
+    ensures code { IfOk result (λ code. IsCodeOf code (program_of text.now)) }
+    ensures refused { IfErr result (Refuses text.now) }
+{
+    let Some(code) = generate(alloc, core)? else {
+        return Err(CompileError::Outside {
+            what: Outside::Unbuilt,
+            at: 0,
         });
+    };
+    match first_past_limit(alloc, core)? {
+        Some(excess) => Err(CompileError::TooLarge {
+            what: excess.what,
+            count: excess.count,
+        }),
+        None => Ok(code),
     }
-    let tokens = lex(alloc, text)?;
-    if depth(&tokens) > DEEPEST {
-        return Err(CompileError::TooDeep);
-    }
-    Ok(path_front::read(alloc, &tokens, text.len() as u32)?)
 }
 
 /// Code that implements the source, in which no check of the verifier fails and whose file has a size.
 ///
-/// `TooLarge` comes exactly where the text has more than 16,777,216 bytes, whatever they are. Else `Syntax` comes
-/// where it has no tokens, `TooDeep` where these are more than 256 deep, and `Syntax` where they aren't in the
-/// language, which has nothing that is refused for another cause.
+/// Each refusal comes exactly where its cause is the first in this order. `TooLarge` of the source: the text has more
+/// than 16,777,216 bytes, whatever they are. `Syntax`: it has no tokens. `TooDeep`: these are more than 256 deep.
+/// `Syntax`: they have no tree, or a word stands where it may not. `Outside`: the tree has a construct outside the
+/// language; the one with the least place is told. `Outside` with `Unbuilt` at 0: the generator doesn't build the core.
+/// `TooLarge` of a count: the first that exceeds its limit.
 pub fn compile(alloc: Global, text: &[u8]) -> Result<Code, CompileError>
     ensures implements { IfOk result (λ code. MatchOption (program_of text.now) ⊥ (Implements code)) }
     ensures whole { IfOk result IsWhole }
@@ -60,6 +70,6 @@ pub fn compile(alloc: Global, text: &[u8]) -> Result<Code, CompileError>
     ensures refused { IfErr result (Refuses text.now) }
 {
     let core = core_of(alloc, text)?;
-    let code = code_generator::generate(alloc, &core)?;
+    let code = code_of(alloc, text, &core)?;
     Ok(code)
 }

@@ -153,6 +153,7 @@ outside_effect outsides.GlobalAlias after_word = Nothing
 outside_effect outsides.FlipFlop after_word = Nothing
 outside_effect outsides.SplatClause after_word = Nothing
 outside_effect outsides.PatternMatch after_word = Nothing
+outside_effect outsides.Unbuilt after_word = Nothing
 
 unfoldable pub kind_effect : TokenKind → Bool → Bool → Effect
 kind_effect kinds.Newline value after_word = EndLine
@@ -255,6 +256,7 @@ is_wide_name outsides.GlobalAlias = false
 is_wide_name outsides.FlipFlop = false
 is_wide_name outsides.SplatClause = false
 is_wide_name outsides.PatternMatch = false
+is_wide_name outsides.Unbuilt = false
 
 -- a name directly behind a name, return, break, next, yield or super counts
 unfoldable pub is_word : TokenKind → Bool

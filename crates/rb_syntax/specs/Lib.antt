@@ -1,6 +1,5 @@
 pub mod Operator
 pub mod Form
-pub mod View
 pub mod Names
 pub mod Limits
 pub mod Outside

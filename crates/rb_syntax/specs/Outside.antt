@@ -1,7 +1,7 @@
 -- The names of the variants, as they print.
 use Rattle.std.specs.Prelude.{ℕ, List, codes}
 use Rattle.rb_syntax.specs.declared.outside.Outside.{Outside}
-use Rattle.rb_syntax.specs.declared.outside.Outside.TheVariants.{Float, Rational, Imaginary, WideInteger, Regexp, Backquote, PercentLiteral, Ambiguous, QuotedLabel, NonAsciiName, SquigglyHeredoc, ClassVariable, SpecialGlobal, MatchOperator, SafeNavigation, DoubleSplat, Redo, FileKeyword, LineKeyword, EncodingKeyword, BeginBlock, EndBlock, KeywordParameter, EndlessMethod, GlobalAlias, FlipFlop, SplatClause, PatternMatch}
+use Rattle.rb_syntax.specs.declared.outside.Outside.TheVariants.{Float, Rational, Imaginary, WideInteger, Regexp, Backquote, PercentLiteral, Ambiguous, QuotedLabel, NonAsciiName, SquigglyHeredoc, ClassVariable, SpecialGlobal, MatchOperator, SafeNavigation, DoubleSplat, Redo, FileKeyword, LineKeyword, EncodingKeyword, BeginBlock, EndBlock, KeywordParameter, EndlessMethod, GlobalAlias, FlipFlop, SplatClause, PatternMatch, Unbuilt}
 
 abbrev pub name_of : Outside → List ℕ
 name_of Float = codes "Float"
@@ -32,3 +32,4 @@ name_of GlobalAlias = codes "GlobalAlias"
 name_of FlipFlop = codes "FlipFlop"
 name_of SplatClause = codes "SplatClause"
 name_of PatternMatch = codes "PatternMatch"
+name_of Unbuilt = codes "Unbuilt"

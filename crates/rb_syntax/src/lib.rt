@@ -1,8 +1,8 @@
-//! What the front, the generator and the definitions speak of: core forms, the binary operators among the
-//! core methods, the constructs outside the language, the counts that have a limit, and tokens.
+//! What the front, the generator and the definitions speak of: parts of trees and core forms, the binary operators
+//! among the core methods, the constructs that are refused, the counts that have a limit, and tokens.
 //!
-//! Types: [`Core`] with its parts, [`Operator`], [`Outside`], [`Count`], [`Token`] with [`TokenKind`],
-//! [`Keyword`] and [`Punctuator`].
+//! Types: [`Item`], [`Pair`], [`Branch`], [`Parameters`], [`DefinedKind`], [`Operator`], [`Outside`], [`Count`],
+//! [`Token`] with [`TokenKind`], [`Keyword`] and [`Punctuator`].
 #![tactic(auto)]
 
 pub mod core_form;
@@ -13,9 +13,7 @@ pub mod outside;
 pub mod punctuator;
 pub mod token;
 
-pub use core_form::{
-    BeginForm, Branch, Clause, Core, DefinedKind, Function, Item, Pair, Parameters, Receiver,
-};
+pub use core_form::{Branch, DefinedKind, Item, Pair, Parameters};
 pub use count::Count;
 pub use keyword::Keyword;
 pub use operator::Operator;

@@ -1,6 +1,6 @@
 ghost use Rattle.std.specs.Prelude.{◌≡◌};
 
-/// A construct of Ruby that has a spelling here and is refused.
+/// A construct that is refused: one of Ruby outside the language, or one that isn't built.
 #[derive(Clone, Copy, Debug, PartialEq, Eq)]
 pub enum Outside {
     Float,
@@ -31,6 +31,8 @@ pub enum Outside {
     FlipFlop,
     SplatClause,
     PatternMatch,
+    /// A construct of the language that the generator doesn't build.
+    Unbuilt,
 }
 
 impl Outside {
@@ -69,6 +71,7 @@ impl Outside {
             Outside::FlipFlop => b"FlipFlop",
             Outside::SplatClause => b"SplatClause",
             Outside::PatternMatch => b"PatternMatch",
+            Outside::Unbuilt => b"Unbuilt",
         }
     }
 }

@@ -1,4 +1,4 @@
-use Rattle.std.proofs.Common.{◌≡◌, ◌∙◌, ap, ℕ, List, [], ◌∷◌, refl, sym, length, nat_eq, map, arith}
+use Rattle.std.proofs.Common.{◌≡◌, ◌∙◌, ap, ℕ, List, [], ◌∷◌, refl, length, nat_eq, map, arith}
 use Rattle.std.proofs.lemmas.Bool.{ne_eqb}
 use Rattle.rb_syntax.specs.Form.{Form, seq, forms}
 use Rattle.code_generator.specs.Gen.{is_nothing}
