@@ -4,7 +4,7 @@
     bench/texts.py RITE [MEBIBYTES]
 
 RITE is the built program (crates/mrb_tool/out/mrb_tool). Each text of about so many MiB (16 without a number) is given
-to `build`; it is read as tokens and then refused, since the language that is built so far has fewer lines.
+to `build`; it is read up to its core, or refused on the way, and little of it is built so far.
 """
 import os
 import subprocess
