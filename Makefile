@@ -6,7 +6,7 @@ PREFIX ?= /usr/local
 RITE := crates/mrb_tool/out/mrb_tool
 SOURCES := crates.txt HANDLES $(shell find crates -path '*/out' -prune -o \( -name '*.rt' -o -name '*.antt' \) -print)
 
-.PHONY: run build test install
+.PHONY: run build test wrong-bodies install
 
 # Compiles SRC, writes its code to OUT and runs the file that was written.
 run: $(RITE)
@@ -21,6 +21,12 @@ $(RITE): $(SOURCES)
 
 test:
 	@rt ci
+
+# Tries the wrong bodies that are not among the tests, in a copy: each must be refused.
+wrong-bodies:
+	@copy=$$(mktemp -d) && cp -r . $$copy/all && cd $$copy/all && for more in crates/*/wrong-bodies; do \
+		mkdir -p $$(dirname $$more)/must-fail && mv $$more/*.edit $$(dirname $$more)/must-fail/; done && rt must-fail; \
+		status=$$?; rm -rf $$copy; exit $$status
 
 install: $(RITE)
 	install -D $(RITE) $(PREFIX)/rite
