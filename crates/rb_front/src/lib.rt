@@ -12,6 +12,10 @@ pub mod error;
 #[cfg(test)]
 mod print;
 #[cfg(test)]
+mod refusal_tests;
+#[cfg(test)]
+mod rows;
+#[cfg(test)]
 mod tests;
 
 pub use error::FrontError;
