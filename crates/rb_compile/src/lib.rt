@@ -25,7 +25,7 @@ use rite_code::Code;
 use std::alloc::Global;
 
 /// The core of the text.
-fn core_of(alloc: Global, text: &[u8]) -> Result<Core, CompileError>
+fn read_core(alloc: Global, text: &[u8]) -> Result<Core, CompileError>
     ensures core { IfOk result (λ c. core_of text.now ≡ Some (core_view c)) }
     ensures refused { IfErr result (Refuses text.now) }
 {
@@ -35,7 +35,7 @@ fn core_of(alloc: Global, text: &[u8]) -> Result<Core, CompileError>
 
 /// The code of the core of the text, where the generator builds it and no count exceeds its limit.
 #[tactic(auto, using(crate::proofs::Coded::refused_unbuilt))]
-fn code_of(alloc: Global, text: &[u8], core: &Core) -> Result<Code, CompileError>
+fn generate_code(alloc: Global, text: &[u8], core: &Core) -> Result<Code, CompileError>
     requires { core_of text.now ≡ Some (core_view core.now) }
     ensures code { IfOk result (λ code. IsCodeOf code (program_of text.now)) }
     ensures refused { IfErr result (Refuses text.now) }
@@ -69,7 +69,7 @@ pub fn compile(alloc: Global, text: &[u8]) -> Result<Code, CompileError>
     ensures fits { IfOk result (λ code. length (canonical code) < 2 ^ 32) }
     ensures refused { IfErr result (Refuses text.now) }
 {
-    let core = core_of(alloc, text)?;
-    let code = code_of(alloc, text, &core)?;
+    let core = read_core(alloc, text)?;
+    let code = generate_code(alloc, text, &core)?;
     Ok(code)
 }

@@ -1,7 +1,7 @@
 use Rattle.std.proofs.Common.{sym, ◌∙◌}
 use Rattle.rb_core.specs.View.{core_view}
 use Rattle.rb_compile.proofs.Coded.{coded, refused_past}
-use Rattle.rb_compile.proofs.code_of.Goals as goal
+use Rattle.rb_compile.proofs.generate_code.Goals as goal
 
 pub returns-in-Some-2-clause-refused : goal.returns-in-Some-2-clause-refused
 returns-in-Some-2-clause-refused c =
