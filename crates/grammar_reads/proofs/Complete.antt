@@ -11,6 +11,7 @@ use Rattle.grammar_reads.proofs.CompletePostfixes as postfixes
 use Rattle.grammar_reads.proofs.CompleteCallees as callees
 use Rattle.grammar_reads.proofs.CompleteCalls as calls
 use Rattle.grammar_reads.proofs.CompleteCommands as commands
+use Rattle.grammar_reads.proofs.CompleteChains as chains
 use Rattle.grammar_reads.proofs.CompleteOperands as operands
 use Rattle.grammar_reads.proofs.CompleteValues as values
 use Rattle.grammar_reads.proofs.CompleteStatements as statements
@@ -59,17 +60,27 @@ complete _ _ _ _ _ (grammar.Assigned place owner a names known later ts rest mor
     assignments.assigned place owner a names known later ts rest more target n (complete _ _ _ _ _ t) (front _ _ _ _ _ t refl) there (complete _ _ _ _ _ value) (front _ _ _ _ _ value refl) calm alone
 complete _ _ _ _ _ (grammar.AssignedOr place owner a names known later last ts rest more tail target n other t there value rescue right) =
     assignments.assigned_or place owner a names known later last ts rest more tail target n other (complete _ _ _ _ _ t) (front _ _ _ _ _ t refl) there (complete _ _ _ _ _ value) (front _ _ _ _ _ value refl) rescue (complete _ _ _ _ _ right)
+complete _ _ _ _ _ (grammar.InnerAssigned owner a names known later ts rest more target n t there value calm) =
+    assignments.inner_assigned owner a names known later ts rest more target n (complete _ _ _ _ _ t) (front _ _ _ _ _ t refl) there (complete _ _ _ _ _ value) (front _ _ _ _ _ value refl) calm
+complete _ _ _ _ _ (grammar.InnerAssignedOr owner a names known later last ts rest more tail target n other t there value rescue right) =
+    assignments.inner_assigned_or owner a names known later last ts rest more tail target n other (complete _ _ _ _ _ t) (front _ _ _ _ _ t refl) there (complete _ _ _ _ _ value) (front _ _ _ _ _ value refl) rescue (complete _ _ _ _ _ right)
 complete _ _ _ _ _ (grammar.LocalTarget owner names ts is) = targets.local_target owner names ts is
 complete _ _ _ _ _ (grammar.InstanceTarget owner names ts is) = targets.instance_target owner names ts is
 complete _ _ _ _ _ (grammar.GlobalTarget owner names ts is) = targets.global_target owner names ts is
 complete _ _ _ _ _ (grammar.ConstantTarget owner names ts is) = targets.constant_target owner names ts is
 complete _ _ _ _ _ (grammar.PostfixTarget owner names known ts rest n is none d) = targets.postfix_target owner names known ts rest n is none (complete _ _ _ _ _ d)
 complete _ _ _ _ _ (grammar.MethodTarget owner names known ts rest n none d there is) = targets.method_target owner names known ts rest n none (complete _ _ _ _ _ d) there is
+complete _ _ _ _ _ (grammar.OutsideTarget owner o names ts is variable) = targets.outside_target owner names ts o is variable
+complete _ _ _ _ _ (grammar.CalleeTarget owner names known ts rest o at ns none d) = targets.callee_target owner names known ts rest o at ns none (complete _ _ _ _ _ d)
+complete _ _ _ _ _ (grammar.AnyTarget owner names known ts rest n d) = targets.any_target owner names known ts rest n (complete _ _ _ _ _ d)
+complete _ _ _ _ _ (grammar.PostfixInnerTarget owner names known ts rest n is none d) = targets.postfix_inner_target owner names known ts rest n is none (complete _ _ _ _ _ d)
+complete _ _ _ _ _ (grammar.CalleeInnerTarget owner names known ts rest c none d target) = targets.callee_inner_target owner names known ts rest c none (complete _ _ _ _ _ d) target
 complete _ _ _ _ _ (grammar.AllOperators place loosest owner names known ts rest n d ends) = operands.all_operators place loosest owner names known ts rest n (complete _ _ _ _ _ d) ends
 complete _ _ _ _ _ (grammar.OneOperand place loosest owner names known ts rest n d) = operands.one_operand place loosest owner names known ts rest n (complete _ _ _ _ _ d)
 complete _ _ _ _ _ (grammar.Infixed place loosest owner o names known later ts rest more a b left there right calm) =
     operands.infixed place loosest owner o names known later ts rest more a b (complete _ _ _ _ _ left) there (complete _ _ _ _ _ right) calm
 complete _ _ _ _ _ (grammar.Prefixed place owner o names known ts rest n there d) = operands.prefixed place owner o names known ts rest n there (complete _ _ _ _ _ d)
+complete _ _ _ _ _ (grammar.NotPrefixed place owner o names known ts rest n is there d) = operands.not_prefixed place owner o names known ts rest n is there (complete _ _ _ _ _ d)
 complete _ _ _ _ _ (grammar.WithPostfixes place owner names known ts rest n none d ends) = operands.with_postfixes place owner names known ts rest n none (complete _ _ _ _ _ d) ends
 complete _ _ _ _ _ (grammar.Nil place owner names ts is) = primaries.nil place owner names ts is
 complete _ _ _ _ _ (grammar.True place owner names ts is) = primaries.truth place owner names ts is
@@ -92,6 +103,7 @@ complete _ _ _ _ _ (grammar.StatementsPiece names known ts rest n is d closing) 
 complete _ _ _ _ _ (grammar.InstanceVariablePiece names ts is) = literals.instance_variable_piece names ts is
 complete _ _ _ _ _ (grammar.GlobalVariablePiece names ts is) = literals.global_variable_piece names ts is
 complete _ _ _ _ _ (grammar.OutsidePiece o names ts is alone) = literals.outside_piece o names ts is alone
+complete _ _ _ _ _ (grammar.NonAsciiPiece names ts is) = literals.non_ascii_piece names ts is
 complete _ _ _ _ _ (grammar.NoPiece names ts ends) = literals.no_piece names ts ends
 complete _ _ _ _ _ (grammar.OnePiece names known later ts rest more n ns one others) =
     literals.one_piece names known later ts rest more n ns (complete _ _ _ _ _ one) (complete _ _ _ _ _ others)
@@ -292,6 +304,7 @@ complete _ _ _ _ _ (grammar.NonAsciiCallee place owner names ts is) = callees.no
 complete _ _ _ _ _ (grammar.MethodCallee place owner names known ts rest n left there is) = callees.method_fact place owner names known ts rest n (complete _ _ _ _ _ left) is there
 complete _ _ _ _ _ (grammar.ScopeCallee place owner names known ts rest n left there is other) = callees.scope_fact place owner names known ts rest n (complete _ _ _ _ _ left) is there other
 complete _ _ _ _ _ (grammar.SafeCallee place owner names known ts rest n left there is) = callees.safe_fact place owner names known ts rest n (complete _ _ _ _ _ left) is there
+complete _ _ _ _ _ (grammar.NonAsciiMethod place owner names known ts rest n left there is) = callees.non_ascii_method place owner names known ts rest n (complete _ _ _ _ _ left) there is
 complete _ _ _ _ _ (grammar.CalleeAlone place owner names known ts rest c d alone free) = calls.alone_call place owner names known ts rest c (complete _ _ _ _ _ d) alone free
 complete _ _ _ _ _ (grammar.GroupCall place owner names known later ts rest more c l d opened inner closing unblocked) =
     calls.group_call place owner names known ts rest c (complete _ _ _ _ _ d) later more l opened (complete _ _ _ _ _ inner) closing unblocked
@@ -301,16 +314,36 @@ complete _ _ _ _ _ (grammar.BlockCall place owner style names known later ts res
     calls.block_call place owner names known ts rest c (complete _ _ _ _ _ d) style later more b closed there (complete _ _ _ _ _ block)
 complete _ _ _ _ _ (grammar.DotCall place owner names known later ts rest more n l d there opened inner closing) =
     calls.dot_call place owner names known later ts rest more n l (complete _ _ _ _ _ d) there opened (complete _ _ _ _ _ inner) closing
+complete _ _ _ _ _ (grammar.SafeCall place owner names known later ts rest more n l d there opened inner closing) =
+    calls.safe_call place owner names known later ts rest more n l (complete _ _ _ _ _ d) there opened (complete _ _ _ _ _ inner) closing
 complete _ _ _ _ _ (grammar.ListIndexed place owner names known later ts rest more n l d there inner none closing) =
     calls.list_indexed place owner names known later ts rest more n l (complete _ _ _ _ _ d) there (complete _ _ _ _ _ inner) none closing
 complete _ _ _ _ _ (grammar.CommandList owner names known ts rest c l begun closed d unblocked) = commands.list_fact owner names known ts rest c l begun closed (complete _ _ _ _ _ d) unblocked
 complete _ _ _ _ _ (grammar.CommandBlock owner names known later ts rest more c l b begun closed d there alone block ends) =
     commands.block_fact owner names known later ts rest more c l b begun closed (complete _ _ _ _ _ d) there alone (complete _ _ _ _ _ block) ends
+complete _ _ _ _ _ (grammar.CommandPostfixes owner names known later last ts rest more left c l b n begun closed d there alone block others) =
+    chains.postfixes_fact owner names known later last ts rest more left c l b n begun closed (complete _ _ _ _ _ d) there alone (complete _ _ _ _ _ block) (complete _ _ _ _ _ others)
+complete _ _ _ _ _ (grammar.LastPostfix owner names known ts rest n m d ends) = chains.last_postfix owner names known ts rest n m (complete _ _ _ _ _ d) ends
+complete _ _ _ _ _ (grammar.MorePostfixes owner names known later ts rest more n m all d others) =
+    chains.more_postfixes owner names known later ts rest more n m all (complete _ _ _ _ _ d) (complete _ _ _ _ _ others)
+complete _ _ _ _ _ (grammar.IndexPostfix owner names known ts rest n l there d none closing) = chains.index_postfix owner names ts n known rest l there (complete _ _ _ _ _ d) none closing
+complete _ _ _ _ _ (grammar.ConstantPostfix owner names ts n there constant closed) = chains.constant_postfix owner names ts n there constant closed
+complete _ _ _ _ _ (grammar.MethodPostfix owner names known ts rest n m there is other d) = chains.method_postfix owner names ts n known rest m there is other (complete _ _ _ _ _ d)
+complete _ _ _ _ _ (grammar.NonAsciiPostfix owner names known ts rest n m there is d) = chains.non_ascii_postfix owner names ts n known rest m there is (complete _ _ _ _ _ d)
+complete _ _ _ _ _ (grammar.CallPostfix owner names known ts rest n l there opened d closing) = chains.call_postfix owner names ts n known rest l there opened (complete _ _ _ _ _ d) closing
+complete _ _ _ _ _ (grammar.CalledAlone owner names ts c closed unblocked) = chains.called_alone owner names ts c closed unblocked
+complete _ _ _ _ _ (grammar.CalledWith owner names known ts rest c l opened d closing unblocked) =
+    chains.called_with owner names ts c known rest l opened (complete _ _ _ _ _ d) closing unblocked
+complete _ _ _ _ _ (grammar.CalledWithBlock owner style names known later ts rest more c l b opened d closing there none block) =
+    chains.called_with_block owner names ts c known rest l opened (complete _ _ _ _ _ d) closing style later more b there none (complete _ _ _ _ _ block)
+complete _ _ _ _ _ (grammar.CalledBlock owner style names known ts rest c b closed there block) = chains.called_block owner names ts c style known rest b closed there (complete _ _ _ _ _ block)
 complete _ _ _ _ _ (grammar.CalleeCommand place owner names known later ts rest more c n may none d arguments) =
     commands.callee_command place owner names known later ts rest more c n may none (complete _ _ _ _ _ d) (front _ _ _ _ _ d refl) (complete _ _ _ _ _ arguments)
 complete _ _ _ _ _ (grammar.NotCommand place owner names known later ts rest more c n is may none d arguments) =
     commands.not_command place owner names known later ts rest more c n is may none (complete _ _ _ _ _ d) (front _ _ _ _ _ d refl) (complete _ _ _ _ _ arguments)
 complete _ _ _ _ _ (grammar.CommandAssigned place owner a names known later ts rest more target n t there d alone) =
-    commands.command_assigned place owner a names known later ts rest more target n (complete _ _ _ _ _ t) (front _ _ _ _ _ t refl) there (complete _ _ _ _ _ d) alone
+    commands.command_assigned place owner a names known later ts rest more target n (complete _ _ _ _ _ t) there (complete _ _ _ _ _ d) alone (front _ _ _ _ _ t refl)
+complete _ _ _ _ _ (grammar.NotAssigned place owner a names known later ts rest more target n is may t there d) =
+    commands.not_assigned place owner a names known later ts rest more target n is may (complete _ _ _ _ _ t) there (complete _ _ _ _ _ d)
 complete _ _ _ _ _ (grammar.Commanded place owner names known ts rest n group d) = commands.commanded place owner names known ts rest n group (complete _ _ _ _ _ d)
 complete _ _ _ _ _ (grammar.CommandPart owner names known ts rest n d alone) = commands.command_part_fact owner names known ts rest n (complete _ _ _ _ _ d) alone

@@ -7,6 +7,7 @@ use Rattle.rb_grammar.specs.Tokens.{first, behind}
 use Rattle.rb_grammar.specs.Operators.{assignment_at}
 use Rattle.rb_grammar.specs.Starts.{modifier_at}
 use Rattle.rb_grammar.specs.declared.operators.Assignment.{Assignment}
+use Rattle.rb_grammar.specs.declared.operators.Assignment.TheVariants as signs
 use Rattle.rb_grammar.specs.declared.word.Modifier.{Modifier}
 use Rattle.rb_grammar.specs.declared.word.Modifier.TheVariants as modifiers
 use Rattle.rb_grammar.specs.declared.word.Word.{Word}
@@ -29,9 +30,9 @@ use Rattle.statement_rules.specs.Lists.{part_by, next_part, list_from, list}
 use Rattle.statement_rules.proofs.Turns.{list_step}
 use Rattle.rule_base.specs.Reading.{Names, Tokens, Read, Inside}
 use Rattle.rb_parser.specs.Levels.{levels}
-use Rattle.grammar_reads.specs.Rules.{Argument, Target, is_rescue, takes_list, goes_on_list}
+use Rattle.grammar_reads.specs.Rules.{Argument, Target, InnerTarget, is_rescue, takes_list, goes_on_list}
 use Rattle.grammar_reads.proofs.Facts.{is_bang, begins, opens, is_finish, Fact, levels_at, word_taken, ends_target}
-use Rattle.grammar_reads.proofs.Heads.{Front, opens_begins, word_begins, operand_start}
+use Rattle.grammar_reads.proofs.Heads.{Front, anywhere, opens_begins, word_begins, front_start}
 use Rattle.grammar_reads.proofs.Tests.{or_left}
 use Rattle.grammar_reads.proofs.Assigning.{same_rescue, same_takes, statement_only, or_false_parts}
 use Rattle.grammar_reads.proofs.Results.{differs, and_false, not_true}
@@ -112,8 +113,20 @@ modifier_alone : (w : Word) (m : Modifier) → modifier_at w ≡ Some m → goes
 modifier_alone (words.Mark p) m h = differs (sym (ap is_some h))
 modifier_alone w m h = refl
 
+-- a target that is read where a value stands
+abbrev Assignable : Place → DoOwner → Node → Names → Tokens → Names → Tokens → Type 0
+Assignable place owner x names ts known rest =
+    (length rest < length ts) × ((opens ts && not (is_bang (first ts))) ≡ true) × ((d : ℕ) → length ts ≤ d → ends_target (first rest) ≡ true
+    → (o : OperandNode) × (k : Names) × (operand (levels d) names ts (allows_command place) owner ≡ Ok (o, k, rest)) × (is_target o ≡ true) × (target_node o ≡ x) × (target_names o k ≡ known))
+
+of_target : (place : Place) (owner : DoOwner) (x : Node) (names known : Names) (ts rest : Tokens) → Fact (Target owner x) names ts known rest → Assignable place owner x names ts known rest
+of_target place owner x names known ts rest left = (left.0, left.1, λ d room ends. let t = left.2 d room ends in (t.0, t.1, t.2 (allows_command place), t.3, t.4, t.5))
+
+of_inner : (owner : DoOwner) (x : Node) (names known : Names) (ts rest : Tokens) → Fact (InnerTarget owner x) names ts known rest → Assignable places.Argument owner x names ts known rest
+of_inner owner x names known ts rest left = (left.0, left.1, λ d room ends. let t = left.2 d room ends in (t.0, t.1, t.2, t.3, t.4, t.5))
+
 module _ (place : Place) (owner : DoOwner) (a : Assignment) (names known later : Names) (ts rest more : Tokens) (target n : Node)
-    (left : Fact (Target owner target) names ts known rest) (lead : Front ts) (there : assignment_at (first rest) ≡ Some a) (value : Fact (Argument (of_value place) owner n) known (behind rest) later more) (front : Front (behind rest)) where
+    (left : Assignable place owner target names ts known rest) (lead : Front place ts) (there : assignment_at (first rest) ≡ Some a) (value : Fact (Argument (of_value place) owner n) known (behind rest) later more) (front : Front (of_value place) (behind rest)) where
   -- an assignment whose value is read whole
   assigned_whole : (last : Names) (tail : Tokens) (whole : Node) → length tail ≤ length more → (takes_list a place && goes_on_list (first more)) ≡ false
       → ((d : ℕ) → length more < d → whole_value (levels d) n sorts.Argument later more owner ≡ Ok (whole, last, tail))
@@ -134,28 +147,57 @@ module _ (place : Place) (owner : DoOwner) (a : Assignment) (names known later :
             let moved : assign (levels d) (target_node t.0) (target_names t.0 t.1) a (behind rest) place owner ≡ Ok ((assignment_node a target whole, sorts.Argument), last, tail) =
             subst (λ k. assign (levels d) (target_node t.0) k a (behind rest) place owner ≡ Ok ((assignment_node a target whole, sorts.Argument), last, tail)) (sym t.5)
             (subst (λ y. assign (levels d) y known a (behind rest) place owner ≡ Ok ((assignment_node a target whole, sorts.Argument), last, tail)) (sym t.4) made) in
-            phrase_read (levels d) place owner t.0 names t.1 ts rest _ (operand_start place ts opening.0 (lead.1 (bang_other (first ts) (not_true (is_bang (first ts)) opening.1))) group) (t.2 (allows_command place))
+            phrase_read (levels d) place owner t.0 names t.1 ts rest _ (front_start place ts opening.0 lead (bang_other (first ts) (not_true (is_bang (first ts)) opening.1)) group) t.2
             (from_read (levels d) place owner a t.0 t.1 rest _ t.3 there moved),
       )
 
+module _ (place : Place) (owner : DoOwner) (a : Assignment) (names known later : Names) (ts rest more : Tokens) (target n : Node) (left : Assignable place owner target names ts known rest) (lead : Front place ts) (there : assignment_at (first rest) ≡ Some a)
+    (value : Fact (Argument (of_value place) owner n) known (behind rest) later more) (front : Front (of_value place) (behind rest)) where
+  assigned_calm : is_rescue (modifier_at (first more)) ≡ false → (takes_list a place && goes_on_list (first more)) ≡ false → Fact (Argument place owner (assignment_node a target n)) names ts later more
+  assigned_calm calm alone =
+      assigned_whole place owner a names known later ts rest more target n left lead there value front later more n (omega arith) alone (λ d room. calm_value (levels d) owner later more n calm) (value_calm place (is_some (assignment_at (first more))))
+
+  assigned_rescued : (last : Names) (tail : Tokens) (other : Node) → modifier_at (first more) ≡ Some modifiers.Rescue → Fact (Argument places.Argument owner other) later (behind more) last tail
+      → Fact (Argument place owner (assignment_node a target (rescued_node n other))) names ts last tail
+  assigned_rescued last tail other rescue right =
+      let one = word_taken (first more) more refl (modifier_word (first more) modifiers.Rescue rescue) in
+      let r = right.0 in
+      let alone : (takes_list a place && goes_on_list (first more)) ≡ false = rw (modifier_alone (first more) modifiers.Rescue rescue) (and_false (takes_list a place)) in
+      let free : (allows_command (of_value place) && is_some (assignment_at (first more))) ≡ false = rw (modifier_free (first more) modifiers.Rescue rescue) (and_false (allows_command (of_value place))) in
+      assigned_whole place owner a names known later ts rest more target n left lead there value front last tail (rescued_node n other) (omega arith) alone
+      (λ d room.
+      let read = value_below d (omega arith) later last (behind more) tail owner other (right.2 (d - 1) (omega arith) refl refl) in
+      rw (rescue, read) refl)
+      (λ none. free)
+
+-- a list is assigned only where a statement stands
+no_list : (a : Assignment) (b : Bool) → (takes_list a places.Argument && b) ≡ false
+no_list signs.Plain b = refl
+no_list (signs.Operation o) b = refl
+
 pub assigned : (place : Place) (owner : DoOwner) (a : Assignment) (names known later : Names) (ts rest more : Tokens) (target n : Node)
-    → Fact (Target owner target) names ts known rest → Front ts → assignment_at (first rest) ≡ Some a → Fact (Argument (of_value place) owner n) known (behind rest) later more → Front (behind rest)
+    → Fact (Target owner target) names ts known rest → Front places.Command ts → assignment_at (first rest) ≡ Some a → Fact (Argument (of_value place) owner n) known (behind rest) later more → Front (of_value place) (behind rest)
     → is_rescue (modifier_at (first more)) ≡ false → (takes_list a place && goes_on_list (first more)) ≡ false
     → Fact (Argument place owner (assignment_node a target n)) names ts later more
 assigned place owner a names known later ts rest more target n left lead there value front calm alone =
-    assigned_whole place owner a names known later ts rest more target n left lead there value front later more n (omega arith) alone (λ d room. calm_value (levels d) owner later more n calm) (value_calm place (is_some (assignment_at (first more))))
+    assigned_calm place owner a names known later ts rest more target n (of_target place owner target names known ts rest left) (anywhere place ts lead) there value front calm alone
 
 pub assigned_or : (place : Place) (owner : DoOwner) (a : Assignment) (names known later last : Names) (ts rest more tail : Tokens) (target n other : Node)
-    → Fact (Target owner target) names ts known rest → Front ts → assignment_at (first rest) ≡ Some a → Fact (Argument (of_value place) owner n) known (behind rest) later more → Front (behind rest)
+    → Fact (Target owner target) names ts known rest → Front places.Command ts → assignment_at (first rest) ≡ Some a → Fact (Argument (of_value place) owner n) known (behind rest) later more → Front (of_value place) (behind rest)
     → modifier_at (first more) ≡ Some modifiers.Rescue → Fact (Argument places.Argument owner other) later (behind more) last tail
     → Fact (Argument place owner (assignment_node a target (rescued_node n other))) names ts last tail
 assigned_or place owner a names known later last ts rest more tail target n other left lead there value front rescue right =
-    let one = word_taken (first more) more refl (modifier_word (first more) modifiers.Rescue rescue) in
-    let r = right.0 in
-    let alone : (takes_list a place && goes_on_list (first more)) ≡ false = rw (modifier_alone (first more) modifiers.Rescue rescue) (and_false (takes_list a place)) in
-    let free : (allows_command (of_value place) && is_some (assignment_at (first more))) ≡ false = rw (modifier_free (first more) modifiers.Rescue rescue) (and_false (allows_command (of_value place))) in
-    assigned_whole place owner a names known later ts rest more target n left lead there value front last tail (rescued_node n other) (omega arith) alone
-    (λ d room.
-    let read = value_below d (omega arith) later last (behind more) tail owner other (right.2 (d - 1) (omega arith) refl refl) in
-    rw (rescue, read) refl)
-    (λ none. free)
+    assigned_rescued place owner a names known later ts rest more target n (of_target place owner target names known ts rest left) (anywhere place ts lead) there value front last tail other rescue right
+
+pub inner_assigned : (owner : DoOwner) (a : Assignment) (names known later : Names) (ts rest more : Tokens) (target n : Node)
+    → Fact (InnerTarget owner target) names ts known rest → Front places.Argument ts → assignment_at (first rest) ≡ Some a → Fact (Argument places.Argument owner n) known (behind rest) later more → Front places.Argument (behind rest)
+    → is_rescue (modifier_at (first more)) ≡ false → Fact (Argument places.Argument owner (assignment_node a target n)) names ts later more
+inner_assigned owner a names known later ts rest more target n left lead there value front calm =
+    assigned_calm places.Argument owner a names known later ts rest more target n (of_inner owner target names known ts rest left) lead there value front calm (no_list a (goes_on_list (first more)))
+
+pub inner_assigned_or : (owner : DoOwner) (a : Assignment) (names known later last : Names) (ts rest more tail : Tokens) (target n other : Node)
+    → Fact (InnerTarget owner target) names ts known rest → Front places.Argument ts → assignment_at (first rest) ≡ Some a → Fact (Argument places.Argument owner n) known (behind rest) later more → Front places.Argument (behind rest)
+    → modifier_at (first more) ≡ Some modifiers.Rescue → Fact (Argument places.Argument owner other) later (behind more) last tail
+    → Fact (Argument places.Argument owner (assignment_node a target (rescued_node n other))) names ts last tail
+inner_assigned_or owner a names known later last ts rest more tail target n other left lead there value front rescue right =
+    assigned_rescued places.Argument owner a names known later ts rest more target n (of_inner owner target names known ts rest left) lead there value front last tail other rescue right

@@ -1,5 +1,5 @@
 -- What is called, without arguments and a block, that is derived is read.
-use Rattle.std.proofs.Common.{◌≡◌, ◌-◌, ◌<◌, Bool, true, false, not, ◌&&◌, [], ◌∷◌, length, Some, Ok, refl, sym, subst, ◌∙◌, arith}
+use Rattle.std.proofs.Common.{◌≡◌, ◌-◌, ◌<◌, Bool, true, false, not, ◌&&◌, [], ◌∷◌, length, Some, Ok, refl, ◌∙◌, arith}
 use Rattle.rb_syntax.specs.declared.keyword.Keyword.TheVariants as keywords
 use Rattle.rb_syntax.specs.declared.outside.Outside.TheVariants as outsides
 use Rattle.rb_syntax.specs.declared.punctuator.Punctuator.TheVariants as marks
@@ -21,20 +21,16 @@ use Rattle.operand_rules.specs.Operands.{continues, suffix, primary_by, primary,
 use Rattle.operand_rules.proofs.Turns.{chain_step}
 use Rattle.rule_base.specs.Reading.{Names, Tokens, Inside}
 use Rattle.rb_parser.specs.Levels.{levels}
-use Rattle.grammar_reads.specs.Rules.{Primary as PrimaryRule, Callee, is_identifier, is_constant}
-use Rattle.grammar_reads.proofs.Facts.{is_head, Fact, word_taken}
+use Rattle.grammar_reads.specs.Rules.{Primary as PrimaryRule, Callee, is_identifier, is_constant, joins_name}
+use Rattle.grammar_reads.proofs.Facts.{is_head, is_finish, Fact, word_taken}
 use Rattle.grammar_reads.proofs.Heads.{head_not_finish, head_opens}
 use Rattle.grammar_reads.proofs.CompletePostfixes.{continues_there}
-use Rattle.grammar_reads.proofs.CompleteNames.{name_head, name_plain, name_primary}
+use Rattle.grammar_reads.proofs.CompleteNames.{name_head, name_primary, dot_named, safe_named, scope_named, joins}
 
 -- the questions of the rules are those of the parser
 same_identifier : (w : Word) → operands.is_identifier w ≡ is_identifier w
 same_identifier words.Identifier = refl
 same_identifier w = refl
-
-same_constant : (w : Word) → operands.is_constant w ≡ is_constant w
-same_constant words.Constant = refl
-same_constant w = refl
 
 module _ (place : Place) (owner : DoOwner) (names : Names) (ts : Tokens) where
   -- what begins with a word that is called
@@ -77,7 +73,7 @@ module _ (place : Place) (owner : DoOwner) (names : Names) (ts : Tokens) where
   unfolding primary_at primary_by
   non_ascii_fact is = word_fact (outside_callee outsides.NonAsciiName (place_at ts) []) (rw is refl) (λ i. rw is refl)
 
-module _ (place : Place) (owner : DoOwner) (names known : Names) (ts rest : Tokens) (n : Node) (left : Fact (PrimaryRule place owner n) names ts known rest) (is : is_name_word (first (behind rest)) ≡ true) where
+module _ (place : Place) (owner : DoOwner) (names known : Names) (ts rest : Tokens) (n : Node) (left : Fact (PrimaryRule place owner n) names ts known rest) where
   -- a name behind a value
   behind_value : (p : Postfix) (w : Word) (c : CalleeNode) → first rest ≡ w → postfix_at w ≡ Some p → length (behind (behind rest)) < length rest
       → ((i : Inside) → postfixed i n p known rest owner ≡ suffix i c known (behind (behind rest)) owner) → Fact (Callee place owner c) names ts known (behind (behind rest))
@@ -105,29 +101,32 @@ module _ (place : Place) (owner : DoOwner) (names known : Names) (ts rest : Toke
             ),
       )
 
-  pub method_fact : first rest ≡ words.Mark marks.Dot → Fact (Callee place owner (method_callee n (bytes_at (behind rest)) false)) names ts known (behind (behind rest))
-  unfolding postfixed
-  method_fact there =
-      let one = word_taken (words.Mark marks.Dot) rest there refl in
+  -- the tokens of a name behind a value
+  named_taken : (w : Word) → first rest ≡ w → is_finish w ≡ false → is_name_word (first (behind rest)) ≡ true → length (behind (behind rest)) < length rest
+  named_taken w there some is =
+      let one = word_taken w rest there some in
       let two = word_taken (first (behind rest)) (behind rest) refl (head_not_finish (first (behind rest)) (name_head (first (behind rest)) is)) in
-      let plain = name_plain (first (behind rest)) is in
-      behind_value postfixes.Dot (words.Mark marks.Dot) (method_callee n (bytes_at (behind rest)) false) there refl (omega arith) (λ i. rw (plain.0, plain.1, is) refl)
+      omega arith
 
-  pub scope_fact : first rest ≡ words.Mark marks.ColonColon → (is_constant (first (behind rest)) && not (opens_arguments (behind (behind rest)))) ≡ false
+  pub method_fact : is_name_word (first (behind rest)) ≡ true → first rest ≡ words.Mark marks.Dot → Fact (Callee place owner (method_callee n (bytes_at (behind rest)) false)) names ts known (behind (behind rest))
+  method_fact is there =
+      behind_value postfixes.Dot (words.Mark marks.Dot) (method_callee n (bytes_at (behind rest)) false) there refl (named_taken (words.Mark marks.Dot) there refl is) (λ i. dot_named i n known rest owner is)
+
+  pub scope_fact : is_name_word (first (behind rest)) ≡ true → first rest ≡ words.Mark marks.ColonColon → (is_constant (first (behind rest)) && not (opens_arguments (behind (behind rest)))) ≡ false
       → Fact (Callee place owner (method_callee n (bytes_at (behind rest)) true)) names ts known (behind (behind rest))
-  unfolding postfixed
-  scope_fact there other =
-      let one = word_taken (words.Mark marks.ColonColon) rest there refl in
-      let two = word_taken (first (behind rest)) (behind rest) refl (head_not_finish (first (behind rest)) (name_head (first (behind rest)) is)) in
-      let plain = name_plain (first (behind rest)) is in
-      let none : (operands.is_constant (first (behind rest)) && not (opens_arguments (behind (behind rest)))) ≡ false =
-      subst (λ b. (b && not (opens_arguments (behind (behind rest)))) ≡ false) (sym (same_constant (first (behind rest)))) other in
-      behind_value postfixes.Scope (words.Mark marks.ColonColon) (method_callee n (bytes_at (behind rest)) true) there refl (omega arith) (λ i. rw (plain.1, is) (rw none refl))
+  scope_fact is there other =
+      behind_value postfixes.Scope (words.Mark marks.ColonColon) (method_callee n (bytes_at (behind rest)) true) there refl (named_taken (words.Mark marks.ColonColon) there refl is)
+      (λ i. scope_named i n known rest owner is other)
 
-  pub safe_fact : first rest ≡ words.Mark marks.AmpersandDot → Fact (Callee place owner (outside_callee outsides.SafeNavigation (place_at rest) (n ∷ []))) names ts known (behind (behind rest))
-  unfolding postfixed
-  safe_fact there =
-      let one = word_taken (words.Mark marks.AmpersandDot) rest there refl in
-      let two = word_taken (first (behind rest)) (behind rest) refl (head_not_finish (first (behind rest)) (name_head (first (behind rest)) is)) in
-      let plain = name_plain (first (behind rest)) is in
-      behind_value postfixes.Safe (words.Mark marks.AmpersandDot) (outside_callee outsides.SafeNavigation (place_at rest) (n ∷ [])) there refl (omega arith) (λ i. rw (plain.0, plain.1, is) refl)
+  pub safe_fact : is_name_word (first (behind rest)) ≡ true → first rest ≡ words.Mark marks.AmpersandDot → Fact (Callee place owner (outside_callee outsides.SafeNavigation (place_at rest) (n ∷ []))) names ts known (behind (behind rest))
+  safe_fact is there =
+      behind_value postfixes.Safe (words.Mark marks.AmpersandDot) (outside_callee outsides.SafeNavigation (place_at rest) (n ∷ [])) there refl (named_taken (words.Mark marks.AmpersandDot) there refl is)
+      (λ i. safe_named i n known rest owner is)
+
+  pub non_ascii_method : joins_name (first rest) ≡ true → first (behind rest) ≡ words.Other outsides.NonAsciiName
+      → Fact (Callee place owner (outside_callee outsides.NonAsciiName (place_at (behind rest)) (n ∷ []))) names ts known (behind (behind rest))
+  non_ascii_method there is =
+      let j = joins (first rest) there in
+      let one = word_taken (first rest) rest refl j.some in
+      let two = word_taken (words.Other outsides.NonAsciiName) (behind rest) is refl in
+      behind_value j.mark (first rest) (outside_callee outsides.NonAsciiName (place_at (behind rest)) (n ∷ [])) refl j.there (omega arith) (λ i. j.outside i n known rest owner is)

@@ -1,13 +1,16 @@
 -- Calls with arguments and blocks that are derived are read.
-use Rattle.std.proofs.Common.{◌≡◌, ℕ, ◌-◌, ◌<◌, ◌≤◌, true, false, codes, length, Some, None, Ok, refl, ap, ◌∙◌, arith}
+use Rattle.std.proofs.Common.{◌≡◌, ℕ, ◌-◌, ◌<◌, ◌≤◌, true, false, [], ◌∷◌, codes, length, Some, None, Ok, refl, ap, ◌∙◌, arith}
+use Rattle.rb_syntax.specs.declared.outside.Outside.TheVariants as outsides
 use Rattle.rb_syntax.specs.declared.punctuator.Punctuator.TheVariants as marks
 use Rattle.rb_tree.specs.Node as node
 use Rattle.rb_tree.specs.Node.{Node}
 use Rattle.rb_tree.specs.View.{items_of}
-use Rattle.rb_grammar.specs.Tokens.{first, behind}
+use Rattle.rb_grammar.specs.Tokens.{first, behind, place_at}
 use Rattle.rb_grammar.specs.Expect.{skip_newlines}
-use Rattle.rb_grammar.specs.Starts.{opens_arguments}
+use Rattle.rb_grammar.specs.Starts.{opens_arguments, postfix_at}
+use Rattle.rb_grammar.specs.declared.starts.Postfix.{Postfix}
 use Rattle.rb_grammar.specs.declared.starts.Postfix.TheVariants as postfixes
+use Rattle.rb_grammar.specs.declared.word.Word.{Word}
 use Rattle.rb_grammar.specs.declared.word.Word.TheVariants as words
 use Rattle.rb_heads.specs.Primary.{block_at}
 use Rattle.rb_heads.specs.declared.primary.BlockStyle.{BlockStyle}
@@ -15,13 +18,13 @@ use Rattle.rb_heads.specs.declared.primary.DoOwner.{DoOwner}
 use Rattle.rb_heads.specs.declared.primary.DoOwner.TheVariants as owners
 use Rattle.rb_heads.specs.declared.primary.Place.{Place}
 use Rattle.tree_builder.specs.Listed.{ListNode, is_none, whole_items, arguments_node}
-use Rattle.tree_builder.specs.Calls.{CalleeNode, method_callee, OperandNode, whole, callee, operand_node, call_node}
+use Rattle.tree_builder.specs.Calls.{CalleeNode, method_callee, outside_callee, OperandNode, whole, callee, operand_node, call_node}
 use Rattle.form_builder.specs.Parameters.{BlockNode}
 use Rattle.operand_rules.specs.Operands.{suffix, postfixed}
 use Rattle.rule_base.specs.Reading.{Names, Tokens, Inside}
 use Rattle.rb_parser.specs.Levels.{levels}
 use Rattle.grammar_reads.specs.Rules.{Primary as PrimaryRule, Callee, Listing, Block, is_alone, is_taken_callee}
-use Rattle.grammar_reads.proofs.Facts.{Settled, Fact, levels_at, word_taken}
+use Rattle.grammar_reads.proofs.Facts.{is_finish, Settled, Fact, levels_at, word_taken}
 use Rattle.grammar_reads.proofs.CompletePostfixes.{behind_postfix}
 use Rattle.grammar_reads.proofs.CompleteNames.{opened_word, alone_read, alone_settled}
 use Rattle.grammar_reads.proofs.CompleteBrackets.{closer_taken, closing_free, list_below}
@@ -31,21 +34,21 @@ pub block_below : (d : ℕ) (style : BlockStyle) (names known : Names) (ts rest 
 block_below d style names known ts rest b some inner room = ap (λ (i : Inside). i.block names ts style) (levels_at d some) ∙ inner.2 (d - 1) room
 
 -- a list in parentheses behind a callee, without a block
-group_suffix : (d : ℕ) (c : CalleeNode) (owner : DoOwner) (names known : Names) (ts rest : Tokens) (l : ListNode) → opens_arguments ts ≡ true → (levels d).list names (behind ts) owners.Call ≡ Ok (l, known, rest)
+pub group_suffix : (d : ℕ) (c : CalleeNode) (owner : DoOwner) (names known : Names) (ts rest : Tokens) (l : ListNode) → opens_arguments ts ≡ true → (levels d).list names (behind ts) owners.Call ≡ Ok (l, known, rest)
     → first (skip_newlines rest) ≡ words.Mark marks.CloseParenthesis → block_at owner (behind (skip_newlines rest)) ≡ None
     → suffix (levels d) c names ts owner ≡ Ok (whole (call_node c (Some (arguments_node l)) None), known, behind (skip_newlines rest))
 unfolding suffix
 group_suffix d c owner names known ts rest l opened read closing unblocked = rw opened (rw read (rw closing (rw unblocked refl)))
 
 -- the same with a block
-group_block_suffix : (d : ℕ) (c : CalleeNode) (owner : DoOwner) (style : BlockStyle) (names known later : Names) (ts rest more : Tokens) (l : ListNode) (b : BlockNode) → opens_arguments ts ≡ true
+pub group_block_suffix : (d : ℕ) (c : CalleeNode) (owner : DoOwner) (style : BlockStyle) (names known later : Names) (ts rest more : Tokens) (l : ListNode) (b : BlockNode) → opens_arguments ts ≡ true
     → (levels d).list names (behind ts) owners.Call ≡ Ok (l, known, rest) → first (skip_newlines rest) ≡ words.Mark marks.CloseParenthesis → block_at owner (behind (skip_newlines rest)) ≡ Some style → is_none l.block ≡ true
     → (levels d).block known (behind (skip_newlines rest)) style ≡ Ok (b, later, more) → suffix (levels d) c names ts owner ≡ Ok (whole (call_node c (Some (arguments_node l)) (Some b)), later, more)
 unfolding suffix
 group_block_suffix d c owner style names known later ts rest more l b opened read closing there none block = rw opened (rw read (rw closing (rw there (rw none (rw block refl)))))
 
 -- a block behind a callee
-block_suffix : (d : ℕ) (c : CalleeNode) (owner : DoOwner) (style : BlockStyle) (names known : Names) (ts rest : Tokens) (b : BlockNode) → opens_arguments ts ≡ false → block_at owner ts ≡ Some style
+pub block_suffix : (d : ℕ) (c : CalleeNode) (owner : DoOwner) (style : BlockStyle) (names known : Names) (ts rest : Tokens) (b : BlockNode) → opens_arguments ts ≡ false → block_at owner ts ≡ Some style
     → (levels d).block names ts style ≡ Ok (b, known, rest) → suffix (levels d) c names ts owner ≡ Ok (whole (call_node c None (Some b)), known, rest)
 unfolding suffix
 block_suffix d c owner style names known ts rest b closed there block = rw closed (rw there (rw block refl))
@@ -100,20 +103,45 @@ module _ (place : Place) (owner : DoOwner) (names known : Names) (ts rest : Toke
       behind_callee (whole (call_node c None (Some b))) (call_node c None (Some b)) later more refl tt (omega arith)
       (λ d room. block_suffix d c owner style known later rest more b closed there (block_below d style known later rest more b (omega arith) block (omega arith)))
 
-pub dot_call : (place : Place) (owner : DoOwner) (names known later : Names) (ts rest more : Tokens) (n : Node) (l : ListNode) → Fact (PrimaryRule place owner n) names ts known rest → first rest ≡ words.Mark marks.Dot
-    → first (behind rest) ≡ words.Mark marks.OpenParenthesis → Fact (Listing owners.Call l) known (behind (behind rest)) later more → first (skip_newlines more) ≡ words.Mark marks.CloseParenthesis
-    → Fact (PrimaryRule place owner (call_node (method_callee n (codes "call") false) (Some (arguments_node l)) None)) names ts later (behind (skip_newlines more))
-unfolding postfixed
-dot_call place owner names known later ts rest more n l left there opened listing closing =
-    let one = word_taken (words.Mark marks.Dot) rest there refl in
-    let two = word_taken (words.Mark marks.OpenParenthesis) (behind rest) opened refl in
-    let last = closer_taken _ more closing in
-    let fewer = listing.0 in
-    let made : Node = call_node (method_callee n (codes "call") false) (Some (arguments_node l)) None in
-    behind_postfix place owner names known later ts rest (behind (skip_newlines more)) n left postfixes.Dot (rw there refl) (whole made) made refl tt (omega arith)
-    (λ d room.
-    let read = list_below d known later (behind (behind rest)) more owners.Call l (omega arith) listing (omega arith) (closing_free _ more closing refl) in
-    rw opened (rw read (rw closing refl)))
+module _ (i : Inside) (n : Node) (names known : Names) (ts rest : Tokens) (owner : DoOwner) (l : ListNode) (opened : first (behind ts) ≡ words.Mark marks.OpenParenthesis)
+    (read : i.list names (behind (behind ts)) owners.Call ≡ Ok (l, known, rest)) (closing : first (skip_newlines rest) ≡ words.Mark marks.CloseParenthesis) where
+  -- the method call of a value behind .
+  pub dot_called : postfixed i n postfixes.Dot names ts owner ≡ Ok (whole (call_node (method_callee n (codes "call") false) (Some (arguments_node l)) None), known, behind (skip_newlines rest))
+  unfolding postfixed
+  dot_called = rw opened (rw read (rw closing refl))
+
+  -- and behind &.
+  pub safe_called : postfixed i n postfixes.Safe names ts owner ≡ Ok (whole (call_node (outside_callee outsides.SafeNavigation (place_at ts) (n ∷ [])) (Some (arguments_node l)) None), known, behind (skip_newlines rest))
+  unfolding postfixed
+  safe_called = rw opened (rw read (rw closing refl))
+
+module _ (place : Place) (owner : DoOwner) (names known later : Names) (ts rest more : Tokens) (n : Node) (l : ListNode) (left : Fact (PrimaryRule place owner n) names ts known rest) where
+  call_behind : (p : Postfix) (w : Word) (c : CalleeNode) → first rest ≡ w → postfix_at w ≡ Some p → is_finish w ≡ false → first (behind rest) ≡ words.Mark marks.OpenParenthesis
+      → Fact (Listing owners.Call l) known (behind (behind rest)) later more → first (skip_newlines more) ≡ words.Mark marks.CloseParenthesis
+      → ((i : Inside) → i.list known (behind (behind rest)) owners.Call ≡ Ok (l, later, more)
+      → postfixed i n p known rest owner ≡ Ok (whole (call_node c (Some (arguments_node l)) None), later, behind (skip_newlines more)))
+      → Fact (PrimaryRule place owner (call_node c (Some (arguments_node l)) None)) names ts later (behind (skip_newlines more))
+  call_behind p w c there goes_on some opened listing closing same =
+      let one = word_taken w rest there some in
+      let two = word_taken (words.Mark marks.OpenParenthesis) (behind rest) opened refl in
+      let last = closer_taken _ more closing in
+      let fewer = listing.0 in
+      let made : Node = call_node c (Some (arguments_node l)) None in
+      behind_postfix place owner names known later ts rest (behind (skip_newlines more)) n left p (ap postfix_at there ∙ goes_on) (whole made) made refl tt (omega arith)
+      (λ d room. same (levels d) (list_below d known later (behind (behind rest)) more owners.Call l (omega arith) listing (omega arith) (closing_free _ more closing refl)))
+
+  pub dot_call : first rest ≡ words.Mark marks.Dot → first (behind rest) ≡ words.Mark marks.OpenParenthesis → Fact (Listing owners.Call l) known (behind (behind rest)) later more
+      → first (skip_newlines more) ≡ words.Mark marks.CloseParenthesis
+      → Fact (PrimaryRule place owner (call_node (method_callee n (codes "call") false) (Some (arguments_node l)) None)) names ts later (behind (skip_newlines more))
+  dot_call there opened listing closing =
+      call_behind postfixes.Dot (words.Mark marks.Dot) (method_callee n (codes "call") false) there refl refl opened listing closing (λ i read. dot_called i n known later rest more owner l opened read closing)
+
+  pub safe_call : first rest ≡ words.Mark marks.AmpersandDot → first (behind rest) ≡ words.Mark marks.OpenParenthesis → Fact (Listing owners.Call l) known (behind (behind rest)) later more
+      → first (skip_newlines more) ≡ words.Mark marks.CloseParenthesis
+      → Fact (PrimaryRule place owner (call_node (outside_callee outsides.SafeNavigation (place_at rest) (n ∷ [])) (Some (arguments_node l)) None)) names ts later (behind (skip_newlines more))
+  safe_call there opened listing closing =
+      call_behind postfixes.Safe (words.Mark marks.AmpersandDot) (outside_callee outsides.SafeNavigation (place_at rest) (n ∷ [])) there refl refl opened listing closing
+      (λ i read. safe_called i n known later rest more owner l opened read closing)
 
 pub list_indexed : (place : Place) (owner : DoOwner) (names known later : Names) (ts rest more : Tokens) (n : Node) (l : ListNode) → Fact (PrimaryRule place owner n) names ts known rest → first rest ≡ words.Mark marks.OpenBracket
     → Fact (Listing owners.Call l) known (behind rest) later more → is_none l.block ≡ true → first (skip_newlines more) ≡ words.Mark marks.CloseBracket

@@ -9,6 +9,7 @@ use Rattle.rb_grammar.specs.Tokens.{first, behind, is_apart}
 use Rattle.rb_grammar.specs.Operators.{assignment_at, prefix_at}
 use Rattle.rb_grammar.specs.Starts.{begins_value, begins_argument, is_open_brace, opens_arguments, postfix_at}
 use Rattle.rb_grammar.specs.declared.operators.Assignment.{Assignment}
+use Rattle.rb_grammar.specs.declared.operators.Assignment.TheVariants as signs
 use Rattle.rb_grammar.specs.declared.operators.Prefix.TheVariants as prefixes
 use Rattle.rb_grammar.specs.declared.word.Word.{Word}
 use Rattle.rb_grammar.specs.declared.word.Word.TheVariants as words
@@ -22,13 +23,13 @@ use Rattle.rb_heads.specs.declared.primary.Place.{Place}
 use Rattle.rb_heads.specs.declared.primary.Place.TheVariants as places
 use Rattle.tree_builder.specs.Nodes.{prefix_node, assignment_node}
 use Rattle.tree_builder.specs.Listed.{ListNode, PhraseNode, command_part, nothing_listed, put, is_none, arguments_node}
-use Rattle.tree_builder.specs.Calls.{CalleeNode, whole, callee, call_node, is_target, target_node, target_names}
+use Rattle.tree_builder.specs.Calls.{CalleeNode, OperandNode, whole, callee, call_node, is_target, target_node, target_names}
 use Rattle.tree_builder.specs.declared.listed.Sort.TheVariants as sorts
 use Rattle.form_builder.specs.Parameters.{BlockNode}
-use Rattle.operand_rules.specs.Operands.{suffix, chain, operand, chain_within}
+use Rattle.operand_rules.specs.Operands.{begins_command, suffix, chain, operand, chain_within}
 use Rattle.operand_rules.proofs.Turns.{chain_step}
 use Rattle.phrase_rules.specs.Phrases as phrases
-use Rattle.phrase_rules.specs.Phrases.{assigned_value, assign, command, command_or_value, phrase_from, negated, phrase_by, phrase}
+use Rattle.phrase_rules.specs.Phrases.{is_assigned, is_command_there, assigned_value, assign, command, command_or_value, phrase_from, negated, phrase_by, phrase}
 use Rattle.statement_rules.specs.Lists.{part_by, next_part, list_from, list}
 use Rattle.statement_rules.specs.Statements.{is_not, negation}
 use Rattle.statement_rules.proofs.Turns.{list_step}
@@ -36,7 +37,7 @@ use Rattle.rule_base.specs.Reading.{Names, Tokens, Read, Inside}
 use Rattle.rb_parser.specs.Levels.{level_above, levels}
 use Rattle.grammar_reads.specs.Rules.{Negation, Target, Listing, Callee, CommandArguments, Command, Block, takes_list}
 use Rattle.grammar_reads.proofs.Results.{differs, and_false, not_true}
-use Rattle.grammar_reads.proofs.Tests.{or_left}
+use Rattle.grammar_reads.proofs.Tests.{or_left, or_right}
 use Rattle.grammar_reads.proofs.Assigning.{same_takes, statement_only}
 use Rattle.grammar_reads.proofs.SoundPhrases.{prefix_not}
 use Rattle.grammar_reads.proofs.Facts.{is_bang, begins, opens, Fact, levels_at, word_taken}
@@ -80,7 +81,7 @@ block_mark : (takes : Bool) (p : Punctuator) (style : BlockStyle) → block_of t
 block_mark takes marks.OpenBrace style h = refl
 block_mark takes p style h = differs (sym (ap is_some h))
 
-block_word : (takes : Bool) (w : Word) (style : BlockStyle) → block_of takes w ≡ Some style → assignment_at w ≡ None
+pub block_word : (takes : Bool) (w : Word) (style : BlockStyle) → block_of takes w ≡ Some style → assignment_at w ≡ None
 block_word takes (words.Mark p) style h = block_mark takes p style h
 block_word takes w style h = refl
 
@@ -117,7 +118,7 @@ arguments_below : (d : ℕ) (owner : DoOwner) (names known : Names) (ts rest : T
 arguments_below d owner names known ts rest c n some inner room calm =
     subst (λ (i : Inside). command i c names ts owner ≡ Ok ((n, sorts.Command), known, rest)) (sym (levels_at d some)) ((inner.2 (d - 1) room).2 calm)
 
-module _ (place : Place) (owner : DoOwner) (names known : Names) (ts rest : Tokens) (c : CalleeNode) (may : allows_command place ≡ true) (bare : prefix_at ts ≡ None) (inner : Fact (Callee place owner c) names ts known rest) (front : Front ts)
+module _ (place : Place) (owner : DoOwner) (names known : Names) (ts rest : Tokens) (c : CalleeNode) (may : allows_command place ≡ true) (bare : prefix_at ts ≡ None) (inner : Fact (Callee place owner c) names ts known rest) (front : Front place ts)
     (begun : begins_argument rest ≡ true) (closed : opens_arguments rest ≡ false) where
   -- before a list a callee is read alone
   callee_alone : (i : Inside) → suffix i c known rest owner ≡ Ok (callee c, known, rest)
@@ -157,13 +158,13 @@ module _ (place : Place) (owner : DoOwner) (names known : Names) (ts rest : Toke
       → phrase (levels d) names ts place owner ≡ Ok ((x, sorts.Command), later, more)
   command_phrase d x later more room group made =
       let other : first ts ≢ words.Mark marks.Not = λ e. differs (sym (ap is_some (prefix_not ts e)) ∙ ap is_some bare) in
-      phrase_read (levels d) place owner (callee c) names known ts rest _ (operand_start place ts inner.1 (front.1 other) group) (callee_read d room) (command_from (levels d) _ made)
+      phrase_read (levels d) place owner (callee c) names known ts rest _ (operand_start place ts inner.1 (front.1 may other) group) (callee_read d room) (command_from (levels d) _ made)
 
   command_fact : (x : Node) (later : Names) (more : Tokens) → length more < length ts → ((d : ℕ) → length ts ≤ d → assignment_at (first more) ≡ None → command (levels d) c known rest owner ≡ Ok ((x, sorts.Command), later, more))
       → Fact (Command place owner x) names ts later more
   command_fact x later more fewer read = (fewer, opens_begins ts inner.1, λ d room. (front.0, λ group calm. command_phrase d x later more room group (read d room calm)))
 
-pub callee_command : (place : Place) (owner : DoOwner) (names known later : Names) (ts rest more : Tokens) (c : CalleeNode) (n : Node) → allows_command place ≡ true → prefix_at ts ≡ None → Fact (Callee place owner c) names ts known rest → Front ts
+pub callee_command : (place : Place) (owner : DoOwner) (names known later : Names) (ts rest more : Tokens) (c : CalleeNode) (n : Node) → allows_command place ≡ true → prefix_at ts ≡ None → Fact (Callee place owner c) names ts known rest → Front place ts
     → Fact (CommandArguments owner c n) known rest later more → Fact (Command place owner n) names ts later more
 callee_command place owner names known later ts rest more c n may bare inner front arguments =
     let r = arguments.2 (length rest) (omega arith) in
@@ -172,7 +173,7 @@ callee_command place owner names known later ts rest more c n may bare inner fro
     command_fact place owner names known ts rest c may bare inner front r.0 r.1 n later more (omega arith) (λ d room calm. arguments_below d owner known later rest more c n (omega arith) arguments (omega arith) calm)
 
 pub not_command : (place : Place) (owner : DoOwner) (names known later : Names) (ts rest more : Tokens) (c : CalleeNode) (n : Node) → first ts ≡ words.Mark marks.Not → allows_command place ≡ true → prefix_at (behind ts) ≡ None
-    → Fact (Callee places.Command owner c) names (behind ts) known rest → Front (behind ts) → Fact (CommandArguments owner c n) known rest later more → Fact (Command place owner (prefix_node prefixes.Not n)) names ts later more
+    → Fact (Callee places.Command owner c) names (behind ts) known rest → Front places.Command (behind ts) → Fact (CommandArguments owner c n) known rest later more → Fact (Command place owner (prefix_node prefixes.Not n)) names ts later more
 unfolding part_at phrase_by negated
 not_command place owner names known later ts rest more c n is may bare inner front arguments =
     let r = arguments.2 (length rest) (omega arith) in
@@ -229,27 +230,63 @@ assign_read : (i : Inside) (place : Place) (owner : DoOwner) (a : Assignment) (t
 unfolding assign
 assign_read i place owner a target names known ts rest n read = rw read refl
 
-pub command_assigned : (place : Place) (owner : DoOwner) (a : Assignment) (names known later : Names) (ts rest more : Tokens) (target n : Node) → Fact (Target owner target) names ts known rest → Front ts → assignment_at (first rest) ≡ Some a
-    → Fact (Command (of_value place) owner n) known (behind rest) later more → (takes_list a place && is_comma_word (first more)) ≡ false → Fact (Command place owner (assignment_node a target n)) names ts later more
-command_assigned place owner a names known later ts rest more target n left lead there value alone =
-    let one = word_taken (first rest) rest refl (assignment_word (first rest) a there) in
-    let opening = and_parts (opens ts) (not (is_bang (first ts))) left.1 in
+module _ (place : Place) (owner : DoOwner) (a : Assignment) (names known later : Names) (ts rest more : Tokens) (target n : Node) (left : Fact (Target owner target) names ts known rest) (there : assignment_at (first rest) ≡ Some a)
+    (value : Fact (Command (of_value place) owner n) known (behind rest) later more) (alone : (takes_list a place && is_comma_word (first more)) ≡ false) where
+  -- a target, and the assignment of a command that it begins
+  assigned_from : (d : ℕ) → length ts ≤ d → assignment_at (first more) ≡ None
+      → (o : OperandNode) × (k : Names) × ((commands : Bool) → operand (levels d) names ts commands owner ≡ Ok (o, k, rest)) × (is_target o ≡ true)
+      × (phrase_from (levels d) o k rest place owner ≡ Ok ((assignment_node a target n, sorts.Command), later, more))
+  assigned_from d room calm =
+      let one = word_taken (first rest) rest refl (assignment_word (first rest) a there) in
+      let l = left.0 in
+      let v = value.0 in
+      let t = left.2 d room (assignment_ends (first rest) a there) in
+      let inner = value.2 (d - 1) (omega arith) in
+      let right = value_read d place owner a known later (behind rest) more n (omega arith) (inner.1 (value_group place (behind rest)) calm) value.1 inner.0 (omega arith) alone in
+      let made = assign_read (levels d) place owner a target known later (behind rest) more n right in
+      let moved : assign (levels d) (target_node t.0) (target_names t.0 t.1) a (behind rest) place owner ≡ Ok ((assignment_node a target n, sorts.Command), later, more) =
+      subst (λ k. assign (levels d) (target_node t.0) k a (behind rest) place owner ≡ Ok ((assignment_node a target n, sorts.Command), later, more)) (sym t.5)
+      (subst (λ y. assign (levels d) y known a (behind rest) place owner ≡ Ok ((assignment_node a target n, sorts.Command), later, more)) (sym t.4) made) in
+      (t.0, t.1, t.2, t.3, from_read (levels d) place owner a t.0 t.1 rest _ t.3 there moved)
+
+  pub command_assigned : Front places.Command ts → Fact (Command place owner (assignment_node a target n)) names ts later more
+  command_assigned lead =
+      let one = word_taken (first rest) rest refl (assignment_word (first rest) a there) in
+      let opening = and_parts (opens ts) (not (is_bang (first ts))) left.1 in
+      let l = left.0 in
+      let v = value.0 in (
+        omega arith,
+        opens_begins ts opening.0,
+        λ d room. (
+          lead.0,
+          λ group calm.
+              let f = assigned_from d room calm in
+              phrase_read (levels d) place owner f.0 names f.1 ts rest _ (operand_start place ts opening.0 (lead.1 refl (bang_other (first ts) (not_true (is_bang (first ts)) opening.1))) group) (f.2 (allows_command place)) f.4,
+        ),
+      )
+
+-- behind ! the value is no list
+no_list : (a : Assignment) (b : Bool) → (takes_list a places.Command && b) ≡ false
+no_list signs.Plain b = refl
+no_list (signs.Operation o) b = refl
+
+pub not_assigned : (place : Place) (owner : DoOwner) (a : Assignment) (names known later : Names) (ts rest more : Tokens) (target n : Node) → first ts ≡ words.Mark marks.Not → allows_command place ≡ true
+    → Fact (Target owner target) names (behind ts) known rest → assignment_at (first rest) ≡ Some a → Fact (Command places.Command owner n) known (behind rest) later more
+    → Fact (Command place owner (prefix_node prefixes.Not (assignment_node a target n))) names ts later more
+unfolding part_at phrase_by negated
+not_assigned place owner a names known later ts rest more target n is may left there value =
+    let one = word_taken (words.Mark marks.Not) ts is refl in
+    let two = word_taken (first rest) rest refl (assignment_word (first rest) a there) in
     let l = left.0 in
     let v = value.0 in (
       omega arith,
-      opens_begins ts opening.0,
+      rw is refl,
       λ d room. (
-        lead.0,
+        rw is refl,
         λ group calm.
-            let t = left.2 d room (assignment_ends (first rest) a there) in
-            let inner = value.2 (d - 1) (omega arith) in
-            let right = value_read d place owner a known later (behind rest) more n (omega arith) (inner.1 (value_group place (behind rest)) calm) value.1 inner.0 (omega arith) alone in
-            let made = assign_read (levels d) place owner a target known later (behind rest) more n right in
-            let moved : assign (levels d) (target_node t.0) (target_names t.0 t.1) a (behind rest) place owner ≡ Ok ((assignment_node a target n, sorts.Command), later, more) =
-            subst (λ k. assign (levels d) (target_node t.0) k a (behind rest) place owner ≡ Ok ((assignment_node a target n, sorts.Command), later, more)) (sym t.5)
-            (subst (λ y. assign (levels d) y known a (behind rest) place owner ≡ Ok ((assignment_node a target n, sorts.Command), later, more)) (sym t.4) made) in
-            phrase_read (levels d) place owner t.0 names t.1 ts rest _ (operand_start place ts opening.0 (lead.1 (bang_other (first ts) (not_true (is_bang (first ts)) opening.1))) group) (t.2 (allows_command place))
-            (from_read (levels d) place owner a t.0 t.1 rest _ t.3 there moved),
+            let f = assigned_from places.Command owner a names known later (behind ts) rest more target n left there value (no_list a (is_comma_word (first more))) d (omega arith) calm in
+            let assigned : is_command_there f.0 rest ≡ true = or_right (begins_command f.0 rest) (is_assigned f.0 rest) (rw (f.3, there) refl) in
+            rw (not_start place ts is group may) (rw (f.2 true) (rw assigned (rw f.4 refl))),
       ),
     )
 

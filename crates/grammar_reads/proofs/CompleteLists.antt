@@ -42,7 +42,7 @@ module _ (place : Place) (owner : DoOwner) (names : Names) (ts : Tokens) where
   part_value d known rest n inner room calm alone e =
       subst (λ q. phrase (levels d) names ts q owner ≡ Ok ((n, sorts.Argument), known, rest)) (sym e) (inner.2 d room (part_group alone place ts e) calm)
 
-  pub plain_fact : (known : Names) (rest : Tokens) (n : Node) → Fact (Argument place owner n) names ts known rest → Front ts → is_arrow_word (first rest) ≡ false → Fact (Part place owner (plain_part n)) names ts known rest
+  pub plain_fact : (known : Names) (rest : Tokens) (n : Node) → Fact (Argument place owner n) names ts known rest → Front place ts → is_arrow_word (first rest) ≡ false → Fact (Part place owner (plain_part n)) names ts known rest
   unfolding part_by
   plain_fact known rest n inner front arrow = (
     inner.0,
@@ -55,7 +55,7 @@ module _ (place : Place) (owner : DoOwner) (names : Names) (ts : Tokens) where
     ),
   )
 
-  pub pair_fact : (known later : Names) (rest more : Tokens) (key n : Node) → Fact (Argument place owner key) names ts known rest → Front ts → first rest ≡ words.Mark marks.Arrow
+  pub pair_fact : (known later : Names) (rest more : Tokens) (key n : Node) → Fact (Argument place owner key) names ts known rest → Front place ts → first rest ≡ words.Mark marks.Arrow
       → Fact (Argument places.Argument owner n) known (behind rest) later more → Fact (Part place owner (pair_part key n)) names ts later more
   unfolding part_by
   pair_fact known later rest more key n inner front there value =

@@ -119,6 +119,10 @@ outside_piece o names ts is alone = (
   λ d room. rw is (rw (is, outside_alone o (place_at ts) alone) refl),
 )
 
+pub non_ascii_piece : (names : Names) (ts : Tokens) → first ts ≡ words.Other outsides.NonAsciiName → Fact (Piece (bare outsides.NonAsciiName (place_at ts))) names ts names (behind ts)
+unfolding leaf
+non_ascii_piece names ts is = (word_taken (words.Other outsides.NonAsciiName) ts is refl, rw is refl, λ d room. rw is (rw is refl))
+
 pub no_piece : (names : Names) (ts : Tokens) → ends_literal (first ts) ≡ true → Fact (Pieces []) names ts names ts
 no_piece names ts ends =
     let stops : literals.ends_literal (first ts) ≡ true = same_ends (first ts) ∙ ends in

@@ -24,7 +24,7 @@ use Rattle.phrase_rules.proofs.Turns.{targets_step}
 use Rattle.statement_rules.specs.Sections.{heading, only, section}
 use Rattle.rule_base.specs.Reading.{Names, Tokens, Inside}
 use Rattle.rb_parser.specs.Levels.{levels}
-use Rattle.grammar_reads.specs.Rules.{Primary as PrimaryRule, Target, LoopTargets, Repeated, Statements, Classes, RescueClause}
+use Rattle.grammar_reads.specs.Rules.{Primary as PrimaryRule, InnerTarget, LoopTargets, Repeated, Statements, Classes, RescueClause}
 use Rattle.grammar_reads.proofs.Results.{err_is_none, and_false}
 use Rattle.grammar_reads.proofs.Facts.{Reads, ends_target, is_finish, Fact, word_taken, behind_within, begins}
 use Rattle.grammar_reads.proofs.SectionSteps.{steps_none, sections_read}
@@ -41,7 +41,7 @@ with_star : (x : Node) (comma : Bool) (found : TargetsNode) → found.list.star 
 with_star x comma found h = (rw h refl, rw h refl)
 
 -- a target behind those that were found
-target_turn : (i : Inside) (n : ℕ) (found : TargetsNode) (x : Node) (names known : Names) (ts rest : Tokens) → 0 < n → Reads i (Target owners.Call x) names ts known rest → begins (first ts) ≡ true
+target_turn : (i : Inside) (n : ℕ) (found : TargetsNode) (x : Node) (names known : Names) (ts rest : Tokens) → 0 < n → Reads i (InnerTarget owners.Call x) names ts known rest → begins (first ts) ≡ true
     → ends_target (first rest) ≡ true → targets_from i n uses.For true found names ts
     ≡ targets_from i (n - 1) uses.For (is_comma_word (first rest)) (with_one x (is_comma_word (first rest)) found) known (skip_if (is_comma_word (first rest)) rest)
 unfolding next_target target alone
@@ -49,13 +49,13 @@ target_turn i n found x names known ts rest some read begun ends =
     let v = value_no_end (first ts) begun in
     let nested : is_nested_group uses.For ts ≡ false = and_false (opens_group (first ts)) in
     let r = read ends in
-    targets_step i n uses.For true found names ts some ∙ rw v.0 (rw v.1 (rw nested (rw (r.6 false) (rw r.3 (rw (r.4, r.5) refl)))))
+    targets_step i n uses.For true found names ts some ∙ rw v.0 (rw v.1 (rw nested (rw r.6 (rw r.3 (rw (r.4, r.5) refl)))))
 
 pub comma_word : (w : Word) → is_comma_word w ≡ true → (is_finish w ≡ false) × (ends_target w ≡ true)
 comma_word (words.Mark marks.Comma) h = (refl, refl)
 comma_word w h = differs (sym h)
 
-pub last_target : (names known : Names) (ts rest : Tokens) (x : Node) → Fact (Target owners.Call x) names ts known rest → Fact (LoopTargets (x ∷ [])) names ts known rest
+pub last_target : (names known : Names) (ts rest : Tokens) (x : Node) → Fact (InnerTarget owners.Call x) names ts known rest → Fact (LoopTargets (x ∷ [])) names ts known rest
 last_target names known ts rest x inner =
     let fewer = inner.0 in (
       fewer,
@@ -70,7 +70,7 @@ last_target names known ts rest x inner =
       ),
     )
 
-pub more_targets : (names known later : Names) (ts rest more : Tokens) (x : Node) (xs : List Node) → Fact (Target owners.Call x) names ts known rest → is_comma_word (first rest) ≡ true
+pub more_targets : (names known later : Names) (ts rest more : Tokens) (x : Node) (xs : List Node) → Fact (InnerTarget owners.Call x) names ts known rest → is_comma_word (first rest) ≡ true
     → Fact (LoopTargets xs) known (behind rest) later more → Fact (LoopTargets (x ∷ xs)) names ts later more
 more_targets names known later ts rest more x xs one_there comma others =
     let a = one_there.0 in
@@ -121,7 +121,7 @@ then_ends (words.Key keywords.Then) ts rest h = refl
 then_ends w ts rest h = err_is_none (length ts) rest h
 
 pub rescue_into : (names known later latest : Names) (ts rest more body last : Tokens) (cs : List Node) (x n : Node) → first ts ≡ words.Key keywords.Rescue → Fact (Classes cs) names (behind ts) known rest
-    → first rest ≡ words.Mark marks.Arrow → Fact (Target owners.Call x) known (behind rest) later more → then_at (first more) more ≡ Ok body → Fact (Statements n) later body latest last
+    → first rest ≡ words.Mark marks.Arrow → Fact (InnerTarget owners.Call x) known (behind rest) later more → then_at (first more) more ≡ Ok body → Fact (Statements n) later body latest last
     → Fact (RescueClause (node.rescue_clause (nodes cs) (one x) n)) names ts latest last
 unfolding section only
 rescue_into names known later latest ts rest more body last cs x n is classes arrow assigned there inner =

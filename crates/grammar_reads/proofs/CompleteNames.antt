@@ -1,9 +1,14 @@
--- What follows of a name that is called.
-use Rattle.std.proofs.Common.{◌≡◌, true, false, not, ◌&&◌, Option, Some, None, is_some, Ok, inl, inr, refl, sym}
+-- What follows of a name that is called, alone or behind a value.
+use Rattle.std.proofs.Common.{◌≡◌, true, false, not, ◌&&◌, [], ◌∷◌, Option, Some, None, is_some, Ok, inl, inr, refl, sym, subst}
 use Rattle.std.proofs.lemmas.Bool.{cases_Bool, and_parts}
+use Rattle.rb_syntax.specs.declared.outside.Outside.TheVariants as outsides
+use Rattle.rb_syntax.specs.declared.punctuator.Punctuator.{Punctuator}
 use Rattle.rb_syntax.specs.declared.punctuator.Punctuator.TheVariants as marks
-use Rattle.rb_grammar.specs.Tokens.{first, behind, bytes_at}
-use Rattle.rb_grammar.specs.Starts.{is_open_parenthesis, opens_arguments, begins_argument}
+use Rattle.rb_tree.specs.Node.{Node}
+use Rattle.rb_grammar.specs.Tokens.{first, behind, bytes_at, place_at}
+use Rattle.rb_grammar.specs.Starts.{is_open_parenthesis, opens_arguments, begins_argument, postfix_at}
+use Rattle.rb_grammar.specs.declared.starts.Postfix.{Postfix}
+use Rattle.rb_grammar.specs.declared.starts.Postfix.TheVariants as postfixes
 use Rattle.rb_grammar.specs.declared.word.Word.{Word}
 use Rattle.rb_grammar.specs.declared.word.Word.TheVariants as words
 use Rattle.rb_heads.specs.Names.{is_known}
@@ -11,12 +16,13 @@ use Rattle.rb_heads.specs.Primary.{primary_at, block_at, allows_command, is_name
 use Rattle.rb_heads.specs.declared.primary.DoOwner.{DoOwner}
 use Rattle.rb_heads.specs.declared.primary.Place.{Place}
 use Rattle.rb_heads.specs.declared.primary.Primary.TheVariants as primaries
-use Rattle.tree_builder.specs.Calls.{CalleeNode, callee, is_target}
-use Rattle.operand_rules.specs.Operands.{is_outside_name, suffix}
+use Rattle.tree_builder.specs.Calls.{CalleeNode, method_callee, outside_callee, callee, is_target}
+use Rattle.operand_rules.specs.Operands as operands
+use Rattle.operand_rules.specs.Operands.{is_outside_name, suffix, postfixed}
 use Rattle.rule_base.specs.Reading.{Names, Tokens, Inside}
-use Rattle.grammar_reads.specs.Rules.{is_blockless, is_alone, takes_target}
+use Rattle.grammar_reads.specs.Rules.{is_blockless, is_alone, takes_target, is_constant, joins_name, joins_constant, method_behind}
 use Rattle.grammar_reads.proofs.Results.{differs, not_true}
-use Rattle.grammar_reads.proofs.Facts.{is_head, Settled}
+use Rattle.grammar_reads.proofs.Facts.{is_head, is_finish, Settled}
 
 pub none_there : {A : Type 0} (o : Option A) → not (is_some o) ≡ true → o ≡ None
 none_there None h = refl
@@ -64,3 +70,61 @@ name_primary names ts words.Identifier there h opened = elim (cases_Bool (is_kno
 name_primary names ts words.Constant there h opened = rw (there, opened) refl
 name_primary names ts words.MethodName there h opened = rw there refl
 name_primary names ts w there h opened = differs (sym h)
+
+pub same_constant : (w : Word) → operands.is_constant w ≡ is_constant w
+same_constant words.Constant = refl
+same_constant w = refl
+
+module _ (i : Inside) (n : Node) (names : Names) (ts : Tokens) (owner : DoOwner) (is : is_name_word (first (behind ts)) ≡ true) where
+  -- a name behind . is a method
+  pub dot_named : postfixed i n postfixes.Dot names ts owner ≡ suffix i (method_callee n (bytes_at (behind ts)) false) names (behind (behind ts)) owner
+  unfolding postfixed
+  dot_named = let plain = name_plain (first (behind ts)) is in rw (plain.0, plain.1, is) refl
+
+  -- so it is behind &.
+  pub safe_named : postfixed i n postfixes.Safe names ts owner ≡ suffix i (outside_callee outsides.SafeNavigation (place_at ts) (n ∷ [])) names (behind (behind ts)) owner
+  unfolding postfixed
+  safe_named = let plain = name_plain (first (behind ts)) is in rw (plain.0, plain.1, is) refl
+
+  -- and behind ::, but for a constant without a parenthesis behind it
+  pub scope_named : (is_constant (first (behind ts)) && not (opens_arguments (behind (behind ts)))) ≡ false
+      → postfixed i n postfixes.Scope names ts owner ≡ suffix i (method_callee n (bytes_at (behind ts)) true) names (behind (behind ts)) owner
+  unfolding postfixed
+  scope_named other =
+      let plain = name_plain (first (behind ts)) is in
+      let none : (operands.is_constant (first (behind ts)) && not (opens_arguments (behind (behind ts)))) ≡ false =
+      subst (λ b. (b && not (opens_arguments (behind (behind ts)))) ≡ false) (sym (same_constant (first (behind ts)))) other in
+      rw (plain.1, is) (rw none refl)
+
+module _ (i : Inside) (n : Node) (names : Names) (ts : Tokens) (owner : DoOwner) (is : first (behind ts) ≡ words.Other outsides.NonAsciiName) where
+  dot_outside : postfixed i n postfixes.Dot names ts owner ≡ suffix i (outside_callee outsides.NonAsciiName (place_at (behind ts)) (n ∷ [])) names (behind (behind ts)) owner
+  unfolding postfixed
+  dot_outside = rw is refl
+
+  safe_outside : postfixed i n postfixes.Safe names ts owner ≡ suffix i (outside_callee outsides.NonAsciiName (place_at (behind ts)) (n ∷ [])) names (behind (behind ts)) owner
+  unfolding postfixed
+  safe_outside = rw is refl
+
+  scope_outside : postfixed i n postfixes.Scope names ts owner ≡ suffix i (outside_callee outsides.NonAsciiName (place_at (behind ts)) (n ∷ [])) names (behind (behind ts)) owner
+  unfolding postfixed
+  scope_outside = rw is refl
+
+-- what a mark between a value and a name makes of them
+pub record Joins (w : Word) : Type 0 where
+  pub mark : Postfix
+  pub there : postfix_at w ≡ Some mark
+  pub some : is_finish w ≡ false
+  pub named : (i : Inside) (n : Node) (names : Names) (ts : Tokens) (owner : DoOwner) → is_name_word (first (behind ts)) ≡ true → joins_constant w (behind ts) ≡ false
+      → postfixed i n mark names ts owner ≡ suffix i (method_behind w n (bytes_at (behind ts)) (place_at ts)) names (behind (behind ts)) owner
+  pub outside : (i : Inside) (n : Node) (names : Names) (ts : Tokens) (owner : DoOwner) → first (behind ts) ≡ words.Other outsides.NonAsciiName
+      → postfixed i n mark names ts owner ≡ suffix i (outside_callee outsides.NonAsciiName (place_at (behind ts)) (n ∷ [])) names (behind (behind ts)) owner
+
+mark_joins : (p : Punctuator) → joins_name (words.Mark p) ≡ true → Joins (words.Mark p)
+mark_joins marks.Dot h = record { mark = postfixes.Dot; there = refl; some = refl; named = λ i n names ts owner is other. dot_named i n names ts owner is; outside = dot_outside }
+mark_joins marks.AmpersandDot h = record { mark = postfixes.Safe; there = refl; some = refl; named = λ i n names ts owner is other. safe_named i n names ts owner is; outside = safe_outside }
+mark_joins marks.ColonColon h = record { mark = postfixes.Scope; there = refl; some = refl; named = scope_named; outside = scope_outside }
+mark_joins p h = differs (sym h)
+
+pub joins : (w : Word) → joins_name w ≡ true → Joins w
+joins (words.Mark p) h = mark_joins p h
+joins w h = differs (sym h)

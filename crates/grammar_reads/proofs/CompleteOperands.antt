@@ -17,13 +17,13 @@ use Rattle.rb_heads.specs.declared.primary.Place.TheVariants as places
 use Rattle.tree_builder.specs.Nodes.{infix_node, prefix_node}
 use Rattle.tree_builder.specs.Calls.{OperandNode, whole, callee, operand_node}
 use Rattle.operand_rules.specs.Operands as operands
-use Rattle.operand_rules.specs.Operands.{begins_command, continues, chain_within, chain, operand}
+use Rattle.operand_rules.specs.Operands.{begins_command, continues, chain_within, chain, operand_with, operand}
 use Rattle.operand_rules.specs.Operators.{operators_turn, operators_from, operation}
 use Rattle.operand_rules.proofs.Turns.{chain_step, operators_step}
 use Rattle.rule_base.specs.Reading.{Names, Tokens, Inside}
 use Rattle.rb_parser.specs.Levels.{levels}
 use Rattle.grammar_reads.specs.Rules.{Primary, Operand, Operators, Operation, operand_level, operand_place}
-use Rattle.grammar_reads.proofs.Results.{differs, read_same, carry, same_read}
+use Rattle.grammar_reads.proofs.Results.{bind_ok, differs, read_same, carry, same_read}
 use Rattle.grammar_reads.proofs.SoundPostfix.{same_level}
 use Rattle.grammar_reads.proofs.SoundPhrases.{none_so_tight, prefix_not}
 use Rattle.grammar_reads.proofs.Facts.{Reads, is_finish, Fact, levels_at, word_taken, Within, Settled, Nots}
@@ -140,6 +140,54 @@ prefixed place owner o names known ts rest n there inner =
                 subst (λ p. Reads (levels d) (Operation (operand_place p place) (operand_level p) owner n) names (behind ts) known rest) (sym is) (inner.2 d (omega arith)) in
                 let behind_it = alone (levels d) place names known (behind ts) rest owner n at_one in
                 (behind_it.0, ap (λ p. prefix_node p n) (sym is) ∙ ap (λ m. prefix_node prefixes.Not m) behind_it.1, behind_it.2),
+          ),
+    )
+
+-- what has an operator before it begins no command
+prefixed_calm : (i : Inside) (names k : Names) (ts mid : Tokens) (owner : DoOwner) (o : Prefix) (m : OperandNode) → prefix_at ts ≡ Some o → operand i names ts false owner ≡ Ok (m, k, mid) → begins_command m mid ≡ false
+unfolding operand
+prefixed_calm i names k ts mid owner o m there read =
+    let made : operand_with i (Some o) names ts false owner ≡ Ok (m, k, mid) = subst (λ (p : Option Prefix). operand_with i p names ts false owner ≡ Ok (m, k, mid)) there read in
+    let r = bind_ok (i.operation names (behind ts) (operands.operand_level o) owner) _ (m, k, mid) made in
+    carry (λ (p : OperandNode) (l : Names) (q : Tokens). begins_command p q ≡ false) (whole (prefix_node o r.0.0)) m r.0.1 k r.0.2 mid r.2 refl
+
+-- nor is it read in another way where a command may stand
+prefixed_same : (i : Inside) (names : Names) (ts : Tokens) (owner : DoOwner) (o : Prefix) → prefix_at ts ≡ Some o → operand i names ts true owner ≡ operand i names ts false owner
+unfolding operand
+prefixed_same i names ts owner o there = rw there refl
+
+-- an operand with an operator before it, behind !
+prefixed_alone : (i : Inside) (names known : Names) (ts rest : Tokens) (owner : DoOwner) (o : Prefix) (x : Node) → prefix_at ts ≡ Some o → Reads i (Operation places.Argument 1 owner x) names ts known rest
+    → (m : OperandNode) × (x ≡ operand_node m) × (operand i names ts true owner ≡ Ok (m, known, rest)) × (begins_command m rest ≡ false)
+prefixed_alone i names known ts rest owner o x there r =
+    let ends : operators_from i (length r.2 + 1) 1 owner (operand_node r.0) r.1 r.2 ≡ Ok (operand_node r.0, r.1, r.2) =
+    operators_step i (length r.2 + 1) 1 owner (operand_node r.0) r.1 r.2 (omega arith) ∙ rw (none_so_tight (first r.2)) refl in
+    let same : same_read (Ok (operand_node r.0, r.1, r.2)) (Ok (x, known, rest)) = sym ends ∙ r.4 (length r.2 + 1) (omega arith) in
+    let e = read_same (operand_node r.0) x r.1 known r.2 rest same in
+    let read = r.3.0 false (never_within places.Argument) in
+    let got : (operand i names ts true owner ≡ Ok (r.0, r.1, r.2)) × (begins_command r.0 r.2 ≡ false) = (prefixed_same i names ts owner o there ∙ read, prefixed_calm i names r.1 ts r.2 owner o r.0 there read) in
+    let there_too = carry (λ (y : Node) (k : Names) (m : Tokens). (operand i names ts true owner ≡ Ok (r.0, k, m)) × (begins_command r.0 m ≡ false)) (operand_node r.0) x r.1 known r.2 rest same got in
+    (r.0, sym e.0, there_too.0, there_too.1)
+
+pub not_prefixed : (place : Place) (owner : DoOwner) (o : Prefix) (names known : Names) (ts rest : Tokens) (n : Node) → first ts ≡ words.Mark marks.Not → prefix_at (behind ts) ≡ Some o → Fact (Operation places.Argument 1 owner n) names (behind ts) known rest
+    → Fact (Operand place owner (prefix_node prefixes.Not n)) names ts known rest
+unfolding operand
+not_prefixed place owner o names known ts rest n is there inner =
+    let bang = prefix_not ts is in
+    let h = prefix_head ts prefixes.Not bang in
+    let one = word_taken (words.Mark marks.Not) ts is refl in
+    let fewer = inner.0 in (
+      omega arith,
+      head_opens ts h,
+      λ d room.
+          let read : (levels d).operation names (behind ts) 1 owner ≡ Ok (n, known, rest) =
+          below d (omega arith) names (behind ts) 1 owner ∙ operation_of places.Argument (levels (d - 1)) names known (behind ts) rest 1 owner n (inner.2 (d - 1) (omega arith)) in
+          let b = prefixed_alone (levels d) names known (behind ts) rest owner o n there (inner.2 d (omega arith)) in (
+            whole (prefix_node prefixes.Not n),
+            refl,
+            tt,
+            λ commands within. rw (bang, read) refl,
+            λ again. (b.0, ap (λ (m : Node). prefix_node prefixes.Not m) b.1, λ may. (b.2, b.3)),
           ),
     )
 

@@ -73,7 +73,7 @@ value_there d place names known ts rest n inner room none alone same =
     let calm : (allows_command place && is_some (assignment_at (first rest))) ≡ false = rw none (and_false (allows_command place)) in
     subst (λ p. phrase (levels d) names ts p owners.Call ≡ Ok ((n, sorts.Argument), known, rest)) (sym same) (inner.2 d room free calm)
 
-pub last_value : (place : Place) (names known : Names) (ts rest : Tokens) (n : Node) → Fact (Argument place owners.Call n) names ts known rest → Front ts → goes_on_list (first rest) ≡ false → Fact (Values place (n ∷ [])) names ts known rest
+pub last_value : (place : Place) (names known : Names) (ts rest : Tokens) (n : Node) → Fact (Argument place owners.Call n) names ts known rest → Front place ts → goes_on_list (first rest) ≡ false → Fact (Values place (n ∷ [])) names ts known rest
 last_value place names known ts rest n inner front ends =
     let fewer = inner.0 in (
       omega arith,
@@ -86,7 +86,7 @@ last_value place names known ts rest n inner front ends =
           (false, value_turn (levels d) alone before found names known ts rest n read inner.1 front.0 alone_there.1 k false (omega arith) alone_there.0 ∙ last),
     )
 
-pub more_values : (place : Place) (names known later : Names) (ts rest more : Tokens) (n : Node) (ns : List Node) → Fact (Argument place owners.Call n) names ts known rest → Front ts → first rest ≡ words.Mark marks.Comma
+pub more_values : (place : Place) (names known later : Names) (ts rest more : Tokens) (n : Node) (ns : List Node) → Fact (Argument place owners.Call n) names ts known rest → Front place ts → first rest ≡ words.Mark marks.Comma
     → Fact (Values places.Argument ns) known (behind rest) later more → Fact (Values place (n ∷ ns)) names ts later more
 more_values place names known later ts rest more n ns inner front there others =
     let one = word_taken (words.Mark marks.Comma) rest there refl in

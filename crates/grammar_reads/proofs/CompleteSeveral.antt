@@ -30,7 +30,7 @@ use Rattle.phrase_rules.proofs.Turns.{targets_step}
 use Rattle.statement_rules.specs.Statements.{is_not, negation, expression}
 use Rattle.rule_base.specs.Reading.{Names, Tokens, Inside}
 use Rattle.rb_parser.specs.Levels.{levels}
-use Rattle.grammar_reads.specs.Rules.{Target, Listing, OneTarget, Targets, Expression, is_star}
+use Rattle.grammar_reads.specs.Rules.{Target, InnerTarget, Listing, OneTarget, Targets, Expression, is_star}
 use Rattle.grammar_reads.proofs.Results.{differs, not_true}
 use Rattle.grammar_reads.proofs.Tests.{or_left, or_right, or_rest, and_parts}
 use Rattle.grammar_reads.proofs.Facts.{Reads, is_bang, begins, opens, ends_target, Fact, levels_at, word_taken}
@@ -59,10 +59,10 @@ value_no_end w h = (refl, refl)
 pub target_begins : (ts : Tokens) → (opens ts && not (is_bang (first ts))) ≡ true → begins (first ts) ≡ true
 target_begins ts h = opens_begins ts (and_parts (opens ts) _ h).0
 
-target_start : (ts : Tokens) → (opens ts && not (is_bang (first ts))) ≡ true → Front ts → is_target_group ts ≡ false → start_at places.Statement ts ≡ starts.Operand
+target_start : (ts : Tokens) → (opens ts && not (is_bang (first ts))) ≡ true → Front places.Command ts → is_target_group ts ≡ false → start_at places.Statement ts ≡ starts.Operand
 target_start ts h front group =
     let p = and_parts (opens ts) (not (is_bang (first ts))) h in
-    operand_start places.Statement ts p.0 (front.1 (bang_other (first ts) (not_true (is_bang (first ts)) p.1))) (rw group refl)
+    operand_start places.Statement ts p.0 (front.1 refl (bang_other (first ts) (not_true (is_bang (first ts)) p.1))) (rw group refl)
 
 star_there : (w : Word) → is_star w ≡ true → w ≡ words.Mark marks.Star
 star_there (words.Mark marks.Star) h = refl
@@ -76,12 +76,12 @@ comma_ends : (w : Word) → w ≡ words.Mark marks.Comma → ends_target w ≡ t
 comma_ends w e = rw e refl
 
 -- a name or a constant as a target
-place_read : (i : Inside) (names known : Names) (ts rest : Tokens) (n : Node) → Reads i (Target owners.Call n) names ts known rest → ends_targets (first rest) ≡ true → targets.place i names ts ≡ Ok (n, known, rest)
+place_read : (i : Inside) (names known : Names) (ts rest : Tokens) (n : Node) → Reads i (InnerTarget owners.Call n) names ts known rest → ends_targets (first rest) ≡ true → targets.place i names ts ≡ Ok (n, known, rest)
 place_read i names known ts rest n read ends =
     let t = read (or_right _ _ (or_left (ends_targets (first rest)) _ ends)) in
-    rw (t.6 false) (rw t.3 (rw (t.4, t.5) refl))
+    rw t.6 (rw t.3 (rw (t.4, t.5) refl))
 
-pub place_target : (names known : Names) (ts rest : Tokens) (n : Node) → is_nested_group uses.Assignment ts ≡ false → Fact (Target owners.Call n) names ts known rest → Fact (OneTarget (one_target n)) names ts known rest
+pub place_target : (names known : Names) (ts rest : Tokens) (n : Node) → is_nested_group uses.Assignment ts ≡ false → Fact (InnerTarget owners.Call n) names ts known rest → Fact (OneTarget (one_target n)) names ts known rest
 unfolding target alone
 place_target names known ts rest n nested inner = (
   inner.0,
@@ -92,7 +92,7 @@ place_target names known ts rest n nested inner = (
       rw star (rw nested (rw read refl)),
 )
 
-pub star_target_fact : (names known : Names) (ts rest : Tokens) (n : Node) → first ts ≡ words.Mark marks.Star → Fact (Target owners.Call n) names (behind ts) known rest → Fact (OneTarget (star_target (Some n))) names ts known rest
+pub star_target_fact : (names known : Names) (ts rest : Tokens) (n : Node) → first ts ≡ words.Mark marks.Star → Fact (InnerTarget owners.Call n) names (behind ts) known rest → Fact (OneTarget (star_target (Some n))) names ts known rest
 unfolding target alone
 star_target_fact names known ts rest n is inner =
     let one = word_taken (words.Mark marks.Star) ts is refl in
@@ -185,7 +185,7 @@ list_assign i target n names known ts rest owner l read made =
 target_head : (ts : Tokens) → (opens ts && not (is_bang (first ts))) ≡ true → (begins (first ts) || (is_not (first ts) || is_star (first ts))) ≡ true
 target_head ts h = or_left (begins (first ts)) _ (target_begins ts h)
 
-pub list_assigned : (owner : DoOwner) (names known later : Names) (ts rest more : Tokens) (target n : Node) (l : ListNode) → is_target_group ts ≡ false → Fact (Target owner target) names ts known rest → Front ts → first rest ≡ words.Mark marks.Assign
+pub list_assigned : (owner : DoOwner) (names known later : Names) (ts rest more : Tokens) (target n : Node) (l : ListNode) → is_target_group ts ≡ false → Fact (Target owner target) names ts known rest → Front places.Command ts → first rest ≡ words.Mark marks.Assign
     → Fact (Listing owner l) known (behind rest) later more → is_right_side l ≡ true → right_side l ≡ (n, sorts.Statement) → Fact (Expression places.Statement owner (node.assign target n)) names ts later more
 list_assigned owner names known later ts rest more target n l group left lead there inner side made =
     let one = word_taken (words.Mark marks.Assign) rest there refl in
@@ -222,7 +222,7 @@ several_phrase : (i : Inside) (o : OperandNode) (x n : Node) (names known later 
 unfolding phrase_from
 several_phrase i o x n names known later ts more owner is same knows there made = rw is (rw there (rw there (rw (same, knows) made)))
 
-pub several_assigned : (owner : DoOwner) (names known later latest : Names) (ts rest mid more : Tokens) (target : Node) (ms : TargetsNode) (l : ListNode) → is_target_group ts ≡ false → Fact (Target owner target) names ts known rest → Front ts → first rest ≡ words.Mark marks.Comma
+pub several_assigned : (owner : DoOwner) (names known later latest : Names) (ts rest mid more : Tokens) (target : Node) (ms : TargetsNode) (l : ListNode) → is_target_group ts ≡ false → Fact (Target owner target) names ts known rest → Front places.Command ts → first rest ≡ words.Mark marks.Comma
     → Fact (Targets (target_lists.put (one_target target) true no_targets) ms) known (behind rest) later mid → ms.several ≡ true → first mid ≡ words.Mark marks.Assign → Fact (Listing owner l) later (behind mid) latest more → is_right_side l ≡ true
     → Fact (Expression places.Statement owner (node.multiple_assign (targets_list ms) (right_side l).0)) names ts latest more
 several_assigned owner names known later latest ts rest mid more target ms l group left lead there others many closing inner side =

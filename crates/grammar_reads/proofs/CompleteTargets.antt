@@ -1,36 +1,37 @@
 -- A target that is derived is read, before an assignment.
-use Rattle.std.proofs.Common.{◌≡◌, ◌+◌, ◌<◌, Bool, true, false, not, ◌&&◌, length, None, is_some, Ok, inl, inr, refl, sym, ap, subst, ◌∙◌, arith, ◌-◌, Some}
+use Rattle.std.proofs.Common.{◌≡◌, ℕ, ◌+◌, ◌<◌, ◌≤◌, Bool, true, false, not, ◌&&◌, List, length, None, is_some, Ok, inl, inr, refl, sym, ap, subst, ◌∙◌, arith}
 use Rattle.std.proofs.lemmas.Bool.{cases_Bool}
 use Rattle.rb_syntax.specs.declared.keyword.Keyword.TheVariants as keywords
+use Rattle.rb_syntax.specs.declared.outside.Outside.{Outside}
+use Rattle.rb_syntax.specs.declared.outside.Outside.TheVariants as outsides
 use Rattle.rb_syntax.specs.declared.punctuator.Punctuator.{Punctuator}
 use Rattle.rb_syntax.specs.declared.punctuator.Punctuator.TheVariants as marks
 use Rattle.rb_tree.specs.Node as node
-use Rattle.rb_tree.specs.Node.{Node, one}
-use Rattle.rb_grammar.specs.Tokens.{first, behind, bytes_at}
+use Rattle.rb_tree.specs.Node.{Node, nodes, one}
+use Rattle.rb_grammar.specs.Tokens.{first, behind, bytes_at, place_at}
 use Rattle.rb_grammar.specs.Operators.{prefix_at}
 use Rattle.rb_grammar.specs.Starts.{begins_value, begins_argument, is_open_parenthesis, opens_arguments, postfix_at, is_open_brace}
-use Rattle.rb_grammar.specs.declared.starts.Postfix.TheVariants as postfixes
 use Rattle.rb_grammar.specs.declared.word.Word.{Word}
 use Rattle.rb_grammar.specs.declared.word.Word.TheVariants as words
 use Rattle.rb_heads.specs.Names.{is_known, learned}
 use Rattle.rb_heads.specs.Primary.{primary_at, block_of, call_takes, is_name_word}
 use Rattle.rb_heads.specs.declared.primary.DoOwner.{DoOwner}
 use Rattle.tree_builder.specs.Nodes.{shape}
-use Rattle.tree_builder.specs.Leaf.{leaf}
+use Rattle.tree_builder.specs.Leaf.{leaf, bare}
 use Rattle.tree_builder.specs.Calls.{CalleeNode, name_callee, method_callee, super_callee, outside_callee, call_node, operand_node, OperandNode, whole, callee, is_target, target_node, target_names}
-use Rattle.operand_rules.specs.Operands.{suffix, compound, primary_by, primary, chain, operand, continues, postfixed, chain_turn, chain_within}
+use Rattle.operand_rules.specs.Operands.{suffix, compound, primary_by, primary, chain, operand, chain_within}
 use Rattle.operand_rules.proofs.Turns.{chain_step}
 use Rattle.rule_base.specs.Reading.{Names, Tokens, Inside}
 use Rattle.rb_parser.specs.Levels.{levels}
-use Rattle.grammar_reads.specs.Rules.{Target, is_place, Primary}
+use Rattle.grammar_reads.specs.Rules.{Target, InnerTarget, is_place, is_outside_variable, Primary, Callee}
 use Rattle.grammar_reads.proofs.Results.{differs, and_false, both}
-use Rattle.grammar_reads.proofs.Facts.{is_variable, ends_target, Fact, word_taken, is_bang, opens, Reads}
+use Rattle.grammar_reads.proofs.Facts.{Within, is_variable, ends_target, Fact, word_taken, is_bang, opens}
+use Rattle.rb_heads.specs.declared.primary.Place.{Place}
 use Rattle.rb_heads.specs.declared.primary.Place.TheVariants as places
-use Rattle.grammar_reads.proofs.Heads.{variable_head, head_opens, head_not_finish}
+use Rattle.grammar_reads.proofs.Heads.{variable_head, head_opens}
 use Rattle.grammar_reads.proofs.SoundPhrases.{prefix_not}
 use Rattle.grammar_reads.proofs.CompleteOperands.{never_continues, chain_ends}
-use Rattle.grammar_reads.proofs.CompletePostfixes.{continues_there}
-use Rattle.grammar_reads.proofs.CompleteNames.{name_head, name_plain}
+use Rattle.grammar_reads.proofs.CompleteCallees.{method_fact}
 
 -- what stands behind a target goes on neither a name nor a postfix
 record Stops (w : Word) : Type 0 where
@@ -82,6 +83,7 @@ no_prefix words.Identifier ts there h = rw there refl
 no_prefix words.Constant ts there h = rw there refl
 no_prefix words.InstanceVariable ts there h = rw there refl
 no_prefix words.GlobalVariable ts there h = rw there refl
+no_prefix (words.Other o) ts there h = rw there refl
 no_prefix w ts there h = differs (sym h)
 
 chain_read : (i : Inside) (owner : DoOwner) (names : Names) (ts : Tokens) (o : OperandNode) → primary i names ts owner ≡ Ok (o, names, behind ts) → postfix_at (first (behind ts)) ≡ None
@@ -101,6 +103,7 @@ is_shorter words.Identifier ts there h = word_taken words.Identifier ts there re
 is_shorter words.Constant ts there h = word_taken words.Constant ts there refl
 is_shorter words.InstanceVariable ts there h = word_taken words.InstanceVariable ts there refl
 is_shorter words.GlobalVariable ts there h = word_taken words.GlobalVariable ts there refl
+is_shorter (words.Other o) ts there h = word_taken (words.Other o) ts there refl
 is_shorter w ts there h = differs (sym h)
 
 variable_opens : (ts : Tokens) → is_variable (first ts) ≡ true → (opens ts && not (is_bang (first ts))) ≡ true
@@ -142,6 +145,12 @@ module _ (owner : DoOwner) (names : Names) (ts : Tokens) where
     | inr other ↦ (callee (name_callee (bytes_at ts) true), rw (is, other) (rw (no_arguments (behind ts) s.parenthesis, s.block (call_takes owner), is) refl), refl, refl, rw other refl)
   ])
 
+  pub outside_target : (o : Outside) → first ts ≡ words.Other o → is_outside_variable o ≡ true → Fact (Target owner (bare o (place_at ts))) names ts names (behind ts)
+  unfolding primary_at primary_by compound leaf shape
+  outside_target outsides.ClassVariable is h = target_fact _ _ _ is refl (λ i s. (whole (bare outsides.ClassVariable (place_at ts)), rw is (rw is refl), refl, refl, refl))
+  outside_target outsides.SpecialGlobal is h = target_fact _ _ _ is refl (λ i s. (whole (bare outsides.SpecialGlobal (place_at ts)), rw is (rw is refl), refl, refl, refl))
+  outside_target o is h = differs (sym h)
+
 no_prefix_bang : (ts : Tokens) → prefix_at ts ≡ None → not (is_bang (first ts)) ≡ true
 unfolding prefix_at
 no_prefix_bang ts none = by_word (first ts) refl
@@ -171,64 +180,96 @@ place_whole (callee c) n same is = differs (sym (subst (λ m. is_place m ≡ tru
     by_callee super_callee = refl
     by_callee (outside_callee o at es) = refl
 
-place_chain : (i : Inside) (owner : DoOwner) (names known : Names) (ts rest : Tokens) (n : Node) (r : Reads i (Primary places.Command owner n) names ts known rest) → r.4 ≡ whole n → postfix_at (first rest) ≡ None
-    → (commands : Bool) → chain i names ts commands owner ≡ Ok (whole n, known, rest)
-place_chain i owner names known ts rest n r same ends commands =
-    subst (λ (o : OperandNode). chain i names ts commands owner ≡ Ok (o, known, rest)) same (chain_ends i places.Command n names known ts rest owner commands (λ h. refl) r ends)
+module _ (place : Place) (owner : DoOwner) (names known : Names) (ts rest : Tokens) (none : prefix_at ts ≡ None) (commands : Bool) (within : Within commands place) (d : ℕ) (room : length ts ≤ d) (ends : ends_target (first rest) ≡ true) where
+  -- an index or a constant of a value
+  place_read : (n : Node) → is_place n ≡ true → Fact (Primary place owner n) names ts known rest
+      → (operand (levels d) names ts commands owner ≡ Ok (whole n, known, rest)) × (chain (levels d) names ts commands owner ≡ Ok (whole n, known, rest))
+  unfolding operand
+  place_read n is inner =
+      let s = stops (first rest) ends in
+      let r = inner.2 d room in
+      let chained : chain (levels d) names ts commands owner ≡ Ok (whole n, known, rest) =
+      subst (λ (o : OperandNode). chain (levels d) names ts commands owner ≡ Ok (o, known, rest)) (place_whole r.4 n r.5 is) (chain_ends (levels d) place n names known ts rest owner commands within r s.postfix) in
+      (rw none chained, chained)
+
+  -- what is called
+  callee_read : (c : CalleeNode) → Fact (Callee place owner c) names ts known rest
+      → (operand (levels d) names ts commands owner ≡ Ok (callee c, known, rest)) × (chain (levels d) names ts commands owner ≡ Ok (callee c, known, rest))
+  unfolding operand chain suffix
+  callee_read c inner =
+      let s = stops (first rest) ends in
+      let alone : suffix (levels d) c known rest owner ≡ Ok (callee c, known, rest) = rw (no_arguments rest s.parenthesis, s.block (call_takes owner)) refl in
+      let r = inner.2 d room (callee c) known rest (omega arith) alone in
+      let t = r.4 (length r.2 + 1) (omega arith) in
+      let some = t.1 in
+      let all : chain_within (levels d) (length r.2 + 1) commands owner r.0 r.1 r.2 ≡ Ok (callee c, known, rest) =
+      t.2 commands within ∙ chain_step (levels d) t.0 commands owner (callee c) known rest (omega arith) ∙ rw (never_continues (callee c) rest commands s.postfix) refl in
+      let chained : chain (levels d) names ts commands owner ≡ Ok (callee c, known, rest) = rw r.3 all in
+      (rw none chained, chained)
 
 pub postfix_target : (owner : DoOwner) (names known : Names) (ts rest : Tokens) (n : Node) → is_place n ≡ true → prefix_at ts ≡ None → Fact (Primary places.Command owner n) names ts known rest → Fact (Target owner n) names ts known rest
-unfolding operand
 postfix_target owner names known ts rest n is none inner = (
   inner.0,
   both (opens ts) _ inner.1 (no_prefix_bang ts none),
+  λ d room ends. (
+    whole n,
+    known,
+    λ commands. (place_read places.Command owner names known ts rest none commands (λ h. refl) d room ends n is inner).0,
+    place_target n is,
+    refl,
+    refl,
+    λ commands. (place_read places.Command owner names known ts rest none commands (λ h. refl) d room ends n is inner).1,
+  ),
+)
+
+-- no command may stand where none is asked for
+none_asked : Within false places.Argument
+none_asked h = differs (sym h)
+
+pub postfix_inner_target : (owner : DoOwner) (names known : Names) (ts rest : Tokens) (n : Node) → is_place n ≡ true → prefix_at ts ≡ None → Fact (Primary places.Argument owner n) names ts known rest → Fact (InnerTarget owner n) names ts known rest
+postfix_inner_target owner names known ts rest n is none inner = (
+  inner.0,
+  both (opens ts) _ inner.1 (no_prefix_bang ts none),
   λ d room ends.
-      let s = stops (first rest) ends in
-      let r = inner.2 d room in
-      let same = place_whole r.4 n r.5 is in (
-        whole n,
-        known,
-        λ commands. rw none (place_chain (levels d) owner names known ts rest n r same s.postfix commands),
-        place_target n is,
-        refl,
-        refl,
-        λ commands. place_chain (levels d) owner names known ts rest n r same s.postfix commands,
-      ),
+      let r = place_read places.Argument owner names known ts rest none false none_asked d room ends n is inner in
+      (whole n, known, r.0, place_target n is, refl, refl, r.1),
+)
+
+pub callee_inner_target : (owner : DoOwner) (names known : Names) (ts rest : Tokens) (c : CalleeNode) → prefix_at ts ≡ None → Fact (Callee places.Argument owner c) names ts known rest → is_target (callee c) ≡ true
+    → Fact (InnerTarget owner (target_node (callee c))) names ts (target_names (callee c) known) rest
+callee_inner_target owner names known ts rest c none inner target = (
+  inner.0,
+  both (opens ts) _ inner.1 (no_prefix_bang ts none),
+  λ d room ends.
+      let r = callee_read places.Argument owner names known ts rest none false none_asked d room ends c inner in
+      (callee c, known, r.0, target, refl, refl, r.1),
+)
+
+pub any_target : (owner : DoOwner) (names known : Names) (ts rest : Tokens) (n : Node) → Fact (Target owner n) names ts known rest → Fact (InnerTarget owner n) names ts known rest
+any_target owner names known ts rest n inner = (inner.0, inner.1, λ d room ends. let t = inner.2 d room ends in (t.0, t.1, t.2 false, t.3, t.4, t.5, t.6 false))
+
+-- what is called, and may be assigned to
+called_target : (owner : DoOwner) (names known : Names) (ts rest : Tokens) (c : CalleeNode) → prefix_at ts ≡ None → Fact (Callee places.Command owner c) names ts known rest → is_target (callee c) ≡ true
+    → Fact (Target owner (target_node (callee c))) names ts (target_names (callee c) known) rest
+called_target owner names known ts rest c none inner target = (
+  inner.0,
+  both (opens ts) _ inner.1 (no_prefix_bang ts none),
+  λ d room ends. (
+    callee c,
+    known,
+    λ commands. (callee_read places.Command owner names known ts rest none commands (λ h. refl) d room ends c inner).0,
+    target,
+    refl,
+    refl,
+    λ commands. (callee_read places.Command owner names known ts rest none commands (λ h. refl) d room ends c inner).1,
+  ),
 )
 
 pub method_target : (owner : DoOwner) (names known : Names) (ts rest : Tokens) (n : Node) → prefix_at ts ≡ None → Fact (Primary places.Command owner n) names ts known rest → first rest ≡ words.Mark marks.Dot → is_name_word (first (behind rest)) ≡ true
     → Fact (Target owner (node.call (one n) (bytes_at (behind rest)) node.none node.none)) names ts known (behind (behind rest))
-unfolding operand chain postfixed suffix
 method_target owner names known ts rest n none inner there is =
-    let one_less = word_taken (words.Mark marks.Dot) rest there refl in
-    let two = word_taken (first (behind rest)) (behind rest) refl (head_not_finish (first (behind rest)) (name_head (first (behind rest)) is)) in
-    let plain = name_plain (first (behind rest)) is in
-    let c : CalleeNode = method_callee n (bytes_at (behind rest)) false in
-    let l = inner.0 in (
-      omega arith,
-      both (opens ts) _ inner.1 (no_prefix_bang ts none),
-      λ d room ends.
-          let s = stops (first (behind (behind rest))) ends in
-          let r = inner.2 d room in
-          let t = r.7 (length r.2 + 1) (omega arith) in
-          let some = t.1 in
-          let got : postfixed (levels d) n postfixes.Dot known rest owner ≡ Ok (callee c, known, behind (behind rest)) =
-          rw (plain.0, plain.1, is) (rw (no_arguments (behind (behind rest)) s.parenthesis, s.block (call_takes owner)) refl) in
-          let chained : (commands : Bool) → chain (levels d) names ts commands owner ≡ Ok (callee c, known, behind (behind rest)) =
-          λ commands.
-          let dotted : postfix_at (first rest) ≡ Some postfixes.Dot = rw there refl in
-          let turned : chain_turn (levels d) (continues r.4 rest commands) (chain_within (levels d) (t.0 - 1) commands owner) r.4 known rest owner ≡ chain_within (levels d) (t.0 - 1) commands owner (callee c) known (behind (behind rest)) =
-          rw (continues_there r.4 places.Command rest commands r.6 (λ h. refl), dotted) (rw (r.5, got) refl) in
-          let last : chain_within (levels d) (t.0 - 1) commands owner (callee c) known (behind (behind rest)) ≡ Ok (callee c, known, behind (behind rest)) =
-          chain_step (levels d) (t.0 - 1) commands owner (callee c) known (behind (behind rest)) (omega arith) ∙ rw (never_continues (callee c) (behind (behind rest)) commands s.postfix) refl in
-          let all : chain_within (levels d) (length r.2 + 1) commands owner r.0 r.1 r.2 ≡ Ok (callee c, known, behind (behind rest)) =
-          t.2 commands (λ h. refl) ∙ chain_step (levels d) t.0 commands owner r.4 known rest (omega arith) ∙ turned ∙ last in
-          rw r.3 all in (
-            callee c,
-            known,
-            λ commands. rw none (chained commands),
-            refl,
-            refl,
-            refl,
-            chained,
-          ),
-    )
+    called_target owner names known ts (behind (behind rest)) (method_callee n (bytes_at (behind rest)) false) none (method_fact places.Command owner names known ts rest n inner is there) refl
+
+pub callee_target : (owner : DoOwner) (names known : Names) (ts rest : Tokens) (o : Outside) (at : ℕ) (ns : List Node) → prefix_at ts ≡ None → Fact (Callee places.Command owner (outside_callee o at ns)) names ts known rest
+    → Fact (Target owner (node.outside o at (nodes ns))) names ts known rest
+callee_target owner names known ts rest o at ns none inner = called_target owner names known ts rest (outside_callee o at ns) none inner refl

@@ -31,7 +31,7 @@ use Rattle.grammar_reads.specs.Rules.{Argument, Operation, Negation, is_question
 use Rattle.grammar_reads.proofs.Tests.{or_left}
 use Rattle.grammar_reads.proofs.Results.{clash, differs, and_false}
 use Rattle.grammar_reads.proofs.Facts.{Reads, Fact, levels_at, word_taken, Settled, is_bang, begins, opens}
-use Rattle.grammar_reads.proofs.Heads.{Front, head_no_not, operand_start, not_start, plain_start, opens_begins}
+use Rattle.grammar_reads.proofs.Heads.{Front, head_no_not, front_start, not_start, plain_start, opens_begins}
 use Rattle.grammar_reads.proofs.Assigning.{or_false_parts}
 
 -- an operator between operands is no assignment, and no comma
@@ -157,7 +157,7 @@ module _ (i : Inside) (place : Place) (owner : DoOwner) (names known : Names) (t
       (λ target. clash (is_target (whole (prefix_node prefixes.Not (operand_node n.0)))) target (not_is_no_target (operand_node n.0))) refl in
       rw (got.0, plain) there
 
-  start_way : opens ts ≡ true → Front ts → is_taken place x (first rest) ≡ false → (is_statement place && is_target_group ts) ≡ false → (allows_command place && is_some (assignment_at (first rest))) ≡ false
+  start_way : opens ts ≡ true → Front place ts → is_taken place x (first rest) ≡ false → (is_statement place && is_target_group ts) ≡ false → (allows_command place && is_some (assignment_at (first rest))) ≡ false
       → phrase i names ts place owner ≡ Ok ((y, sorts.Argument), later, left)
   unfolding phrase_by
   start_way h front free group none = by_bang (bang_is (first ts))
@@ -175,9 +175,9 @@ module _ (i : Inside) (place : Place) (owner : DoOwner) (names known : Names) (t
 
       by_bang : (first ts ≡ words.Mark marks.Not) ⊎ (first ts ≢ words.Mark marks.Not) → phrase i names ts place owner ≡ Ok ((y, sorts.Argument), later, left)
       by_bang (inl bang) = by_place place refl bang
-      by_bang (inr other) = rw (operand_start place ts h (front.1 other) group) (operand_way free)
+      by_bang (inr other) = rw (front_start place ts h front other group) (operand_way free)
 
-pub value : (place : Place) (owner : DoOwner) (names known : Names) (ts rest : Tokens) (n : Node) → Fact (Operation place 13 owner n) names ts known rest → Front ts → is_question (first rest) ≡ false → is_taken place n (first rest) ≡ false
+pub value : (place : Place) (owner : DoOwner) (names known : Names) (ts rest : Tokens) (n : Node) → Fact (Operation place 13 owner n) names ts known rest → Front place ts → is_question (first rest) ≡ false → is_taken place n (first rest) ≡ false
     → Fact (Argument place owner n) names ts known rest
 value place owner names known ts rest n inner front calm free = (
   inner.0,
@@ -195,7 +195,7 @@ pub value_below : (d : ℕ) → 0 < d → (names known : Names) (ts rest : Token
 value_below d some names known ts rest owner n read = ap (λ (i : Inside). i.argument names ts owner) (levels_at d some) ∙ rw read refl
 
 pub conditional : (place : Place) (owner : DoOwner) (names known later last : Names) (ts rest more left : Tokens) (n a b : Node)
-    → Fact (Operation place 13 owner n) names ts known rest → Front ts → first rest ≡ words.Mark marks.Question
+    → Fact (Operation place 13 owner n) names ts known rest → Front place ts → first rest ≡ words.Mark marks.Question
     → Fact (Argument places.Argument owner a) known (behind rest) later more → first more ≡ words.Mark marks.Colon
     → Fact (Argument places.Argument owner b) later (behind more) last left
     → Fact (Argument place owner (choice_node n a b)) names ts last left

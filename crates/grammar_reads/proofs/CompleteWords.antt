@@ -1,14 +1,12 @@
 -- Primaries of one word outside the language, :: before a constant, and jumps without a value that are derived are read.
-use Rattle.std.proofs.Common.{◌≡◌, ◌≤◌, true, false, length, refl, sym, arith}
+use Rattle.std.proofs.Common.{◌≡◌, ◌≤◌, true, false, ◌||◌, length, refl, sym, arith}
 use Rattle.rb_syntax.specs.declared.keyword.Keyword.TheVariants as keywords
 use Rattle.rb_syntax.specs.declared.outside.Outside.{Outside}
 use Rattle.rb_syntax.specs.declared.outside.Outside.TheVariants as outsides
-use Rattle.rb_syntax.specs.declared.punctuator.Punctuator.{Punctuator}
 use Rattle.rb_syntax.specs.declared.punctuator.Punctuator.TheVariants as marks
 use Rattle.rb_tree.specs.Node as node
 use Rattle.rb_grammar.specs.Tokens.{first, behind, bytes_at, place_at}
-use Rattle.rb_grammar.specs.Starts.{begins_value, opens_arguments, is_open_parenthesis}
-use Rattle.rb_grammar.specs.declared.word.Word.{Word}
+use Rattle.rb_grammar.specs.Starts.{opens_arguments}
 use Rattle.rb_grammar.specs.declared.word.Word.TheVariants as words
 use Rattle.rb_heads.specs.Primary.{primary_of, primary_at}
 use Rattle.rb_heads.specs.declared.primary.DoOwner.{DoOwner}
@@ -18,8 +16,9 @@ use Rattle.tree_builder.specs.Leaf.{bare, leaf}
 use Rattle.operand_rules.specs.Operands.{compound, primary_by}
 use Rattle.rule_base.specs.Reading.{Names, Tokens}
 use Rattle.rb_parser.specs.Levels.{levels}
-use Rattle.grammar_reads.specs.Rules.{Primary as PrimaryRule, stands_alone}
+use Rattle.grammar_reads.specs.Rules.{Primary as PrimaryRule, stands_alone, takes_value}
 use Rattle.grammar_reads.proofs.Results.{differs}
+use Rattle.grammar_reads.proofs.Assigning.{or_false_parts}
 use Rattle.grammar_reads.proofs.Facts.{Fact, word_taken, behind_within, at_once}
 use Rattle.grammar_reads.proofs.Heads.{calm_head, head_opens, alone_begins}
 use Rattle.grammar_reads.proofs.CompleteLiterals.{outside_alone}
@@ -28,19 +27,6 @@ use Rattle.grammar_reads.proofs.CompletePrimary.{Alone, word_fact}
 outside_primary : (o : Outside) (names : Names) (ts : Tokens) → stands_alone o ≡ true → primary_of (words.Other o) names ts ≡ primaries.Leaf
 outside_primary outsides.NonAsciiName names ts h = differs (sym h)
 outside_primary o names ts h = refl
-
--- no arguments in parentheses stand where no value begins
-mark_no_group : (p : Punctuator) → begins_value (words.Mark p) ≡ false → is_open_parenthesis (words.Mark p) ≡ false
-mark_no_group marks.OpenParenthesis h = differs h
-mark_no_group p h = refl
-
-word_no_group : (w : Word) → begins_value w ≡ false → is_open_parenthesis w ≡ false
-word_no_group (words.Mark p) h = mark_no_group p h
-word_no_group w h = refl
-
-no_group_there : (ts : Tokens) → begins_value (first ts) ≡ false → opens_arguments ts ≡ false
-unfolding opens_arguments
-no_group_there ts h = rw (word_no_group (first ts) h) refl
 
 module _ (place : Place) (owner : DoOwner) (names : Names) (ts : Tokens) where
   pub top_constant : first ts ≡ words.Mark marks.ColonColon → first (behind ts) ≡ words.Constant → Fact (PrimaryRule place owner (node.top_constant (bytes_at (behind ts)))) names ts names (behind (behind ts))
@@ -90,6 +76,6 @@ module _ (place : Place) (owner : DoOwner) (names : Names) (ts : Tokens) where
   unfolding primary_at primary_by compound leaf
   next_alone is = word_fact place owner names ts _ _ is refl (λ i. rw is (rw is refl))
 
-  pub yield_alone : first ts ≡ words.Key keywords.Yield → begins_value (first (behind ts)) ≡ false → Alone place owner names ts (node.yield_node node.none)
+  pub yield_alone : first ts ≡ words.Key keywords.Yield → (opens_arguments (behind ts) || takes_value place (behind ts)) ≡ false → Alone place owner names ts (node.yield_node node.none)
   unfolding primary_at primary_by compound
-  yield_alone is none = word_fact place owner names ts _ _ is refl (λ i. rw is (rw (no_group_there (behind ts) none) refl))
+  yield_alone is none = word_fact place owner names ts _ _ is refl (λ i. rw is (rw (or_false_parts (opens_arguments (behind ts)) (takes_value place (behind ts)) none).0 refl))

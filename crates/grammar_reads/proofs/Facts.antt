@@ -7,7 +7,8 @@ use Rattle.rb_tree.specs.Node.{Name, Node, none}
 use Rattle.rb_grammar.specs.Tokens.{first, behind, skip_if, place_at}
 use Rattle.rb_tree.specs.Node as node
 use Rattle.rb_grammar.specs.Operators.{infix_at, assignment_at}
-use Rattle.rb_grammar.specs.Starts.{begins_value, begins_argument, is_open_parenthesis, outside_begins_value, opens_arguments}
+use Rattle.rb_grammar.specs.Starts.{begins_value, begins_argument, is_open_parenthesis, outside_begins_value, opens_arguments, postfix_at}
+use Rattle.rb_grammar.specs.declared.starts.Postfix.{Postfix}
 use Rattle.rb_syntax.specs.declared.core_form.Item.TheVariants.{Plain}
 use Rattle.rb_grammar.specs.Expect.{do_at}
 use Rattle.rb_grammar.specs.declared.operators.Prefix.TheVariants as prefixes
@@ -28,7 +29,7 @@ use Rattle.tree_builder.specs.Calls.{OperandNode, whole, is_target, target_node,
 use Rattle.tree_builder.specs.declared.listed.Sort.{Sort}
 use Rattle.tree_builder.specs.declared.listed.Sort.TheVariants as sorts
 use Rattle.form_rules.specs.Literals.{piece, pieces_from, string, strings_from}
-use Rattle.operand_rules.specs.Operands.{suffix, primary, chain, operand, begins_command, chain_within}
+use Rattle.operand_rules.specs.Operands.{suffix, primary, chain, operand, begins_command, postfixed, chain_within}
 use Rattle.operand_rules.specs.Operators.{operators_from}
 use Rattle.phrase_rules.specs.Phrases.{command, phrase}
 use Rattle.phrase_rules.specs.Targets.{target, targets_from, alone}
@@ -36,7 +37,7 @@ use Rattle.statement_rules.specs.Lists.{part_place, part, list_from, list}
 use Rattle.statement_rules.specs.Statements.{is_not, is_statement_sort, negation, junctions_from, expression, base, statement, statements_from, statements, modifiers_from}
 use Rattle.rule_base.specs.Reading.{Names, Tokens, Inside}
 use Rattle.rb_parser.specs.Levels.{level_above, levels}
-use Rattle.grammar_reads.specs.Rules.{WhenValues, Rule, Statements, StatementList, Statement, Modified, Base, Expression, Joined, Negation, Argument, Operation, Operators, Operand, Primary, Target, Elements, Piece, Pieces, Quoted, Strings, Part, Parts, Listing, OneTarget, Targets, ends_literal, is_star, begins_string, MethodNames, Guarded, Repeated, Branches, Otherwise, Subject, Clauses, Clause, Values, ValueTest, Classes, RescueClauses, RescueClause, Ensured, Handlers, Parameter, ParameterList, Parameters, MethodParameters, MethodHead, ClassPath, Body, takes_target, LoopTargets, Pattern, PatternTarget, PatternName, BlockParameters, BarredParameters, BarredLocals, BlockLocals, Block, Callee, CommandArguments, Command}
+use Rattle.grammar_reads.specs.Rules.{WhenValues, Rule, Statements, StatementList, Statement, Modified, Base, Expression, Joined, Negation, Argument, Operation, Operators, Operand, Primary, Target, InnerTarget, Elements, Piece, Pieces, Quoted, Strings, Part, Parts, Listing, OneTarget, Targets, ends_literal, is_star, begins_string, MethodNames, Guarded, Repeated, Branches, Otherwise, Subject, Clauses, Clause, Values, ValueTest, Classes, RescueClauses, RescueClause, Ensured, Handlers, Parameter, ParameterList, Parameters, MethodParameters, MethodHead, ClassPath, Body, takes_target, LoopTargets, Pattern, PatternTarget, PatternName, BlockParameters, BarredParameters, BarredLocals, BlockLocals, Block, Callee, CommandArguments, Command, Called, OnePostfix, Postfixes}
 use Rattle.rb_heads.specs.Sections.{next_section, takes_clause, takes_case_else, takes_rescue, takes_ensure}
 use Rattle.rb_heads.specs.declared.primary.Place.TheVariants as places
 use Rattle.rb_heads.specs.declared.sections.Compound.{Compound}
@@ -133,6 +134,7 @@ is_variable words.Identifier = true
 is_variable words.Constant = true
 is_variable words.InstanceVariable = true
 is_variable words.GlobalVariable = true
+is_variable (words.Other o) = outside_begins_value o
 is_variable _ = false
 
 -- the words that begin a name in a pattern
@@ -165,6 +167,7 @@ heads (Operators place loosest owner n) ts = opens ts
 heads (Operand place owner n) ts = opens ts
 heads (Primary place owner n) ts = opens ts
 heads (Target owner n) ts = opens ts && not (is_bang (first ts))
+heads (InnerTarget owner n) ts = opens ts && not (is_bang (first ts))
 heads (Elements xs) ts = true
 heads (Piece n) ts = not (ends_literal (first ts))
 heads (Pieces ns) ts = true
@@ -207,6 +210,9 @@ heads (Block style b) ts = true
 heads (Callee place owner c) ts = opens ts
 heads (CommandArguments owner c n) ts = true
 heads (Command place owner n) ts = begins (first ts)
+heads (Called owner c n) ts = true
+heads (OnePostfix owner n m) ts = true
+heads (Postfixes owner n m) ts = true
 heads (MethodHead h) ts = true
 heads (ClassPath s x) ts = opens ts
 heads (Body n) ts = true
@@ -232,6 +238,7 @@ Takes (BlockParameters l) ts rest = length rest ≤ length ts
 Takes (BarredParameters l) ts rest = length rest ≤ length ts
 Takes BarredLocals ts rest = length rest ≤ length ts
 Takes (CommandArguments owner c n) ts rest = length rest ≤ length ts
+Takes (Called owner c n) ts rest = length rest ≤ length ts
 Takes r ts rest = length rest < length ts
 
 -- a command may begin only where the place allows one
@@ -307,6 +314,9 @@ Reads i (Values place ns) names ts known rest = assignment_at (first rest) ≡ N
 Reads i (Target owner x) names ts known rest =
     ends_target (first rest) ≡ true → (o : OperandNode) × (k : Names) × ((commands : Bool) → operand i names ts commands owner ≡ Ok (o, k, rest))
     × (is_target o ≡ true) × (target_node o ≡ x) × (target_names o k ≡ known) × ((commands : Bool) → chain i names ts commands owner ≡ Ok (o, k, rest))
+Reads i (InnerTarget owner x) names ts known rest =
+    ends_target (first rest) ≡ true → (o : OperandNode) × (k : Names) × (operand i names ts false owner ≡ Ok (o, k, rest))
+    × (is_target o ≡ true) × (target_node o ≡ x) × (target_names o k ≡ known) × (chain i names ts false owner ≡ Ok (o, k, rest))
 Reads i (Elements xs) names ts known rest = (found : List Name) → elements_from found ts ≡ Some (found ++ xs, rest)
 Reads i (Piece x) names ts known rest = piece i names ts ≡ Ok (x, known, rest)
 Reads i (Pieces ns) names ts known rest = (n : ℕ) (found : List Node) → length ts < n → pieces_from i n found names ts ≡ Ok (found ++ ns, known, rest)
@@ -376,6 +386,12 @@ Reads i (CommandArguments owner c x) names ts known rest =
     (begins_argument ts ≡ true) × (opens_arguments ts ≡ false) × (assignment_at (first rest) ≡ None → command (level_above i) c names ts owner ≡ Ok ((x, sorts.Command), known, rest))
 Reads i (Command place owner x) names ts known rest =
     (part_at ts ≡ parts.Value) × ((is_statement place && is_target_group ts) ≡ false → assignment_at (first rest) ≡ None → phrase i names ts place owner ≡ Ok ((x, sorts.Command), known, rest))
+Reads i (Called owner c x) names ts known rest = (o : OperandNode) × (operand_node o ≡ x) × (suffix (level_above i) c names ts owner ≡ Ok (o, known, rest))
+Reads i (OnePostfix owner n x) names ts known rest =
+    (p : Postfix) × (postfix_at (first ts) ≡ Some p) × (o : OperandNode) × (operand_node o ≡ x) × (postfixed (level_above i) n p names ts owner ≡ Ok (o, known, rest))
+Reads i (Postfixes owner n x) names ts known rest =
+    (o : OperandNode) × (operand_node o ≡ x)
+    × ((m : OperandNode) → operand_node m ≡ n → (k : ℕ) → length ts < k → chain_within (level_above i) k false owner m names ts ≡ Ok (o, known, rest))
 Reads i (Pattern found t) names ts known rest = (n : ℕ) → length ts < n → targets_from i n uses.Pattern true found names ts ≡ Ok (t, known, rest)
 Reads i (PatternTarget x) names ts known rest = target i uses.Pattern names ts ≡ Ok (x, known, rest)
 Reads i (PatternName x) names ts known rest = alone i uses.Pattern names ts ≡ Ok (x, known, rest)

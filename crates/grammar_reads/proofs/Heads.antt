@@ -23,7 +23,7 @@ use Rattle.rb_heads.specs.declared.primary.Start.TheVariants as starts
 use Rattle.statement_rules.specs.declared.statements.StatementStart.TheVariants as beginnings
 use Rattle.statement_rules.specs.Statements.{is_not, statement_start}
 use Rattle.rule_base.specs.Reading.{Tokens}
-use Rattle.grammar_reads.specs.Rules.{is_star, stands_alone}
+use Rattle.grammar_reads.specs.Rules.{is_star, stands_alone, is_outside_variable}
 use Rattle.grammar_reads.proofs.Facts.{is_head, is_variable, is_finish, is_defined, begins, opens}
 use Rattle.grammar_reads.proofs.Results.{differs}
 use Rattle.grammar_reads.proofs.Tests.{or_left}
@@ -105,19 +105,24 @@ word_part words.Label ts h = differs (sym h)
 word_part words.StringBegin ts h = differs (sym h)
 word_part w ts h = refl
 
--- what begins a value is no key, and where it doesn't begin with ! no jump takes what is behind it
-abbrev pub Front : Tokens → Type 0
-Front ts = (part_at ts ≡ parts.Value) × (first ts ≢ words.Mark marks.Not → command_start ts ≡ starts.Operand)
+-- what begins a value is no key, and where a command may stand and it doesn't begin with ! no jump takes what is behind it
+abbrev pub Front : Place → Tokens → Type 0
+Front place ts = (part_at ts ≡ parts.Value) × (allows_command place ≡ true → first ts ≢ words.Mark marks.Not → command_start ts ≡ starts.Operand)
 
-pub calm_front : (ts : Tokens) → is_calm (first ts) ≡ true → Front ts
+pub calm_front : (place : Place) (ts : Tokens) → is_calm (first ts) ≡ true → Front place ts
 unfolding part_at command_start
-calm_front ts h = (word_part (first ts) ts h, λ other. word_start (first ts) (behind ts) h other)
+calm_front place ts h = (word_part (first ts) ts h, λ may other. word_start (first ts) (behind ts) h other)
+
+-- what begins a value where a command may stand begins one anywhere
+pub anywhere : (place : Place) (ts : Tokens) → Front places.Command ts → Front place ts
+anywhere place ts f = (f.0, λ may other. f.1 refl other)
 
 pub variable_calm : (w : Word) → is_variable w ≡ true → is_calm w ≡ true
 variable_calm words.Identifier h = refl
 variable_calm words.Constant h = refl
 variable_calm words.InstanceVariable h = refl
 variable_calm words.GlobalVariable h = refl
+variable_calm (words.Other o) h = h
 variable_calm w h = differs (sym h)
 
 key_begins : (k : Keyword) → begins (words.Key k) ≡ true → begins_value (words.Key k) ≡ true
@@ -165,6 +170,12 @@ pub alone_begins : (o : Outside) → stands_alone o ≡ true → outside_begins_
 alone_begins outsides.Ambiguous h = differs (sym h)
 alone_begins outsides.QuotedLabel h = differs (sym h)
 alone_begins o h = refl
+
+-- a variable outside the language does
+pub variable_begins : (o : Outside) → is_outside_variable o ≡ true → outside_begins_value o ≡ true
+variable_begins outsides.ClassVariable h = refl
+variable_begins outsides.SpecialGlobal h = refl
+variable_begins o h = differs (sym h)
 
 other_begins : (o : Outside) → begins (words.Other o) ≡ true → begins_value (words.Other o) ≡ true
 other_begins outsides.Ambiguous h = differs (sym h)
@@ -240,6 +251,12 @@ not_start place ts there free may =
 pub plain_start : (ts : Tokens) → opens ts ≡ true → start_at places.Argument ts ≡ starts.Operand
 unfolding start_at
 plain_start ts h = elim (opening ts h) [ inl head ↦ start_is_other (first ts) places.Argument ts head | inr defined ↦ rw (defined.0, defined.1) refl ]
+
+-- what begins a value, and doesn't begin with !, begins with an operand
+pub front_start : (place : Place) (ts : Tokens) → opens ts ≡ true → Front place ts → first ts ≢ words.Mark marks.Not → (is_statement place && is_target_group ts) ≡ false → start_at place ts ≡ starts.Operand
+front_start places.Argument ts h front other free = plain_start ts h
+front_start places.Command ts h front other free = operand_start places.Command ts h (front.1 refl other) free
+front_start places.Statement ts h front other free = operand_start places.Statement ts h (front.1 refl other) free
 
 is_prefix_mark : (p : Punctuator) (ts : Tokens) (o : Prefix) → prefix_of (words.Mark p) ts ≡ Some o → is_calm (words.Mark p) ≡ true
 is_prefix_mark marks.Not ts o h = refl

@@ -49,9 +49,11 @@ pub mod CompleteBlocks
 pub mod CompleteCallees
 pub mod CompleteCalls
 pub mod CompleteCommands
+pub mod CompleteChains
 pub mod CompleteDefinitions
 pub mod Complete
 pub mod Laws
 pub mod Witness
 pub mod ListWitness
 pub mod CommandWitness
+pub mod ChainWitness

@@ -13,7 +13,7 @@ use Rattle.tree_builder.specs.Listed.{ListNode, plain_part, nothing_listed, put}
 use Rattle.form_builder.specs.Targets as target_lists
 use Rattle.form_builder.specs.Targets.{TargetsNode, one_target, star_target, no_targets}
 use Rattle.grammar_reads.specs.Rules.{Statements, Statement, Expression, Argument, Targets, Pieces, Strings, Listing}
-use Rattle.grammar_reads.specs.Derives.{Derives, Separated, NoMore, OneMore, WithModifiers, Unmodified, Plain, Value, AllOperators, OneOperand, WithPostfixes, Integer, LocalTarget, BytesPiece, NoPiece, OnePiece, StringLiteral, LastString, Text, PlainPart, FirstPart, NextPart, AllParts, Array, SeveralAssigned, StarTarget, LastTarget}
+use Rattle.grammar_reads.specs.Derives.{Derives, Separated, NoMore, OneMore, WithModifiers, Unmodified, Plain, Value, AllOperators, OneOperand, WithPostfixes, Integer, LocalTarget, AnyTarget, BytesPiece, NoPiece, OnePiece, StringLiteral, LastString, Text, PlainPart, FirstPart, NextPart, AllParts, Array, SeveralAssigned, StarTarget, LastTarget}
 use Rattle.grammar_reads.specs.ListExample.{bracket_end, digit, second_comma, string_end, letter, string, bracket, equals, second_name, star, comma, tokens, text, array, assignment, tree, one_known, known}
 
 the_pieces : Derives (Pieces (node.piece (codes "x") ∷ [])) known letter known string_end
@@ -94,7 +94,7 @@ the_targets : Derives (Targets first_target both_targets) one_known star known e
 unfolding first behind word_of bytes_at
 the_targets =
     LastTarget one_known known star equals (star_target (Some (node.local (codes "b")))) first_target
-    (StarTarget one_known known star equals (node.local (codes "b")) refl (LocalTarget owners.Call one_known second_name refl))
+    (StarTarget one_known known star equals (node.local (codes "b")) refl (AnyTarget owners.Call one_known known second_name equals (node.local (codes "b")) (LocalTarget owners.Call one_known second_name refl)))
     refl refl refl
 
 the_assignment : Derives (Expression places.Statement owners.Call assignment) [] tokens known []

@@ -79,6 +79,7 @@ TargetOf r names ts known rest = Unit {0}
 target_of : (r : Rule) (names : Names) (ts : Tokens) (known : Names) (rest : Tokens) → Derives r names ts known rest → TargetOf r names ts known rest
 target_of _ _ _ _ _ (grammar.Separated names known ts rest ns d) = refl
 target_of _ _ _ _ _ (grammar.Prefixed place owner o names known ts rest n there d) = λ at h. differs (sym h ∙ prefix_is_none o n)
+target_of _ _ _ _ _ (grammar.NotPrefixed place owner o names known ts rest n is there d) = λ at h. differs (sym h)
 target_of _ _ _ _ _ (grammar.WithPostfixes place owner names known ts rest n none d ends) = λ at h. target_of _ _ _ _ _ d at none h
 target_of _ _ _ _ _ (grammar.Nil place owner names ts is) = λ at none h. differs (sym h)
 target_of _ _ _ _ _ (grammar.True place owner names ts is) = λ at none h. differs (sym h)
@@ -140,6 +141,7 @@ target_of _ _ _ _ _ (grammar.GroupCall place owner names known later ts rest mor
 target_of _ _ _ _ _ (grammar.GroupBlockCall place owner style names known later last ts rest more left c l b d opened inner closing there none block) = λ at free g. differs (sym g ∙ call_is_none c _ (Some b))
 target_of _ _ _ _ _ (grammar.BlockCall place owner style names known later ts rest more c b d closed there block) = λ at none g. differs (sym g ∙ call_is_none c None (Some b))
 target_of _ _ _ _ _ (grammar.DotCall place owner names known later ts rest more n l d there opened inner closing) = λ at none g. differs (sym g)
+target_of _ _ _ _ _ (grammar.SafeCall place owner names known later ts rest more n l d there opened inner closing) = λ at none g. differs (sym g)
 target_of _ _ _ _ _ (grammar.ListIndexed place owner names known later ts rest more n l left there inner alone closing) =
     λ at none h. grammar.PostfixTarget owner names later ts _ (node.index n (items_of (whole_items l.items l.pairs))) refl none
     (subst (λ p. Derives (PrimaryRule p owner (node.index n (items_of (whole_items l.items l.pairs)))) names ts later (behind (skip_newlines more))) at (grammar.ListIndexed place owner names known later ts rest more n l left there inner alone closing))

@@ -39,11 +39,11 @@ use Rattle.tree_builder.specs.Nodes.{infix_node, prefix_node, junction_node, ass
 use Rattle.tree_builder.specs.Leaf.{bare, positive_node, negative_node}
 use Rattle.tree_builder.specs.Listed as lists
 use Rattle.tree_builder.specs.Listed.{ListNode, PartNode, plain_part, splat_part, pair_part, block_part, command_part, nothing_listed, is_empty, is_none, whole_items, arguments_node, is_right_side, right_side, jump_node}
-use Rattle.tree_builder.specs.Calls.{CalleeNode, name_callee, method_callee, super_callee, outside_callee, call_node}
+use Rattle.tree_builder.specs.Calls.{CalleeNode, name_callee, method_callee, super_callee, outside_callee, callee, call_node, is_target, target_node, target_names}
 use Rattle.tree_builder.specs.declared.listed.Sort.TheVariants as sorts
 use Rattle.form_builder.specs.Parameters.{no_parameters, definition_of, BlockNode, ParameterNode, ParameterNodes, required, optional, rest_of, block_name, outside_parameter, may_follow, put_parameter, begins_parameter, block_of, with_comma}
 use Rattle.form_builder.specs.Targets.{TargetNode, one_target, group_target, star_target, TargetsNode, no_targets, targets_list, list_node, may_follow as target_follows, put}
-use Rattle.grammar_reads.specs.Rules.{WhenValues, Rule, Statements, StatementList, Statement, Modified, Base, Expression, Joined, Negation, Argument, Operation, Operators, Operand, Primary, Target, Elements, Piece, Pieces, Quoted, Strings, Part, Parts, Listing, OneTarget, Targets, operand_level, is_question, is_taken, is_rescue, takes_list, goes_on_list, stands_alone, ends_literal, begins_string, is_star, opens_bars, MethodNames, Guarded, Repeated, Branches, Otherwise, Subject, Clauses, Clause, Values, ValueTest, Classes, RescueClauses, RescueClause, Ensured, Handlers, Parameter, ParameterList, Parameters, MethodParameters, MethodHead, ClassPath, Body, ends_subject, is_identifier, has_handlers, head_of, endless_method, is_place, is_alone, operand_place, LoopTargets, Pattern, PatternTarget, PatternName, BlockParameters, BarredParameters, BarredLocals, BlockLocals, Block, is_semicolon, Callee, CommandArguments, Command, is_constant, is_taken_callee}
+use Rattle.grammar_reads.specs.Rules.{WhenValues, Rule, Statements, StatementList, Statement, Modified, Base, Expression, Joined, Negation, Argument, Operation, Operators, Operand, Primary, Target, InnerTarget, Elements, Piece, Pieces, Quoted, Strings, Part, Parts, Listing, OneTarget, Targets, operand_level, is_question, is_taken, is_rescue, takes_list, goes_on_list, stands_alone, ends_literal, begins_string, is_star, opens_bars, MethodNames, Guarded, Repeated, Branches, Otherwise, Subject, Clauses, Clause, Values, ValueTest, Classes, RescueClauses, RescueClause, Ensured, Handlers, Parameter, ParameterList, Parameters, MethodParameters, MethodHead, ClassPath, Body, ends_subject, is_identifier, has_handlers, head_of, endless_method, is_place, is_alone, operand_place, LoopTargets, Pattern, PatternTarget, PatternName, BlockParameters, BarredParameters, BarredLocals, BlockLocals, Block, is_semicolon, Callee, CommandArguments, Command, Called, OnePostfix, Postfixes, is_constant, is_taken_callee, takes_value, is_outside_variable, joins_name, joins_call, joins_constant, method_behind}
 use Rattle.rb_tree.specs.Parts.{class_path}
 use Rattle.form_builder.specs.Definitions.{HeadNode, name_place, singleton_at, method_node, is_global, global_alias}
 use Rattle.form_builder.specs.Sections.{option_node, pattern_node}
@@ -131,6 +131,17 @@ pub data Derives : Rule → Names → Tokens → Names → Tokens → Type 0 whe
       → Derives (Argument (of_value place) owner n) known (behind rest) later more → modifier_at (first more) ≡ Some modifiers.Rescue
       → Derives (Argument places.Argument owner other) later (behind more) last left
       → Derives (Argument place owner (assignment_node a target (rescued_node n other))) names ts last left
+  -- an assignment where no command may stand, with all that its value takes
+  InnerAssigned : (owner : DoOwner) (a : Assignment) (names known later : Names) (ts rest more : Tokens) (target n : Node)
+      → Derives (InnerTarget owner target) names ts known rest → assignment_at (first rest) ≡ Some a
+      → Derives (Argument places.Argument owner n) known (behind rest) later more → is_rescue (modifier_at (first more)) ≡ false
+      → Derives (Argument places.Argument owner (assignment_node a target n)) names ts later more
+  -- the same, and behind a modifier rescue what stands for a value that fails
+  InnerAssignedOr : (owner : DoOwner) (a : Assignment) (names known later last : Names) (ts rest more left : Tokens) (target n other : Node)
+      → Derives (InnerTarget owner target) names ts known rest → assignment_at (first rest) ≡ Some a
+      → Derives (Argument places.Argument owner n) known (behind rest) later more → modifier_at (first more) ≡ Some modifiers.Rescue
+      → Derives (Argument places.Argument owner other) later (behind more) last left
+      → Derives (Argument places.Argument owner (assignment_node a target (rescued_node n other))) names ts last left
   -- a name, which is known as a local behind it
   LocalTarget : (owner : DoOwner) (names : Names) (ts : Tokens)
       → first ts ≡ words.Identifier → Derives (Target owner (node.local (bytes_at ts))) names ts (learned names (bytes_at ts)) (behind ts)
@@ -151,6 +162,23 @@ pub data Derives : Rule → Names → Tokens → Names → Tokens → Type 0 whe
       → prefix_at ts ≡ None → Derives (Primary places.Command owner n) names ts known rest → first rest ≡ words.Mark marks.Dot
       → is_name_word (first (behind rest)) ≡ true
       → Derives (Target owner (node.call (one n) (bytes_at (behind rest)) node.none node.none)) names ts known (behind (behind rest))
+  -- a variable outside the language as a target
+  OutsideTarget : (owner : DoOwner) (o : Outside) (names : Names) (ts : Tokens)
+      → first ts ≡ words.Other o → is_outside_variable o ≡ true → Derives (Target owner (bare o (place_at ts))) names ts names (behind ts)
+  -- what is called outside the language as a target
+  CalleeTarget : (owner : DoOwner) (names known : Names) (ts rest : Tokens) (o : Outside) (at : ℕ) (ns : List Node)
+      → prefix_at ts ≡ None → Derives (Callee places.Command owner (outside_callee o at ns)) names ts known rest
+      → Derives (Target owner (node.outside o at (nodes ns))) names ts known rest
+  -- a target that may stand where a command may
+  AnyTarget : (owner : DoOwner) (names known : Names) (ts rest : Tokens) (n : Node)
+      → Derives (Target owner n) names ts known rest → Derives (InnerTarget owner n) names ts known rest
+  -- an index or a constant of a value where no command may stand
+  PostfixInnerTarget : (owner : DoOwner) (names known : Names) (ts rest : Tokens) (n : Node)
+      → is_place n ≡ true → prefix_at ts ≡ None → Derives (Primary places.Argument owner n) names ts known rest → Derives (InnerTarget owner n) names ts known rest
+  -- what is called where no command may stand
+  CalleeInnerTarget : (owner : DoOwner) (names known : Names) (ts rest : Tokens) (c : CalleeNode)
+      → prefix_at ts ≡ None → Derives (Callee places.Argument owner c) names ts known rest → is_target (callee c) ≡ true
+      → Derives (InnerTarget owner (target_node (callee c))) names ts (target_names (callee c) known) rest
   -- operators with operands, and no operator behind them
   AllOperators : (place : Place) (loosest : ℕ) (owner : DoOwner) (names known : Names) (ts rest : Tokens) (n : Node)
       → Derives (Operators place loosest owner n) names ts known rest → infix_at loosest (first rest) ≡ None
@@ -167,6 +195,10 @@ pub data Derives : Rule → Names → Tokens → Names → Tokens → Type 0 whe
   Prefixed : (place : Place) (owner : DoOwner) (o : Prefix) (names known : Names) (ts rest : Tokens) (n : Node)
       → prefix_at ts ≡ Some o → Derives (Operation (operand_place o place) (operand_level o) owner n) names (behind ts) known rest
       → Derives (Operand place owner (prefix_node o n)) names ts known rest
+  -- ! before an operand that has an operator before it too
+  NotPrefixed : (place : Place) (owner : DoOwner) (o : Prefix) (names known : Names) (ts rest : Tokens) (n : Node)
+      → first ts ≡ words.Mark marks.Not → prefix_at (behind ts) ≡ Some o → Derives (Operation places.Argument 1 owner n) names (behind ts) known rest
+      → Derives (Operand place owner (prefix_node prefixes.Not n)) names ts known rest
   -- a primary with all the postfixes behind it
   WithPostfixes : (place : Place) (owner : DoOwner) (names known : Names) (ts rest : Tokens) (n : Node)
       → prefix_at ts ≡ None → Derives (Primary place owner n) names ts known rest → postfix_at (first rest) ≡ None
@@ -258,6 +290,9 @@ pub data Derives : Rule → Names → Tokens → Names → Tokens → Type 0 whe
   -- a variable outside the language that is put in
   OutsidePiece : (o : Outside) (names : Names) (ts : Tokens)
       → first ts ≡ words.Other o → stands_alone o ≡ true → Derives (Piece (bare o (place_at ts))) names ts names (behind ts)
+  -- a name that isn't of ASCII that is put in, outside the language
+  NonAsciiPiece : (names : Names) (ts : Tokens)
+      → first ts ≡ words.Other outsides.NonAsciiName → Derives (Piece (bare outsides.NonAsciiName (place_at ts))) names ts names (behind ts)
   -- no piece before the end of a literal
   NoPiece : (names : Names) (ts : Tokens) → ends_literal (first ts) ≡ true → Derives (Pieces []) names ts names ts
   -- a piece, and the pieces behind it
@@ -305,21 +340,21 @@ pub data Derives : Rule → Names → Tokens → Names → Tokens → Type 0 whe
   -- retry
   Retry : (place : Place) (owner : DoOwner) (names : Names) (ts : Tokens)
       → first ts ≡ words.Key keywords.Retry → Derives (Primary place owner node.retry) names ts names (behind ts)
-  -- return without a value
+  -- return without a value; where a command may stand, none follows
   Return : (place : Place) (owner : DoOwner) (names : Names) (ts : Tokens)
-      → first ts ≡ words.Key keywords.Return → begins_value (first (behind ts)) ≡ false
+      → first ts ≡ words.Key keywords.Return → takes_value place (behind ts) ≡ false
       → Derives (Primary place owner (node.return_node node.none)) names ts names (behind ts)
-  -- break without a value
+  -- break without a value; where a command may stand, none follows
   Break : (place : Place) (owner : DoOwner) (names : Names) (ts : Tokens)
-      → first ts ≡ words.Key keywords.Break → begins_value (first (behind ts)) ≡ false
+      → first ts ≡ words.Key keywords.Break → takes_value place (behind ts) ≡ false
       → Derives (Primary place owner (node.break_node node.none)) names ts names (behind ts)
-  -- next without a value
+  -- next without a value; where a command may stand, none follows
   Next : (place : Place) (owner : DoOwner) (names : Names) (ts : Tokens)
-      → first ts ≡ words.Key keywords.Next → begins_value (first (behind ts)) ≡ false
+      → first ts ≡ words.Key keywords.Next → takes_value place (behind ts) ≡ false
       → Derives (Primary place owner (node.next_node node.none)) names ts names (behind ts)
-  -- yield without arguments
+  -- yield without arguments; no parenthesis follows directly, and where a command may stand, no value
   Yield : (place : Place) (owner : DoOwner) (names : Names) (ts : Tokens)
-      → first ts ≡ words.Key keywords.Yield → begins_value (first (behind ts)) ≡ false
+      → first ts ≡ words.Key keywords.Yield → (opens_arguments (behind ts) || takes_value place (behind ts)) ≡ false
       → Derives (Primary place owner (node.yield_node node.none)) names ts names (behind ts)
   -- a value that is no key
   PlainPart : (place : Place) (owner : DoOwner) (names known : Names) (ts rest : Tokens) (n : Node)
@@ -409,10 +444,10 @@ pub data Derives : Rule → Names → Tokens → Names → Tokens → Type 0 whe
       → Derives (Expression places.Statement owner (node.multiple_assign (targets_list ms) (right_side l).0)) names ts later more
   -- a target alone as one of several
   PlaceTarget : (names known : Names) (ts rest : Tokens) (n : Node)
-      → is_nested_group uses.Assignment ts ≡ false → Derives (Target owners.Call n) names ts known rest → Derives (OneTarget (one_target n)) names ts known rest
+      → is_nested_group uses.Assignment ts ≡ false → Derives (InnerTarget owners.Call n) names ts known rest → Derives (OneTarget (one_target n)) names ts known rest
   -- a star and the target that takes the others
   StarTarget : (names known : Names) (ts rest : Tokens) (n : Node)
-      → first ts ≡ words.Mark marks.Star → Derives (Target owners.Call n) names (behind ts) known rest
+      → first ts ≡ words.Mark marks.Star → Derives (InnerTarget owners.Call n) names (behind ts) known rest
       → Derives (OneTarget (star_target (Some n))) names ts known rest
   -- a star alone
   BareStar : (names : Names) (ts : Tokens)
@@ -518,10 +553,10 @@ pub data Derives : Rule → Names → Tokens → Names → Tokens → Type 0 whe
       → Derives (Primary place owner (node.for_node (nodes xs) e n)) names ts later (behind more)
   -- a target alone
   LastLoopTarget : (names known : Names) (ts rest : Tokens) (x : Node)
-      → Derives (Target owners.Call x) names ts known rest → Derives (LoopTargets (x ∷ [])) names ts known rest
+      → Derives (InnerTarget owners.Call x) names ts known rest → Derives (LoopTargets (x ∷ [])) names ts known rest
   -- a target, a comma, and targets behind it
   MoreLoopTargets : (names known later : Names) (ts rest more : Tokens) (x : Node) (xs : List Node)
-      → Derives (Target owners.Call x) names ts known rest → is_comma_word (first rest) ≡ true
+      → Derives (InnerTarget owners.Call x) names ts known rest → is_comma_word (first rest) ≡ true
       → Derives (LoopTargets xs) known (behind rest) later more → Derives (LoopTargets (x ∷ xs)) names ts later more
   -- a condition or a value, do, and statements
   Looped : (names known later : Names) (ts rest body more : Tokens) (t n : Node)
@@ -588,7 +623,7 @@ pub data Derives : Rule → Names → Tokens → Names → Tokens → Type 0 whe
   -- rescue, classes, an arrow and a target, then, and statements
   RescueInto : (names known later latest : Names) (ts rest more body last : Tokens) (cs : List Node) (x n : Node)
       → first ts ≡ words.Key keywords.Rescue → Derives (Classes cs) names (behind ts) known rest → first rest ≡ words.Mark marks.Arrow
-      → Derives (Target owners.Call x) known (behind rest) later more → then_at (first more) more ≡ Ok body
+      → Derives (InnerTarget owners.Call x) known (behind rest) later more → then_at (first more) more ≡ Ok body
       → Derives (Statements n) later body latest last → Derives (RescueClause (node.rescue_clause (nodes cs) (one x) n)) names ts latest last
   -- no class
   NoClass : (names : Names) (ts : Tokens) → begins_value (first ts) ≡ false → Derives (Classes []) names ts names ts
@@ -829,6 +864,10 @@ pub data Derives : Rule → Names → Tokens → Names → Tokens → Type 0 whe
   SafeCallee : (place : Place) (owner : DoOwner) (names known : Names) (ts rest : Tokens) (n : Node)
       → Derives (Primary place owner n) names ts known rest → first rest ≡ words.Mark marks.AmpersandDot → is_name_word (first (behind rest)) ≡ true
       → Derives (Callee place owner (outside_callee outsides.SafeNavigation (place_at rest) (n ∷ []))) names ts known (behind (behind rest))
+  -- a name behind a value that isn't of ASCII, outside the language
+  NonAsciiMethod : (place : Place) (owner : DoOwner) (names known : Names) (ts rest : Tokens) (n : Node)
+      → Derives (Primary place owner n) names ts known rest → joins_name (first rest) ≡ true → first (behind rest) ≡ words.Other outsides.NonAsciiName
+      → Derives (Callee place owner (outside_callee outsides.NonAsciiName (place_at (behind rest)) (n ∷ []))) names ts known (behind (behind rest))
   -- a callee alone, and no assignment
   CalleeAlone : (place : Place) (owner : DoOwner) (names known : Names) (ts rest : Tokens) (c : CalleeNode)
       → Derives (Callee place owner c) names ts known rest → is_alone place owner rest ≡ true → is_taken_callee place c (first rest) ≡ false
@@ -853,6 +892,11 @@ pub data Derives : Rule → Names → Tokens → Names → Tokens → Type 0 whe
       → Derives (Primary place owner n) names ts known rest → first rest ≡ words.Mark marks.Dot → first (behind rest) ≡ words.Mark marks.OpenParenthesis
       → Derives (Listing owners.Call l) known (behind (behind rest)) later more → first (skip_newlines more) ≡ words.Mark marks.CloseParenthesis
       → Derives (Primary place owner (call_node (method_callee n (codes "call") false) (Some (arguments_node l)) None)) names ts later (behind (skip_newlines more))
+  -- the method call of a value, with &. before the parenthesis, outside the language
+  SafeCall : (place : Place) (owner : DoOwner) (names known later : Names) (ts rest more : Tokens) (n : Node) (l : ListNode)
+      → Derives (Primary place owner n) names ts known rest → first rest ≡ words.Mark marks.AmpersandDot → first (behind rest) ≡ words.Mark marks.OpenParenthesis
+      → Derives (Listing owners.Call l) known (behind (behind rest)) later more → first (skip_newlines more) ≡ words.Mark marks.CloseParenthesis
+      → Derives (Primary place owner (call_node (outside_callee outsides.SafeNavigation (place_at rest) (n ∷ [])) (Some (arguments_node l)) None)) names ts later (behind (skip_newlines more))
   -- a value, and a list in brackets behind it, its pairs as the last element
   ListIndexed : (place : Place) (owner : DoOwner) (names known later : Names) (ts rest more : Tokens) (n : Node) (l : ListNode)
       → Derives (Primary place owner n) names ts known rest → first rest ≡ words.Mark marks.OpenBracket → Derives (Listing owners.Call l) known (behind rest) later more
@@ -867,6 +911,59 @@ pub data Derives : Rule → Names → Tokens → Names → Tokens → Type 0 whe
       → begins_argument ts ≡ true → opens_arguments ts ≡ false → Derives (Listing (in_command owner) l) names ts known rest
       → block_at owner rest ≡ Some styles.Do → is_none l.block ≡ true → Derives (Block styles.Do b) known rest later more → postfix_at (first more) ≡ None
       → Derives (CommandArguments owner c (call_node c (Some (arguments_node l)) (Some b))) names ts later more
+  -- a list that isn't in parentheses, a block behind do, and postfixes
+  CommandPostfixes : (owner : DoOwner) (names known later last : Names) (ts rest more left : Tokens) (c : CalleeNode) (l : ListNode) (b : BlockNode) (n : Node)
+      → begins_argument ts ≡ true → opens_arguments ts ≡ false → Derives (Listing (in_command owner) l) names ts known rest
+      → block_at owner rest ≡ Some styles.Do → is_none l.block ≡ true → Derives (Block styles.Do b) known rest later more
+      → Derives (Postfixes owner (call_node c (Some (arguments_node l)) (Some b)) n) later more last left
+      → Derives (CommandArguments owner c n) names ts last left
+  -- a postfix behind which no other stands
+  LastPostfix : (owner : DoOwner) (names known : Names) (ts rest : Tokens) (n m : Node)
+      → Derives (OnePostfix owner n m) names ts known rest → postfix_at (first rest) ≡ None → Derives (Postfixes owner n m) names ts known rest
+  -- a postfix, and those behind it
+  MorePostfixes : (owner : DoOwner) (names known later : Names) (ts rest more : Tokens) (n m all : Node)
+      → Derives (OnePostfix owner n m) names ts known rest → Derives (Postfixes owner m all) known rest later more → Derives (Postfixes owner n all) names ts later more
+  -- a list in brackets, its pairs as the last element
+  IndexPostfix : (owner : DoOwner) (names known : Names) (ts rest : Tokens) (n : Node) (l : ListNode)
+      → first ts ≡ words.Mark marks.OpenBracket → Derives (Listing owners.Call l) names (behind ts) known rest → is_none l.block ≡ true
+      → first (skip_newlines rest) ≡ words.Mark marks.CloseBracket
+      → Derives (OnePostfix owner n (node.index n (items_of (whole_items l.items l.pairs)))) names ts known (behind (skip_newlines rest))
+  -- :: and a constant, and no parenthesis directly behind it
+  ConstantPostfix : (owner : DoOwner) (names : Names) (ts : Tokens) (n : Node)
+      → first ts ≡ words.Mark marks.ColonColon → first (behind ts) ≡ words.Constant → opens_arguments (behind (behind ts)) ≡ false
+      → Derives (OnePostfix owner n (node.scoped_constant n (bytes_at (behind ts)))) names ts names (behind (behind ts))
+  -- ., :: or &. and the name of a method, with its arguments and its block
+  MethodPostfix : (owner : DoOwner) (names known : Names) (ts rest : Tokens) (n m : Node)
+      → joins_name (first ts) ≡ true → is_name_word (first (behind ts)) ≡ true → joins_constant (first ts) (behind ts) ≡ false
+      → Derives (Called owner (method_behind (first ts) n (bytes_at (behind ts)) (place_at ts)) m) names (behind (behind ts)) known rest
+      → Derives (OnePostfix owner n m) names ts known rest
+  -- ., :: or &. and a name that isn't of ASCII, outside the language, with its arguments and its block
+  NonAsciiPostfix : (owner : DoOwner) (names known : Names) (ts rest : Tokens) (n m : Node)
+      → joins_name (first ts) ≡ true → first (behind ts) ≡ words.Other outsides.NonAsciiName
+      → Derives (Called owner (outside_callee outsides.NonAsciiName (place_at (behind ts)) (n ∷ [])) m) names (behind (behind ts)) known rest
+      → Derives (OnePostfix owner n m) names ts known rest
+  -- . or &. and the arguments of the method call in parentheses
+  CallPostfix : (owner : DoOwner) (names known : Names) (ts rest : Tokens) (n : Node) (l : ListNode)
+      → joins_call (first ts) ≡ true → first (behind ts) ≡ words.Mark marks.OpenParenthesis
+      → Derives (Listing owners.Call l) names (behind (behind ts)) known rest → first (skip_newlines rest) ≡ words.Mark marks.CloseParenthesis
+      → Derives (OnePostfix owner n (call_node (method_behind (first ts) n (codes "call") (place_at ts)) (Some (arguments_node l)) None)) names ts known (behind (skip_newlines rest))
+  -- neither arguments in parentheses nor a block
+  CalledAlone : (owner : DoOwner) (names : Names) (ts : Tokens) (c : CalleeNode)
+      → opens_arguments ts ≡ false → block_at owner ts ≡ None → Derives (Called owner c (call_node c None None)) names ts names ts
+  -- a list in parentheses, and no block
+  CalledWith : (owner : DoOwner) (names known : Names) (ts rest : Tokens) (c : CalleeNode) (l : ListNode)
+      → opens_arguments ts ≡ true → Derives (Listing owners.Call l) names (behind ts) known rest → first (skip_newlines rest) ≡ words.Mark marks.CloseParenthesis
+      → block_at owner (behind (skip_newlines rest)) ≡ None
+      → Derives (Called owner c (call_node c (Some (arguments_node l)) None)) names ts known (behind (skip_newlines rest))
+  -- a list in parentheses, and a block
+  CalledWithBlock : (owner : DoOwner) (style : BlockStyle) (names known later : Names) (ts rest more : Tokens) (c : CalleeNode) (l : ListNode) (b : BlockNode)
+      → opens_arguments ts ≡ true → Derives (Listing owners.Call l) names (behind ts) known rest → first (skip_newlines rest) ≡ words.Mark marks.CloseParenthesis
+      → block_at owner (behind (skip_newlines rest)) ≡ Some style → is_none l.block ≡ true → Derives (Block style b) known (behind (skip_newlines rest)) later more
+      → Derives (Called owner c (call_node c (Some (arguments_node l)) (Some b))) names ts later more
+  -- a block
+  CalledBlock : (owner : DoOwner) (style : BlockStyle) (names known : Names) (ts rest : Tokens) (c : CalleeNode) (b : BlockNode)
+      → opens_arguments ts ≡ false → block_at owner ts ≡ Some style → Derives (Block style b) names ts known rest
+      → Derives (Called owner c (call_node c None (Some b))) names ts known rest
   -- a callee with what makes a command of it
   CalleeCommand : (place : Place) (owner : DoOwner) (names known later : Names) (ts rest more : Tokens) (c : CalleeNode) (n : Node)
       → allows_command place ≡ true → prefix_at ts ≡ None → Derives (Callee place owner c) names ts known rest
@@ -880,6 +977,11 @@ pub data Derives : Rule → Names → Tokens → Names → Tokens → Type 0 whe
       → Derives (Target owner target) names ts known rest → assignment_at (first rest) ≡ Some a
       → Derives (Command (of_value place) owner n) known (behind rest) later more → (takes_list a place && is_comma_word (first more)) ≡ false
       → Derives (Command place owner (assignment_node a target n)) names ts later more
+  -- ! and an assignment of a command to a target
+  NotAssigned : (place : Place) (owner : DoOwner) (a : Assignment) (names known later : Names) (ts rest more : Tokens) (target n : Node)
+      → first ts ≡ words.Mark marks.Not → allows_command place ≡ true → Derives (Target owner target) names (behind ts) known rest
+      → assignment_at (first rest) ≡ Some a → Derives (Command places.Command owner n) known (behind rest) later more
+      → Derives (Command place owner (prefix_node prefixes.Not (assignment_node a target n))) names ts later more
   -- a command; at the start of a statement it isn't one of several targets
   Commanded : (place : Place) (owner : DoOwner) (names known : Names) (ts rest : Tokens) (n : Node)
       → (is_statement place && is_target_group ts) ≡ false → Derives (Command place owner n) names ts known rest

@@ -4,3 +4,4 @@ pub mod Expressions
 pub mod Example
 pub mod ListExample
 pub mod CommandExample
+pub mod ChainExample

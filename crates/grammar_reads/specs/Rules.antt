@@ -7,7 +7,7 @@ use Rattle.rb_syntax.specs.declared.punctuator.Punctuator.TheVariants as marks
 use Rattle.rb_tree.specs.Node.{Name, Node, Nodes, nodes}
 use Rattle.rb_tree.specs.Node as node
 use Rattle.rb_syntax.specs.declared.token.Token.{Token}
-use Rattle.rb_grammar.specs.Tokens.{bytes_at}
+use Rattle.rb_grammar.specs.Tokens.{first, behind, bytes_at}
 use Rattle.rb_tree.specs.declared.operator.UnaryOperator.TheVariants as unary
 use Rattle.rb_grammar.specs.Operators.{assignment_at}
 use Rattle.rb_grammar.specs.declared.operators.Assignment.{Assignment}
@@ -18,13 +18,13 @@ use Rattle.rb_grammar.specs.declared.word.Modifier.{Modifier}
 use Rattle.rb_grammar.specs.declared.word.Modifier.TheVariants as modifiers
 use Rattle.rb_grammar.specs.declared.word.Word.{Word}
 use Rattle.rb_grammar.specs.declared.word.Word.TheVariants as words
-use Rattle.rb_grammar.specs.Starts.{opens_arguments, begins_argument}
+use Rattle.rb_grammar.specs.Starts.{begins_value, opens_arguments, begins_argument}
 use Rattle.rb_heads.specs.Primary.{is_statement, allows_command, of_value, block_at, is_comma_word, is_arrow_word}
 use Rattle.rb_heads.specs.declared.primary.BlockStyle.{BlockStyle}
 use Rattle.rb_heads.specs.declared.primary.DoOwner.{DoOwner}
 use Rattle.rb_heads.specs.declared.primary.Place.{Place}
 use Rattle.rb_heads.specs.declared.primary.Place.TheVariants as places
-use Rattle.tree_builder.specs.Calls.{CalleeNode, callee, is_target, whole}
+use Rattle.tree_builder.specs.Calls.{CalleeNode, method_callee, outside_callee, callee, is_target, whole}
 use Rattle.tree_builder.specs.Listed.{ListNode, PartNode, is_empty}
 use Rattle.form_builder.specs.Targets.{TargetNode, TargetsNode}
 use Rattle.form_builder.specs.Parameters.{ParameterNode, ParameterNodes, BlockNode}
@@ -62,8 +62,9 @@ pub data Rule : Type 0 where
   Primary : Place → DoOwner → Node → Rule
   -- values with commas between them, the first of which stands at this place
   Values : Place → List Node → Rule
-  -- what may stand before the = of an assignment
+  -- what may stand before the = of an assignment, and the same where no command may stand
   Target : DoOwner → Node → Rule
+  InnerTarget : DoOwner → Node → Rule
   -- the words of %w or %i up to behind their end
   Elements : List Name → Rule
   -- a piece of a literal, and its pieces up to its end
@@ -121,6 +122,11 @@ pub data Rule : Type 0 where
   Callee : Place → DoOwner → CalleeNode → Rule
   CommandArguments : DoOwner → CalleeNode → Node → Rule
   Command : Place → DoOwner → Node → Rule
+  -- a callee with arguments in parentheses and a block, or alone
+  Called : DoOwner → CalleeNode → Node → Rule
+  -- a postfix behind the first node, which makes the second of it, and one or more of them up to the last
+  OnePostfix : DoOwner → Node → Node → Rule
+  Postfixes : DoOwner → Node → Node → Rule
   -- the targets of a pattern behind those that were found, one of them, and one without a star and a group
   Pattern : TargetsNode → TargetsNode → Rule
   PatternTarget : TargetNode → Rule
@@ -256,3 +262,37 @@ is_constant _ = false
 -- a callee is a target by the word behind it
 abbrev pub is_taken_callee : Place → CalleeNode → Word → Bool
 is_taken_callee place c w = is_target (callee c) && takes_target place w
+
+-- a command may stand here, and a value follows
+abbrev pub takes_value : Place → Tokens → Bool
+takes_value place ts = allows_command place && begins_value (first ts)
+
+-- a variable outside the language
+abbrev pub is_outside_variable : Outside → Bool
+is_outside_variable outsides.ClassVariable = true
+is_outside_variable outsides.SpecialGlobal = true
+is_outside_variable _ = false
+
+-- this mark stands between a value and the name of a method
+abbrev pub joins_name : Word → Bool
+joins_name (words.Mark marks.Dot) = true
+joins_name (words.Mark marks.AmpersandDot) = true
+joins_name (words.Mark marks.ColonColon) = true
+joins_name _ = false
+
+-- this mark stands between a value and the arguments of its method call
+abbrev pub joins_call : Word → Bool
+joins_call (words.Mark marks.Dot) = true
+joins_call (words.Mark marks.AmpersandDot) = true
+joins_call _ = false
+
+-- the method of a value that has this name, behind such a mark at its place
+abbrev pub method_behind : Word → Node → Name → ℕ → CalleeNode
+method_behind (words.Mark marks.ColonColon) n x at = method_callee n x true
+method_behind (words.Mark marks.AmpersandDot) n x at = outside_callee outsides.SafeNavigation at (n ∷ [])
+method_behind _ n x at = method_callee n x false
+
+-- behind this mark a constant stands that is no method
+abbrev pub joins_constant : Word → Tokens → Bool
+joins_constant (words.Mark marks.ColonColon) ts = is_constant (first ts) && not (opens_arguments (behind ts))
+joins_constant _ ts = false

@@ -5,15 +5,17 @@
 //! those behind it. The rules and the node that each reads are those of `specs::Rules::Rule`.
 //!
 //! These forms have rules: statements with separators; the modifiers `if`, `unless`, `while`, `until` and `rescue`; `and`,
-//! `or`, `not`; assignments to variables, constants, indices and methods of a value, plain and abbreviated, with `rescue`
-//! behind the value too, of a list, of a command, and to several targets with stars and groups; conditionals with `?` and
-//! `:`; `defined?`; the operators of the table between operands and before them, ranges among them; `nil`, `true`,
-//! `false`, `self`; integers, with their sign and wide ones; strings with pieces, side by side, and characters; symbols,
-//! also in quotes; `%w` and `%i`; locals, `@name`, `$name`, constants, `::` before a constant, constants of a value;
-//! calls of a name, of `super` and of a method behind `.`, `::` and `&.`, alone, with a list in parentheses, and with a
-//! block in braces or behind `do`; the same with a list without parentheses, as commands, also behind `!`; `.()`; indices,
-//! with a list in brackets; statements in parentheses; lists of values, with `*`, keys, `**` and what follows `&`, and of a
-//! command; arrays and hashes; tokens outside the language that are primaries, and names that aren't of ASCII; `return`,
+//! `or`, `not`; assignments to variables, constants, indices and methods of a value, and to what is outside the language
+//! (class variables, special global variables, names that aren't of ASCII, a method behind `&.`), plain and abbreviated,
+//! with `rescue` behind the value too, of a list, of a command, also behind `!`, and to several targets with stars and
+//! groups; conditionals with `?` and `:`; `defined?`; the operators of the table between operands and before them, ranges
+//! among them; `nil`, `true`, `false`, `self`; integers, with their sign and wide ones; strings with pieces, side by side,
+//! and characters; symbols, also in quotes; `%w` and `%i`; locals, `@name`, `$name`, constants, `::` before a constant,
+//! constants of a value; calls of a name, of `super` and of a method behind `.`, `::` and `&.`, alone, with a list in
+//! parentheses, and with a block in braces or behind `do`; the same with a list without parentheses, as commands, also
+//! behind `!`, and postfixes behind the block of a command; `.()` and `&.()`; indices, with a list in brackets; statements
+//! in parentheses; lists of values, with `*`, keys, `**` and what follows `&`, and of a command; arrays and hashes; tokens
+//! outside the language that are primaries or pieces, and names that aren't of ASCII, also behind a value; `return`,
 //! `break`, `next` and `yield`, with a list and alone; `retry`, `redo`; lambdas; `alias`, `undef`, `BEGIN` and `END`; `if`
 //! with `elsif`, `unless`, `while`, `until`, `for`, `case` with `when` and `in`, `begin` with `rescue`, `else` and
 //! `ensure`; parameters of methods and of blocks; `def`, plain, on an object and without an end; `class`, `class <<` and
@@ -25,9 +27,9 @@
 //! node whose branch of a conditional, or what stands before a modifier with a test, is in parentheses: a form with
 //! sections has the same.
 //!
-//! These have no rule yet: a postfix behind the block of a command; `!` before an assignment of a command; an assignment
-//! to a method behind `&.`, and a name behind a value that isn't of ASCII, outside the language; `&.()`; the other
-//! constructs outside the language.
+//! Going through the definitions branch by branch found one form that they read and that has no rule; no theorem says that
+//! there is no other: `return`, `break`, `next` or `yield` alone before what may begin a value (as in `!yield[0]`), directly
+//! behind a `!` where a command may stand.
 #![tactic(auto)]
 
 ghost use Rattle.std.specs.Prelude.{◌≡◌, ◌≤◌, ℕ, List, [], length, true, Ok};
@@ -46,6 +48,7 @@ ghost use Rattle.grammar_reads.specs.Derives.{Derives};
 ghost use Rattle.grammar_reads.specs.Example.{known, method_tokens, method_tree, tokens, tree};
 ghost use Rattle.grammar_reads.specs.ListExample as lists;
 ghost use Rattle.grammar_reads.specs.CommandExample as commands;
+ghost use Rattle.grammar_reads.specs.ChainExample as chains;
 ghost use Rattle.grammar_reads.specs.Expressions.{is_expression};
 
 /// What the definitions of the parser read as an expression is derived: a value, an assignment among them, operators with
@@ -73,10 +76,12 @@ pub fn at_most_one()
 
 /// The tokens of `x = 1` are derived as an assignment, behind which `x` is known as a local, and those of
 /// `def f(a) if a then end end` as a method, behind which `a` isn't, those of `a, *b = ["x", 1]` as one to several
-/// targets, and those of `f 1 do |x| x end` as a command with a block.
+/// targets, those of `f 1 do |x| x end` as a command with a block, and those of `!a&.b = f 1 do end.c` as the negated
+/// assignment of a command that a postfix follows.
 pub fn a_text_is_derived()
     ensures assignment { Derives (Statements tree) [] tokens known [] }
     ensures method { Derives (Statements method_tree) [] method_tokens [] [] }
     ensures several { Derives (Statements lists.tree) [] lists.tokens lists.known [] }
     ensures command { Derives (Statements commands.tree) [] commands.tokens [] [] }
+    ensures chain { Derives (Statements chains.tree) [] chains.tokens [] [] }
 {}
