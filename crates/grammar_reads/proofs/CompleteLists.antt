@@ -143,21 +143,21 @@ put_command (splat_part n) l h = refl
 put_command (pair_part k v) l h = refl
 put_command (block_part n) l h = refl
 
-put_keeps : (p : PartNode) (l : ListNode) → (put p l).comma ≡ l.comma
+pub put_keeps : (p : PartNode) (l : ListNode) → (put p l).comma ≡ l.comma
 put_keeps (command_part n) l = refl
 put_keeps (plain_part n) l = refl
 put_keeps (splat_part n) l = refl
 put_keeps (pair_part k v) l = refl
 put_keeps (block_part n) l = refl
 
-put_comma : (p : PartNode) (l : ListNode) (c : Bool) → with_comma c (put p (with_comma true l)) ≡ with_comma c (put p l)
+pub put_comma : (p : PartNode) (l : ListNode) (c : Bool) → with_comma c (put p (with_comma true l)) ≡ with_comma c (put p l)
 put_comma (command_part n) l c = refl
 put_comma (plain_part n) l c = refl
 put_comma (splat_part n) l c = refl
 put_comma (pair_part k v) l c = refl
 put_comma (block_part n) l c = refl
 
-follow_comma : (p : PartNode) (l : ListNode) → may_follow p (with_comma true l) ≡ may_follow p l
+pub follow_comma : (p : PartNode) (l : ListNode) → may_follow p (with_comma true l) ≡ may_follow p l
 follow_comma (command_part n) l = refl
 follow_comma (plain_part n) l = refl
 follow_comma (splat_part n) l = refl
@@ -171,7 +171,7 @@ first_follows (splat_part n) = refl
 first_follows (pair_part k v) = refl
 first_follows (block_part n) = refl
 
-no_comma : (l : ListNode) → l.comma ≡ false → with_comma false l ≡ l
+pub no_comma : (l : ListNode) → l.comma ≡ false → with_comma false l ≡ l
 no_comma l h = ap (λ b. with_comma b l) (sym h)
 
 -- a part, and the comma behind it

@@ -26,12 +26,12 @@ use Rattle.grammar_reads.proofs.Heads.{head_opens}
 use Rattle.grammar_reads.proofs.Facts.{is_head, Fact, levels_at, word_taken, at_once}
 
 -- the questions of the rules are those of the parser
-same_ends : (w : Word) → literals.ends_literal w ≡ ends_literal w
+pub same_ends : (w : Word) → literals.ends_literal w ≡ ends_literal w
 same_ends words.LiteralEnd = refl
 same_ends (words.Other outsides.QuotedLabel) = refl
 same_ends w = refl
 
-same_begins : (w : Word) → literals.begins_string w ≡ begins_string w
+pub same_begins : (w : Word) → literals.begins_string w ≡ begins_string w
 same_begins words.StringBegin = refl
 same_begins words.Character = refl
 same_begins w = refl

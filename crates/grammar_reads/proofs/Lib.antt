@@ -1,7 +1,14 @@
 pub mod Results
 pub mod Tests
+pub mod ExpressionParts
+pub mod CleanLists
 pub mod Sound
 pub mod SoundLeaf
+pub mod LiteralSteps
+pub mod WholeLiterals
+pub mod OneValue
+pub mod SoundLiterals
+pub mod SoundBrackets
 pub mod SoundPrimary
 pub mod SoundPostfix
 pub mod SoundOperators
@@ -13,7 +20,6 @@ pub mod SoundTargets
 pub mod NeverPhrases
 pub mod Starts
 pub mod SoundPhrases
-pub mod SoundLists
 pub mod SoundArguments
 pub mod SoundStatements
 pub mod Sections

@@ -1,5 +1,5 @@
 -- Phrases that are no expressions: commands, jumps, multiple assignments, and values that begin with an operand that is none.
-use Rattle.std.proofs.Common.{◌≡◌, ◌+◌, Bool, true, false, length, Option, Some, None, Ok, if◌then◌else◌, refl, ap, subst}
+use Rattle.std.proofs.Common.{◌≡◌, ◌+◌, Bool, true, false, length, Option, Some, None, Ok, if◌then◌else◌, refl, sym, ap, subst}
 use Rattle.rb_tree.specs.Node.{Node}
 use Rattle.rb_grammar.specs.Tokens.{first, behind}
 use Rattle.rb_grammar.specs.Expect.{expect}
@@ -16,20 +16,27 @@ use Rattle.rb_heads.specs.declared.primary.DoOwner.{DoOwner}
 use Rattle.rb_heads.specs.declared.primary.Place.{Place}
 use Rattle.tree_builder.specs.Listed.{ListNode, PhraseNode, is_none}
 use Rattle.tree_builder.specs.Calls.{CalleeNode, OperandNode, whole, callee, operand_node, is_target, target_node, target_names}
+use Rattle.tree_builder.specs.declared.listed.Sort.{Sort}
 use Rattle.tree_builder.specs.declared.listed.Sort.TheVariants as sorts
 use Rattle.form_builder.specs.Targets.{TargetsNode}
 use Rattle.operand_rules.specs.Operands.{chain_from}
 use Rattle.operand_rules.specs.Operators.{value_from}
 use Rattle.phrase_rules.specs.Targets.{targets}
 use Rattle.phrase_rules.specs.Phrases.{right_hand, assign, multiple, with_block, command_by, command, value_phrase, command_or_value, first_of_several, target_phrase, phrase_from, jump_list, jump_owner, list_node, may_command, begins_several, is_command}
+use Rattle.statement_rules.specs.Statements.{is_statement_sort}
 use Rattle.rule_base.specs.Reading.{Names, Tokens, Read, Inside}
 use Rattle.grammar_reads.specs.Expressions.{is_expression}
-use Rattle.grammar_reads.proofs.Results.{bind_ok, read_same, clash, Never, never_bind, never_after, never_false, never_ok, never_error, never_if}
-use Rattle.grammar_reads.proofs.SoundPrimary.{call_is_none}
+use Rattle.grammar_reads.proofs.Results.{bind_ok, read_same, clash, differs, Never, never_bind, never_after, never_false, never_ok, never_error, never_if}
+use Rattle.grammar_reads.proofs.ExpressionParts.{call_is_none}
 use Rattle.grammar_reads.proofs.SoundPostfix.{chain_never}
 use Rattle.grammar_reads.proofs.SoundValues.{value_never}
 use Rattle.grammar_reads.proofs.Sound.{IsSound}
 use Rattle.grammar_reads.proofs.SoundAssignments.{assign_parts, assign_sort}
+
+command_unstated : (s : Sort) → is_command s ≡ true → is_statement_sort s ≡ false
+command_unstated sorts.Command h = refl
+command_unstated sorts.Argument h = refl
+command_unstated sorts.Statement h = differs (sym h)
 
 abbrev pub its_node : PhraseNode → Node
 its_node p = p.0
@@ -105,7 +112,7 @@ module _ (i : Inside) where
   module _ (sound : IsSound i) where
     none_of_assignment : (target : Node) (names : Names) (a : Assignment) (ts : Tokens) (place : Place) (owner : DoOwner) → CommandIsNone (assign i target names a ts place owner)
     none_of_assignment target names a ts place owner x known rest h c is =
-        let sort = assign_sort i sound a place owner target names ts x known rest (assign_parts i sound a place owner target names ts x known rest h is) in
+        let sort = assign_sort i sound a place owner target names ts x known rest (assign_parts i sound a place owner target names ts x known rest h (command_unstated x.1 c) is) in
         clash (is_command x.1) c (ap is_command sort)
 
     none_of_target : (a : Option Assignment) (o : OperandNode) (names : Names) (ts : Tokens) (place : Place) (owner : DoOwner) → CommandIsNone (target_phrase i a o names ts place owner)

@@ -61,6 +61,13 @@ same r s = r ≡ s
 pub err_is_none : {A B : Type 0} (e : ℕ) (y : A) → same (Err e) (Ok y) → B
 err_is_none e y h = let wrong : true ≡ false = ap failed h in absurd (true_is_not wrong)
 
+abbrev ok_or : {A : Type 0} → A → Result A ℕ → A
+ok_or x (Ok y) = y
+ok_or x (Err e) = x
+
+pub ok_is : {x y : Tokens} → same (Ok x) (Ok y) → x ≡ y
+ok_is {x} h = ap (ok_or x) h
+
 -- no expression is read
 abbrev pub Never : {A : Type 0} → (A → Node) → Read A → Type 0
 Never {A} see read = (x : A) (known : Names) (rest : Tokens) → read ≡ Ok (x, known, rest) → is_expression (see x) ≡ true → ⊥

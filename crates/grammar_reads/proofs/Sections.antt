@@ -64,7 +64,7 @@ filled_before [] h = clash false h refl
 filled_before (s ∷ []) h = alone_stays s (is_part parts.Else s.kind) refl h
 filled_before (s ∷ t ∷ ss) h = many_stay s t ss (has_part parts.Else (last_of (t ∷ ss)))
 
-abbrev is_group : Node → Bool
+abbrev pub is_group : Node → Bool
 is_group n = not (is_bare n)
 
 -- each section has statements
@@ -90,7 +90,7 @@ grouped_before ss h = by_part (has_part parts.Else (last_of ss))
     by_part true = grouped_last ss h
     by_part false = h
 
-not_bare : (n : Node) → is_group n ≡ true → is_bare n ≡ false
+pub not_bare : (n : Node) → is_group n ≡ true → is_bare n ≡ false
 not_bare n h = by_test (is_bare n) h
   where
     by_test : (b : Bool) → not b ≡ true → b ≡ false
@@ -228,7 +228,7 @@ more_kept compound k found s h m =
     both (opens (found ++ s ∷ [])) _ (opens_more found s p.0) (or_more (is_case compound) (grouped found) (grouped (found ++ s ∷ [])) (λ g. grouped_more found s g group) p.1)
 
 module _ (i : Inside) where
-  statements_group : (names : Names) (ts : Tokens) → Always is_group (statements i names ts)
+  pub statements_group : (names : Names) (ts : Tokens) → Always is_group (statements i names ts)
   unfolding statements
   statements_group names ts = always_bind is_group (statement_list i names (skip_separators ts)) _ (λ r. always_ok is_group (node.statements (nodes r.0)) r.1 r.2 refl)
 

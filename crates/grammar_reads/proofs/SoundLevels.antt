@@ -1,40 +1,39 @@
 -- The rules with any number of levels are sound.
-use Rattle.std.proofs.Common.{ℕ, zero, suc, length}
+use Rattle.std.proofs.Common.{ℕ, zero, suc, length, refl}
 use Rattle.rb_heads.specs.declared.primary.Place.TheVariants as places
 use Rattle.rule_base.specs.Reading.{Inside}
 use Rattle.rb_parser.specs.Levels.{nothing, level_above, levels}
 use Rattle.grammar_reads.proofs.Results.{err_is_none}
 use Rattle.grammar_reads.proofs.Sound.{IsSound}
 use Rattle.grammar_reads.proofs.SoundOperators.{operation_sound}
-use Rattle.grammar_reads.proofs.SoundPhrases.{phrase_sound, argument_sound, negation_sound}
-use Rattle.grammar_reads.proofs.SoundLists.{list_sound}
-use Rattle.grammar_reads.proofs.SoundArguments.{values_sound}
+use Rattle.grammar_reads.proofs.SoundPhrases.{value_phrase_sound, argument_sound, value_negation_sound}
+use Rattle.grammar_reads.proofs.SoundArguments.{listing_sound}
 use Rattle.grammar_reads.proofs.SoundStatements.{expression_sound, statements_sound}
-use Rattle.grammar_reads.proofs.Sections.{sections_none}
+use Rattle.grammar_reads.proofs.Sections.{not_bare, statements_group, sections_none}
 
 no_rule : IsSound nothing
 no_rule = record {
   statements = λ names known ts rest n h is. err_is_none (length ts) (n, known, rest) h;
+  grouped = λ names known ts rest n h. err_is_none (length ts) (n, known, rest) h;
   expression = λ names known ts rest owner n h is. err_is_none (length ts) (n, known, rest) h;
   negation = λ names known ts rest owner n s h is. err_is_none (length ts) ((n, s), known, rest) h;
-  phrase = λ names known ts rest place owner x h is. err_is_none (length ts) (x, known, rest) h;
+  phrase = λ names known ts rest place owner x h plain is. err_is_none (length ts) (x, known, rest) h;
   argument = λ names known ts rest owner n h is. err_is_none (length ts) (n, known, rest) h;
   operation = λ names known ts rest place loosest owner n h is. err_is_none (length ts) (n, known, rest) h;
-  list = λ names known ts rest owner l h right is. err_is_none (length ts) (l, known, rest) h;
-  values = λ names known ts rest l h none is. err_is_none (length ts) (l, known, rest) h;
+  listing = λ names known ts rest owner l h clean. err_is_none (length ts) (l, known, rest) h;
   sections = λ names known ts rest form ss h is. err_is_none (length ts) (ss, known, rest) h;
 }
 
 above : (i : Inside) → IsSound i → IsSound (level_above i)
 above i sound = record {
   statements = statements_sound i sound;
+  grouped = λ names known ts rest n h. not_bare n (statements_group i names ts n known rest h);
   expression = λ names known ts rest owner n h is. expression_sound i owner sound places.Command names ts n known rest h is;
-  negation = λ names known ts rest owner n s h is. (negation_sound i sound places.Command owner names ts (n, s) known rest h is).1;
-  phrase = λ names known ts rest place owner x h is. let p = phrase_sound i sound place owner names ts x known rest h is in (p.0, p.2);
+  negation = λ names known ts rest owner n s h is. value_negation_sound i sound places.Command owner names ts refl (n, s) known rest h is;
+  phrase = λ names known ts rest place owner x h plain is. value_phrase_sound i sound place owner names ts plain x known rest h is;
   argument = argument_sound i sound;
   operation = operation_sound i sound;
-  list = λ names known ts rest owner l h right is. list_sound i sound names ts owner l known rest h right is;
-  values = λ names known ts rest l h none is. values_sound i sound names ts l known rest h none is;
+  listing = λ names known ts rest owner l h clean. listing_sound i sound owner names ts l known rest h clean;
   sections = λ names known ts rest form ss h is. sections_none i names known ts rest form ss h;
 }
 

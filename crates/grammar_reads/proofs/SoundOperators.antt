@@ -1,6 +1,6 @@
 -- Operators with their operands that are read as an expression are derived.
 use Rattle.std.proofs.Common.{◌≡◌, ℕ, zero, suc, ◌+◌, true, false, ◌⊎◌, length, Option, Some, None, Ok, inl, inr, refl, sym, subst}
-use Rattle.std.proofs.lemmas.Bool.{cases_Bool, and_parts}
+use Rattle.std.proofs.lemmas.Bool.{cases_Bool}
 use Rattle.rb_tree.specs.Node.{Node}
 use Rattle.rb_grammar.specs.Tokens.{first, behind, place_at}
 use Rattle.rb_grammar.specs.Operators.{infix_at, right_level, clashes}
@@ -18,18 +18,10 @@ use Rattle.grammar_reads.specs.Rules.{Operators, Operation}
 use Rattle.grammar_reads.specs.Derives.{Derives, AllOperators, OneOperand, Infixed}
 use Rattle.grammar_reads.specs.Expressions.{is_expression}
 use Rattle.grammar_reads.proofs.Results.{bind_ok, else_ok, read_same, carry, clash, Never, never_bind, never_ok, never_error, never_if, err_is_none}
+use Rattle.grammar_reads.proofs.ExpressionParts.{infix_parts}
 use Rattle.grammar_reads.proofs.Sound.{IsSound}
 use Rattle.grammar_reads.proofs.SoundLeaf.{itself}
 use Rattle.grammar_reads.proofs.SoundPostfix.{operand_sound}
-
-pub infix_parts : (o : Infix) (at : ℕ) (a b : Node) → is_expression (infix_node o at a b) ≡ true → (is_expression a ≡ true) × (is_expression b ≡ true)
-infix_parts (infixes.Operation o) at a b h = and_parts (is_expression a) (is_expression b) h
-infix_parts infixes.And at a b h = and_parts (is_expression a) (is_expression b) h
-infix_parts infixes.Or at a b h = and_parts (is_expression a) (is_expression b) h
-infix_parts infixes.Range at a b h = and_parts (is_expression a) (is_expression b) h
-infix_parts infixes.RangeExclusive at a b h = and_parts (is_expression a) (is_expression b) h
-infix_parts infixes.Match at a b h = clash false h refl
-infix_parts infixes.Ambiguous at a b h = clash false h refl
 
 infix_never : (o : Infix) (at : ℕ) (a b : Node) → is_expression a ≡ false → is_expression (infix_node o at a b) ≡ false
 infix_never o at a b other =

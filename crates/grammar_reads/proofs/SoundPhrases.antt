@@ -1,5 +1,5 @@
 -- Phrases and negations that are read as an expression are derived.
-use Rattle.std.proofs.Common.{◌≡◌, Bool, true, false, ◌&&◌, ◌||◌, length, Option, Some, None, nat_le, Ok, if◌then◌else◌, inl, inr, refl, sym, ap, subst}
+use Rattle.std.proofs.Common.{◌≡◌, Bool, true, false, ◌&&◌, ◌||◌, ◌⊎◌, length, Option, Some, None, nat_le, Ok, if◌then◌else◌, inl, inr, refl, sym, ap, subst, ◌∙◌}
 use Rattle.std.proofs.lemmas.Bool.{cases_Bool}
 use Rattle.rb_syntax.specs.declared.keyword.Keyword.TheVariants as keywords
 use Rattle.rb_syntax.specs.declared.punctuator.Punctuator.TheVariants as marks
@@ -32,14 +32,14 @@ use Rattle.operand_rules.specs.Operators.{value_from}
 use Rattle.phrase_rules.specs.Phrases.{assign, may_command, value_phrase, first_of_several, begins_several, target_phrase, command_or_value, phrase_from, negated_command, negated_operand, negated, operand_phrase, defined, phrase_by, phrase, argument, is_command, is_command_there}
 use Rattle.statement_rules.specs.Statements.{is_not, is_statement_sort, negation}
 use Rattle.rule_base.specs.Reading.{Names, Tokens, Read, ◌>>=◌, Inside}
-use Rattle.grammar_reads.specs.Rules.{Operand, Argument, Negation, takes_target, is_taken}
+use Rattle.grammar_reads.specs.Rules.{Expression, Operand, Argument, Negation, takes_target, is_taken}
 use Rattle.grammar_reads.specs.Derives.{Derives, DefinedValue, AllOperators, OneOperand, Prefixed, Unnegated, Negated}
 use Rattle.grammar_reads.specs.Expressions.{is_expression}
-use Rattle.grammar_reads.proofs.Results.{bind_ok, then_ok, read_same, carry, Never}
+use Rattle.grammar_reads.proofs.Results.{bind_ok, then_ok, read_same, carry, differs, Never}
 use Rattle.grammar_reads.proofs.Sound.{IsSound}
 use Rattle.grammar_reads.proofs.SoundPostfix.{operand_sound}
 use Rattle.grammar_reads.proofs.SoundValues.{value_sound}
-use Rattle.grammar_reads.proofs.SoundAssignments.{assign_parts, assign_sort, assign_derived}
+use Rattle.grammar_reads.proofs.SoundAssignments.{assign_target, assign_parts, assign_sort, assign_derived, assigns_several, lists_derived}
 use Rattle.grammar_reads.proofs.SoundTargets.{target_sound}
 use Rattle.grammar_reads.proofs.NeverPhrases.{its_node, multiple_never, command_never, value_phrase_never, several_never, jump_never, none_of_phrase}
 use Rattle.grammar_reads.proofs.Starts.{not_there, operand_there, no_group, defined_there, defined_alone}
@@ -75,8 +75,13 @@ or_false true h = h
 or_false false h = h
 
 module _ (i : Inside) (sound : IsSound i) (place : Place) (owner : DoOwner) (before : Names) (start : Tokens) where
+  abbrev Argued : PhraseNode → Names → Tokens → Type 0
+  Argued x known rest = (x.1 ≡ sorts.Argument) × Derives (Argument place owner x.0) before start known rest
+
+  -- a value, or an assignment of several where a statement may stand
   abbrev SoundValue : PhraseNode → Names → Tokens → Type 0
-  SoundValue x known rest = (x.1 ≡ sorts.Argument) × Derives (Argument place owner x.0) before start known rest
+  SoundValue x known rest =
+      Argued x known rest ⊎ ((x.1 ≡ sorts.Statement) × (place ≡ places.Statement) × (is_target_group start ≡ false → Derives (Expression places.Statement owner x.0) before start known rest))
 
   abbrev Goal : Read PhraseNode → Type 0
   Goal read = (x : PhraseNode) (known : Names) (rest : Tokens) → read ≡ Ok (x, known, rest) → is_expression x.0 ≡ true → SoundValue x known rest
@@ -88,13 +93,14 @@ module _ (i : Inside) (sound : IsSound i) (place : Place) (owner : DoOwner) (bef
   goal_if true r s f g = f
   goal_if false r s f g = g
 
-  value_goal : (left : Node) (names : Names) (ts : Tokens) → Derives (Operand place owner left) before start names ts → is_taken place left (first ts) ≡ false → Goal (value_phrase i (whole left) names ts owner)
+  value_goal : (left : Node) (names : Names) (ts : Tokens) → Derives (Operand place owner left) before start names ts → is_taken place left (first ts) ≡ false
+      → (x : PhraseNode) (known : Names) (rest : Tokens) → value_phrase i (whole left) names ts owner ≡ Ok (x, known, rest) → is_expression x.0 ≡ true → Argued x known rest
   value_goal left names ts derived free x known rest h is =
       let r = bind_ok (value_from i left names ts owner) _ (x, known, rest) h in
       let e = read_same (r.0.0, sorts.Argument) x r.0.1 known r.0.2 rest r.2 in
       let there : is_expression r.0.0 ≡ true = subst (λ y. is_expression y.0 ≡ true) (sym e.0) is in
       let d = value_sound i owner sound place before start left names ts r.0.0 r.0.1 r.0.2 derived free r.1 there in
-      carry SoundValue (r.0.0, sorts.Argument) x r.0.1 known r.0.2 rest r.2 (refl, d)
+      carry Argued (r.0.0, sorts.Argument) x r.0.1 known r.0.2 rest r.2 (refl, d)
 
   -- what an operand that was read begins
   abbrev Begun : OperandNode → Names → Tokens → Bool → Type 0
@@ -106,7 +112,7 @@ module _ (i : Inside) (sound : IsSound i) (place : Place) (owner : DoOwner) (bef
         | inl there ↦
             let p = operand_sound i sound place owner before start commands o names ts begun there in
             let untaken : is_taken place p.0 (first ts) ≡ false = subst (λ q. (is_target q && takes_target place (first ts)) ≡ false) p.1 free in
-            value_goal p.0 names ts p.2 untaken x known rest (subst (λ q. value_phrase i q names ts owner ≡ Ok (x, known, rest)) p.1 h) is
+            inl (value_goal p.0 names ts p.2 untaken x known rest (subst (λ q. value_phrase i q names ts owner ≡ Ok (x, known, rest)) p.1 h) is)
         | inr other ↦ absurd (value_phrase_never i o names ts owner other x known rest h is)
       ]
 
@@ -118,11 +124,19 @@ module _ (i : Inside) (sound : IsSound i) (place : Place) (owner : DoOwner) (bef
   from_assignment : (commands : Bool) (a : Assignment) (o : OperandNode) (names : Names) (ts : Tokens) → Begun o names ts commands → is_target o ≡ true → assignment_at (first ts) ≡ Some a
       → Goal (assign i (target_node o) (target_names o names) a (behind ts) place owner)
   from_assignment commands a o names ts begun target there x known rest h is =
-      let p = assign_parts i sound a place owner (target_node o) (target_names o names) (behind ts) x known rest h is in
-      let t = target_sound i sound owner before start commands o names ts begun target p.4 in (
-        assign_sort i sound a place owner (target_node o) (target_names o names) (behind ts) x known rest p,
-        assign_derived i sound a place owner (target_node o) before start (target_names o names) ts t there x known rest p,
-      )
+      let assigned = assign_target i sound a place owner (target_node o) (target_names o names) (behind ts) x known rest h is in
+      let t = target_sound i sound owner before start commands o names ts begun target assigned in
+      elim (cases_Bool (is_statement_sort x.1)) [
+        | inl stated ↦
+            let here = assigns_several i sound a place owner (target_node o) (target_names o names) (behind ts) x known rest h stated is in
+            inr (here.0, here.1, λ free. lists_derived i sound a place owner (target_node o) before start (target_names o names) ts t there x known rest free h stated is)
+        | inr plain ↦
+            let p = assign_parts i sound a place owner (target_node o) (target_names o names) (behind ts) x known rest h plain is in
+            inl (
+              assign_sort i sound a place owner (target_node o) (target_names o names) (behind ts) x known rest p,
+              assign_derived i sound a place owner (target_node o) before start (target_names o names) ts t there x known rest p,
+            )
+      ]
 
   module _ (commands : Bool) (o : OperandNode) (names : Names) (ts : Tokens) (begun : Begun o names ts commands) where
     by_several : (b : Bool) → begins_several place ts ≡ b → is_target o ≡ true → assignment_at (first ts) ≡ None
@@ -143,11 +157,15 @@ module _ (i : Inside) (sound : IsSound i) (place : Place) (owner : DoOwner) (bef
     from_goal = by_target (is_target o) refl
 
 module _ (i : Inside) (sound : IsSound i) (place : Place) (owner : DoOwner) (names : Names) (ts : Tokens) where
+  -- an assignment of several values, where a statement may stand
+  abbrev Several : PhraseNode → Names → Tokens → Type 0
+  Several x known rest = (x.1 ≡ sorts.Statement) × (place ≡ places.Statement) × Derives (Expression places.Statement owner x.0) names ts known rest
+
   abbrev pub SoundPhrase : PhraseNode → Names → Tokens → Type 0
-  SoundPhrase x known rest = (x.1 ≡ sorts.Argument) × ((is_statement place && is_target_group ts) ≡ false) × Derives (Argument place owner x.0) names ts known rest
+  SoundPhrase x known rest = ((x.1 ≡ sorts.Argument) × ((is_statement place && is_target_group ts) ≡ false) × Derives (Argument place owner x.0) names ts known rest) ⊎ Several x known rest
 
   abbrev pub SoundNegation : PhraseNode → Names → Tokens → Type 0
-  SoundNegation x known rest = (is_statement_sort x.1 ≡ false) × Derives (Negation place owner x.0) names ts known rest
+  SoundNegation x known rest = ((is_statement_sort x.1 ≡ false) × Derives (Negation place owner x.0) names ts known rest) ⊎ Several x known rest
 
   abbrev NegationGoal : Read PhraseNode → Type 0
   NegationGoal read = (x : PhraseNode) (known : Names) (rest : Tokens) → read ≡ Ok (x, known, rest) → is_expression x.0 ≡ true → SoundNegation x known rest
@@ -161,8 +179,10 @@ module _ (i : Inside) (sound : IsSound i) (place : Place) (owner : DoOwner) (nam
   with_operand : (is_statement place && is_target_group ts) ≡ false → Phrase (operand_phrase i names ts place owner)
   with_operand free x known rest h is =
       let r = bind_ok (operand i names ts (allows_command place) owner) _ (x, known, rest) h in
-      let v = from_goal i sound place owner names ts (allows_command place) r.0.0 r.0.1 r.0.2 r.1 x known rest r.2 is in
-      (v.0, free, v.1)
+      elim (from_goal i sound place owner names ts (allows_command place) r.0.0 r.0.1 r.0.2 r.1 x known rest r.2 is) [
+        | inl v ↦ inl (v.0, free, v.1)
+        | inr s ↦ inr (s.0, s.1, s.2 (subst (λ p. (is_statement p && is_target_group ts) ≡ false) s.1 free))
+      ]
 
   with_not : first ts ≡ words.Mark marks.Not → Phrase (negated i names (behind ts) owner)
   unfolding negated phrase_from shape
@@ -189,7 +209,7 @@ module _ (i : Inside) (sound : IsSound i) (place : Place) (owner : DoOwner) (nam
                 let again : value_phrase i (whole (prefix_node prefixes.Not p.0)) k m owner ≡ Ok (x, known, rest) =
                 subst (λ q. value_phrase i (whole (prefix_node prefixes.Not (operand_node q))) k m owner ≡ Ok (x, known, rest)) p.1 read in
                 let v = value_goal i sound place owner names ts (prefix_node prefixes.Not p.0) k m d (not_is_free place p.0 (first m)) x known rest again is in
-                (v.0, no_group place ts there, v.1)
+                inl (v.0, no_group place ts there, v.1)
             | inr other ↦ absurd (value_phrase_never i (whole (prefix_node prefixes.Not (operand_node o))) k m owner other x known rest read is)
           ]
 
@@ -199,7 +219,7 @@ module _ (i : Inside) (sound : IsSound i) (place : Place) (owner : DoOwner) (nam
       let e = read_same (node.defined r.0.0, sorts.Argument) x r.0.1 known r.0.2 rest r.2 in
       let part : is_expression r.0.0 ≡ true = subst (λ (y : PhraseNode). is_expression y.0 ≡ true) (sym e.0) is in
       let d = DefinedValue place owner names r.0.1 ts r.0.2 r.0.0 there.0 there.1 (sound.argument names r.0.1 (behind ts) r.0.2 owner r.0.0 r.1 part) in
-      carry SoundPhrase (node.defined r.0.0, sorts.Argument) x r.0.1 known r.0.2 rest r.2 (refl, defined_alone place ts there.0, d)
+      carry SoundPhrase (node.defined r.0.0, sorts.Argument) x r.0.1 known r.0.2 rest r.2 (inl (refl, defined_alone place ts there.0, d))
 
   by_start : (s : Start) → start_at place ts ≡ s → Phrase (phrase_by i s names ts place owner)
   unfolding phrase_by
@@ -220,17 +240,32 @@ module _ (i : Inside) (sound : IsSound i) (place : Place) (owner : DoOwner) (nam
       let e = read_same (prefix_node prefixes.Not r.0.0.0, sorts.Command) x r.0.1 known r.0.2 rest r.2 in
       let inner = sound.negation names r.0.1 (behind ts) r.0.2 owner r.0.0.0 r.0.0.1 r.1 (subst (λ (y : PhraseNode). is_expression y.0 ≡ true) (sym e.0) is) in
       let d = Negated place owner names r.0.1 ts r.0.2 r.0.0.0 (is_the_not (first ts) there) inner in
-      carry SoundNegation (prefix_node prefixes.Not r.0.0.0, sorts.Command) x r.0.1 known r.0.2 rest r.2 (refl, d)
-  by_not false there x known rest h is = let p = phrase_sound x known rest h is in (ap is_statement_sort p.0, Unnegated place owner names known ts rest x.0 p.1 p.2)
+      carry SoundNegation (prefix_node prefixes.Not r.0.0.0, sorts.Command) x r.0.1 known r.0.2 rest r.2 (inl (refl, d))
+  by_not false there x known rest h is =
+      elim (phrase_sound x known rest h is) [
+        | inl p ↦ inl (ap is_statement_sort p.0, Unnegated place owner names known ts rest x.0 p.1 p.2)
+        | inr s ↦ inr s
+      ]
 
   pub negation_sound : NegationGoal (negation i names ts place owner)
   unfolding negation
   negation_sound = by_not (is_not (first ts)) refl
+
+-- where no statement may stand, a value alone is read
+module _ (i : Inside) (sound : IsSound i) (place : Place) (owner : DoOwner) (names : Names) (ts : Tokens) (plain : is_statement place ≡ false) where
+  not_several : {A : Type 0} → place ≡ places.Statement → A
+  not_several there = differs (sym (ap is_statement there) ∙ plain)
+
+  pub value_phrase_sound : (x : PhraseNode) (known : Names) (rest : Tokens) → phrase i names ts place owner ≡ Ok (x, known, rest) → is_expression x.0 ≡ true → (x.1 ≡ sorts.Argument) × Derives (Argument place owner x.0) names ts known rest
+  value_phrase_sound x known rest h is = elim (phrase_sound i sound place owner names ts x known rest h is) [ inl p ↦ (p.0, p.2) | inr s ↦ not_several s.1 ]
+
+  pub value_negation_sound : (x : PhraseNode) (known : Names) (rest : Tokens) → negation i names ts place owner ≡ Ok (x, known, rest) → is_expression x.0 ≡ true → Derives (Negation place owner x.0) names ts known rest
+  value_negation_sound x known rest h is = elim (negation_sound i sound place owner names ts x known rest h is) [ inl p ↦ p.1 | inr s ↦ not_several s.1 ]
 
 module _ (i : Inside) (sound : IsSound i) where
   pub argument_sound : (names known : Names) (ts rest : Tokens) (owner : DoOwner) (n : Node) → argument i names ts owner ≡ Ok (n, known, rest) → is_expression n ≡ true → Derives (Argument places.Argument owner n) names ts known rest
   argument_sound names known ts rest owner n h is =
       let r = bind_ok (phrase i names ts places.Argument owner) _ (n, known, rest) h in
       let e = read_same r.0.0.0 n r.0.1 known r.0.2 rest r.2 in
-      let s = phrase_sound i sound places.Argument owner names ts r.0.0 r.0.1 r.0.2 r.1 (subst (λ x. is_expression x ≡ true) (sym e.0) is) in
-      carry (λ (x : Node) (k : Names) (m : Tokens). Derives (Argument places.Argument owner x) names ts k m) r.0.0.0 n r.0.1 known r.0.2 rest r.2 s.2
+      let s = value_phrase_sound i sound places.Argument owner names ts refl r.0.0 r.0.1 r.0.2 r.1 (subst (λ x. is_expression x ≡ true) (sym e.0) is) in
+      carry (λ (x : Node) (k : Names) (m : Tokens). Derives (Argument places.Argument owner x) names ts k m) r.0.0.0 n r.0.1 known r.0.2 rest r.2 s.1

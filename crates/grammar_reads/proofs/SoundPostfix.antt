@@ -1,19 +1,16 @@
 -- An operand that is read as an expression is derived: of those with postfixes an index and a constant of a value are ones.
-use Rattle.std.proofs.Common.{◌≡◌, ℕ, zero, suc, ◌+◌, Bool, true, false, not, ◌&&◌, List, [], ◌∷◌, map, length, codes, Option, Some, None, Ok, Err, if◌then◌else◌, inl, inr, refl, sym, ap, subst, ◌∙◌}
+use Rattle.std.proofs.Common.{◌≡◌, ℕ, zero, suc, ◌+◌, Bool, true, false, not, ◌&&◌, List, [], ◌∷◌, map, length, codes, Option, Some, None, Ok, Err, if◌then◌else◌, inl, inr, refl, sym, ap, subst}
 use Rattle.std.proofs.lemmas.Bool.{cases_Bool, and_parts}
 use Rattle.rb_syntax.specs.declared.core_form.Item.{Item}
 use Rattle.rb_syntax.specs.declared.core_form.Item.TheVariants.{Plain}
-use Rattle.rb_syntax.specs.declared.keyword.Keyword.{Keyword}
-use Rattle.rb_syntax.specs.declared.keyword.Keyword.TheVariants as keywords
 use Rattle.rb_syntax.specs.declared.punctuator.Punctuator.{Punctuator}
 use Rattle.rb_syntax.specs.declared.punctuator.Punctuator.TheVariants as marks
 use Rattle.rb_tree.specs.Node as node
 use Rattle.rb_tree.specs.View.{items_of}
-use Rattle.rb_grammar.specs.Expect.{skip_newlines, expect_closing, is_wanted}
+use Rattle.rb_grammar.specs.Expect.{skip_newlines}
 use Rattle.rb_grammar.specs.declared.word.Word.{Word}
 use Rattle.rb_grammar.specs.declared.word.Word.TheVariants as words
-use Rattle.rb_heads.specs.declared.primary.DoOwner.TheVariants as owners
-use Rattle.tree_builder.specs.Listed.{is_none, whole_items}
+use Rattle.tree_builder.specs.Listed.{whole_items}
 use Rattle.rb_tree.specs.Node.{Node, nodes}
 use Rattle.rb_tree.specs.declared.operator.UnaryOperator.TheVariants as unary
 use Rattle.rb_grammar.specs.Tokens.{first, behind, bytes_at, place_at}
@@ -34,15 +31,13 @@ use Rattle.operand_rules.specs.Operands as operands
 use Rattle.operand_rules.specs.Operands.{continues, is_constant, suffix, postfix_callee, outside_name, scoped, is_scoped_constant, is_outside_name, primary, indexed, called, plain_named, named, dotted, postfixed, chain_turn, chain_within, chain, operand_with, operand}
 use Rattle.rule_base.specs.Reading.{Names, Tokens, Read, Inside}
 use Rattle.grammar_reads.specs.Rules.{Primary, Operand, Operation, operand_level, operand_place}
-use Rattle.grammar_reads.specs.Derives.{Derives, Prefixed, WithPostfixes, Indexed, ScopedConstant}
+use Rattle.grammar_reads.specs.Derives.{Derives, Prefixed, WithPostfixes, ListIndexed, ScopedConstant}
 use Rattle.grammar_reads.specs.Expressions.{is_expression, are_expressions}
-use Rattle.grammar_reads.proofs.Results.{bind_ok, then_ok, read_same, or_else, carry, differs, not_true, Never, never_bind, never_after, never_false, never_ok, never_error, never_if, err_is_none, same_read}
+use Rattle.grammar_reads.proofs.Results.{bind_ok, read_same, carry, differs, not_true, Never, never_bind, never_after, never_false, never_ok, never_error, never_if, err_is_none}
+use Rattle.grammar_reads.proofs.ExpressionParts.{prefix_part, call_is_none}
 use Rattle.grammar_reads.proofs.Sound.{IsSound}
-use Rattle.grammar_reads.proofs.SoundPrimary.{ok_is, call_is_none, suffix_never, primary_sound}
-
-pub prefix_part : (o : Prefix) (n : Node) → is_expression (prefix_node o n) ≡ true → is_expression n ≡ true
-prefix_part prefixes.Not n h = h
-prefix_part (prefixes.Operation o) n h = h
+use Rattle.grammar_reads.proofs.SoundBrackets.{closes_bracket, elements_sound}
+use Rattle.grammar_reads.proofs.SoundPrimary.{suffix_never, primary_sound}
 
 pub same_level : (o : Prefix) → operands.operand_level o ≡ operand_level o
 same_level prefixes.Not = refl
@@ -87,15 +82,6 @@ mark_scope p h = differs (sym h)
 scope_word : (w : Word) → is_scope (postfix_at w) ≡ true → w ≡ words.Mark marks.ColonColon
 scope_word (words.Mark p) h = mark_scope p h
 scope_word w h = differs (sym h)
-
-bracket_key : (k : Keyword) → is_wanted wanted.CloseBracket (words.Key k) ≡ true → ⊥
-bracket_key keywords.End h = cc
-bracket_key k h = cc
-
-closes_bracket : (w : Word) → is_wanted wanted.CloseBracket w ≡ true → w ≡ words.Mark marks.CloseBracket
-closes_bracket (words.Mark marks.CloseBracket) h = refl
-closes_bracket (words.Key k) h = absurd (bracket_key k h)
-closes_bracket w h = absurd (cc)
 
 a_constant : (w : Word) → is_constant w ≡ true → w ≡ words.Constant
 a_constant words.Constant h = refl
@@ -156,23 +142,15 @@ module _ (i : Inside) where
     indexed_sound : (left : Node) (k : Names) (m : Tokens) (o : OperandNode) (known : Names) (rest : Tokens) → Derives (Primary place owner left) names ts k m → first m ≡ words.Mark marks.OpenBracket
         → indexed i left k m ≡ Ok (o, known, rest) → is_expression (operand_node o) ≡ true → SoundPrimary o known rest
     indexed_sound left k m o known rest derived there h is =
-        let e = bind_ok (elements i k (behind m) wanted.CloseBracket) _ (o, known, rest) h in
-        let l = bind_ok (i.list k (behind m) owners.Call) _ e.0 e.1 in
-        let t = then_ok (is_none l.0.0.block) _ (length (behind m)) e.0 l.2 in
-        let x = bind_ok (expect_closing wanted.CloseBracket l.0.2) _ e.0 t.1 in
-        let c = then_ok (is_wanted wanted.CloseBracket (first (skip_newlines l.0.2))) (Ok (behind (skip_newlines l.0.2))) (length (skip_newlines l.0.2)) x.0 x.1 in
-        let items : List (Item Node) = whole_items l.0.0.items l.0.0.pairs in
-        let f : (items, l.0.1, x.0) ≡ e.0 = ap (or_else (items, l.0.1, x.0)) x.2 in
-        let last : behind (skip_newlines l.0.2) ≡ x.0 = ok_is c.1 in
-        let made : Node = node.index left (items_of items) in
-        let read : same_read (Ok (whole made, l.0.1, x.0)) (Ok (o, known, rest)) =
-        subst (λ (q : List (Item Node) × Names × Tokens). same_read (Ok (whole (node.index left (items_of q.0)), q.1, q.2)) (Ok (o, known, rest))) (sym f) e.2 in
-        let whole_is : is_expression made ≡ true = subst (λ p. is_expression (operand_node p) ≡ true) (sym (read_same (whole made) o l.0.1 known x.0 rest read).0) is in
-        let v = sound.values k l.0.1 (behind m) l.0.2 l.0.0 l.1 t.0 (and_parts (is_expression left) (are_expressions (items_of items)) whole_is).1 in
-        let d = Indexed place owner names k l.0.1 ts m l.0.2 left v.0 derived there v.2 (closes_bracket (first (skip_newlines l.0.2)) c.0) in
-        let same : made ≡ node.index left (nodes v.0) = ap (λ (is : List (Item Node)). node.index left (items_of is)) v.1 ∙ ap (λ ns. node.index left ns) (items_plain v.0) in
-        let moved = subst (λ (q : Tokens). Derives (Primary place owner (node.index left (nodes v.0))) names ts l.0.1 q) last d in
-        carry SoundPrimary (whole made) o l.0.1 known x.0 rest read (node.index left (nodes v.0), ap (λ n. whole n) same, moved)
+        let r = bind_ok (elements i k (behind m) wanted.CloseBracket) _ (o, known, rest) h in
+        let made : Node = node.index left (items_of r.0.0) in
+        let e = read_same (whole made) o r.0.1 known r.0.2 rest r.2 in
+        let whole_is : is_expression made ≡ true = subst (λ p. is_expression (operand_node p) ≡ true) (sym e.0) is in
+        let l = elements_sound i sound k (behind m) wanted.CloseBracket r.0.0 r.0.1 r.0.2 r.1 (and_parts (is_expression left) (are_expressions (items_of r.0.0)) whole_is).1 in
+        let d = ListIndexed place owner names k r.0.1 ts m l.1 left l.0 derived there l.4 l.3 (closes_bracket (first (skip_newlines l.1)) l.5) in
+        let last = subst (λ (q : Tokens). Derives (Primary place owner (node.index left (items_of (whole_items l.0.items l.0.pairs)))) names ts r.0.1 q) l.6 d in
+        let same = subst (λ (is : List (Item Node)). Derives (Primary place owner (node.index left (items_of is))) names ts r.0.1 r.0.2) l.2 last in
+        carry SoundPrimary (whole made) o r.0.1 known r.0.2 rest r.2 (made, refl, same)
 
     scoped_sound : (left : Node) (k : Names) (m : Tokens) (o : OperandNode) (known : Names) (rest : Tokens) → Derives (Primary place owner left) names ts k m → first m ≡ words.Mark marks.ColonColon
         → named i left postfixes.Scope k m owner ≡ Ok (o, known, rest) → is_expression (operand_node o) ≡ true → SoundPrimary o known rest

@@ -1,5 +1,5 @@
 -- A primary that is read as an expression is derived.
-use Rattle.std.proofs.Common.{◌≡◌, ℕ, Bool, true, false, [], length, Option, Some, None, is_some, Result, Ok, Err, if◌then◌else◌, refl, sym, ap, subst}
+use Rattle.std.proofs.Common.{◌≡◌, ℕ, Bool, true, false, [], length, Option, Some, None, is_some, Ok, if◌then◌else◌, refl, sym, ap, subst}
 use Rattle.rb_syntax.specs.declared.keyword.Keyword.{Keyword}
 use Rattle.rb_syntax.specs.declared.keyword.Keyword.TheVariants as keywords
 use Rattle.rb_syntax.specs.declared.outside.Outside.{Outside}
@@ -23,31 +23,27 @@ use Rattle.rb_heads.specs.declared.primary.Place.{Place}
 use Rattle.rb_heads.specs.declared.primary.BlockStyle.{BlockStyle}
 use Rattle.rb_heads.specs.declared.primary.Primary.TheVariants as primaries
 use Rattle.tree_builder.specs.Leaf.{leaf}
-use Rattle.tree_builder.specs.Calls.{CalleeNode, name_callee, method_callee, super_callee, outside_callee, OperandNode, whole, Given, call_node, operand_node}
-use Rattle.form_rules.specs.Literals.{pieces, string, strings, is_literal_end}
-use Rattle.form_rules.specs.Brackets.{call_arguments, elements, hash, yielded, sectioned, pairs_alone}
+use Rattle.tree_builder.specs.Calls.{CalleeNode, name_callee, super_callee, outside_callee, OperandNode, whole, Given, operand_node}
+use Rattle.form_rules.specs.Brackets.{call_arguments, elements, yielded, sectioned}
 use Rattle.form_rules.specs.Definitions.{lambda, lambda_by, lambda_body, define, method_rest, method_head, body, class_form, singleton_class, separated_body, named_class, path, parent, class_body, is_shift, module_form}
 use Rattle.form_rules.specs.Parameters.{open_parameters, is_assign}
-use Rattle.form_builder.specs.Definitions.{HeadNode, method_by, method_node}
+use Rattle.form_builder.specs.Definitions.{HeadNode}
 use Rattle.form_builder.specs.Sections.{is_whole, compound_node}
 use Rattle.rb_heads.specs.declared.sections.Compound.{Compound}
 use Rattle.rb_heads.specs.declared.sections.Compound.TheVariants as compounds
-use Rattle.form_builder.specs.Parameters.{ParameterNodes, BlockNode}
-use Rattle.operand_rules.specs.Operands.{unblocked, with_block_at, suffix, compound, primary_by, primary, wrapped, array, text, quoted_symbol, defined, group, leaf_primary, is_identifier}
+use Rattle.form_builder.specs.Parameters.{ParameterNodes}
+use Rattle.operand_rules.specs.Operands.{unblocked, with_block_at, suffix, compound, primary_by, primary, wrapped, defined, group, leaf_primary, is_identifier}
 use Rattle.rule_base.specs.Reading.{Names, Tokens, Read, Inside}
 use Rattle.grammar_reads.specs.Derives.{Derives}
 use Rattle.grammar_reads.specs.Expressions.{is_expression}
-use Rattle.grammar_reads.proofs.Results.{bind_ok, then_ok, read_same, carry, clash, Never, never_bind, never_passed, never_ok, never_error, never_if, same}
+use Rattle.grammar_reads.proofs.Results.{bind_ok, then_ok, read_same, ok_is, carry, clash, Never, never_bind, never_passed, never_ok, never_error, never_if}
+use Rattle.grammar_reads.proofs.ExpressionParts.{call_is_none, method_is_none}
 use Rattle.grammar_reads.proofs.Sound.{IsSound}
 use Rattle.grammar_reads.proofs.SoundLeaf.{itself, leaf_sound}
-use Rattle.grammar_reads.specs.Rules.{Primary as PrimaryRule}
+use Rattle.grammar_reads.proofs.SoundLiterals.{text_sound, symbol_sound}
+use Rattle.grammar_reads.proofs.SoundBrackets.{array_sound, hash_sound}
+use Rattle.grammar_reads.specs.Rules.{Primary as PrimaryRule, begins_string}
 use Rattle.grammar_reads.specs.Derives.{Local, Group, DefinedGroup}
-
-pub call_is_none : (c : CalleeNode) (given : Given) (block : _) → is_expression (call_node c given block) ≡ false
-call_is_none (name_callee x i) given block = refl
-call_is_none (method_callee r x s) given block = refl
-call_is_none super_callee given block = refl
-call_is_none (outside_callee o at es) given block = refl
 
 unblocked_is_none : (c : CalleeNode) (given : Given) → is_expression (operand_node (unblocked c given)) ≡ false
 unblocked_is_none c None = call_is_none c None None
@@ -66,13 +62,6 @@ an_open : (w : Word) → is_open_parenthesis w ≡ true → w ≡ words.Mark mar
 an_open (words.Mark marks.OpenParenthesis) h = refl
 an_open w h = absurd (cc)
 
-abbrev ok_or : {A : Type 0} → A → Result A ℕ → A
-ok_or x (Ok y) = y
-ok_or x (Err e) = x
-
-pub ok_is : {x y : Tokens} → same (Ok x) (Ok y) → x ≡ y
-ok_is {x} h = ap (ok_or x) h
-
 module _ (i : Inside) where
   with_block_never : (style : Option BlockStyle) (c : CalleeNode) (given : Given) (names : Names) (ts : Tokens) → Never operand_node (with_block_at i style c given names ts)
   with_block_never None c given names ts = never_ok operand_node _ names ts (unblocked_is_none c given)
@@ -86,23 +75,6 @@ module _ (i : Inside) where
       never_if operand_node (opens_arguments ts) _ _
       (never_bind operand_node (call_arguments i names (behind ts)) _ (λ r. with_block_never (block_at owner r.2) c (Some r.0) r.1 r.2))
       (with_block_never (block_at owner ts) c None names ts)
-
-  array_never : (names : Names) (ts : Tokens) → Never itself (array i names ts)
-  array_never names ts = never_bind itself (elements i names ts wanted.CloseBracket) _ (λ r. never_ok itself _ r.1 r.2 refl)
-
-  hash_never : (names : Names) (ts : Tokens) → Never itself (hash i names ts)
-  hash_never names ts =
-      never_bind itself (i.list names ts owners.Call) _ (λ r. never_if itself (pairs_alone r.0) _ _
-      (never_bind itself (expect_closing wanted.CloseBrace r.2) _ (λ rest. never_ok itself _ r.1 rest refl))
-      (never_error itself (length ts)))
-
-  text_never : (names : Names) (ts : Tokens) → Never itself (text i names ts)
-  text_never names ts =
-      never_bind itself (string i [] names ts) _ (λ found. never_bind itself (strings i found.0 found.1 found.2) _ (λ r. never_ok itself _ r.1 r.2 refl))
-
-  symbol_never : (names : Names) (ts : Tokens) → Never itself (quoted_symbol i names ts)
-  symbol_never names ts =
-      never_bind itself (pieces i [] names ts) _ (λ r. never_if itself (is_literal_end (first r.2)) _ _ (never_ok itself _ r.1 (behind r.2) refl) (never_error itself (length r.2)))
 
   yielded_never : (names : Names) (ts : Tokens) → Never itself (yielded i names ts)
   yielded_never names ts =
@@ -118,13 +90,6 @@ module _ (i : Inside) where
   unfolding lambda
   lambda_never names ts owner =
       never_bind itself (open_parameters i names ts) _ (λ r. lambda_by_never (lambda_block_at owner r.2) (is_some (lambda_block_at owner ts)) (length names) r.0 r.1 r.2)
-
-  method_is_none : (h : HeadNode) (b : BlockNode) → is_expression (method_node h b) ≡ false
-  method_is_none h b = by_outside h.outside
-    where
-      by_outside : (o : Option ℕ) → is_expression (method_by o h b) ≡ false
-      by_outside None = refl
-      by_outside (Some at) = refl
 
   rest_never : (h : HeadNode) (l : ParameterNodes) (names : Names) (ts : Tokens) → Never itself (method_rest i h l names ts)
   rest_never h l names ts =
@@ -264,8 +229,8 @@ module _ (i : Inside) where
       by_mark : (p : Punctuator) → first ts ≡ words.Mark p → Goal (primary_by i (primary_of (words.Mark p) names ts) names ts owner)
       unfolding primary_by compound
       by_mark marks.OpenParenthesis is = grouped is
-      by_mark marks.OpenBracket is = not_wrapped _ (array_never names (behind ts))
-      by_mark marks.OpenBrace is = not_wrapped _ (hash_never names (behind ts))
+      by_mark marks.OpenBracket is = goal_wrapped _ (array_sound i sound place owner names ts is)
+      by_mark marks.OpenBrace is = goal_wrapped _ (hash_sound i sound place owner names ts is)
       by_mark marks.LambdaArrow is = not_wrapped _ (lambda_never names (behind ts) owner)
       by_mark p is = leafy (words.Mark p) is refl
 
@@ -280,9 +245,9 @@ module _ (i : Inside) where
       by_word words.MethodName is = named (name_callee (bytes_at ts) (is_identifier (first ts)))
       by_word words.Constant is = by_constant (opens_arguments (behind ts)) refl is refl
       by_word (words.Other o) is = by_outside o is
-      by_word words.StringBegin is = not_wrapped _ (text_never names ts)
-      by_word words.Character is = not_wrapped _ (text_never names ts)
-      by_word words.SymbolBegin is = not_wrapped _ (symbol_never names (behind ts))
+      by_word words.StringBegin is = goal_wrapped _ (text_sound i sound place owner names ts (ap begins_string is))
+      by_word words.Character is = goal_wrapped _ (text_sound i sound place owner names ts (ap begins_string is))
+      by_word words.SymbolBegin is = goal_wrapped _ (symbol_sound i sound place owner names ts is)
       by_word (words.Mark p) is = by_mark p is
       by_word (words.Key k) is = by_key k is
       by_word w is = leafy w is refl

@@ -11,7 +11,6 @@ use Rattle.rb_grammar.specs.Operators.{junction_at}
 use Rattle.rb_grammar.specs.Starts.{ends_statement, ends_statements, modifier_at}
 use Rattle.rb_grammar.specs.declared.expect.Wanted.TheVariants as wanted
 use Rattle.rb_grammar.specs.declared.operators.Junction.{Junction}
-use Rattle.rb_grammar.specs.declared.operators.Junction.TheVariants as junctions_of
 use Rattle.rb_grammar.specs.declared.word.Modifier.{Modifier}
 use Rattle.rb_grammar.specs.declared.word.Modifier.TheVariants as kinds
 use Rattle.rb_heads.specs.Primary.{is_name_word, is_comma_word}
@@ -19,7 +18,7 @@ use Rattle.rb_heads.specs.declared.primary.DoOwner.{DoOwner}
 use Rattle.rb_heads.specs.declared.primary.DoOwner.TheVariants as owners
 use Rattle.rb_heads.specs.declared.primary.Place.{Place}
 use Rattle.rb_heads.specs.declared.primary.Place.TheVariants as places
-use Rattle.tree_builder.specs.Nodes.{condition_node, junction_node, modified_node}
+use Rattle.tree_builder.specs.Nodes.{junction_node, modified_node}
 use Rattle.tree_builder.specs.Listed.{PhraseNode}
 use Rattle.form_builder.specs.Definitions.{alias, undef, undef_from, is_global}
 use Rattle.statement_rules.specs.declared.statements.StatementStart.{StatementStart}
@@ -28,12 +27,12 @@ use Rattle.statement_rules.specs.Statements.{is_statement_sort, statement_start,
 use Rattle.rule_base.specs.Reading.{Names, Tokens, ◌>>=◌, Inside}
 use Rattle.grammar_reads.specs.Rules.{Statements, StatementList, Statement, Modified, Base, Expression, Joined, is_rescue}
 use Rattle.grammar_reads.specs.Derives.{Derives, Separated, NoMore, OneMore, WithModifiers, Unmodified, Tested, Rescued, Plain, AllJoined, Unjoined, Junctioned}
-use Rattle.grammar_reads.specs.Expressions.{is_bare, is_expression, are_expressions}
+use Rattle.grammar_reads.specs.Expressions.{is_expression, are_expressions}
 use Rattle.grammar_reads.proofs.Results.{bind_ok, then_ok, read_same, carry, clash, or_else, same, Never, never_bind, never_after, never_false, never_ok, never_error, err_is_none}
+use Rattle.grammar_reads.proofs.ExpressionParts.{modified_parts, junction_parts}
 use Rattle.grammar_reads.proofs.Sound.{IsSound}
 use Rattle.grammar_reads.proofs.SoundLeaf.{itself}
-use Rattle.grammar_reads.proofs.SoundValues.{condition_is}
-use Rattle.grammar_reads.proofs.SoundPhrases.{negation_sound}
+use Rattle.grammar_reads.proofs.SoundPhrases.{negation_sound, value_negation_sound}
 
 pub append_none : (xs : List Node) → xs ++ [] ≡ xs
 append_none [] = refl
@@ -74,33 +73,12 @@ lacks_never : (r : Result (Node × Tokens) ℕ) (names : Names) → Lacks r → 
 lacks_never (Ok p) names lacks = never_ok itself p.0 names p.1 (lacks p.0 p.1 refl)
 lacks_never (Err e) names lacks = never_error itself e
 
--- what stands before a modifier and behind it
-modified_parts : (m : Modifier) (body part : Node) → is_expression (modified_node m body part) ≡ true → (is_expression body ≡ true) × (is_expression part ≡ true)
-modified_parts kinds.If body part h =
-    let branch = and_parts (is_bare body && (is_expression (condition_node part) && is_expression body)) true (and_parts (is_expression (node.branch (condition_node part) body) && true) true h).0 in
-    let tested = and_parts (is_expression (condition_node part)) (is_expression body) (and_parts (is_bare body) _ branch.0).1 in
-    (tested.1, condition_is part tested.0)
-modified_parts kinds.Unless body part h =
-    let tested = and_parts (is_expression (condition_node part)) (is_expression body) (and_parts (is_bare body && true) _ h).1 in
-    (tested.1, condition_is part tested.0)
-modified_parts kinds.While body part h =
-    let tested = and_parts (is_expression (condition_node part)) (is_expression body) (and_parts (is_bare body) _ h).1 in
-    (tested.1, condition_is part tested.0)
-modified_parts kinds.Until body part h =
-    let tested = and_parts (is_expression (condition_node part)) (is_expression body) (and_parts (is_bare body) _ h).1 in
-    (tested.1, condition_is part tested.0)
-modified_parts kinds.Rescue body part h = and_parts (is_expression body) (is_expression part) h
-
 modified_none : (m : Modifier) (body part : Node) → is_expression body ≡ false → is_expression (modified_node m body part) ≡ false
 modified_none m body part other =
     elim (cases_Bool (is_expression (modified_node m body part))) [
       | inl is ↦ clash (is_expression body) (modified_parts m body part is).0 other
       | inr other_is ↦ other_is
     ]
-
-junction_parts : (j : Junction) (a b : Node) → is_expression (junction_node j a b) ≡ true → (is_expression a ≡ true) × (is_expression b ≡ true)
-junction_parts junctions_of.And a b h = and_parts (is_expression a) (is_expression b) h
-junction_parts junctions_of.Or a b h = and_parts (is_expression a) (is_expression b) h
 
 junction_none : (j : Junction) (a b : Node) → is_expression a ≡ false → is_expression (junction_node j a b) ≡ false
 junction_none j a b other =
@@ -147,8 +125,8 @@ module _ (i : Inside) (owner : DoOwner) where
         elim (cases_Bool (is_expression (junction_node j left p.0.0.0))) [
           | inl there_is ↦
               let parts = junction_parts j left p.0.0.0 there_is in
-              let right = negation_sound i sound places.Command owner names (behind ts) p.0.0 p.0.1 p.0.2 p.1 parts.1 in
-              again (junction_node j left p.0.0.0) p.0.1 p.0.2 (Junctioned place owner j before names p.0.1 start ts p.0.2 left p.0.0.0 derived there right.1) tail
+              let right = value_negation_sound i sound places.Command owner names (behind ts) refl p.0.0 p.0.1 p.0.2 p.1 parts.1 in
+              again (junction_node j left p.0.0.0) p.0.1 p.0.2 (Junctioned place owner j before names p.0.1 start ts p.0.2 left p.0.0.0 derived there right) tail
           | inr other ↦ absurd (junctions_never n (junction_node j left p.0.0.0) p.0.1 p.0.2 other x known rest tail is)
         ]
 
@@ -163,12 +141,17 @@ module _ (i : Inside) (owner : DoOwner) where
         → (x : Node) (known : Names) (rest : Tokens) → (if b then Ok (p.0, k, m) else junctions_from i (length m + 1) owner p.0 k m) ≡ Ok (x, known, rest) → is_expression x ≡ true → Tail x known rest
     by_sort true p k m sort got x known rest h is =
         let e = read_same p.0 x k known m rest h in
-        clash (is_statement_sort p.1) sort (negation_sound i sound place owner before start p k m got (subst (λ y. is_expression y ≡ true) (sym e.0) is)).0
+        elim (negation_sound i sound place owner before start p k m got (subst (λ y. is_expression y ≡ true) (sym e.0) is)) [
+          | inl d ↦ clash (is_statement_sort p.1) sort d.0
+          | inr s ↦ carry Tail p.0 x k known m rest h (subst (λ q. Derives (Expression q owner p.0) before start k m) (sym s.1) s.2)
+        ]
     by_sort false p k m sort got x known rest h is =
         elim (cases_Bool (is_expression p.0)) [
           | inl there ↦
-              let d = negation_sound i sound place owner before start p k m got there in
-              tail_sound (length m + 1) p.0 k m x known rest (Unjoined place owner before k start m p.0 d.1) h is
+              elim (negation_sound i sound place owner before start p k m got there) [
+                | inl d ↦ tail_sound (length m + 1) p.0 k m x known rest (Unjoined place owner before k start m p.0 d.1) h is
+                | inr s ↦ clash (is_statement_sort p.1) (ap is_statement_sort s.0) sort
+              ]
           | inr other ↦ absurd (junctions_never (length m + 1) p.0 k m other x known rest h is)
         ]
 

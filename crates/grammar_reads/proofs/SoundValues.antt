@@ -1,6 +1,6 @@
 -- Values that are read as an expression are derived.
-use Rattle.std.proofs.Common.{◌≡◌, ◌+◌, true, false, ◌&&◌, length, Ok, inl, inr, refl, sym, subst}
-use Rattle.std.proofs.lemmas.Bool.{cases_Bool, and_parts}
+use Rattle.std.proofs.Common.{◌≡◌, ◌+◌, true, false, length, Ok, inl, inr, refl, sym, subst}
+use Rattle.std.proofs.lemmas.Bool.{cases_Bool}
 use Rattle.rb_syntax.specs.declared.keyword.Keyword.{Keyword}
 use Rattle.rb_syntax.specs.declared.keyword.Keyword.TheVariants as keywords
 use Rattle.rb_syntax.specs.declared.punctuator.Punctuator.TheVariants as marks
@@ -13,18 +13,16 @@ use Rattle.rb_grammar.specs.declared.word.Word.TheVariants as words
 use Rattle.rb_heads.specs.declared.primary.DoOwner.{DoOwner}
 use Rattle.rb_heads.specs.declared.primary.Place.{Place}
 use Rattle.rb_heads.specs.declared.primary.Place.TheVariants as places
-use Rattle.tree_builder.specs.Nodes.{shape, condition_of, condition_node, choice_node}
-use Rattle.tree_builder.specs.declared.nodes.Shape.{Shape}
-use Rattle.tree_builder.specs.declared.nodes.Shape.TheVariants as shapes
+use Rattle.tree_builder.specs.Nodes.{choice_node}
 use Rattle.operand_rules.specs.Operators.{operators, choice, question_at, value_from}
 use Rattle.rule_base.specs.Reading.{Names, Tokens, Inside}
 use Rattle.grammar_reads.specs.Rules.{Operand, Operation, Argument, is_question, is_taken}
 use Rattle.grammar_reads.specs.Derives.{Derives, OneOperand, Value, Conditional}
-use Rattle.grammar_reads.specs.Expressions.{is_bare, is_expression}
-use Rattle.grammar_reads.proofs.Results.{bind_ok, then_ok, read_same, carry, clash, differs, Never, never_bind, never_after, never_ok}
+use Rattle.grammar_reads.specs.Expressions.{is_expression}
+use Rattle.grammar_reads.proofs.Results.{bind_ok, then_ok, read_same, ok_is, carry, clash, Never, never_bind, never_after, never_ok}
+use Rattle.grammar_reads.proofs.ExpressionParts.{choice_parts}
 use Rattle.grammar_reads.proofs.Sound.{IsSound}
 use Rattle.grammar_reads.proofs.SoundLeaf.{itself}
-use Rattle.grammar_reads.proofs.SoundPrimary.{ok_is}
 use Rattle.grammar_reads.proofs.SoundOperators.{operators_never, tail_sound}
 
 colon_key : (k : Keyword) → is_wanted wanted.Colon (words.Key k) ≡ true → ⊥
@@ -35,29 +33,6 @@ a_colon : (w : Word) → is_wanted wanted.Colon w ≡ true → w ≡ words.Mark 
 a_colon (words.Mark marks.Colon) h = refl
 a_colon (words.Key k) h = absurd (colon_key k h)
 a_colon w h = absurd (cc)
-
--- a condition that is an expression is what it was
-condition_same : (n : Node) → is_expression (condition_node n) ≡ true → condition_node n ≡ n
-condition_same n = by_shape (shape n)
-  where
-    by_shape : (s : Shape) → is_expression (condition_of s n) ≡ true → condition_of s n ≡ n
-    by_shape (shapes.Range at) h = differs (sym h)
-    by_shape shapes.Begin h = refl
-    by_shape shapes.Target h = refl
-    by_shape shapes.Other h = refl
-
-pub condition_is : (n : Node) → is_expression (condition_node n) ≡ true → is_expression n ≡ true
-condition_is n h = subst (λ m. is_expression m ≡ true) (condition_same n h) h
-
-choice_parts : (test a b : Node) → is_expression (choice_node test a b) ≡ true → (is_expression test ≡ true) × (is_expression a ≡ true) × (is_expression b ≡ true)
-choice_parts test a b h =
-    let all = and_parts (is_bare b && true) _ h in
-    let branches = and_parts ((is_bare a && (is_expression (condition_node test) && is_expression a)) && true) (is_expression b && true) all.1 in
-    let branch = and_parts (is_bare a && (is_expression (condition_node test) && is_expression a)) true branches.0 in
-    let chosen = and_parts (is_bare a) (is_expression (condition_node test) && is_expression a) branch.0 in
-    let tested = and_parts (is_expression (condition_node test)) (is_expression a) chosen.1 in
-    let other = and_parts (is_expression b) true branches.1 in
-    (condition_is test tested.0, tested.1, other.0)
 
 choice_none : (test a b : Node) → is_expression test ≡ false → is_expression (choice_node test a b) ≡ false
 choice_none test a b other =

@@ -1,5 +1,5 @@
--- The nodes of expressions: operators, conditionals, defined?, modifiers, literals, variables, constants of a value, indices, assignments
--- and parentheses.
+-- The nodes of expressions: operators, conditionals, defined?, modifiers, literals with what is put in them, arrays, hashes, variables,
+-- constants, indices, assignments, retry and parentheses.
 use Rattle.std.specs.Prelude.{Bool, true, false, ◌&&◌, ◌||◌}
 use Rattle.rb_tree.specs.Node as node
 use Rattle.rb_tree.specs.Node.{Node, Nodes}
@@ -44,8 +44,14 @@ abbrev pub is_other : Nodes → Bool
 is_other node.none = true
 is_other (node.more n ns) = is_bare n && is_none ns
 
+-- bytes of a literal
+abbrev pub is_bytes : Node → Bool
+is_bytes (node.piece x) = true
+is_bytes n = false
+
 -- the branches of a conditional, and what stands before a modifier with a test, are no statements in parentheses: with those the
--- node would be one of a form with sections
+-- node would be one of a form with sections; an item with a star, a pair and a branch, which stand within others alone, are said to
+-- be expressions where their parts are
 abbrev mutual
   pub is_expression : Node → Bool
   is_expression node.nil = true
@@ -53,11 +59,21 @@ abbrev mutual
   is_expression node.falsehood = true
   is_expression node.self_reference = true
   is_expression (node.integer n) = true
+  is_expression (node.text ns) = are_pieces ns
   is_expression (node.symbol x) = true
+  is_expression (node.symbol_text ns) = are_pieces ns
+  is_expression (node.words xs) = true
+  is_expression (node.symbols xs) = true
   is_expression (node.local x) = true
   is_expression (node.instance_variable x) = true
   is_expression (node.global_variable x) = true
   is_expression (node.constant x) = true
+  is_expression (node.top_constant x) = true
+  is_expression node.retry = true
+  is_expression (node.array is) = are_expressions is
+  is_expression (node.splat e) = is_expression e
+  is_expression (node.hash ps) = are_expressions ps
+  is_expression (node.pair k v) = is_expression k && is_expression v
   is_expression (node.statements ns) = are_expressions ns
   is_expression (node.not_node e) = is_expression e
   is_expression (node.unary o e) = is_expression e
@@ -91,3 +107,12 @@ abbrev mutual
   pub are_expressions : Nodes → Bool
   are_expressions node.none = true
   are_expressions (node.more n ns) = is_expression n && are_expressions ns
+
+  -- the pieces of a literal: bytes, and expressions that are put in
+  pub are_pieces : Nodes → Bool
+  are_pieces node.none = true
+  are_pieces (node.more n ns) = (is_bytes n || is_expression n) && are_pieces ns
+
+-- one of these pieces
+abbrev pub is_piece : Node → Bool
+is_piece n = is_bytes n || is_expression n

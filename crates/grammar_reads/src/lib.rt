@@ -23,9 +23,10 @@
 //!
 //! All that is derived the definitions of the parser read ([`derived_is_read`]), so [`at_most_one`] node is derived. An
 //! expression that they read is derived ([`expressions_are_derived`]); `specs::Expressions` says which nodes are those of
-//! expressions. Calls are not among them, since the node of a command is that of a call with parentheses too; nor is a
-//! node whose branch of a conditional, or what stands before a modifier with a test, is in parentheses: a form with
-//! sections has the same.
+//! expressions, strings and symbols with what is put in them, `%w` and `%i`, arrays and hashes, and an assignment of several
+//! values among these. Calls are not, since the node of a command is that of a call with parentheses too; nor is a node whose
+//! branch of a conditional, or what stands before a modifier with a test, is in parentheses: a form with sections has the
+//! same.
 //!
 //! Going through the definitions branch by branch found one form that they read and that has no rule; no theorem says that
 //! there is no other: `return`, `break`, `next` or `yield` alone before what may begin a value (as in `!yield[0]`), directly
