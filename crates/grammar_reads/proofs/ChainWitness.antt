@@ -36,7 +36,7 @@ the_block =
 the_argument : Derives (Argument places.Command owners.Command (node.integer (pos 1))) [] digit [] block_begin
 unfolding first behind word_of integer_at place_at infix_at prefix_at shape
 the_argument =
-    Value places.Command owners.Command [] [] digit block_begin (node.integer (pos 1))
+    Value places.Command owners.Command [] [] digit block_begin (node.integer (pos 1)) refl
     (AllOperators places.Command 13 owners.Command [] [] digit block_begin (node.integer (pos 1))
     (OneOperand places.Command 13 owners.Command [] [] digit block_begin (node.integer (pos 1))
     (WithPostfixes places.Command owners.Command [] [] digit block_begin (node.integer (pos 1)) refl (Integer places.Command owners.Command [] digit refl) refl))
@@ -59,7 +59,7 @@ the_postfixes =
 the_value : Derives (Command places.Command owners.Call value) [] called_name [] []
 unfolding first behind word_of bytes_at prefix_at begins_argument opens_arguments is_apart
 the_value =
-    CalleeCommand places.Command owners.Call [] [] [] called_name digit [] called value refl refl (NameCallee places.Command owners.Call [] called_name refl refl)
+    CalleeCommand places.Command owners.Call [] [] [] called_name digit [] called value refl refl refl (NameCallee places.Command owners.Call [] called_name refl refl)
     (CommandPostfixes owners.Call [] [] [] [] digit block_begin dot [] called list block value refl refl the_list refl refl the_block the_postfixes)
 
 pub chain_example_derived : Derives (Statements tree) [] tokens [] []

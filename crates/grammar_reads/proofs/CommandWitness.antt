@@ -1,5 +1,5 @@
 -- The example of a command with a block is derived.
-use Rattle.std.proofs.Common.{◌≡◌, pos, [], ◌∷◌, refl, codes}
+use Rattle.std.proofs.Common.{pos, [], ◌∷◌, refl, codes}
 use Rattle.rb_tree.specs.Node as node
 use Rattle.rb_tree.specs.Node.{Node}
 use Rattle.rb_grammar.specs.Tokens.{first, behind, word_of, bytes_at, integer_at, place_at, is_apart}
@@ -31,7 +31,7 @@ the_body =
     Separated known known used block_end (node.local (codes "x") ∷ [])
     (OneMore known known known used block_end block_end (node.local (codes "x")) [] refl
     (whole_statement known known used block_end (node.local (codes "x"))
-    (alone places.Statement owners.Call known known used block_end (node.local (codes "x")) refl (Local places.Statement owners.Call known used refl refl refl) refl refl refl refl refl refl) refl)
+    (alone places.Statement owners.Call known known used block_end (node.local (codes "x")) refl (Local places.Statement owners.Call known used refl refl refl) refl refl refl refl refl refl refl) refl)
     refl (NoMore known block_end refl))
 
 the_block : Derives (Block styles.Do block) [] block_begin [] []
@@ -41,7 +41,7 @@ the_block = DoBlock [] known known block_begin used [] parameters body refl the_
 the_argument : Derives (Argument places.Command owners.Command (node.integer (pos 1))) [] digit [] block_begin
 unfolding first behind word_of integer_at place_at infix_at prefix_at shape
 the_argument =
-    Value places.Command owners.Command [] [] digit block_begin (node.integer (pos 1))
+    Value places.Command owners.Command [] [] digit block_begin (node.integer (pos 1)) refl
     (AllOperators places.Command 13 owners.Command [] [] digit block_begin (node.integer (pos 1))
     (OneOperand places.Command 13 owners.Command [] [] digit block_begin (node.integer (pos 1))
     (WithPostfixes places.Command owners.Command [] [] digit block_begin (node.integer (pos 1)) refl (Integer places.Command owners.Command [] digit refl) refl))
@@ -58,7 +58,7 @@ the_list =
 the_command : Derives (Command places.Statement owners.Call command) [] tokens [] []
 unfolding first behind word_of bytes_at prefix_at begins_argument opens_arguments is_apart
 the_command =
-    CalleeCommand places.Statement owners.Call [] [] [] tokens digit [] called command refl refl (NameCallee places.Statement owners.Call [] tokens refl refl)
+    CalleeCommand places.Statement owners.Call [] [] [] tokens digit [] called command refl refl refl (NameCallee places.Statement owners.Call [] tokens refl refl)
     (CommandBlock owners.Call [] [] [] digit block_begin [] called list block refl refl the_list refl refl the_block refl)
 
 pub command_example_derived : Derives (Statements tree) [] tokens [] []

@@ -5,6 +5,8 @@ use Rattle.grammar_reads.specs.Rules.{Rule}
 use Rattle.grammar_reads.specs.Derives as grammar
 use Rattle.grammar_reads.specs.Derives.{Derives}
 use Rattle.grammar_reads.proofs.Facts.{Fact}
+use Rattle.rb_heads.specs.declared.primary.Place.TheVariants as places
+use Rattle.grammar_reads.proofs.Heads.{jump_front}
 use Rattle.grammar_reads.proofs.Fronts.{front}
 use Rattle.grammar_reads.proofs.CompletePrimary as primaries
 use Rattle.grammar_reads.proofs.CompletePostfixes as postfixes
@@ -52,18 +54,19 @@ complete _ _ _ _ _ (grammar.Junctioned place owner j names known later ts rest m
     statements.junctioned place owner j names known later ts rest more a b (complete _ _ _ _ _ left) there (complete _ _ _ _ _ right)
 complete _ _ _ _ _ (grammar.Negated place owner names known ts rest n is d) = values.negated_fact place owner names known ts rest n is (complete _ _ _ _ _ d)
 complete _ _ _ _ _ (grammar.Unnegated place owner names known ts rest n group d) = values.unnegated place owner names known ts rest n group (complete _ _ _ _ _ d)
-complete _ _ _ _ _ (grammar.Value place owner names known ts rest n d calm free) = values.value place owner names known ts rest n (complete _ _ _ _ _ d) (front _ _ _ _ _ d refl) calm free
-complete _ _ _ _ _ (grammar.Conditional place owner names known later last ts rest more left n a b test asks chosen parts other) =
-    values.conditional place owner names known later last ts rest more left n a b (complete _ _ _ _ _ test) (front _ _ _ _ _ test refl) asks (complete _ _ _ _ _ chosen) parts (complete _ _ _ _ _ other)
+complete _ _ _ _ _ (grammar.Value place owner names known ts rest n jump d calm free) =
+    values.value place owner names known ts rest n (complete _ _ _ _ _ d) (jump_front place ts (front _ _ _ _ _ d refl) jump) calm free
+complete _ _ _ _ _ (grammar.Conditional place owner names known later last ts rest more left n a b jump test asks chosen parts other) =
+    values.conditional place owner names known later last ts rest more left n a b (complete _ _ _ _ _ test) (jump_front place ts (front _ _ _ _ _ test refl) jump) asks (complete _ _ _ _ _ chosen) parts (complete _ _ _ _ _ other)
 complete _ _ _ _ _ (grammar.DefinedValue place owner names known ts rest n is closed d) = values.defined_value place owner names known ts rest n is closed (complete _ _ _ _ _ d)
-complete _ _ _ _ _ (grammar.Assigned place owner a names known later ts rest more target n t there value calm alone) =
-    assignments.assigned place owner a names known later ts rest more target n (complete _ _ _ _ _ t) (front _ _ _ _ _ t refl) there (complete _ _ _ _ _ value) (front _ _ _ _ _ value refl) calm alone
-complete _ _ _ _ _ (grammar.AssignedOr place owner a names known later last ts rest more tail target n other t there value rescue right) =
-    assignments.assigned_or place owner a names known later last ts rest more tail target n other (complete _ _ _ _ _ t) (front _ _ _ _ _ t refl) there (complete _ _ _ _ _ value) (front _ _ _ _ _ value refl) rescue (complete _ _ _ _ _ right)
+complete _ _ _ _ _ (grammar.Assigned place owner a names known later ts rest more target n jump t there value calm alone) =
+    assignments.assigned place owner a names known later ts rest more target n (complete _ _ _ _ _ t) (jump_front place ts (front _ _ _ _ _ t refl) jump) there (complete _ _ _ _ _ value) (front _ _ _ _ _ value refl) calm alone
+complete _ _ _ _ _ (grammar.AssignedOr place owner a names known later last ts rest more tail target n other jump t there value rescue right) =
+    assignments.assigned_or place owner a names known later last ts rest more tail target n other (complete _ _ _ _ _ t) (jump_front place ts (front _ _ _ _ _ t refl) jump) there (complete _ _ _ _ _ value) (front _ _ _ _ _ value refl) rescue (complete _ _ _ _ _ right)
 complete _ _ _ _ _ (grammar.InnerAssigned owner a names known later ts rest more target n t there value calm) =
-    assignments.inner_assigned owner a names known later ts rest more target n (complete _ _ _ _ _ t) (front _ _ _ _ _ t refl) there (complete _ _ _ _ _ value) (front _ _ _ _ _ value refl) calm
+    assignments.inner_assigned owner a names known later ts rest more target n (complete _ _ _ _ _ t) (jump_front places.Argument ts (front _ _ _ _ _ t refl) refl) there (complete _ _ _ _ _ value) (front _ _ _ _ _ value refl) calm
 complete _ _ _ _ _ (grammar.InnerAssignedOr owner a names known later last ts rest more tail target n other t there value rescue right) =
-    assignments.inner_assigned_or owner a names known later last ts rest more tail target n other (complete _ _ _ _ _ t) (front _ _ _ _ _ t refl) there (complete _ _ _ _ _ value) (front _ _ _ _ _ value refl) rescue (complete _ _ _ _ _ right)
+    assignments.inner_assigned_or owner a names known later last ts rest more tail target n other (complete _ _ _ _ _ t) (jump_front places.Argument ts (front _ _ _ _ _ t refl) refl) there (complete _ _ _ _ _ value) (front _ _ _ _ _ value refl) rescue (complete _ _ _ _ _ right)
 complete _ _ _ _ _ (grammar.LocalTarget owner names ts is) = targets.local_target owner names ts is
 complete _ _ _ _ _ (grammar.InstanceTarget owner names ts is) = targets.instance_target owner names ts is
 complete _ _ _ _ _ (grammar.GlobalTarget owner names ts is) = targets.global_target owner names ts is
@@ -77,6 +80,8 @@ complete _ _ _ _ _ (grammar.PostfixInnerTarget owner names known ts rest n is no
 complete _ _ _ _ _ (grammar.CalleeInnerTarget owner names known ts rest c none d target) = targets.callee_inner_target owner names known ts rest c none (complete _ _ _ _ _ d) target
 complete _ _ _ _ _ (grammar.AllOperators place loosest owner names known ts rest n d ends) = operands.all_operators place loosest owner names known ts rest n (complete _ _ _ _ _ d) ends
 complete _ _ _ _ _ (grammar.OneOperand place loosest owner names known ts rest n d) = operands.one_operand place loosest owner names known ts rest n (complete _ _ _ _ _ d)
+complete _ _ _ _ _ (grammar.CalleeOperand loosest owner a names known ts rest c within none d there) =
+    targets.callee_operand loosest owner a names known ts rest c within none (complete _ _ _ _ _ d) there
 complete _ _ _ _ _ (grammar.Infixed place loosest owner o names known later ts rest more a b left there right calm) =
     operands.infixed place loosest owner o names known later ts rest more a b (complete _ _ _ _ _ left) there (complete _ _ _ _ _ right) calm
 complete _ _ _ _ _ (grammar.Prefixed place owner o names known ts rest n there d) = operands.prefixed place owner o names known ts rest n there (complete _ _ _ _ _ d)
@@ -121,10 +126,10 @@ complete _ _ _ _ _ (grammar.LineKeyword place owner names ts is) = words.line_ke
 complete _ _ _ _ _ (grammar.EncodingKeyword place owner names ts is) = words.encoding_keyword place owner names ts is
 complete _ _ _ _ _ (grammar.Redo place owner names ts is) = words.redo place owner names ts is
 complete _ _ _ _ _ (grammar.Retry place owner names ts is) = words.retry place owner names ts is
-complete _ _ _ _ _ (grammar.Return place owner names ts is none) = words.return_alone place owner names ts is
-complete _ _ _ _ _ (grammar.Break place owner names ts is none) = words.break_alone place owner names ts is
-complete _ _ _ _ _ (grammar.Next place owner names ts is none) = words.next_alone place owner names ts is
-complete _ _ _ _ _ (grammar.Yield place owner names ts is none) = words.yield_alone place owner names ts is none
+complete _ _ _ _ _ (grammar.Return place owner names ts is) = words.return_alone place owner names ts is
+complete _ _ _ _ _ (grammar.Break place owner names ts is) = words.break_alone place owner names ts is
+complete _ _ _ _ _ (grammar.Next place owner names ts is) = words.next_alone place owner names ts is
+complete _ _ _ _ _ (grammar.Yield place owner names ts is closed) = words.yield_alone place owner names ts is closed
 complete _ _ _ _ _ (grammar.PlainPart place owner names known ts rest n d arrow) = lists.plain_fact place owner names ts known rest n (complete _ _ _ _ _ d) (front _ _ _ _ _ d refl) arrow
 complete _ _ _ _ _ (grammar.PairPart place owner names known later ts rest more key n d there value) =
     lists.pair_fact place owner names ts known later rest more key n (complete _ _ _ _ _ d) (front _ _ _ _ _ d refl) there (complete _ _ _ _ _ value)
@@ -149,10 +154,10 @@ complete _ _ _ _ _ (grammar.JumpList place owner j names known ts rest l there m
     jumps.jump_list_fact place owner names ts j known rest l there may begins (complete _ _ _ _ _ d) none
 complete _ _ _ _ _ (grammar.YieldList place owner names known ts rest l is may begins closed d none) =
     jumps.yield_list_fact place owner names ts known rest l is may begins closed (complete _ _ _ _ _ d) none
-complete _ _ _ _ _ (grammar.ListAssigned owner names known later ts rest more target n l group t there d side made) =
-    several.list_assigned owner names known later ts rest more target n l group (complete _ _ _ _ _ t) (front _ _ _ _ _ t refl) there (complete _ _ _ _ _ d) side made
-complete _ _ _ _ _ (grammar.SeveralAssigned owner names known later latest ts rest mid more target ms l group t there others many closing d side) =
-    several.several_assigned owner names known later latest ts rest mid more target ms l group (complete _ _ _ _ _ t) (front _ _ _ _ _ t refl) there (complete _ _ _ _ _ others) many closing (complete _ _ _ _ _ d) side
+complete _ _ _ _ _ (grammar.ListAssigned owner names known later ts rest more target n l group jump t there d side made) =
+    several.list_assigned owner names known later ts rest more target n l group (complete _ _ _ _ _ t) (jump_front places.Statement ts (front _ _ _ _ _ t refl) jump) there (complete _ _ _ _ _ d) side made
+complete _ _ _ _ _ (grammar.SeveralAssigned owner names known later latest ts rest mid more target ms l group jump t there others many closing d side) =
+    several.several_assigned owner names known later latest ts rest mid more target ms l group (complete _ _ _ _ _ t) (jump_front places.Statement ts (front _ _ _ _ _ t refl) jump) there (complete _ _ _ _ _ others) many closing (complete _ _ _ _ _ d) side
 complete _ _ _ _ _ (grammar.GroupsAssigned owner names known later ts rest more ms l begins others many closing d side) =
     several.groups_assigned owner names known later ts rest more ms l begins (complete _ _ _ _ _ others) many closing (complete _ _ _ _ _ d) side
 complete _ _ _ _ _ (grammar.PlaceTarget names known ts rest n group d) = several.place_target names known ts rest n group (complete _ _ _ _ _ d)
@@ -337,12 +342,12 @@ complete _ _ _ _ _ (grammar.CalledWith owner names known ts rest c l opened d cl
 complete _ _ _ _ _ (grammar.CalledWithBlock owner style names known later ts rest more c l b opened d closing there none block) =
     chains.called_with_block owner names ts c known rest l opened (complete _ _ _ _ _ d) closing style later more b there none (complete _ _ _ _ _ block)
 complete _ _ _ _ _ (grammar.CalledBlock owner style names known ts rest c b closed there block) = chains.called_block owner names ts c style known rest b closed there (complete _ _ _ _ _ block)
-complete _ _ _ _ _ (grammar.CalleeCommand place owner names known later ts rest more c n may none d arguments) =
-    commands.callee_command place owner names known later ts rest more c n may none (complete _ _ _ _ _ d) (front _ _ _ _ _ d refl) (complete _ _ _ _ _ arguments)
+complete _ _ _ _ _ (grammar.CalleeCommand place owner names known later ts rest more c n may none jump d arguments) =
+    commands.callee_command place owner names known later ts rest more c n may none (complete _ _ _ _ _ d) (jump_front place ts (front _ _ _ _ _ d refl) jump) (complete _ _ _ _ _ arguments)
 complete _ _ _ _ _ (grammar.NotCommand place owner names known later ts rest more c n is may none d arguments) =
-    commands.not_command place owner names known later ts rest more c n is may none (complete _ _ _ _ _ d) (front _ _ _ _ _ d refl) (complete _ _ _ _ _ arguments)
-complete _ _ _ _ _ (grammar.CommandAssigned place owner a names known later ts rest more target n t there d alone) =
-    commands.command_assigned place owner a names known later ts rest more target n (complete _ _ _ _ _ t) there (complete _ _ _ _ _ d) alone (front _ _ _ _ _ t refl)
+    commands.not_command place owner names known later ts rest more c n is may none (complete _ _ _ _ _ d) (complete _ _ _ _ _ arguments)
+complete _ _ _ _ _ (grammar.CommandAssigned place owner a names known later ts rest more target n jump t there d alone) =
+    commands.command_assigned place owner a names known later ts rest more target n (complete _ _ _ _ _ t) there (complete _ _ _ _ _ d) alone (jump_front place ts (front _ _ _ _ _ t refl) jump)
 complete _ _ _ _ _ (grammar.NotAssigned place owner a names known later ts rest more target n is may t there d) =
     commands.not_assigned place owner a names known later ts rest more target n is may (complete _ _ _ _ _ t) there (complete _ _ _ _ _ d)
 complete _ _ _ _ _ (grammar.Commanded place owner names known ts rest n group d) = commands.commanded place owner names known ts rest n group (complete _ _ _ _ _ d)

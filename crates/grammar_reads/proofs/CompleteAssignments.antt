@@ -32,7 +32,7 @@ use Rattle.rule_base.specs.Reading.{Names, Tokens, Read, Inside}
 use Rattle.rb_parser.specs.Levels.{levels}
 use Rattle.grammar_reads.specs.Rules.{Argument, Target, InnerTarget, is_rescue, takes_list, goes_on_list}
 use Rattle.grammar_reads.proofs.Facts.{is_bang, begins, opens, is_finish, Fact, levels_at, word_taken, ends_target}
-use Rattle.grammar_reads.proofs.Heads.{Front, anywhere, opens_begins, word_begins, front_start}
+use Rattle.grammar_reads.proofs.Heads.{Front, opens_begins, word_begins, front_start}
 use Rattle.grammar_reads.proofs.Tests.{or_left}
 use Rattle.grammar_reads.proofs.Assigning.{same_rescue, same_takes, statement_only, or_false_parts}
 use Rattle.grammar_reads.proofs.Results.{differs, and_false, not_true}
@@ -126,7 +126,7 @@ of_inner : (owner : DoOwner) (x : Node) (names known : Names) (ts rest : Tokens)
 of_inner owner x names known ts rest left = (left.0, left.1, λ d room ends. let t = left.2 d room ends in (t.0, t.1, t.2, t.3, t.4, t.5))
 
 module _ (place : Place) (owner : DoOwner) (a : Assignment) (names known later : Names) (ts rest more : Tokens) (target n : Node)
-    (left : Assignable place owner target names ts known rest) (lead : Front place ts) (there : assignment_at (first rest) ≡ Some a) (value : Fact (Argument (of_value place) owner n) known (behind rest) later more) (front : Front (of_value place) (behind rest)) where
+    (left : Assignable place owner target names ts known rest) (lead : Front place ts) (there : assignment_at (first rest) ≡ Some a) (value : Fact (Argument (of_value place) owner n) known (behind rest) later more) (part : part_at (behind rest) ≡ parts.Value) where
   -- an assignment whose value is read whole
   assigned_whole : (last : Names) (tail : Tokens) (whole : Node) → length tail ≤ length more → (takes_list a place && goes_on_list (first more)) ≡ false
       → ((d : ℕ) → length more < d → whole_value (levels d) n sorts.Argument later more owner ≡ Ok (whole, last, tail))
@@ -142,7 +142,7 @@ module _ (place : Place) (owner : DoOwner) (a : Assignment) (names known later :
         λ d room group none.
             let t = left.2 d room (assignment_ends (first rest) a there) in
             let inner = value.2 (d - 1) (omega arith) (value_group place (behind rest)) (free none) in
-            let right = value_read d place owner a known later (behind rest) more n (omega arith) inner value.1 front.0 (omega arith) alone in
+            let right = value_read d place owner a known later (behind rest) more n (omega arith) inner value.1 part (omega arith) alone in
             let made = assign_read (levels d) place owner a target known later last (behind rest) more tail n whole right (all d (omega arith)) in
             let moved : assign (levels d) (target_node t.0) (target_names t.0 t.1) a (behind rest) place owner ≡ Ok ((assignment_node a target whole, sorts.Argument), last, tail) =
             subst (λ k. assign (levels d) (target_node t.0) k a (behind rest) place owner ≡ Ok ((assignment_node a target whole, sorts.Argument), last, tail)) (sym t.5)
@@ -152,10 +152,10 @@ module _ (place : Place) (owner : DoOwner) (a : Assignment) (names known later :
       )
 
 module _ (place : Place) (owner : DoOwner) (a : Assignment) (names known later : Names) (ts rest more : Tokens) (target n : Node) (left : Assignable place owner target names ts known rest) (lead : Front place ts) (there : assignment_at (first rest) ≡ Some a)
-    (value : Fact (Argument (of_value place) owner n) known (behind rest) later more) (front : Front (of_value place) (behind rest)) where
+    (value : Fact (Argument (of_value place) owner n) known (behind rest) later more) (part : part_at (behind rest) ≡ parts.Value) where
   assigned_calm : is_rescue (modifier_at (first more)) ≡ false → (takes_list a place && goes_on_list (first more)) ≡ false → Fact (Argument place owner (assignment_node a target n)) names ts later more
   assigned_calm calm alone =
-      assigned_whole place owner a names known later ts rest more target n left lead there value front later more n (omega arith) alone (λ d room. calm_value (levels d) owner later more n calm) (value_calm place (is_some (assignment_at (first more))))
+      assigned_whole place owner a names known later ts rest more target n left lead there value part later more n (omega arith) alone (λ d room. calm_value (levels d) owner later more n calm) (value_calm place (is_some (assignment_at (first more))))
 
   assigned_rescued : (last : Names) (tail : Tokens) (other : Node) → modifier_at (first more) ≡ Some modifiers.Rescue → Fact (Argument places.Argument owner other) later (behind more) last tail
       → Fact (Argument place owner (assignment_node a target (rescued_node n other))) names ts last tail
@@ -164,7 +164,7 @@ module _ (place : Place) (owner : DoOwner) (a : Assignment) (names known later :
       let r = right.0 in
       let alone : (takes_list a place && goes_on_list (first more)) ≡ false = rw (modifier_alone (first more) modifiers.Rescue rescue) (and_false (takes_list a place)) in
       let free : (allows_command (of_value place) && is_some (assignment_at (first more))) ≡ false = rw (modifier_free (first more) modifiers.Rescue rescue) (and_false (allows_command (of_value place))) in
-      assigned_whole place owner a names known later ts rest more target n left lead there value front last tail (rescued_node n other) (omega arith) alone
+      assigned_whole place owner a names known later ts rest more target n left lead there value part last tail (rescued_node n other) (omega arith) alone
       (λ d room.
       let read = value_below d (omega arith) later last (behind more) tail owner other (right.2 (d - 1) (omega arith) refl refl) in
       rw (rescue, read) refl)
@@ -176,28 +176,28 @@ no_list signs.Plain b = refl
 no_list (signs.Operation o) b = refl
 
 pub assigned : (place : Place) (owner : DoOwner) (a : Assignment) (names known later : Names) (ts rest more : Tokens) (target n : Node)
-    → Fact (Target owner target) names ts known rest → Front places.Command ts → assignment_at (first rest) ≡ Some a → Fact (Argument (of_value place) owner n) known (behind rest) later more → Front (of_value place) (behind rest)
+    → Fact (Target owner target) names ts known rest → Front place ts → assignment_at (first rest) ≡ Some a → Fact (Argument (of_value place) owner n) known (behind rest) later more → part_at (behind rest) ≡ parts.Value
     → is_rescue (modifier_at (first more)) ≡ false → (takes_list a place && goes_on_list (first more)) ≡ false
     → Fact (Argument place owner (assignment_node a target n)) names ts later more
-assigned place owner a names known later ts rest more target n left lead there value front calm alone =
-    assigned_calm place owner a names known later ts rest more target n (of_target place owner target names known ts rest left) (anywhere place ts lead) there value front calm alone
+assigned place owner a names known later ts rest more target n left lead there value part calm alone =
+    assigned_calm place owner a names known later ts rest more target n (of_target place owner target names known ts rest left) lead there value part calm alone
 
 pub assigned_or : (place : Place) (owner : DoOwner) (a : Assignment) (names known later last : Names) (ts rest more tail : Tokens) (target n other : Node)
-    → Fact (Target owner target) names ts known rest → Front places.Command ts → assignment_at (first rest) ≡ Some a → Fact (Argument (of_value place) owner n) known (behind rest) later more → Front (of_value place) (behind rest)
+    → Fact (Target owner target) names ts known rest → Front place ts → assignment_at (first rest) ≡ Some a → Fact (Argument (of_value place) owner n) known (behind rest) later more → part_at (behind rest) ≡ parts.Value
     → modifier_at (first more) ≡ Some modifiers.Rescue → Fact (Argument places.Argument owner other) later (behind more) last tail
     → Fact (Argument place owner (assignment_node a target (rescued_node n other))) names ts last tail
-assigned_or place owner a names known later last ts rest more tail target n other left lead there value front rescue right =
-    assigned_rescued place owner a names known later ts rest more target n (of_target place owner target names known ts rest left) (anywhere place ts lead) there value front last tail other rescue right
+assigned_or place owner a names known later last ts rest more tail target n other left lead there value part rescue right =
+    assigned_rescued place owner a names known later ts rest more target n (of_target place owner target names known ts rest left) lead there value part last tail other rescue right
 
 pub inner_assigned : (owner : DoOwner) (a : Assignment) (names known later : Names) (ts rest more : Tokens) (target n : Node)
-    → Fact (InnerTarget owner target) names ts known rest → Front places.Argument ts → assignment_at (first rest) ≡ Some a → Fact (Argument places.Argument owner n) known (behind rest) later more → Front places.Argument (behind rest)
+    → Fact (InnerTarget owner target) names ts known rest → Front places.Argument ts → assignment_at (first rest) ≡ Some a → Fact (Argument places.Argument owner n) known (behind rest) later more → part_at (behind rest) ≡ parts.Value
     → is_rescue (modifier_at (first more)) ≡ false → Fact (Argument places.Argument owner (assignment_node a target n)) names ts later more
-inner_assigned owner a names known later ts rest more target n left lead there value front calm =
-    assigned_calm places.Argument owner a names known later ts rest more target n (of_inner owner target names known ts rest left) lead there value front calm (no_list a (goes_on_list (first more)))
+inner_assigned owner a names known later ts rest more target n left lead there value part calm =
+    assigned_calm places.Argument owner a names known later ts rest more target n (of_inner owner target names known ts rest left) lead there value part calm (no_list a (goes_on_list (first more)))
 
 pub inner_assigned_or : (owner : DoOwner) (a : Assignment) (names known later last : Names) (ts rest more tail : Tokens) (target n other : Node)
-    → Fact (InnerTarget owner target) names ts known rest → Front places.Argument ts → assignment_at (first rest) ≡ Some a → Fact (Argument places.Argument owner n) known (behind rest) later more → Front places.Argument (behind rest)
+    → Fact (InnerTarget owner target) names ts known rest → Front places.Argument ts → assignment_at (first rest) ≡ Some a → Fact (Argument places.Argument owner n) known (behind rest) later more → part_at (behind rest) ≡ parts.Value
     → modifier_at (first more) ≡ Some modifiers.Rescue → Fact (Argument places.Argument owner other) later (behind more) last tail
     → Fact (Argument places.Argument owner (assignment_node a target (rescued_node n other))) names ts last tail
-inner_assigned_or owner a names known later last ts rest more tail target n other left lead there value front rescue right =
-    assigned_rescued places.Argument owner a names known later ts rest more target n (of_inner owner target names known ts rest left) lead there value front last tail other rescue right
+inner_assigned_or owner a names known later last ts rest more tail target n other left lead there value part rescue right =
+    assigned_rescued places.Argument owner a names known later ts rest more target n (of_inner owner target names known ts rest left) lead there value part last tail other rescue right

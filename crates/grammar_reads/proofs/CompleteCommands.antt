@@ -41,7 +41,7 @@ use Rattle.grammar_reads.proofs.Tests.{or_left, or_right}
 use Rattle.grammar_reads.proofs.Assigning.{same_takes, statement_only}
 use Rattle.grammar_reads.proofs.SoundPhrases.{prefix_not}
 use Rattle.grammar_reads.proofs.Facts.{is_bang, begins, opens, Fact, levels_at, word_taken}
-use Rattle.grammar_reads.proofs.Heads.{Front, opens_begins, word_begins, operand_start, not_start, head_no_not}
+use Rattle.grammar_reads.proofs.Heads.{Front, opens_begins, word_begins, operand_start, front_start, not_start, head_no_not}
 use Rattle.grammar_reads.proofs.CompleteValues.{bang_other}
 use Rattle.grammar_reads.proofs.CompleteJumps.{argument_no_block}
 use Rattle.grammar_reads.proofs.CompleteAssignments.{assignment_word, value_group, assignment_ends, from_read, phrase_read}
@@ -118,7 +118,7 @@ arguments_below : (d : ℕ) (owner : DoOwner) (names known : Names) (ts rest : T
 arguments_below d owner names known ts rest c n some inner room calm =
     subst (λ (i : Inside). command i c names ts owner ≡ Ok ((n, sorts.Command), known, rest)) (sym (levels_at d some)) ((inner.2 (d - 1) room).2 calm)
 
-module _ (place : Place) (owner : DoOwner) (names known : Names) (ts rest : Tokens) (c : CalleeNode) (may : allows_command place ≡ true) (bare : prefix_at ts ≡ None) (inner : Fact (Callee place owner c) names ts known rest) (front : Front place ts)
+module _ (place : Place) (owner : DoOwner) (names known : Names) (ts rest : Tokens) (c : CalleeNode) (may : allows_command place ≡ true) (bare : prefix_at ts ≡ None) (inner : Fact (Callee place owner c) names ts known rest)
     (begun : begins_argument rest ≡ true) (closed : opens_arguments rest ≡ false) where
   -- before a list a callee is read alone
   callee_alone : (i : Inside) → suffix i c known rest owner ≡ Ok (callee c, known, rest)
@@ -154,15 +154,15 @@ module _ (place : Place) (owner : DoOwner) (names known : Names) (ts rest : Toke
         | inr other ↦ rw other there
       ]
 
-  command_phrase : (d : ℕ) (x : Node) (later : Names) (more : Tokens) → length ts ≤ d → (is_statement place && is_target_group ts) ≡ false → command (levels d) c known rest owner ≡ Ok ((x, sorts.Command), later, more)
+  command_phrase : (d : ℕ) (x : Node) (later : Names) (more : Tokens) → Front place ts → length ts ≤ d → (is_statement place && is_target_group ts) ≡ false → command (levels d) c known rest owner ≡ Ok ((x, sorts.Command), later, more)
       → phrase (levels d) names ts place owner ≡ Ok ((x, sorts.Command), later, more)
-  command_phrase d x later more room group made =
+  command_phrase d x later more front room group made =
       let other : first ts ≢ words.Mark marks.Not = λ e. differs (sym (ap is_some (prefix_not ts e)) ∙ ap is_some bare) in
       phrase_read (levels d) place owner (callee c) names known ts rest _ (operand_start place ts inner.1 (front.1 may other) group) (callee_read d room) (command_from (levels d) _ made)
 
-  command_fact : (x : Node) (later : Names) (more : Tokens) → length more < length ts → ((d : ℕ) → length ts ≤ d → assignment_at (first more) ≡ None → command (levels d) c known rest owner ≡ Ok ((x, sorts.Command), later, more))
+  command_fact : (x : Node) (later : Names) (more : Tokens) → Front place ts → length more < length ts → ((d : ℕ) → length ts ≤ d → assignment_at (first more) ≡ None → command (levels d) c known rest owner ≡ Ok ((x, sorts.Command), later, more))
       → Fact (Command place owner x) names ts later more
-  command_fact x later more fewer read = (fewer, opens_begins ts inner.1, λ d room. (front.0, λ group calm. command_phrase d x later more room group (read d room calm)))
+  command_fact x later more front fewer read = (fewer, opens_begins ts inner.1, λ d room. (front.0, λ group calm. command_phrase d x later more front room group (read d room calm)))
 
 pub callee_command : (place : Place) (owner : DoOwner) (names known later : Names) (ts rest more : Tokens) (c : CalleeNode) (n : Node) → allows_command place ≡ true → prefix_at ts ≡ None → Fact (Callee place owner c) names ts known rest → Front place ts
     → Fact (CommandArguments owner c n) known rest later more → Fact (Command place owner n) names ts later more
@@ -170,12 +170,12 @@ callee_command place owner names known later ts rest more c n may bare inner fro
     let r = arguments.2 (length rest) (omega arith) in
     let a = inner.0 in
     let b = arguments.0 in
-    command_fact place owner names known ts rest c may bare inner front r.0 r.1 n later more (omega arith) (λ d room calm. arguments_below d owner known later rest more c n (omega arith) arguments (omega arith) calm)
+    command_fact place owner names known ts rest c may bare inner r.0 r.1 n later more front (omega arith) (λ d room calm. arguments_below d owner known later rest more c n (omega arith) arguments (omega arith) calm)
 
 pub not_command : (place : Place) (owner : DoOwner) (names known later : Names) (ts rest more : Tokens) (c : CalleeNode) (n : Node) → first ts ≡ words.Mark marks.Not → allows_command place ≡ true → prefix_at (behind ts) ≡ None
-    → Fact (Callee places.Command owner c) names (behind ts) known rest → Front places.Command (behind ts) → Fact (CommandArguments owner c n) known rest later more → Fact (Command place owner (prefix_node prefixes.Not n)) names ts later more
+    → Fact (Callee places.Command owner c) names (behind ts) known rest → Fact (CommandArguments owner c n) known rest later more → Fact (Command place owner (prefix_node prefixes.Not n)) names ts later more
 unfolding part_at phrase_by negated
-not_command place owner names known later ts rest more c n is may bare inner front arguments =
+not_command place owner names known later ts rest more c n is may bare inner arguments =
     let r = arguments.2 (length rest) (omega arith) in
     let one = word_taken (words.Mark marks.Not) ts is refl in
     let a = inner.0 in
@@ -185,9 +185,9 @@ not_command place owner names known later ts rest more c n is may bare inner fro
       λ d room. (
         rw is refl,
         λ group calm.
-            let got = callee_operand places.Command owner names known (behind ts) rest c refl bare inner front r.0 r.1 d (omega arith) in
+            let got = callee_operand places.Command owner names known (behind ts) rest c refl bare inner r.0 r.1 d (omega arith) in
             let made = arguments_below d owner known later rest more c n (omega arith) arguments (omega arith) calm in
-            let from = command_from places.Command owner names known (behind ts) rest c refl bare inner front r.0 r.1 (levels d) _ made in
+            let from = command_from places.Command owner names known (behind ts) rest c refl bare inner r.0 r.1 (levels d) _ made in
             rw (not_start place ts is group may) (rw got (rw r.0 (rw from refl))),
       ),
     )
@@ -249,7 +249,7 @@ module _ (place : Place) (owner : DoOwner) (a : Assignment) (names known later :
       (subst (λ y. assign (levels d) y known a (behind rest) place owner ≡ Ok ((assignment_node a target n, sorts.Command), later, more)) (sym t.4) made) in
       (t.0, t.1, t.2, t.3, from_read (levels d) place owner a t.0 t.1 rest _ t.3 there moved)
 
-  pub command_assigned : Front places.Command ts → Fact (Command place owner (assignment_node a target n)) names ts later more
+  pub command_assigned : Front place ts → Fact (Command place owner (assignment_node a target n)) names ts later more
   command_assigned lead =
       let one = word_taken (first rest) rest refl (assignment_word (first rest) a there) in
       let opening = and_parts (opens ts) (not (is_bang (first ts))) left.1 in
@@ -261,7 +261,7 @@ module _ (place : Place) (owner : DoOwner) (a : Assignment) (names known later :
           lead.0,
           λ group calm.
               let f = assigned_from d room calm in
-              phrase_read (levels d) place owner f.0 names f.1 ts rest _ (operand_start place ts opening.0 (lead.1 refl (bang_other (first ts) (not_true (is_bang (first ts)) opening.1))) group) (f.2 (allows_command place)) f.4,
+              phrase_read (levels d) place owner f.0 names f.1 ts rest _ (front_start place ts opening.0 lead (bang_other (first ts) (not_true (is_bang (first ts)) opening.1)) group) (f.2 (allows_command place)) f.4,
         ),
       )
 

@@ -18,7 +18,7 @@ use Rattle.rb_heads.specs.declared.primary.Place.{Place}
 use Rattle.rb_heads.specs.declared.primary.Start.{Start}
 use Rattle.rb_heads.specs.declared.primary.Start.TheVariants as starts
 use Rattle.tree_builder.specs.Listed.{ListNode, is_none, whole_items, jump_node}
-use Rattle.phrase_rules.specs.Phrases.{command, jump_list, phrase_by}
+use Rattle.phrase_rules.specs.Phrases.{jump_list, phrase_by}
 use Rattle.rule_base.specs.Reading.{Names, Tokens}
 use Rattle.grammar_reads.specs.Rules.{Command, Listing}
 use Rattle.grammar_reads.proofs.Results.{differs, and_false}

@@ -11,6 +11,7 @@ use Rattle.rb_grammar.specs.declared.word.Word.TheVariants as words
 use Rattle.rb_heads.specs.Groups.{is_quoted_key, is_target_group}
 use Rattle.rb_heads.specs.Primary.{is_statement, allows_command, part_at, is_comma_word, is_arrow_word}
 use Rattle.rb_heads.specs.declared.primary.DoOwner.{DoOwner}
+use Rattle.rb_heads.specs.declared.primary.PartStart.TheVariants as parts
 use Rattle.rb_heads.specs.declared.primary.Place.{Place}
 use Rattle.rb_heads.specs.declared.primary.Place.TheVariants as places
 use Rattle.tree_builder.specs.Nodes.{outside_node}
@@ -25,7 +26,7 @@ use Rattle.rb_parser.specs.Levels.{levels}
 use Rattle.grammar_reads.specs.Rules.{Argument, Pieces, Part, Parts, Listing}
 use Rattle.grammar_reads.proofs.Results.{differs, and_false}
 use Rattle.grammar_reads.proofs.Facts.{is_command_part, Fact, word_taken}
-use Rattle.grammar_reads.proofs.Heads.{Front, word_begins}
+use Rattle.grammar_reads.proofs.Heads.{word_begins}
 
 part_group : (alone : Bool) (place : Place) (ts : Tokens) → part_place alone ≡ place → (is_statement place && is_target_group ts) ≡ false
 part_group true place ts e = subst (λ p. (is_statement p && is_target_group ts) ≡ false) e refl
@@ -42,23 +43,23 @@ module _ (place : Place) (owner : DoOwner) (names : Names) (ts : Tokens) where
   part_value d known rest n inner room calm alone e =
       subst (λ q. phrase (levels d) names ts q owner ≡ Ok ((n, sorts.Argument), known, rest)) (sym e) (inner.2 d room (part_group alone place ts e) calm)
 
-  pub plain_fact : (known : Names) (rest : Tokens) (n : Node) → Fact (Argument place owner n) names ts known rest → Front place ts → is_arrow_word (first rest) ≡ false → Fact (Part place owner (plain_part n)) names ts known rest
+  pub plain_fact : (known : Names) (rest : Tokens) (n : Node) → Fact (Argument place owner n) names ts known rest → part_at ts ≡ parts.Value → is_arrow_word (first rest) ≡ false → Fact (Part place owner (plain_part n)) names ts known rest
   unfolding part_by
-  plain_fact known rest n inner front arrow = (
+  plain_fact known rest n inner value arrow = (
     inner.0,
     word_begins (first ts) inner.1,
     λ d room. (
       refl,
       λ calm alone e.
           let read = part_value d known rest n inner room calm alone e in
-          rw (front.0, read, arrow) refl,
+          rw (value, read, arrow) refl,
     ),
   )
 
-  pub pair_fact : (known later : Names) (rest more : Tokens) (key n : Node) → Fact (Argument place owner key) names ts known rest → Front place ts → first rest ≡ words.Mark marks.Arrow
+  pub pair_fact : (known later : Names) (rest more : Tokens) (key n : Node) → Fact (Argument place owner key) names ts known rest → part_at ts ≡ parts.Value → first rest ≡ words.Mark marks.Arrow
       → Fact (Argument places.Argument owner n) known (behind rest) later more → Fact (Part place owner (pair_part key n)) names ts later more
   unfolding part_by
-  pair_fact known later rest more key n inner front there value =
+  pair_fact known later rest more key n inner one_value there value =
       let one = word_taken (words.Mark marks.Arrow) rest there refl in
       let l = inner.0 in
       let r = value.0 in (
@@ -70,7 +71,7 @@ module _ (place : Place) (owner : DoOwner) (names : Names) (ts : Tokens) where
               let still : (allows_command place && is_some (assignment_at (first rest))) ≡ false = rw there (and_false (allows_command place)) in
               let read = part_value d known rest key inner room still alone e in
               let right = argument_of d known later (behind rest) more owner n value (omega arith) in
-              rw (front.0, read) (rw there (rw right refl)),
+              rw (one_value, read) (rw there (rw right refl)),
         ),
       )
 

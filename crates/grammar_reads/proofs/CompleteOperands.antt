@@ -24,6 +24,7 @@ use Rattle.rule_base.specs.Reading.{Names, Tokens, Inside}
 use Rattle.rb_parser.specs.Levels.{levels}
 use Rattle.grammar_reads.specs.Rules.{Primary, Operand, Operators, Operation, operand_level, operand_place}
 use Rattle.grammar_reads.proofs.Results.{bind_ok, differs, read_same, carry, same_read}
+use Rattle.grammar_reads.proofs.Tests.{or_left}
 use Rattle.grammar_reads.proofs.SoundPostfix.{same_level}
 use Rattle.grammar_reads.proofs.SoundPhrases.{none_so_tight, prefix_not}
 use Rattle.grammar_reads.proofs.Facts.{Reads, is_finish, Fact, levels_at, word_taken, Within, Settled, Nots}
@@ -105,7 +106,7 @@ alone i place names known ts rest owner x r =
       sym e.0,
       λ may.
           let there = value_allows place may in
-          let got : (operand i names ts true owner ≡ Ok (r.0, r.1, r.2)) × (begins_command r.0 r.2 ≡ false) = (r.3.0 true (λ h. there), settled_calm r.0 (of_value place) r.2 r.3.2 there) in
+          let got : (operand i names ts true owner ≡ Ok (r.0, r.1, r.2)) × (begins_command r.0 r.2 ≡ false) = (r.3.0 true (λ h. there), settled_calm r.0 (of_value place) r.2 (r.3.2 (or_left (allows_command (of_value place)) _ there)) there) in
           carry (λ (y : Node) (k : Names) (m : Tokens). (operand i names ts true owner ≡ Ok (r.0, k, m)) × (begins_command r.0 m ≡ false)) (operand_node r.0) x r.1 known r.2 rest same got,
     )
 
@@ -198,7 +199,7 @@ one_operand place loosest owner names known ts rest n inner = (
   λ d room.
       let r = inner.2 d room in
       let nots = subst (λ x. Nots (levels d) place owner x names ts known rest) (sym r.1) r.4 in
-      (r.0, known, rest, (r.3, nots, r.2, inl (sym r.1, refl)), λ m more. (m, more, ap (λ x. operators_from (levels d) m loosest owner x known rest) r.1)),
+      (r.0, known, rest, (r.3, nots, λ begins. r.2, inl (sym r.1, refl)), λ m more. (m, more, ap (λ x. operators_from (levels d) m loosest owner x known rest) r.1)),
 )
 
 infix_word : (loosest : ℕ) (w : Word) (o : Infix) → infix_at loosest w ≡ Some o → is_finish w ≡ false

@@ -34,7 +34,7 @@ use Rattle.grammar_reads.proofs.Assigning.{or_false_parts}
 use Rattle.grammar_reads.proofs.SoundStatements.{append_none, append_more}
 use Rattle.grammar_reads.proofs.SoundPostfix.{whole_continues, items_plain}
 use Rattle.grammar_reads.proofs.Facts.{Within, Settled, begins, listed, Fact, levels_at, word_taken}
-use Rattle.grammar_reads.proofs.Heads.{Front, word_begins}
+use Rattle.grammar_reads.proofs.Heads.{word_begins}
 use Rattle.grammar_reads.proofs.CompleteOperands.{settled_calm}
 use Rattle.grammar_reads.proofs.Newlines.{newlines_within, newline_calm}
 
@@ -73,8 +73,8 @@ value_there d place names known ts rest n inner room none alone same =
     let calm : (allows_command place && is_some (assignment_at (first rest))) ≡ false = rw none (and_false (allows_command place)) in
     subst (λ p. phrase (levels d) names ts p owners.Call ≡ Ok ((n, sorts.Argument), known, rest)) (sym same) (inner.2 d room free calm)
 
-pub last_value : (place : Place) (names known : Names) (ts rest : Tokens) (n : Node) → Fact (Argument place owners.Call n) names ts known rest → Front place ts → goes_on_list (first rest) ≡ false → Fact (Values place (n ∷ [])) names ts known rest
-last_value place names known ts rest n inner front ends =
+pub last_value : (place : Place) (names known : Names) (ts rest : Tokens) (n : Node) → Fact (Argument place owners.Call n) names ts known rest → part_at ts ≡ parts.Value → goes_on_list (first rest) ≡ false → Fact (Values place (n ∷ [])) names ts known rest
+last_value place names known ts rest n inner part ends =
     let fewer = inner.0 in (
       omega arith,
       refl,
@@ -83,12 +83,12 @@ last_value place names known ts rest n inner front ends =
           let read = value_there d place names known ts rest n inner room none alone same in
           let last : list_from (levels d) (k - 1) owners.Call false false (listed (found ++ n ∷ []) false) known rest ≡ Ok (listed (found ++ n ∷ []) false, known, rest) =
           list_step (levels d) (k - 1) owners.Call false false (listed (found ++ n ∷ []) false) known rest (omega arith) in
-          (false, value_turn (levels d) alone before found names known ts rest n read inner.1 front.0 alone_there.1 k false (omega arith) alone_there.0 ∙ last),
+          (false, value_turn (levels d) alone before found names known ts rest n read inner.1 part alone_there.1 k false (omega arith) alone_there.0 ∙ last),
     )
 
-pub more_values : (place : Place) (names known later : Names) (ts rest more : Tokens) (n : Node) (ns : List Node) → Fact (Argument place owners.Call n) names ts known rest → Front place ts → first rest ≡ words.Mark marks.Comma
+pub more_values : (place : Place) (names known later : Names) (ts rest more : Tokens) (n : Node) (ns : List Node) → Fact (Argument place owners.Call n) names ts known rest → part_at ts ≡ parts.Value → first rest ≡ words.Mark marks.Comma
     → Fact (Values places.Argument ns) known (behind rest) later more → Fact (Values place (n ∷ ns)) names ts later more
-more_values place names known later ts rest more n ns inner front there others =
+more_values place names known later ts rest more n ns inner part there others =
     let one = word_taken (words.Mark marks.Comma) rest there refl in
     let fewer = inner.0 in
     let tail = others.0 in (
@@ -99,7 +99,7 @@ more_values place names known later ts rest more n ns inner front there others =
           let arrow : is_arrow_word (first rest) ≡ false = rw there refl in
           let calm : assignment_at (first rest) ≡ None = rw there refl in
           let read = value_there d place names known ts rest n inner room calm alone same in
-          let turn = value_turn (levels d) alone before found names known ts rest n read inner.1 front.0 arrow k true (omega arith) comma in
+          let turn = value_turn (levels d) alone before found names known ts rest n read inner.1 part arrow k true (omega arith) comma in
           let rest_read = others.2 d (omega arith) none false refl (k - 1) (found ++ n ∷ []) true (omega arith) in
           let appended : (found ++ n ∷ []) ++ ns ≡ found ++ n ∷ ns = append_more found n ns in
           (rest_read.0, turn ∙ rest_read.1 ∙ ap (λ (all : List Node). Ok (listed all rest_read.0, later, more)) appended),

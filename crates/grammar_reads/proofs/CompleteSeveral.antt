@@ -59,7 +59,7 @@ value_no_end w h = (refl, refl)
 pub target_begins : (ts : Tokens) → (opens ts && not (is_bang (first ts))) ≡ true → begins (first ts) ≡ true
 target_begins ts h = opens_begins ts (and_parts (opens ts) _ h).0
 
-target_start : (ts : Tokens) → (opens ts && not (is_bang (first ts))) ≡ true → Front places.Command ts → is_target_group ts ≡ false → start_at places.Statement ts ≡ starts.Operand
+target_start : (ts : Tokens) → (opens ts && not (is_bang (first ts))) ≡ true → Front places.Statement ts → is_target_group ts ≡ false → start_at places.Statement ts ≡ starts.Operand
 target_start ts h front group =
     let p = and_parts (opens ts) (not (is_bang (first ts))) h in
     operand_start places.Statement ts p.0 (front.1 refl (bang_other (first ts) (not_true (is_bang (first ts)) p.1))) (rw group refl)
@@ -185,7 +185,7 @@ list_assign i target n names known ts rest owner l read made =
 target_head : (ts : Tokens) → (opens ts && not (is_bang (first ts))) ≡ true → (begins (first ts) || (is_not (first ts) || is_star (first ts))) ≡ true
 target_head ts h = or_left (begins (first ts)) _ (target_begins ts h)
 
-pub list_assigned : (owner : DoOwner) (names known later : Names) (ts rest more : Tokens) (target n : Node) (l : ListNode) → is_target_group ts ≡ false → Fact (Target owner target) names ts known rest → Front places.Command ts → first rest ≡ words.Mark marks.Assign
+pub list_assigned : (owner : DoOwner) (names known later : Names) (ts rest more : Tokens) (target n : Node) (l : ListNode) → is_target_group ts ≡ false → Fact (Target owner target) names ts known rest → Front places.Statement ts → first rest ≡ words.Mark marks.Assign
     → Fact (Listing owner l) known (behind rest) later more → is_right_side l ≡ true → right_side l ≡ (n, sorts.Statement) → Fact (Expression places.Statement owner (node.assign target n)) names ts later more
 list_assigned owner names known later ts rest more target n l group left lead there inner side made =
     let one = word_taken (words.Mark marks.Assign) rest there refl in
@@ -222,7 +222,7 @@ several_phrase : (i : Inside) (o : OperandNode) (x n : Node) (names known later 
 unfolding phrase_from
 several_phrase i o x n names known later ts more owner is same knows there made = rw is (rw there (rw there (rw (same, knows) made)))
 
-pub several_assigned : (owner : DoOwner) (names known later latest : Names) (ts rest mid more : Tokens) (target : Node) (ms : TargetsNode) (l : ListNode) → is_target_group ts ≡ false → Fact (Target owner target) names ts known rest → Front places.Command ts → first rest ≡ words.Mark marks.Comma
+pub several_assigned : (owner : DoOwner) (names known later latest : Names) (ts rest mid more : Tokens) (target : Node) (ms : TargetsNode) (l : ListNode) → is_target_group ts ≡ false → Fact (Target owner target) names ts known rest → Front places.Statement ts → first rest ≡ words.Mark marks.Comma
     → Fact (Targets (target_lists.put (one_target target) true no_targets) ms) known (behind rest) later mid → ms.several ≡ true → first mid ≡ words.Mark marks.Assign → Fact (Listing owner l) later (behind mid) latest more → is_right_side l ≡ true
     → Fact (Expression places.Statement owner (node.multiple_assign (targets_list ms) (right_side l).0)) names ts latest more
 several_assigned owner names known later latest ts rest mid more target ms l group left lead there others many closing inner side =

@@ -1,5 +1,5 @@
 -- A target that is derived is read, before an assignment.
-use Rattle.std.proofs.Common.{◌≡◌, ℕ, ◌+◌, ◌<◌, ◌≤◌, Bool, true, false, not, ◌&&◌, List, length, None, is_some, Ok, inl, inr, refl, sym, ap, subst, ◌∙◌, arith}
+use Rattle.std.proofs.Common.{◌≡◌, ℕ, ◌+◌, ◌<◌, ◌≤◌, Bool, true, false, not, ◌&&◌, ◌||◌, List, length, Some, None, is_some, Ok, inl, inr, refl, sym, ap, subst, ◌∙◌, arith}
 use Rattle.std.proofs.lemmas.Bool.{cases_Bool}
 use Rattle.rb_syntax.specs.declared.keyword.Keyword.TheVariants as keywords
 use Rattle.rb_syntax.specs.declared.outside.Outside.{Outside}
@@ -9,8 +9,9 @@ use Rattle.rb_syntax.specs.declared.punctuator.Punctuator.TheVariants as marks
 use Rattle.rb_tree.specs.Node as node
 use Rattle.rb_tree.specs.Node.{Node, nodes, one}
 use Rattle.rb_grammar.specs.Tokens.{first, behind, bytes_at, place_at}
-use Rattle.rb_grammar.specs.Operators.{prefix_at}
+use Rattle.rb_grammar.specs.Operators.{prefix_at, assignment_at}
 use Rattle.rb_grammar.specs.Starts.{begins_value, begins_argument, is_open_parenthesis, opens_arguments, postfix_at, is_open_brace}
+use Rattle.rb_grammar.specs.declared.operators.Assignment.{Assignment}
 use Rattle.rb_grammar.specs.declared.word.Word.{Word}
 use Rattle.rb_grammar.specs.declared.word.Word.TheVariants as words
 use Rattle.rb_heads.specs.Names.{is_known, learned}
@@ -23,8 +24,9 @@ use Rattle.operand_rules.specs.Operands.{suffix, compound, primary_by, primary, 
 use Rattle.operand_rules.proofs.Turns.{chain_step}
 use Rattle.rule_base.specs.Reading.{Names, Tokens, Inside}
 use Rattle.rb_parser.specs.Levels.{levels}
-use Rattle.grammar_reads.specs.Rules.{Target, InnerTarget, is_place, is_outside_variable, Primary, Callee}
+use Rattle.grammar_reads.specs.Rules.{Target, InnerTarget, is_inner, is_place, is_outside_variable, Operators, Primary, Callee}
 use Rattle.grammar_reads.proofs.Results.{differs, and_false, both}
+use Rattle.grammar_reads.proofs.Tests.{or_left}
 use Rattle.grammar_reads.proofs.Facts.{Within, is_variable, ends_target, Fact, word_taken, is_bang, opens}
 use Rattle.rb_heads.specs.declared.primary.Place.{Place}
 use Rattle.rb_heads.specs.declared.primary.Place.TheVariants as places
@@ -273,3 +275,24 @@ method_target owner names known ts rest n none inner there is =
 pub callee_target : (owner : DoOwner) (names known : Names) (ts rest : Tokens) (o : Outside) (at : ℕ) (ns : List Node) → prefix_at ts ≡ None → Fact (Callee places.Command owner (outside_callee o at ns)) names ts known rest
     → Fact (Target owner (node.outside o at (nodes ns))) names ts known rest
 callee_target owner names known ts rest o at ns none inner = called_target owner names known ts rest (outside_callee o at ns) none inner refl
+
+-- what is called alone as the operand of an operator, before an assignment
+pub callee_operand : (loosest : ℕ) (owner : DoOwner) (a : Assignment) (names known : Names) (ts rest : Tokens) (c : CalleeNode) → is_inner loosest ≡ true → prefix_at ts ≡ None → Fact (Callee places.Argument owner c) names ts known rest
+    → assignment_at (first rest) ≡ Some a → Fact (Operators places.Argument loosest owner (call_node c None None)) names ts known rest
+callee_operand loosest owner a names known ts rest c within none inner there = (
+  inner.0,
+  inner.1,
+  λ d room.
+      let ends : ends_target (first rest) ≡ true = or_left (is_some (assignment_at (first rest))) _ (ap is_some there) in (
+        callee c,
+        known,
+        rest,
+        (
+          λ commands calm. (callee_read places.Argument owner names known ts rest none commands calm d room ends c inner).0,
+          λ bang. differs (sym (ap is_some (prefix_not ts bang)) ∙ ap is_some none),
+          λ begins. differs (sym (subst (λ b. (false || not b) ≡ true) within begins)),
+          inl (refl, refl),
+        ),
+        λ n enough. (n, enough, refl),
+      ),
+)

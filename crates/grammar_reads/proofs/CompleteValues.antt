@@ -28,7 +28,7 @@ use Rattle.statement_rules.specs.Statements.{is_not, negation}
 use Rattle.rule_base.specs.Reading.{Names, Tokens, Inside}
 use Rattle.rb_parser.specs.Levels.{levels}
 use Rattle.grammar_reads.specs.Rules.{Argument, Operation, Negation, is_question, takes_target, is_taken}
-use Rattle.grammar_reads.proofs.Tests.{or_left}
+use Rattle.grammar_reads.proofs.Tests.{or_left, or_right}
 use Rattle.grammar_reads.proofs.Results.{clash, differs, and_false}
 use Rattle.grammar_reads.proofs.Facts.{Reads, Fact, levels_at, word_taken, Settled, is_bang, begins, opens}
 use Rattle.grammar_reads.proofs.Heads.{Front, head_no_not, front_start, not_start, plain_start, opens_begins}
@@ -142,7 +142,8 @@ module _ (i : Inside) (place : Place) (owner : DoOwner) (names known : Names) (t
     (r : Reads i (Operation place 13 owner x) names ts known rest) (asked : question_at i (first rest) x known rest owner ≡ Ok (y, later, left)) where
   operand_way : is_taken place x (first rest) ≡ false → operand_phrase i names ts place owner ≡ Ok ((y, sorts.Argument), later, left)
   operand_way free =
-      rw (r.3.0 (allows_command place) (λ h. h)) (from_read i owner r.0 r.1 r.2 x known rest y later left r.4 asked place (free_target place r.0 x r.2 rest r.3.3 r.3.2 free) (settled_may r.0 place r.2 r.3.2))
+      let settled : Settled r.0 place r.2 = r.3.2 (or_right (allows_command place) _ refl) in
+      rw (r.3.0 (allows_command place) (λ h. h)) (from_read i owner r.0 r.1 r.2 x known rest y later left r.4 asked place (free_target place r.0 x r.2 rest r.3.3 settled free) (settled_may r.0 place r.2 settled))
 
   negated_way : allows_command place ≡ true → first ts ≡ words.Mark marks.Not → is_some (assignment_at (first rest)) ≡ false → negated i names (behind ts) owner ≡ Ok ((y, sorts.Argument), later, left)
   unfolding negated

@@ -1,5 +1,5 @@
 -- Primaries of one word outside the language, :: before a constant, and jumps without a value that are derived are read.
-use Rattle.std.proofs.Common.{◌≡◌, ◌≤◌, true, false, ◌||◌, length, refl, sym, arith}
+use Rattle.std.proofs.Common.{◌≡◌, ◌≤◌, true, false, length, refl, sym, arith}
 use Rattle.rb_syntax.specs.declared.keyword.Keyword.TheVariants as keywords
 use Rattle.rb_syntax.specs.declared.outside.Outside.{Outside}
 use Rattle.rb_syntax.specs.declared.outside.Outside.TheVariants as outsides
@@ -16,9 +16,8 @@ use Rattle.tree_builder.specs.Leaf.{bare, leaf}
 use Rattle.operand_rules.specs.Operands.{compound, primary_by}
 use Rattle.rule_base.specs.Reading.{Names, Tokens}
 use Rattle.rb_parser.specs.Levels.{levels}
-use Rattle.grammar_reads.specs.Rules.{Primary as PrimaryRule, stands_alone, takes_value}
+use Rattle.grammar_reads.specs.Rules.{Primary as PrimaryRule, stands_alone}
 use Rattle.grammar_reads.proofs.Results.{differs}
-use Rattle.grammar_reads.proofs.Assigning.{or_false_parts}
 use Rattle.grammar_reads.proofs.Facts.{Fact, word_taken, behind_within, at_once}
 use Rattle.grammar_reads.proofs.Heads.{calm_head, head_opens, alone_begins}
 use Rattle.grammar_reads.proofs.CompleteLiterals.{outside_alone}
@@ -76,6 +75,6 @@ module _ (place : Place) (owner : DoOwner) (names : Names) (ts : Tokens) where
   unfolding primary_at primary_by compound leaf
   next_alone is = word_fact place owner names ts _ _ is refl (λ i. rw is (rw is refl))
 
-  pub yield_alone : first ts ≡ words.Key keywords.Yield → (opens_arguments (behind ts) || takes_value place (behind ts)) ≡ false → Alone place owner names ts (node.yield_node node.none)
+  pub yield_alone : first ts ≡ words.Key keywords.Yield → opens_arguments (behind ts) ≡ false → Alone place owner names ts (node.yield_node node.none)
   unfolding primary_at primary_by compound
-  yield_alone is none = word_fact place owner names ts _ _ is refl (λ i. rw is (rw (or_false_parts (opens_arguments (behind ts)) (takes_value place (behind ts)) none).0 refl))
+  yield_alone is closed = word_fact place owner names ts _ _ is refl (λ i. rw is (rw closed refl))

@@ -37,7 +37,7 @@ use Rattle.statement_rules.specs.Lists.{part_place, part, list_from, list}
 use Rattle.statement_rules.specs.Statements.{is_not, is_statement_sort, negation, junctions_from, expression, base, statement, statements_from, statements, modifiers_from}
 use Rattle.rule_base.specs.Reading.{Names, Tokens, Inside}
 use Rattle.rb_parser.specs.Levels.{level_above, levels}
-use Rattle.grammar_reads.specs.Rules.{WhenValues, Rule, Statements, StatementList, Statement, Modified, Base, Expression, Joined, Negation, Argument, Operation, Operators, Operand, Primary, Target, InnerTarget, Elements, Piece, Pieces, Quoted, Strings, Part, Parts, Listing, OneTarget, Targets, ends_literal, is_star, begins_string, MethodNames, Guarded, Repeated, Branches, Otherwise, Subject, Clauses, Clause, Values, ValueTest, Classes, RescueClauses, RescueClause, Ensured, Handlers, Parameter, ParameterList, Parameters, MethodParameters, MethodHead, ClassPath, Body, takes_target, LoopTargets, Pattern, PatternTarget, PatternName, BlockParameters, BarredParameters, BarredLocals, BlockLocals, Block, Callee, CommandArguments, Command, Called, OnePostfix, Postfixes}
+use Rattle.grammar_reads.specs.Rules.{WhenValues, Rule, Statements, StatementList, Statement, Modified, Base, Expression, Joined, Negation, Argument, Operation, Operators, Operand, Primary, Target, InnerTarget, Elements, Piece, Pieces, Quoted, Strings, Part, Parts, Listing, OneTarget, Targets, ends_literal, is_star, begins_string, MethodNames, Guarded, Repeated, Branches, Otherwise, Subject, Clauses, Clause, Values, ValueTest, Classes, RescueClauses, RescueClause, Ensured, Handlers, Parameter, ParameterList, Parameters, MethodParameters, MethodHead, ClassPath, Body, is_inner, takes_target, LoopTargets, Pattern, PatternTarget, PatternName, BlockParameters, BarredParameters, BarredLocals, BlockLocals, Block, Callee, CommandArguments, Command, Called, OnePostfix, Postfixes}
 use Rattle.rb_heads.specs.Sections.{next_section, takes_clause, takes_case_else, takes_rescue, takes_ensure}
 use Rattle.rb_heads.specs.declared.primary.Place.TheVariants as places
 use Rattle.rb_heads.specs.declared.sections.Compound.{Compound}
@@ -256,11 +256,11 @@ Nots i place owner x names ts known rest = first ts ≡ words.Mark marks.Not →
     (o : OperandNode) × (x ≡ prefix_node prefixes.Not (operand_node o))
     × (allows_command place ≡ true → (operand i names (behind ts) true owner ≡ Ok (o, known, rest)) × (begins_command o rest ≡ false))
 
--- the first operand, which is all or has an operator behind it
+-- the first operand, which is all or has an operator behind it; where a value begins, it begins no assignment
 abbrev pub Leads : Inside → Place → ℕ → DoOwner → OperandNode → Names → Tokens → Node → Names → Tokens → Tokens → Type 0
 Leads i place loosest owner m known mid x names ts rest =
     ((commands : Bool) → Within commands place → operand i names ts commands owner ≡ Ok (m, known, mid)) × Nots i place owner (operand_node m) names ts known mid
-    × Settled m place mid × (((x ≡ operand_node m) × (rest ≡ mid)) ⊎ (is_some (infix_at loosest (first mid)) ≡ true))
+    × ((allows_command place || not (is_inner loosest)) ≡ true → Settled m place mid) × (((x ≡ operand_node m) × (rest ≡ mid)) ⊎ (is_some (infix_at loosest (first mid)) ≡ true))
 
 -- a list of values, and whether a comma stands behind them
 abbrev pub listed : List Node → Bool → ListNode

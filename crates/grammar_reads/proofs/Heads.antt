@@ -1,5 +1,5 @@
 -- What follows of the first word of a value.
-use Rattle.std.proofs.Common.{◌≡◌, ◌≢◌, ◌⊎◌, Bool, true, false, ◌&&◌, ◌||◌, Some, is_some, if◌then◌else◌, inl, inr, refl, sym, ap, subst, ◌∙◌}
+use Rattle.std.proofs.Common.{◌≡◌, ◌≢◌, ◌⊎◌, Bool, true, false, not, ◌&&◌, ◌||◌, Some, is_some, if◌then◌else◌, inl, inr, refl, sym, ap, subst, ◌∙◌}
 use Rattle.std.proofs.lemmas.Bool.{and_parts}
 use Rattle.rb_syntax.specs.declared.keyword.Keyword.{Keyword}
 use Rattle.rb_syntax.specs.declared.keyword.Keyword.TheVariants as keywords
@@ -14,7 +14,7 @@ use Rattle.rb_grammar.specs.declared.word.Word.{Word}
 use Rattle.rb_grammar.specs.declared.word.Word.TheVariants as words
 use Rattle.rb_heads.specs.Groups.{is_target_group}
 use Rattle.rb_heads.specs.Primary.{allows_command, is_statement, command_or_jump, command_start, other_start, start_of, start_at, part_of, part_at}
-use Rattle.rb_grammar.specs.Starts.{jump_at, begins_value, is_open_parenthesis, outside_begins_value}
+use Rattle.rb_grammar.specs.Starts.{jump_at, begins_value, opens_arguments, is_open_parenthesis, outside_begins_value}
 use Rattle.rb_heads.specs.declared.primary.PartStart.TheVariants as parts
 use Rattle.rb_heads.specs.declared.primary.Place.{Place}
 use Rattle.rb_heads.specs.declared.primary.Place.TheVariants as places
@@ -23,7 +23,7 @@ use Rattle.rb_heads.specs.declared.primary.Start.TheVariants as starts
 use Rattle.statement_rules.specs.declared.statements.StatementStart.TheVariants as beginnings
 use Rattle.statement_rules.specs.Statements.{is_not, statement_start}
 use Rattle.rule_base.specs.Reading.{Tokens}
-use Rattle.grammar_reads.specs.Rules.{is_star, stands_alone, is_outside_variable}
+use Rattle.grammar_reads.specs.Rules.{is_star, stands_alone, is_outside_variable, is_jump, begins_jump}
 use Rattle.grammar_reads.proofs.Facts.{is_head, is_variable, is_finish, is_defined, begins, opens}
 use Rattle.grammar_reads.proofs.Results.{differs}
 use Rattle.grammar_reads.proofs.Tests.{or_left}
@@ -77,18 +77,23 @@ pub head_expression : (w : Word) → (begins w || (is_not w || is_star w)) ≡ t
 head_expression (words.Key k) h = key_expression k h
 head_expression w h = refl
 
-key_start : (k : Keyword) (ts : Tokens) → is_calm (words.Key k) ≡ true → command_or_jump (jump_at (words.Key k)) (words.Key k) ts ≡ starts.Operand
-key_start keywords.Return ts h = differs (sym h)
-key_start keywords.Break ts h = differs (sym h)
-key_start keywords.Next ts h = differs (sym h)
-key_start keywords.Yield ts h = differs (sym h)
+yield_alone : (b c : Bool) → (b && not c) ≡ false → (if b then (if c then starts.Operand else starts.Yield) else starts.Operand) ≡ starts.Operand
+yield_alone true true h = refl
+yield_alone true false h = differs h
+yield_alone false c h = refl
+
+key_start : (k : Keyword) (ts : Tokens) → is_jump (words.Key k) ts ≡ false → command_or_jump (jump_at (words.Key k)) (words.Key k) ts ≡ starts.Operand
+key_start keywords.Return ts h = rw h refl
+key_start keywords.Break ts h = rw h refl
+key_start keywords.Next ts h = rw h refl
+key_start keywords.Yield ts h = yield_alone (begins_value (first ts)) (opens_arguments ts) h
 key_start k ts h = refl
 
 mark_start : (p : Punctuator) (ts : Tokens) → words.Mark p ≢ words.Mark marks.Not → command_or_jump (jump_at (words.Mark p)) (words.Mark p) ts ≡ starts.Operand
 mark_start marks.Not ts other = absurd (other refl)
 mark_start p ts other = refl
 
-word_start : (w : Word) (ts : Tokens) → is_calm w ≡ true → w ≢ words.Mark marks.Not → command_or_jump (jump_at w) w ts ≡ starts.Operand
+word_start : (w : Word) (ts : Tokens) → is_jump w ts ≡ false → w ≢ words.Mark marks.Not → command_or_jump (jump_at w) w ts ≡ starts.Operand
 word_start (words.Key k) ts h other = key_start k ts h
 word_start (words.Mark p) ts h other = mark_start p ts other
 word_start w ts h other = refl
@@ -109,13 +114,14 @@ word_part w ts h = refl
 abbrev pub Front : Place → Tokens → Type 0
 Front place ts = (part_at ts ≡ parts.Value) × (allows_command place ≡ true → first ts ≢ words.Mark marks.Not → command_start ts ≡ starts.Operand)
 
-pub calm_front : (place : Place) (ts : Tokens) → is_calm (first ts) ≡ true → Front place ts
-unfolding part_at command_start
-calm_front place ts h = (word_part (first ts) ts h, λ may other. word_start (first ts) (behind ts) h other)
+pub calm_part : (ts : Tokens) → is_calm (first ts) ≡ true → part_at ts ≡ parts.Value
+unfolding part_at
+calm_part ts h = word_part (first ts) ts h
 
--- what begins a value where a command may stand begins one anywhere
-pub anywhere : (place : Place) (ts : Tokens) → Front places.Command ts → Front place ts
-anywhere place ts f = (f.0, λ may other. f.1 refl other)
+-- what begins a value, with no jump and its list
+pub jump_front : (place : Place) (ts : Tokens) → part_at ts ≡ parts.Value → begins_jump place ts ≡ false → Front place ts
+unfolding command_start
+jump_front place ts part none = (part, λ may other. word_start (first ts) (behind ts) (subst (λ b. (b && is_jump (first ts) (behind ts)) ≡ false) may none) other)
 
 pub variable_calm : (w : Word) → is_variable w ≡ true → is_calm w ≡ true
 variable_calm words.Identifier h = refl

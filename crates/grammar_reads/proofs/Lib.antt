@@ -63,3 +63,4 @@ pub mod Witness
 pub mod ListWitness
 pub mod CommandWitness
 pub mod ChainWitness
+pub mod JumpWitness

@@ -28,7 +28,7 @@ the_strings =
 the_text : Derives (Argument places.Command owners.Call text) known string known second_comma
 unfolding first word_of infix_at prefix_at shape literal_step literal_end
 the_text =
-    Value places.Command owners.Call known known string second_comma text
+    Value places.Command owners.Call known known string second_comma text refl
     (AllOperators places.Command 13 owners.Call known known string second_comma text
     (OneOperand places.Command 13 owners.Call known known string second_comma text
     (WithPostfixes places.Command owners.Call known known string second_comma text refl
@@ -39,7 +39,7 @@ the_text =
 the_digit : Derives (Argument places.Argument owners.Call (node.integer (pos 1))) known digit known bracket_end
 unfolding first behind word_of integer_at place_at infix_at prefix_at shape
 the_digit =
-    Value places.Argument owners.Call known known digit bracket_end (node.integer (pos 1))
+    Value places.Argument owners.Call known known digit bracket_end (node.integer (pos 1)) refl
     (AllOperators places.Argument 13 owners.Call known known digit bracket_end (node.integer (pos 1))
     (OneOperand places.Argument 13 owners.Call known known digit bracket_end (node.integer (pos 1))
     (WithPostfixes places.Argument owners.Call known known digit bracket_end (node.integer (pos 1)) refl (Integer places.Argument owners.Call known digit refl) refl))
@@ -66,7 +66,7 @@ the_elements =
 the_array : Derives (Argument places.Command owners.Call array) known bracket known []
 unfolding first behind word_of infix_at prefix_at shape newlines_from
 the_array =
-    Value places.Command owners.Call known known bracket [] array
+    Value places.Command owners.Call known known bracket [] array refl
     (AllOperators places.Command 13 owners.Call known known bracket [] array
     (OneOperand places.Command 13 owners.Call known known bracket [] array
     (WithPostfixes places.Command owners.Call known known bracket [] array refl
@@ -100,7 +100,7 @@ the_targets =
 the_assignment : Derives (Expression places.Statement owners.Call assignment) [] tokens known []
 unfolding first behind word_of bytes_at
 the_assignment =
-    SeveralAssigned owners.Call [] one_known known known tokens comma equals [] (node.local (codes "a")) both_targets right_side refl (LocalTarget owners.Call [] tokens refl) refl the_targets refl refl the_list refl
+    SeveralAssigned owners.Call [] one_known known known tokens comma equals [] (node.local (codes "a")) both_targets right_side refl refl (LocalTarget owners.Call [] tokens refl) refl the_targets refl refl the_list refl
 
 the_statement : Derives (Statement assignment) [] tokens known []
 unfolding first word_of

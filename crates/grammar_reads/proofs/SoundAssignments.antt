@@ -27,7 +27,7 @@ use Rattle.phrase_rules.specs.Phrases as phrases
 use Rattle.phrase_rules.specs.Phrases.{is_rescued, right_hand, assigned_value, rescued, whole_value, assign}
 use Rattle.rule_base.specs.Reading.{Names, Tokens, Read, Inside}
 use Rattle.statement_rules.specs.Statements.{is_statement_sort}
-use Rattle.grammar_reads.specs.Rules.{Expression, Argument, Listing, Target, is_rescue, takes_list, goes_on_list}
+use Rattle.grammar_reads.specs.Rules.{Expression, Argument, Listing, Target, is_rescue, takes_list, goes_on_list, begins_jump}
 use Rattle.grammar_reads.specs.Derives.{Derives, Assigned, AssignedOr, ListAssigned}
 use Rattle.grammar_reads.specs.Expressions.{is_assignable, is_expression}
 use Rattle.grammar_reads.proofs.Results.{bind_ok, then_ok, read_same, carry, clash, differs, and_false, same_read}
@@ -202,7 +202,7 @@ module _ (i : Inside) (sound : IsSound i) (a : Assignment) (place : Place) (owne
       → (x.1 ≡ sorts.Statement) × (place ≡ places.Statement)
   assigns_several target names ts x known rest h stated is = (a_statement x.1 stated, (assign_lists target names ts x known rest h stated is).4)
 
-  module _ (target : Node) (before : Names) (start : Tokens) (names : Names) (ts : Tokens) (derived : Derives (Target owner target) before start names ts) (there : assignment_at (first ts) ≡ Some a) where
+  module _ (target : Node) (before : Names) (start : Tokens) (names : Names) (ts : Tokens) (derived : Derives (Target owner target) before start names ts) (there : assignment_at (first ts) ≡ Some a) (jump : begins_jump place start ≡ false) where
     abbrev Assigns : Node → Names → Tokens → Type 0
     Assigns n known rest = Derives (Argument place owner (assignment_node a target n)) before start known rest
 
@@ -212,9 +212,9 @@ module _ (i : Inside) (sound : IsSound i) (a : Assignment) (place : Place) (owne
         let e = read_same (rescued_node n other.0.0) w.0 other.0.1 w.1 other.0.2 w.2 other.2 in
         let parts = and_parts (is_expression n) (is_expression other.0.0) (subst (λ x. is_expression x ≡ true) (sym e.0) is) in
         let right = sound.argument k other.0.1 (behind m) other.0.2 owner other.0.0 other.1 parts.1 in
-        let d = AssignedOr place owner a before names k other.0.1 start ts m other.0.2 target n other.0.0 derived there taken.0 (a_rescue (modifier_at (first m)) rescue) right in
+        let d = AssignedOr place owner a before names k other.0.1 start ts m other.0.2 target n other.0.0 jump derived there taken.0 (a_rescue (modifier_at (first m)) rescue) right in
         carry Assigns (rescued_node n other.0.0) w.0 other.0.1 w.1 other.0.2 w.2 other.2 d
-    by_rescue false n k m w calm taken h is = carry Assigns n w.0 k w.1 m w.2 h (Assigned place owner a before names k start ts m target n derived there taken.0 calm taken.1)
+    by_rescue false n k m w calm taken h is = carry Assigns n w.0 k w.1 m w.2 h (Assigned place owner a before names k start ts m target n jump derived there taken.0 calm taken.1)
 
     pub assign_derived : (x : PhraseNode) (known : Names) (rest : Tokens) → Parts target names (behind ts) x known rest → Derives (Argument place owner x.0) before start known rest
     assign_derived x known rest p =
@@ -226,5 +226,5 @@ module _ (i : Inside) (sound : IsSound i) (a : Assignment) (place : Place) (owne
     lists_derived x known rest free h stated is =
         let s = assign_lists target names (behind ts) x known rest h stated is in
         let sign : first ts ≡ words.Mark marks.Assign = plain_word (first ts) (ap is_plain_sign there ∙ ap (λ b. is_plain_sign (Some b)) s.5) in
-        let d = ListAssigned owner before names known start ts rest target s.1 s.0 free derived sign s.6 s.2 s.3 in
+        let d = ListAssigned owner before names known start ts rest target s.1 s.0 free (subst (λ p. begins_jump p start ≡ false) s.4 jump) derived sign s.6 s.2 s.3 in
         subst (λ n. Derives (Expression places.Statement owner n) before start known rest) s.7 d

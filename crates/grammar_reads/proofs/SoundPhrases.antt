@@ -32,7 +32,7 @@ use Rattle.operand_rules.specs.Operators.{value_from}
 use Rattle.phrase_rules.specs.Phrases.{assign, may_command, value_phrase, first_of_several, begins_several, target_phrase, command_or_value, phrase_from, negated_command, negated_operand, negated, operand_phrase, defined, phrase_by, phrase, argument, is_command, is_command_there}
 use Rattle.statement_rules.specs.Statements.{is_not, is_statement_sort, negation}
 use Rattle.rule_base.specs.Reading.{Names, Tokens, Read, ◌>>=◌, Inside}
-use Rattle.grammar_reads.specs.Rules.{Expression, Operand, Argument, Negation, takes_target, is_taken}
+use Rattle.grammar_reads.specs.Rules.{Expression, Operand, Argument, Negation, takes_target, is_taken, begins_jump}
 use Rattle.grammar_reads.specs.Derives.{Derives, DefinedValue, AllOperators, OneOperand, Prefixed, Unnegated, Negated}
 use Rattle.grammar_reads.specs.Expressions.{is_expression}
 use Rattle.grammar_reads.proofs.Results.{bind_ok, then_ok, read_same, carry, differs, Never}
@@ -42,7 +42,7 @@ use Rattle.grammar_reads.proofs.SoundValues.{value_sound}
 use Rattle.grammar_reads.proofs.SoundAssignments.{assign_target, assign_parts, assign_sort, assign_derived, assigns_several, lists_derived}
 use Rattle.grammar_reads.proofs.SoundTargets.{target_sound}
 use Rattle.grammar_reads.proofs.NeverPhrases.{its_node, multiple_never, command_never, value_phrase_never, several_never, jump_never, none_of_phrase}
-use Rattle.grammar_reads.proofs.Starts.{not_there, operand_there, no_group, defined_there, defined_alone}
+use Rattle.grammar_reads.proofs.Starts.{not_there, operand_there, no_jump_there, no_jump, no_group, defined_there, defined_alone}
 
 -- no operator between operands is as tight as those before one
 loose : (o : Infix) → (if nat_le (level o) 1 then Some o else None) ≡ None
@@ -74,7 +74,7 @@ or_false : (b : Bool) → b ≡ false → (false || b) ≡ false
 or_false true h = h
 or_false false h = h
 
-module _ (i : Inside) (sound : IsSound i) (place : Place) (owner : DoOwner) (before : Names) (start : Tokens) where
+module _ (i : Inside) (sound : IsSound i) (place : Place) (owner : DoOwner) (before : Names) (start : Tokens) (jump : begins_jump place start ≡ false) where
   abbrev Argued : PhraseNode → Names → Tokens → Type 0
   Argued x known rest = (x.1 ≡ sorts.Argument) × Derives (Argument place owner x.0) before start known rest
 
@@ -99,7 +99,7 @@ module _ (i : Inside) (sound : IsSound i) (place : Place) (owner : DoOwner) (bef
       let r = bind_ok (value_from i left names ts owner) _ (x, known, rest) h in
       let e = read_same (r.0.0, sorts.Argument) x r.0.1 known r.0.2 rest r.2 in
       let there : is_expression r.0.0 ≡ true = subst (λ y. is_expression y.0 ≡ true) (sym e.0) is in
-      let d = value_sound i owner sound place before start left names ts r.0.0 r.0.1 r.0.2 derived free r.1 there in
+      let d = value_sound i owner sound place before start jump left names ts r.0.0 r.0.1 r.0.2 derived free r.1 there in
       carry Argued (r.0.0, sorts.Argument) x r.0.1 known r.0.2 rest r.2 (refl, d)
 
   -- what an operand that was read begins
@@ -129,12 +129,12 @@ module _ (i : Inside) (sound : IsSound i) (place : Place) (owner : DoOwner) (bef
       elim (cases_Bool (is_statement_sort x.1)) [
         | inl stated ↦
             let here = assigns_several i sound a place owner (target_node o) (target_names o names) (behind ts) x known rest h stated is in
-            inr (here.0, here.1, λ free. lists_derived i sound a place owner (target_node o) before start (target_names o names) ts t there x known rest free h stated is)
+            inr (here.0, here.1, λ free. lists_derived i sound a place owner (target_node o) before start (target_names o names) ts t there jump x known rest free h stated is)
         | inr plain ↦
             let p = assign_parts i sound a place owner (target_node o) (target_names o names) (behind ts) x known rest h plain is in
             inl (
               assign_sort i sound a place owner (target_node o) (target_names o names) (behind ts) x known rest p,
-              assign_derived i sound a place owner (target_node o) before start (target_names o names) ts t there x known rest p,
+              assign_derived i sound a place owner (target_node o) before start (target_names o names) ts t there jump x known rest p,
             )
       ]
 
@@ -176,10 +176,10 @@ module _ (i : Inside) (sound : IsSound i) (place : Place) (owner : DoOwner) (nam
   never_phrase : (read : Read PhraseNode) → Never its_node read → Phrase read
   never_phrase read never x known rest h is = absurd (never x known rest h is)
 
-  with_operand : (is_statement place && is_target_group ts) ≡ false → Phrase (operand_phrase i names ts place owner)
-  with_operand free x known rest h is =
+  with_operand : (is_statement place && is_target_group ts) ≡ false → begins_jump place ts ≡ false → Phrase (operand_phrase i names ts place owner)
+  with_operand free jump x known rest h is =
       let r = bind_ok (operand i names ts (allows_command place) owner) _ (x, known, rest) h in
-      elim (from_goal i sound place owner names ts (allows_command place) r.0.0 r.0.1 r.0.2 r.1 x known rest r.2 is) [
+      elim (from_goal i sound place owner names ts jump (allows_command place) r.0.0 r.0.1 r.0.2 r.1 x known rest r.2 is) [
         | inl v ↦ inl (v.0, free, v.1)
         | inr s ↦ inr (s.0, s.1, s.2 (subst (λ p. (is_statement p && is_target_group ts) ≡ false) s.1 free))
       ]
@@ -208,7 +208,7 @@ module _ (i : Inside) (sound : IsSound i) (place : Place) (owner : DoOwner) (nam
                 let d = Prefixed place owner prefixes.Not names k ts m p.0 (prefix_not ts there) one in
                 let again : value_phrase i (whole (prefix_node prefixes.Not p.0)) k m owner ≡ Ok (x, known, rest) =
                 subst (λ q. value_phrase i (whole (prefix_node prefixes.Not (operand_node q))) k m owner ≡ Ok (x, known, rest)) p.1 read in
-                let v = value_goal i sound place owner names ts (prefix_node prefixes.Not p.0) k m d (not_is_free place p.0 (first m)) x known rest again is in
+                let v = value_goal i sound place owner names ts (no_jump place ts there) (prefix_node prefixes.Not p.0) k m d (not_is_free place p.0 (first m)) x known rest again is in
                 inl (v.0, no_group place ts there, v.1)
             | inr other ↦ absurd (value_phrase_never i (whole (prefix_node prefixes.Not (operand_node o))) k m owner other x known rest read is)
           ]
@@ -228,7 +228,7 @@ module _ (i : Inside) (sound : IsSound i) (place : Place) (owner : DoOwner) (nam
   by_start (starts.Jump j) there = never_phrase _ (jump_never i (Some j) names (behind ts) owner)
   by_start starts.Yield there = never_phrase _ (jump_never i None names (behind ts) owner)
   by_start starts.Targets there = never_phrase _ (multiple_never i no_targets names ts owner)
-  by_start starts.Operand there = with_operand (operand_there place ts there)
+  by_start starts.Operand there = with_operand (operand_there place ts there) (no_jump_there place ts there)
 
   pub phrase_sound : Phrase (phrase i names ts place owner)
   phrase_sound = by_start (start_at place ts) refl

@@ -16,7 +16,7 @@ use Rattle.rb_heads.specs.declared.primary.Place.TheVariants as places
 use Rattle.tree_builder.specs.Nodes.{choice_node}
 use Rattle.operand_rules.specs.Operators.{operators, choice, question_at, value_from}
 use Rattle.rule_base.specs.Reading.{Names, Tokens, Inside}
-use Rattle.grammar_reads.specs.Rules.{Operand, Operation, Argument, is_question, is_taken}
+use Rattle.grammar_reads.specs.Rules.{Operand, Operation, Argument, is_question, is_taken, begins_jump}
 use Rattle.grammar_reads.specs.Derives.{Derives, OneOperand, Value, Conditional}
 use Rattle.grammar_reads.specs.Expressions.{is_expression}
 use Rattle.grammar_reads.proofs.Results.{bind_ok, then_ok, read_same, ok_is, carry, clash, Never, never_bind, never_after, never_ok}
@@ -60,7 +60,7 @@ module _ (i : Inside) (owner : DoOwner) where
         | inr other_is ↦ other_is
       ]))
 
-  module _ (sound : IsSound i) (place : Place) (before : Names) (start : Tokens) where
+  module _ (sound : IsSound i) (place : Place) (before : Names) (start : Tokens) (jump : begins_jump place start ≡ false) where
     abbrev Sound : Node → Names → Tokens → Type 0
     Sound x known rest = Derives (Argument place owner x) before start known rest
 
@@ -76,7 +76,7 @@ module _ (i : Inside) (owner : DoOwner) where
         let chosen = sound.argument names a.0.1 (behind ts) a.0.2 owner a.0.0 a.1 parts.1 in
         let last : behind a.0.2 ≡ c.0 = ok_is w.1 in
         let other = subst (λ (m : Tokens). Derives (Argument places.Argument owner b.0.0) a.0.1 m b.0.1 b.0.2) (sym last) (sound.argument a.0.1 b.0.1 c.0 b.0.2 owner b.0.0 b.1 parts.2) in
-        let d = Conditional place owner before names a.0.1 b.0.1 start ts a.0.2 b.0.2 test a.0.0 b.0.0 derived asks chosen (a_colon (first a.0.2) w.0) other in
+        let d = Conditional place owner before names a.0.1 b.0.1 start ts a.0.2 b.0.2 test a.0.0 b.0.0 jump derived asks chosen (a_colon (first a.0.2) w.0) other in
         carry Sound (choice_node test a.0.0 b.0.0) x b.0.1 known b.0.2 rest b.2 d
 
     question_sound : (w : Word) (test : Node) (names : Names) (ts : Tokens) (x : Node) (known : Names) (rest : Tokens) → first ts ≡ w → Derives (Operation place 13 owner test) before start names ts → is_taken place test (first ts) ≡ false
@@ -84,7 +84,7 @@ module _ (i : Inside) (owner : DoOwner) where
     question_sound (words.Mark marks.Question) test names ts x known rest there derived free h is = choice_sound test names ts x known rest derived there h is
     question_sound w test names ts x known rest there derived free h is =
         let calm : is_question (first ts) ≡ false = rw there refl in
-        carry Sound test x names known ts rest h (Value place owner before names start ts test derived calm free)
+        carry Sound test x names known ts rest h (Value place owner before names start ts test jump derived calm free)
 
     -- a value, behind an operand that is no target by the word behind it
     pub value_sound : (left : Node) (names : Names) (ts : Tokens) (x : Node) (known : Names) (rest : Tokens)

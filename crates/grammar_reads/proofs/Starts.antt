@@ -1,5 +1,5 @@
 -- What the first word of a phrase says where a phrase begins with an operand, and where with !.
-use Rattle.std.proofs.Common.{◌≡◌, Bool, true, false, ◌&&◌, if◌then◌else◌, refl, sym, ap, ◌∙◌}
+use Rattle.std.proofs.Common.{◌≡◌, Bool, true, false, not, ◌&&◌, if◌then◌else◌, refl, sym, ap, ◌∙◌}
 use Rattle.rb_syntax.specs.declared.keyword.Keyword.{Keyword}
 use Rattle.rb_syntax.specs.declared.keyword.Keyword.TheVariants as keywords
 use Rattle.rb_syntax.specs.declared.punctuator.Punctuator.TheVariants as marks
@@ -14,6 +14,7 @@ use Rattle.rb_heads.specs.declared.primary.Place.{Place}
 use Rattle.rb_heads.specs.declared.primary.Start.{Start}
 use Rattle.rb_heads.specs.declared.primary.Start.TheVariants as starts
 use Rattle.rule_base.specs.Reading.{Tokens}
+use Rattle.grammar_reads.specs.Rules.{is_jump, begins_jump}
 use Rattle.grammar_reads.proofs.Results.{differs, and_false}
 
 abbrev is_not_start : Start → Bool
@@ -98,7 +99,53 @@ pub operand_there : (place : Place) (ts : Tokens) → start_at place ts ≡ star
 unfolding start_at
 operand_there place ts h = start_operand (first ts) place ts refl (ap is_operand_start h)
 
--- nor where it begins with !
+jump_operand : (j : Jump) (b : Bool) → is_operand_start (if b then starts.Jump j else starts.Operand) ≡ true → b ≡ false
+jump_operand j true h = differs (sym h)
+jump_operand j false h = refl
+
+yield_operand : (b c : Bool) → is_operand_start (if b then (if c then starts.Operand else starts.Yield) else starts.Operand) ≡ true → (b && not c) ≡ false
+yield_operand true true h = refl
+yield_operand true false h = differs (sym h)
+yield_operand false c h = refl
+
+key_operand : (k : Keyword) (ts : Tokens) → is_operand_start (command_or_jump (jump_at (words.Key k)) (words.Key k) ts) ≡ true → is_jump (words.Key k) ts ≡ false
+key_operand keywords.Return ts h = jump_operand _ (begins_value (first ts)) h
+key_operand keywords.Break ts h = jump_operand _ (begins_value (first ts)) h
+key_operand keywords.Next ts h = jump_operand _ (begins_value (first ts)) h
+key_operand keywords.Yield ts h = yield_operand (begins_value (first ts)) (opens_arguments ts) h
+key_operand k ts h = refl
+
+command_operand : (w : Word) (ts : Tokens) → is_operand_start (command_or_jump (jump_at w) w ts) ≡ true → is_jump w ts ≡ false
+command_operand (words.Key k) ts h = key_operand k ts h
+command_operand w ts h = refl
+
+other_jump : (place : Place) (ts : Tokens) → is_operand_start (other_start place ts) ≡ true → begins_jump place ts ≡ false
+unfolding command_start
+other_jump place ts h = by_tests (is_statement place && is_target_group ts) (allows_command place) h
+  where
+    by_tests : (b c : Bool) → is_operand_start (if b then starts.Targets else (if c then command_start ts else starts.Operand)) ≡ true → (c && is_jump (first ts) (behind ts)) ≡ false
+    by_tests true c h = differs (sym h)
+    by_tests false true h = command_operand (first ts) (behind ts) h
+    by_tests false false h = refl
+
+star_jump : (b : Bool) (place : Place) (ts : Tokens) → is_operand_start (if b then starts.Targets else other_start place ts) ≡ true → begins_jump place ts ≡ false
+star_jump true place ts h = differs (sym h)
+star_jump false place ts h = other_jump place ts h
+
+start_jump : (w : Word) (place : Place) (ts : Tokens) → first ts ≡ w → is_operand_start (start_of w place ts) ≡ true → begins_jump place ts ≡ false
+start_jump (words.Key keywords.Defined) place ts there h = rw there (and_false (allows_command place))
+start_jump (words.Mark marks.Star) place ts there h = star_jump (is_statement place) place ts h
+start_jump w place ts there h = other_jump place ts h
+
+-- nor a jump with a list
+pub no_jump_there : (place : Place) (ts : Tokens) → start_at place ts ≡ starts.Operand → begins_jump place ts ≡ false
+unfolding start_at
+no_jump_there place ts h = start_jump (first ts) place ts refl (ap is_operand_start h)
+
+-- neither stands where it begins with !
+pub no_jump : (place : Place) (ts : Tokens) → first ts ≡ words.Mark marks.Not → begins_jump place ts ≡ false
+no_jump place ts there = rw there (and_false (allows_command place))
+
 pub no_group : (place : Place) (ts : Tokens) → first ts ≡ words.Mark marks.Not → (is_statement place && is_target_group ts) ≡ false
 no_group place ts there = rw there (and_false (is_statement place))
 

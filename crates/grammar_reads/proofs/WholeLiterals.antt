@@ -120,11 +120,11 @@ within _ _ _ _ _ (grammar.Undef names known ts rest xs is d) = λ h. differs (sy
 within _ _ _ _ _ (grammar.BeginBlock names known ts rest n is brace d closing) = λ h. differs (sym h)
 within _ _ _ _ _ (grammar.EndBlock names known ts rest n is brace d closing) = λ h. differs (sym h)
 within _ _ _ _ _ (grammar.AllJoined place owner names known ts rest n d ends) = within _ _ _ _ _ d
-within _ _ _ _ _ (grammar.ListAssigned owner names known later ts rest more target n l group t there d side made) = λ h.
+within _ _ _ _ _ (grammar.ListAssigned owner names known later ts rest more target n l group jump t there d side made) = λ h.
     let p = and_parts (is_assignable target) (is_expression n) h in
     let clean = clean_right l side (subst (λ (x : PhraseNode). is_expression x.0 ≡ true) (sym made) p.1) in
     λ k some. within _ _ _ _ _ t p.0 k some ∙ passes_word (words.Mark marks.Assign) rest there refl k some ∙ within _ _ _ _ _ d clean k some
-within _ _ _ _ _ (grammar.SeveralAssigned owner names known later latest ts rest mid more target ms l group t there others many closing d side) = λ h. differs (sym h)
+within _ _ _ _ _ (grammar.SeveralAssigned owner names known later latest ts rest mid more target ms l group jump t there others many closing d side) = λ h. differs (sym h)
 within _ _ _ _ _ (grammar.GroupsAssigned owner names known later ts rest more ms l begins others many closing d side) = λ h. differs (sym h)
 within _ _ _ _ _ (grammar.Unjoined place owner names known ts rest n d) = within _ _ _ _ _ d
 within _ _ _ _ _ (grammar.Junctioned place owner j names known later ts rest more a b left there right) = λ h.
@@ -133,17 +133,17 @@ within _ _ _ _ _ (grammar.Junctioned place owner j names known later ts rest mor
 within _ _ _ _ _ (grammar.Negated place owner names known ts rest n is d) = λ h k some. passes_word (words.Key keywords.Not) ts is refl k some ∙ within _ _ _ _ _ d h k some
 within _ _ _ _ _ (grammar.Unnegated place owner names known ts rest n group d) = within _ _ _ _ _ d
 within _ _ _ _ _ (grammar.Commanded place owner names known ts rest n group d) = λ h. clash (is_expression n) h (within _ _ _ _ _ d)
-within _ _ _ _ _ (grammar.Value place owner names known ts rest n d calm free) = within _ _ _ _ _ d
-within _ _ _ _ _ (grammar.Conditional place owner names known later last ts rest more left n a b test asks chosen parts other) = λ h.
+within _ _ _ _ _ (grammar.Value place owner names known ts rest n jump d calm free) = within _ _ _ _ _ d
+within _ _ _ _ _ (grammar.Conditional place owner names known later last ts rest more left n a b jump test asks chosen parts other) = λ h.
     let p = choice_parts n a b h in
     λ k some.
     within _ _ _ _ _ test p.0 k some ∙ passes_word (words.Mark marks.Question) rest asks refl k some ∙ within _ _ _ _ _ chosen p.1 k some
     ∙ passes_word (words.Mark marks.Colon) more parts refl k some ∙ within _ _ _ _ _ other p.2 k some
 within _ _ _ _ _ (grammar.DefinedValue place owner names known ts rest n is closed d) = λ h k some. passes_word (words.Key keywords.Defined) ts is refl k some ∙ within _ _ _ _ _ d h k some
-within _ _ _ _ _ (grammar.Assigned place owner a names known later ts rest more target n t there value calm alone) = λ h.
+within _ _ _ _ _ (grammar.Assigned place owner a names known later ts rest more target n jump t there value calm alone) = λ h.
     let p = assignment_parts a target n h in
     λ k some. within _ _ _ _ _ t p.0 k some ∙ passes rest (assignment_keeps (first rest) a there) k some ∙ within _ _ _ _ _ value p.1 k some
-within _ _ _ _ _ (grammar.AssignedOr place owner a names known later last ts rest more left target n other t there value rescue right) = λ h.
+within _ _ _ _ _ (grammar.AssignedOr place owner a names known later last ts rest more left target n other jump t there value rescue right) = λ h.
     let p = assignment_parts a target (rescued_node n other) h in
     let q = and_parts (is_expression n) (is_expression other) p.1 in
     λ k some.
@@ -173,6 +173,7 @@ within _ _ _ _ _ (grammar.PostfixInnerTarget owner names known ts rest n is none
 within _ _ _ _ _ (grammar.CalleeInnerTarget owner names known ts rest c none d target) = within _ _ _ _ _ d target
 within _ _ _ _ _ (grammar.AllOperators place loosest owner names known ts rest n d ends) = within _ _ _ _ _ d
 within _ _ _ _ _ (grammar.OneOperand place loosest owner names known ts rest n d) = within _ _ _ _ _ d
+within _ _ _ _ _ (grammar.CalleeOperand loosest owner a names known ts rest c inner none d there) = λ h. differs (sym h ∙ call_is_none c None None)
 within _ _ _ _ _ (grammar.Infixed place loosest owner o names known later ts rest more a b left there right calm) = λ h.
     let p = infix_parts o (place_at rest) a b h in
     λ k some. within _ _ _ _ _ left p.0 k some ∙ passes rest (infix_keeps loosest (first rest) o there) k some ∙ within _ _ _ _ _ right p.1 k some
@@ -245,10 +246,10 @@ within _ _ _ _ _ (grammar.LineKeyword place owner names ts is) = λ h. differs (
 within _ _ _ _ _ (grammar.EncodingKeyword place owner names ts is) = λ h. differs (sym h)
 within _ _ _ _ _ (grammar.Redo place owner names ts is) = λ h. differs (sym h)
 within _ _ _ _ _ (grammar.Retry place owner names ts is) = λ h. passes_word (words.Key keywords.Retry) ts is refl
-within _ _ _ _ _ (grammar.Return place owner names ts is none) = λ h. differs (sym h)
-within _ _ _ _ _ (grammar.Break place owner names ts is none) = λ h. differs (sym h)
-within _ _ _ _ _ (grammar.Next place owner names ts is none) = λ h. differs (sym h)
-within _ _ _ _ _ (grammar.Yield place owner names ts is none) = λ h. differs (sym h)
+within _ _ _ _ _ (grammar.Return place owner names ts is) = λ h. differs (sym h)
+within _ _ _ _ _ (grammar.Break place owner names ts is) = λ h. differs (sym h)
+within _ _ _ _ _ (grammar.Next place owner names ts is) = λ h. differs (sym h)
+within _ _ _ _ _ (grammar.Yield place owner names ts is closed) = λ h. differs (sym h)
 within _ _ _ _ _ (grammar.Array place owner names known ts rest l is d none closing) = λ h k some.
     passes_word (words.Mark marks.OpenBracket) ts is refl k some ∙ within _ _ _ _ _ d (clean_is l none h) k some
     ∙ passes_newlines (length rest) rest k some ∙ passes_word (words.Mark marks.CloseBracket) (skip_newlines rest) closing refl k some
@@ -328,9 +329,9 @@ within _ _ _ _ _ (grammar.CalledAlone owner names ts c closed none) = call_is_no
 within _ _ _ _ _ (grammar.CalledWith owner names known ts rest c l opened d closing none) = call_is_none c _ None
 within _ _ _ _ _ (grammar.CalledWithBlock owner style names known later ts rest more c l b opened d closing there none block) = call_is_none c _ (Some b)
 within _ _ _ _ _ (grammar.CalledBlock owner style names known ts rest c b closed there block) = call_is_none c None (Some b)
-within _ _ _ _ _ (grammar.CalleeCommand place owner names known later ts rest more c n may none d arguments) = within _ _ _ _ _ arguments
+within _ _ _ _ _ (grammar.CalleeCommand place owner names known later ts rest more c n may none jump d arguments) = within _ _ _ _ _ arguments
 within _ _ _ _ _ (grammar.NotCommand place owner names known later ts rest more c n is may none d arguments) = within _ _ _ _ _ arguments
-within _ _ _ _ _ (grammar.CommandAssigned place owner a names known later ts rest more target n t there d free) = assigned_none a target n (within _ _ _ _ _ d)
+within _ _ _ _ _ (grammar.CommandAssigned place owner a names known later ts rest more target n jump t there d free) = assigned_none a target n (within _ _ _ _ _ d)
 within _ _ _ _ _ (grammar.NotAssigned place owner a names known later ts rest more target n is may t there d) = assigned_none a target n (within _ _ _ _ _ d)
 within _ _ _ _ _ (grammar.JumpList place owner j names known ts rest l there may begins d none) = jump_none j (whole_items l.items l.pairs)
 within _ _ _ _ _ (grammar.YieldList place owner names known ts rest l is may begins closed d none) = refl

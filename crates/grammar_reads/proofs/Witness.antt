@@ -16,14 +16,14 @@ use Rattle.rb_heads.specs.declared.primary.Place.TheVariants as places
 use Rattle.tree_builder.specs.Nodes.{shape}
 use Rattle.form_builder.specs.Definitions.{singleton_at}
 use Rattle.form_builder.specs.Parameters.{ParameterNodes, required, no_parameters, put_parameter}
-use Rattle.grammar_reads.specs.Rules.{Statements, Expression, Argument, Target, Statement, Primary, MethodParameters, Body, is_question, is_taken, head_of}
+use Rattle.grammar_reads.specs.Rules.{Statements, Expression, Argument, Target, Statement, Primary, MethodParameters, Body, is_question, is_taken, begins_jump, head_of}
 use Rattle.grammar_reads.specs.Derives.{Names, Tokens, Derives, Separated, NoMore, OneMore, WithModifiers, Unmodified, Plain, AllJoined, Unjoined, Unnegated, Assigned, LocalTarget, Value, AllOperators, OneOperand, WithPostfixes, Integer, Local, If, GuardedBy, NoBranch, NoElse, Define, PlainHead, ClosedParameters, AllParameters, OneParameter, RequiredParameter, PlainBody}
 use Rattle.grammar_reads.specs.Example.{one, equals_one, tokens, assignment, tree, known, ends_method, ends_if, then_ends, test, body, closes, parameter, opens, name, method_tokens, inner, branch, method, method_tree}
 
 the_value : Derives (Argument places.Command owners.Call (node.integer (pos 1))) known one known []
 unfolding first behind word_of integer_at place_at infix_at prefix_at shape
 the_value =
-    Value places.Command owners.Call known known one [] (node.integer (pos 1))
+    Value places.Command owners.Call known known one [] (node.integer (pos 1)) refl
     (AllOperators places.Command 13 owners.Call known known one [] (node.integer (pos 1))
     (OneOperand places.Command 13 owners.Call known known one [] (node.integer (pos 1))
     (WithPostfixes places.Command owners.Call known known one [] (node.integer (pos 1)) refl (Integer places.Command owners.Call known one refl) refl))
@@ -43,7 +43,7 @@ the_statement =
     (AllJoined places.Statement owners.Call [] known tokens [] assignment
     (Unjoined places.Statement owners.Call [] known tokens [] assignment
     (Unnegated places.Statement owners.Call [] known tokens [] assignment refl
-    (Assigned places.Statement owners.Call signs.Plain [] known known tokens equals_one [] (node.local (codes "x")) (node.integer (pos 1)) the_target refl the_value refl refl)))
+    (Assigned places.Statement owners.Call signs.Plain [] known known tokens equals_one [] (node.local (codes "x")) (node.integer (pos 1)) refl the_target refl the_value refl refl)))
     refl)))
     refl
 
@@ -53,13 +53,13 @@ example_derived = Separated [] known tokens [] (assignment ∷ []) (OneMore [] k
 
 -- a primary alone is an expression
 pub alone : (place : Place) (owner : DoOwner) (names known : Names) (ts rest : Tokens) (n : Node) → prefix_at ts ≡ None → Derives (Primary place owner n) names ts known rest → postfix_at (first rest) ≡ None
-    → infix_at 13 (first rest) ≡ None → is_question (first rest) ≡ false → is_taken place n (first rest) ≡ false → (is_statement place && is_target_group ts) ≡ false → junction_at (first rest) ≡ None
+    → infix_at 13 (first rest) ≡ None → is_question (first rest) ≡ false → is_taken place n (first rest) ≡ false → (is_statement place && is_target_group ts) ≡ false → begins_jump place ts ≡ false → junction_at (first rest) ≡ None
     → Derives (Expression place owner n) names ts known rest
-alone place owner names known ts rest n no_prefix primary no_postfix no_infix question taken group no_junction =
+alone place owner names known ts rest n no_prefix primary no_postfix no_infix question taken group jump no_junction =
     AllJoined place owner names known ts rest n
     (Unjoined place owner names known ts rest n
     (Unnegated place owner names known ts rest n group
-    (Value place owner names known ts rest n
+    (Value place owner names known ts rest n jump
     (AllOperators place 13 owner names known ts rest n (OneOperand place 13 owner names known ts rest n (WithPostfixes place owner names known ts rest n no_prefix primary no_postfix)) no_infix)
     question taken)))
     no_junction
@@ -70,7 +70,7 @@ whole_statement names known ts rest n expression ends = WithModifiers names know
 
 the_test : Derives (Expression places.Command owners.Call (node.local (codes "a"))) inner test inner then_ends
 unfolding first behind word_of bytes_at infix_at prefix_at opens_arguments shape
-the_test = alone places.Command owners.Call inner inner test then_ends (node.local (codes "a")) refl (Local places.Command owners.Call inner test refl refl refl) refl refl refl refl refl refl
+the_test = alone places.Command owners.Call inner inner test then_ends (node.local (codes "a")) refl (Local places.Command owners.Call inner test refl refl refl) refl refl refl refl refl refl refl
 
 the_branch : Derives (Primary places.Statement owners.Call branch) inner body inner ends_method
 unfolding first behind word_of separators_from shape
@@ -85,7 +85,7 @@ the_body =
     PlainBody inner inner body ends_method (node.statements (nodes (branch ∷ [])))
     (Separated inner inner body ends_method (branch ∷ [])
     (OneMore inner inner inner body ends_method ends_method branch [] refl
-    (whole_statement inner inner body ends_method branch (alone places.Statement owners.Call inner inner body ends_method branch refl the_branch refl refl refl refl refl refl) refl)
+    (whole_statement inner inner body ends_method branch (alone places.Statement owners.Call inner inner body ends_method branch refl the_branch refl refl refl refl refl refl refl) refl)
     refl (NoMore inner ends_method refl)))
     refl
 
@@ -109,5 +109,5 @@ unfolding first behind word_of separators_from infix_at prefix_at shape
 method_derived =
     Separated [] [] method_tokens [] (method ∷ [])
     (OneMore [] [] [] method_tokens [] [] method [] refl
-    (whole_statement [] [] method_tokens [] method (alone places.Statement owners.Call [] [] method_tokens [] method refl the_method refl refl refl refl refl refl) refl)
+    (whole_statement [] [] method_tokens [] method (alone places.Statement owners.Call [] [] method_tokens [] method refl the_method refl refl refl refl refl refl refl) refl)
     refl (NoMore [] [] refl))

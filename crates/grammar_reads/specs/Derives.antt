@@ -43,7 +43,7 @@ use Rattle.tree_builder.specs.Calls.{CalleeNode, name_callee, method_callee, sup
 use Rattle.tree_builder.specs.declared.listed.Sort.TheVariants as sorts
 use Rattle.form_builder.specs.Parameters.{no_parameters, definition_of, BlockNode, ParameterNode, ParameterNodes, required, optional, rest_of, block_name, outside_parameter, may_follow, put_parameter, begins_parameter, block_of, with_comma}
 use Rattle.form_builder.specs.Targets.{TargetNode, one_target, group_target, star_target, TargetsNode, no_targets, targets_list, list_node, may_follow as target_follows, put}
-use Rattle.grammar_reads.specs.Rules.{WhenValues, Rule, Statements, StatementList, Statement, Modified, Base, Expression, Joined, Negation, Argument, Operation, Operators, Operand, Primary, Target, InnerTarget, Elements, Piece, Pieces, Quoted, Strings, Part, Parts, Listing, OneTarget, Targets, operand_level, is_question, is_taken, is_rescue, takes_list, goes_on_list, stands_alone, ends_literal, begins_string, is_star, opens_bars, MethodNames, Guarded, Repeated, Branches, Otherwise, Subject, Clauses, Clause, Values, ValueTest, Classes, RescueClauses, RescueClause, Ensured, Handlers, Parameter, ParameterList, Parameters, MethodParameters, MethodHead, ClassPath, Body, ends_subject, is_identifier, has_handlers, head_of, endless_method, is_place, is_alone, operand_place, LoopTargets, Pattern, PatternTarget, PatternName, BlockParameters, BarredParameters, BarredLocals, BlockLocals, Block, is_semicolon, Callee, CommandArguments, Command, Called, OnePostfix, Postfixes, is_constant, is_taken_callee, takes_value, is_outside_variable, joins_name, joins_call, joins_constant, method_behind}
+use Rattle.grammar_reads.specs.Rules.{WhenValues, Rule, Statements, StatementList, Statement, Modified, Base, Expression, Joined, Negation, Argument, Operation, Operators, Operand, Primary, Target, InnerTarget, Elements, Piece, Pieces, Quoted, Strings, Part, Parts, Listing, OneTarget, Targets, operand_level, is_inner, is_question, is_taken, is_rescue, takes_list, goes_on_list, stands_alone, ends_literal, begins_string, is_star, opens_bars, MethodNames, Guarded, Repeated, Branches, Otherwise, Subject, Clauses, Clause, Values, ValueTest, Classes, RescueClauses, RescueClause, Ensured, Handlers, Parameter, ParameterList, Parameters, MethodParameters, MethodHead, ClassPath, Body, ends_subject, is_identifier, has_handlers, head_of, endless_method, is_place, is_alone, operand_place, LoopTargets, Pattern, PatternTarget, PatternName, BlockParameters, BarredParameters, BarredLocals, BlockLocals, Block, is_semicolon, Callee, CommandArguments, Command, Called, OnePostfix, Postfixes, is_constant, is_taken_callee, begins_jump, is_outside_variable, joins_name, joins_call, joins_constant, method_behind}
 use Rattle.rb_tree.specs.Parts.{class_path}
 use Rattle.form_builder.specs.Definitions.{HeadNode, name_place, singleton_at, method_node, is_global, global_alias}
 use Rattle.form_builder.specs.Sections.{option_node, pattern_node}
@@ -104,13 +104,13 @@ pub data Derives : Rule → Names → Tokens → Names → Tokens → Type 0 whe
   Unnegated : (place : Place) (owner : DoOwner) (names known : Names) (ts rest : Tokens) (n : Node)
       → (is_statement place && is_target_group ts) ≡ false → Derives (Argument place owner n) names ts known rest
       → Derives (Negation place owner n) names ts known rest
-  -- operators of the table, and neither a condition nor a target
+  -- operators of the table, neither a condition nor a target; no value begins with a jump and its list
   Value : (place : Place) (owner : DoOwner) (names known : Names) (ts rest : Tokens) (n : Node)
-      → Derives (Operation place 13 owner n) names ts known rest → is_question (first rest) ≡ false → is_taken place n (first rest) ≡ false
+      → begins_jump place ts ≡ false → Derives (Operation place 13 owner n) names ts known rest → is_question (first rest) ≡ false → is_taken place n (first rest) ≡ false
       → Derives (Argument place owner n) names ts known rest
   -- operators of the table, a question mark, and two values with a colon between them
   Conditional : (place : Place) (owner : DoOwner) (names known later last : Names) (ts rest more left : Tokens) (n a b : Node)
-      → Derives (Operation place 13 owner n) names ts known rest → first rest ≡ words.Mark marks.Question
+      → begins_jump place ts ≡ false → Derives (Operation place 13 owner n) names ts known rest → first rest ≡ words.Mark marks.Question
       → Derives (Argument places.Argument owner a) known (behind rest) later more → first more ≡ words.Mark marks.Colon
       → Derives (Argument places.Argument owner b) later (behind more) last left
       → Derives (Argument place owner (choice_node n a b)) names ts last left
@@ -121,13 +121,13 @@ pub data Derives : Rule → Names → Tokens → Names → Tokens → Type 0 whe
       → Derives (Argument place owner (node.defined n)) names ts known rest
   -- an assignment to a target, with all that its value takes
   Assigned : (place : Place) (owner : DoOwner) (a : Assignment) (names known later : Names) (ts rest more : Tokens) (target n : Node)
-      → Derives (Target owner target) names ts known rest → assignment_at (first rest) ≡ Some a
+      → begins_jump place ts ≡ false → Derives (Target owner target) names ts known rest → assignment_at (first rest) ≡ Some a
       → Derives (Argument (of_value place) owner n) known (behind rest) later more
       → is_rescue (modifier_at (first more)) ≡ false → (takes_list a place && goes_on_list (first more)) ≡ false
       → Derives (Argument place owner (assignment_node a target n)) names ts later more
   -- an assignment to a target, and behind a modifier rescue what stands for a value that fails
   AssignedOr : (place : Place) (owner : DoOwner) (a : Assignment) (names known later last : Names) (ts rest more left : Tokens) (target n other : Node)
-      → Derives (Target owner target) names ts known rest → assignment_at (first rest) ≡ Some a
+      → begins_jump place ts ≡ false → Derives (Target owner target) names ts known rest → assignment_at (first rest) ≡ Some a
       → Derives (Argument (of_value place) owner n) known (behind rest) later more → modifier_at (first more) ≡ Some modifiers.Rescue
       → Derives (Argument places.Argument owner other) later (behind more) last left
       → Derives (Argument place owner (assignment_node a target (rescued_node n other))) names ts last left
@@ -186,6 +186,10 @@ pub data Derives : Rule → Names → Tokens → Names → Tokens → Type 0 whe
   -- an operand alone
   OneOperand : (place : Place) (loosest : ℕ) (owner : DoOwner) (names known : Names) (ts rest : Tokens) (n : Node)
       → Derives (Operand place owner n) names ts known rest → Derives (Operators place loosest owner n) names ts known rest
+  -- what is called alone as the operand of an operator: an assignment behind it doesn't make a target of it
+  CalleeOperand : (loosest : ℕ) (owner : DoOwner) (a : Assignment) (names known : Names) (ts rest : Tokens) (c : CalleeNode)
+      → is_inner loosest ≡ true → prefix_at ts ≡ None → Derives (Callee places.Argument owner c) names ts known rest → assignment_at (first rest) ≡ Some a
+      → Derives (Operators places.Argument loosest owner (call_node c None None)) names ts known rest
   -- an operator between what stands before it and a right operand of tighter operators
   Infixed : (place : Place) (loosest : ℕ) (owner : DoOwner) (o : Infix) (names known later : Names) (ts rest more : Tokens) (a b : Node)
       → Derives (Operators place loosest owner a) names ts known rest → infix_at loosest (first rest) ≡ Some o
@@ -340,21 +344,18 @@ pub data Derives : Rule → Names → Tokens → Names → Tokens → Type 0 whe
   -- retry
   Retry : (place : Place) (owner : DoOwner) (names : Names) (ts : Tokens)
       → first ts ≡ words.Key keywords.Retry → Derives (Primary place owner node.retry) names ts names (behind ts)
-  -- return without a value; where a command may stand, none follows
+  -- return without a value
   Return : (place : Place) (owner : DoOwner) (names : Names) (ts : Tokens)
-      → first ts ≡ words.Key keywords.Return → takes_value place (behind ts) ≡ false
-      → Derives (Primary place owner (node.return_node node.none)) names ts names (behind ts)
-  -- break without a value; where a command may stand, none follows
+      → first ts ≡ words.Key keywords.Return → Derives (Primary place owner (node.return_node node.none)) names ts names (behind ts)
+  -- break without a value
   Break : (place : Place) (owner : DoOwner) (names : Names) (ts : Tokens)
-      → first ts ≡ words.Key keywords.Break → takes_value place (behind ts) ≡ false
-      → Derives (Primary place owner (node.break_node node.none)) names ts names (behind ts)
-  -- next without a value; where a command may stand, none follows
+      → first ts ≡ words.Key keywords.Break → Derives (Primary place owner (node.break_node node.none)) names ts names (behind ts)
+  -- next without a value
   Next : (place : Place) (owner : DoOwner) (names : Names) (ts : Tokens)
-      → first ts ≡ words.Key keywords.Next → takes_value place (behind ts) ≡ false
-      → Derives (Primary place owner (node.next_node node.none)) names ts names (behind ts)
-  -- yield without arguments; no parenthesis follows directly, and where a command may stand, no value
+      → first ts ≡ words.Key keywords.Next → Derives (Primary place owner (node.next_node node.none)) names ts names (behind ts)
+  -- yield without arguments; no parenthesis follows directly
   Yield : (place : Place) (owner : DoOwner) (names : Names) (ts : Tokens)
-      → first ts ≡ words.Key keywords.Yield → (opens_arguments (behind ts) || takes_value place (behind ts)) ≡ false
+      → first ts ≡ words.Key keywords.Yield → opens_arguments (behind ts) ≡ false
       → Derives (Primary place owner (node.yield_node node.none)) names ts names (behind ts)
   -- a value that is no key
   PlainPart : (place : Place) (owner : DoOwner) (names known : Names) (ts rest : Tokens) (n : Node)
@@ -428,12 +429,12 @@ pub data Derives : Rule → Names → Tokens → Names → Tokens → Type 0 whe
       → Derives (Command place owner (node.yield_node (items_of (whole_items l.items l.pairs)))) names ts known rest
   -- a list assigned to a target: several values, or the elements of one
   ListAssigned : (owner : DoOwner) (names known later : Names) (ts rest more : Tokens) (target n : Node) (l : ListNode)
-      → is_target_group ts ≡ false → Derives (Target owner target) names ts known rest → first rest ≡ words.Mark marks.Assign
+      → is_target_group ts ≡ false → begins_jump places.Statement ts ≡ false → Derives (Target owner target) names ts known rest → first rest ≡ words.Mark marks.Assign
       → Derives (Listing owner l) known (behind rest) later more → is_right_side l ≡ true → right_side l ≡ (n, sorts.Statement)
       → Derives (Expression places.Statement owner (node.assign target n)) names ts later more
   -- several targets, the first of which has no star and is no group, = and a list
   SeveralAssigned : (owner : DoOwner) (names known later latest : Names) (ts rest mid more : Tokens) (target : Node) (ms : TargetsNode) (l : ListNode)
-      → is_target_group ts ≡ false → Derives (Target owner target) names ts known rest → first rest ≡ words.Mark marks.Comma
+      → is_target_group ts ≡ false → begins_jump places.Statement ts ≡ false → Derives (Target owner target) names ts known rest → first rest ≡ words.Mark marks.Comma
       → Derives (Targets (put (one_target target) true no_targets) ms) known (behind rest) later mid → ms.several ≡ true
       → first mid ≡ words.Mark marks.Assign → Derives (Listing owner l) later (behind mid) latest more → is_right_side l ≡ true
       → Derives (Expression places.Statement owner (node.multiple_assign (targets_list ms) (right_side l).0)) names ts latest more
@@ -966,7 +967,7 @@ pub data Derives : Rule → Names → Tokens → Names → Tokens → Type 0 whe
       → Derives (Called owner c (call_node c None (Some b))) names ts known rest
   -- a callee with what makes a command of it
   CalleeCommand : (place : Place) (owner : DoOwner) (names known later : Names) (ts rest more : Tokens) (c : CalleeNode) (n : Node)
-      → allows_command place ≡ true → prefix_at ts ≡ None → Derives (Callee place owner c) names ts known rest
+      → allows_command place ≡ true → prefix_at ts ≡ None → begins_jump place ts ≡ false → Derives (Callee place owner c) names ts known rest
       → Derives (CommandArguments owner c n) known rest later more → Derives (Command place owner n) names ts later more
   -- ! and a callee with what makes a command of it
   NotCommand : (place : Place) (owner : DoOwner) (names known later : Names) (ts rest more : Tokens) (c : CalleeNode) (n : Node)
@@ -974,7 +975,7 @@ pub data Derives : Rule → Names → Tokens → Names → Tokens → Type 0 whe
       → Derives (CommandArguments owner c n) known rest later more → Derives (Command place owner (prefix_node prefixes.Not n)) names ts later more
   -- an assignment of a command to a target
   CommandAssigned : (place : Place) (owner : DoOwner) (a : Assignment) (names known later : Names) (ts rest more : Tokens) (target n : Node)
-      → Derives (Target owner target) names ts known rest → assignment_at (first rest) ≡ Some a
+      → begins_jump place ts ≡ false → Derives (Target owner target) names ts known rest → assignment_at (first rest) ≡ Some a
       → Derives (Command (of_value place) owner n) known (behind rest) later more → (takes_list a place && is_comma_word (first more)) ≡ false
       → Derives (Command place owner (assignment_node a target n)) names ts later more
   -- ! and an assignment of a command to a target

@@ -5,3 +5,4 @@ pub mod Example
 pub mod ListExample
 pub mod CommandExample
 pub mod ChainExample
+pub mod JumpExample

@@ -1,5 +1,5 @@
 -- The rules of the grammar by their names, and the questions that they ask.
-use Rattle.std.specs.Prelude.{ℕ, Bool, true, false, ◌&&◌, ◌||◌, List, Option, Some, None, is_some, [], ◌∷◌, ◌++◌, not}
+use Rattle.std.specs.Prelude.{ℕ, nat_le, Bool, true, false, ◌&&◌, ◌||◌, List, Option, Some, None, is_some, [], ◌∷◌, ◌++◌, not}
 use Rattle.rb_syntax.specs.declared.keyword.Keyword.TheVariants as keywords
 use Rattle.rb_syntax.specs.declared.outside.Outside.{Outside}
 use Rattle.rb_syntax.specs.declared.outside.Outside.TheVariants as outsides
@@ -145,6 +145,10 @@ operand_level (prefixes.Operation unary.Plus) = 1
 operand_level (prefixes.Operation unary.Complement) = 1
 operand_level (prefixes.Operation unary.Minus) = 2
 
+-- the loosest operators in the operand of an operator; those of a value may be looser
+abbrev pub is_inner : ℕ → Bool
+is_inner loosest = nat_le loosest 12
+
 -- where the operand behind one that stands before it is: where a command may begin, one may begin behind ! too
 abbrev pub operand_place : Prefix → Place → Place
 operand_place prefixes.Not place = of_value place
@@ -263,9 +267,17 @@ is_constant _ = false
 abbrev pub is_taken_callee : Place → CalleeNode → Word → Bool
 is_taken_callee place c w = is_target (callee c) && takes_target place w
 
--- a command may stand here, and a value follows
-abbrev pub takes_value : Place → Tokens → Bool
-takes_value place ts = allows_command place && begins_value (first ts)
+-- this word takes a list: return, break or next before a value, and yield before one where no parenthesis follows directly
+abbrev pub is_jump : Word → Tokens → Bool
+is_jump (words.Key keywords.Return) ts = begins_value (first ts)
+is_jump (words.Key keywords.Break) ts = begins_value (first ts)
+is_jump (words.Key keywords.Next) ts = begins_value (first ts)
+is_jump (words.Key keywords.Yield) ts = begins_value (first ts) && not (opens_arguments ts)
+is_jump w ts = false
+
+-- a jump begins here with its list, where a command may stand
+abbrev pub begins_jump : Place → Tokens → Bool
+begins_jump place ts = allows_command place && is_jump (first ts) (behind ts)
 
 -- a variable outside the language
 abbrev pub is_outside_variable : Outside → Bool

@@ -28,9 +28,8 @@
 //! branch of a conditional, or what stands before a modifier with a test, is in parentheses: a form with sections has the
 //! same.
 //!
-//! Going through the definitions branch by branch found one form that they read and that has no rule; no theorem says that
-//! there is no other: `return`, `break`, `next` or `yield` alone before what may begin a value (as in `!yield[0]`), directly
-//! behind a `!` where a command may stand.
+//! Going through the definitions branch by branch found no form that they read and that has no rule; no theorem says that
+//! there is none.
 #![tactic(auto)]
 
 ghost use Rattle.std.specs.Prelude.{◌≡◌, ◌≤◌, ℕ, List, [], length, true, Ok};
@@ -50,6 +49,7 @@ ghost use Rattle.grammar_reads.specs.Example.{known, method_tokens, method_tree,
 ghost use Rattle.grammar_reads.specs.ListExample as lists;
 ghost use Rattle.grammar_reads.specs.CommandExample as commands;
 ghost use Rattle.grammar_reads.specs.ChainExample as chains;
+ghost use Rattle.grammar_reads.specs.JumpExample as jumps;
 ghost use Rattle.grammar_reads.specs.Expressions.{is_expression};
 
 /// What the definitions of the parser read as an expression is derived: a value, an assignment among them, operators with
@@ -77,12 +77,13 @@ pub fn at_most_one()
 
 /// The tokens of `x = 1` are derived as an assignment, behind which `x` is known as a local, and those of
 /// `def f(a) if a then end end` as a method, behind which `a` isn't, those of `a, *b = ["x", 1]` as one to several
-/// targets, those of `f 1 do |x| x end` as a command with a block, and those of `!a&.b = f 1 do end.c` as the negated
-/// assignment of a command that a postfix follows.
+/// targets, those of `f 1 do |x| x end` as a command with a block, those of `!a&.b = f 1 do end.c` as the negated assignment
+/// of a command that a postfix follows, and those of `!yield[0]` as the negated element of what a `yield` alone gives.
 pub fn a_text_is_derived()
     ensures assignment { Derives (Statements tree) [] tokens known [] }
     ensures method { Derives (Statements method_tree) [] method_tokens [] [] }
     ensures several { Derives (Statements lists.tree) [] lists.tokens lists.known [] }
     ensures command { Derives (Statements commands.tree) [] commands.tokens [] [] }
     ensures chain { Derives (Statements chains.tree) [] chains.tokens [] [] }
+    ensures jump { Derives (Statements jumps.tree) [] jumps.tokens [] [] }
 {}
