@@ -14,7 +14,8 @@ run: $(RITE)
 
 build: $(RITE)
 
-# The first build proves every crate, which takes some minutes. Without words the program ends with status 120.
+# The first build proves every crate below the program, which takes about an hour. Without words the program ends with
+# status 120.
 $(RITE): $(SOURCES)
 	@cd crates/mrb_tool && { rt run >out.log 2>&1; status=$$?; \
 		if [ $$status -ne 120 ]; then cat out.log; rm -f out.log; exit 1; fi; rm -f out.log; touch out/mrb_tool; }
