@@ -28,8 +28,9 @@
 //! branch of a conditional, or what stands before a modifier with a test, is in parentheses: a form with sections has the
 //! same.
 //!
-//! Going through the definitions branch by branch found no form that they read and that has no rule; no theorem says that
-//! there is none.
+//! Going through the definitions branch by branch found two readings of parts that are not derived, and no other: a command
+//! directly before `{`, behind which no program goes on, and a name alone before `=` as operators of the loosest levels, where
+//! none stops. That no program has them, and that there is no other, is by reading; no theorem says it.
 #![tactic(auto)]
 
 ghost use Rattle.std.specs.Prelude.{◌≡◌, ◌≤◌, ℕ, List, [], length, true, Ok};
