@@ -1,12 +1,12 @@
 -- No core is what a call on self is sent to, so the form of a call goes by its receiver.
 use Rattle.std.proofs.Common.{◌≡◌, false, ap, ◌∙◌, refl}
-use Rattle.rb_core.specs.declared.term.Term.{Term, fold_out-Term}
-use Rattle.rb_core.specs.declared.term.Term.TheOpen.{Term-F}
-use Rattle.rb_core.specs.declared.term.Receiver.{Receiver}
-use Rattle.rb_core.specs.declared.term.Receiver.TheVariants.{To, Absent, Bare}
-use Rattle.rb_core.specs.CoreForm.{Name, CoreForm, CoreForms, none, more, call}
-use Rattle.rb_core.specs.View.{Core, term_step, term_view}
-use Rattle.core_parts.specs.Parts as by
+use Rattle.ir_core.specs.declared.term.Term.{Term, fold_out-Term}
+use Rattle.ir_core.specs.declared.term.Term.TheOpen.{Term-F}
+use Rattle.ir_core.specs.declared.term.Receiver.{Receiver}
+use Rattle.ir_core.specs.declared.term.Receiver.TheVariants.{To, Absent, Bare}
+use Rattle.ir_core.specs.CoreForm.{Name, CoreForm, CoreForms, none, more, call}
+use Rattle.ir_core.specs.View.{Core, term_step, term_view}
+use Rattle.ir_core.specs.PartsBy as by
 use Rattle.code_generator.specs.Built.{form_of, all_of, call_of, is_absent}
 use Rattle.code_generator.specs.Emission.{called}
 

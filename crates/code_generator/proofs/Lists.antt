@@ -1,6 +1,6 @@
 -- Forms in front of others.
 use Rattle.std.proofs.Common.{◌≡◌, ◌≤◌, ◌<◌, List, [], ◌∷◌, ◌++◌, Option, Some, None, length, map, refl, sym, ap, ◌∙◌, arith}
-use Rattle.rb_core.specs.CoreForm.{CoreForm, forms as cores}
+use Rattle.ir_core.specs.CoreForm.{CoreForm, forms as cores}
 use Rattle.rb_syntax.specs.Form.{Form, Forms, none, more, forms}
 use Rattle.code_generator.specs.Built.{◌>>=◌, form_of, all_of}
 use Rattle.code_generator.specs.declared.tree.Tree.{Tree}

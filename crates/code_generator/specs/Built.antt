@@ -1,7 +1,7 @@
 -- The form that a core form stands for, where the generator builds it.
 use Rattle.std.specs.Prelude.{ℕ, ◌-◌, nat_le, Bool, true, false, ◌&&◌, [], length, Option, Some, None, codes, bytes_eq, if◌then◌else◌}
-use Rattle.rb_core.specs.CoreForm as core
-use Rattle.rb_core.specs.CoreForm.{CoreForm, CoreForms}
+use Rattle.ir_core.specs.CoreForm as core
+use Rattle.ir_core.specs.CoreForm.{CoreForm, CoreForms}
 use Rattle.rb_syntax.specs.Form.{Name, give_nil, give_true, give_int, call_operator, call_puts, Form, strict, local, set_local, seq, cond, while_form, Forms, none, more, one, two}
 use Rattle.rb_syntax.specs.Limits.{is_plain, is_scoped, has_short_sums, parts}
 use Rattle.rb_syntax.specs.Names.{names_of}

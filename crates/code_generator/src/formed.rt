@@ -1,5 +1,5 @@
 ghost use Rattle.std.specs.Prelude.{◌≡◌, IfOk};
-ghost use Rattle.rb_core.specs.CoreForm.{CoreForm};
+ghost use Rattle.ir_core.specs.CoreForm.{CoreForm};
 ghost use Rattle.code_generator.specs.Built.{form_of};
 ghost use Rattle.code_generator.specs.Emission.{form_in};
 

@@ -1,18 +1,18 @@
 //! From cores to trees.
-ghost use Rattle.rb_core.specs.View.{term_view};
+ghost use Rattle.ir_core.specs.View.{term_view};
 
 use crate::formed::{Formed, Made};
 use crate::parts::{call_tree, cond_tree, seq_tree, set_tree, while_tree};
 use crate::tree::Tree;
 use rb_base::Bytes;
-use rb_core::Term;
+use ir_core::Term;
 use std::alloc::Global;
 
 impl Formed for Term {
     ghost core = { λ t. term_view t };
 
     #[cycle(trees)]
-    #[tactic(auto, using(core_parts::proofs::Views::views))]
+    #[tactic(auto, using(ir_core::proofs::ViewsBy::views))]
     fn tree(&self, alloc: Global) -> Made {
         match self {
             Term::Nil => Ok(Some(Tree::Nil)),

@@ -1,6 +1,6 @@
 //! The trees of cores by the trees of their parts.
 ghost use Rattle.std.specs.Prelude.{◌≡◌, IfOk};
-ghost use Rattle.core_parts.specs.Parts as by;
+ghost use Rattle.ir_core.specs.PartsBy as by;
 ghost use Rattle.code_generator.specs.Built.{all_of, cond_of, form_of, lines_of, loop_of};
 ghost use Rattle.code_generator.specs.Emission.{called, form_in, forms_in, set_form};
 
@@ -8,7 +8,7 @@ use crate::formed::{Formed, Made};
 use crate::node;
 use crate::tree::Tree;
 use rb_base::Bytes;
-use rb_core::Receiver;
+use ir_core::Receiver;
 use rb_syntax::{Branch, Item};
 use std::alloc::{AllocError, Global};
 

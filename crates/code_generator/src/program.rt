@@ -2,7 +2,7 @@
 ghost use Rattle.std.specs.Prelude.{◌≡◌, [], ◌∷◌, IfOk};
 ghost use Rattle.rite_code.specs.Code.{IsWhole};
 ghost use Rattle.rb_syntax.specs.Limits.{IsWithin};
-ghost use Rattle.rb_core.specs.View.{core_view};
+ghost use Rattle.ir_core.specs.View.{core_view};
 ghost use Rattle.code_generator.specs.Built as built;
 ghost use Rattle.code_generator.specs.Gen.{any_calls_puts, code_of, symbols_of};
 ghost use Rattle.code_generator.specs.Gen as gen;
@@ -16,7 +16,7 @@ use crate::measure::width_of;
 use crate::names::collect;
 use crate::tree::Tree;
 use rb_base::{Bytes, List};
-use rb_core::Core;
+use ir_core::Core;
 use rite_code::{Code, Irep, Operation};
 use std::alloc::{AllocError, Global};
 

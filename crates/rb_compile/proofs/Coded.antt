@@ -3,11 +3,11 @@ use Rattle.std.proofs.Common.{◌≡◌, ℕ, true, false, List, Option, Some, N
 use Rattle.rb_syntax.specs.Form.{Form}
 use Rattle.rb_syntax.specs.Limits.{IsWithin}
 use Rattle.rite_code.specs.Code.{Program}
-use Rattle.rb_core.specs.CoreForm.{CoreForm}
+use Rattle.ir_core.specs.CoreForm.{CoreForm}
 use Rattle.rb_front.specs.Front.{core_of}
-use Rattle.core_counts.specs.Counts.{need}
-use Rattle.core_counts.specs.Limits.{first_excess}
-use Rattle.core_counts.specs.declared.excess.Excess.{Excess}
+use Rattle.ir_counts.specs.Counts.{need}
+use Rattle.ir_counts.specs.Limits.{first_excess}
+use Rattle.ir_counts.specs.declared.excess.Excess.{Excess}
 use Rattle.code_generator.specs.Gen.{code_of}
 use Rattle.code_generator.specs.Built.{◌>>=◌, form_of, of_program, is_within, within, built, code_built}
 use Rattle.code_generator.proofs.Within.{is_within_means}

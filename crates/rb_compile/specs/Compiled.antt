@@ -7,12 +7,12 @@ use Rattle.rb_syntax.specs.declared.count.Count.{Count}
 use Rattle.rb_syntax.specs.declared.count.Count.TheVariants.{Source}
 use Rattle.rb_syntax.specs.declared.outside.Outside.{Outside as Construct}
 use Rattle.rb_syntax.specs.declared.outside.Outside.TheVariants.{Unbuilt}
-use Rattle.rb_core.specs.CoreForm.{CoreForm}
+use Rattle.ir_core.specs.CoreForm.{CoreForm}
 use Rattle.rb_front.specs.Front as front
 use Rattle.rb_front.specs.Front.{core_of}
 use Rattle.rb_front.specs.declared.error.FrontError.TheVariants as front_errors
-use Rattle.core_counts.specs.Counts.{need}
-use Rattle.core_counts.specs.Limits.{first_excess}
+use Rattle.ir_counts.specs.Counts.{need}
+use Rattle.ir_counts.specs.Limits.{first_excess}
 use Rattle.code_generator.specs.Built.{built}
 use Rattle.code_generator.specs.Gen.{code_of}
 use Rattle.rb_compile.specs.declared.error.CompileError.{CompileError}

@@ -1,11 +1,11 @@
 -- The language as it is built: which texts are in it, and the form of each.
 use Rattle.std.specs.Prelude.{ℕ, List, Option, Some, None}
 use Rattle.rb_syntax.specs.Form.{Form}
-use Rattle.rb_core.specs.CoreForm.{CoreForm}
+use Rattle.ir_core.specs.CoreForm.{CoreForm}
 use Rattle.rb_front.specs.Front.{core_of}
-use Rattle.core_counts.specs.Counts.{need}
-use Rattle.core_counts.specs.Limits.{first_excess}
-use Rattle.core_counts.specs.declared.excess.Excess.{Excess}
+use Rattle.ir_counts.specs.Counts.{need}
+use Rattle.ir_counts.specs.Limits.{first_excess}
+use Rattle.ir_counts.specs.declared.excess.Excess.{Excess}
 use Rattle.code_generator.specs.Built.{◌>>=◌, built}
 
 abbrev pub unless_past : Option Excess → Form → Option Form

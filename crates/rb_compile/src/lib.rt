@@ -4,7 +4,7 @@
 #![tactic(auto)]
 
 ghost use Rattle.std.specs.Prelude.{◌≡◌, ◌<◌, ◌^◌, Some, length, IfOk, IfErr, MatchOption};
-ghost use Rattle.rb_core.specs.View.{core_view};
+ghost use Rattle.ir_core.specs.View.{core_view};
 ghost use Rattle.rb_front.specs.Front.{core_of};
 ghost use Rattle.rite_file.specs.File.{canonical};
 ghost use Rattle.code_verifier.specs.Verified.{IsVerified};
@@ -16,9 +16,9 @@ ghost use Rattle.rb_compile.specs.Compiled.{IsCodeOf, Refuses};
 pub mod error;
 
 use code_generator::generate;
-use core_counts::first_past_limit;
+use ir_counts::first_past_limit;
 pub use error::CompileError;
-use rb_core::Core;
+use ir_core::Core;
 use rb_front::read;
 use rb_syntax::Outside;
 use rite_code::Code;

@@ -3,13 +3,13 @@ use Rattle.std.proofs.Common.{◌≡◌, ℕ, List, [], length, true, Some, None
 use Rattle.std.proofs.lemmas.Bool.{le-leb}
 use Rattle.rb_syntax.specs.declared.token.Token.{Token}
 use Rattle.rb_lexer.specs.Lexing.{tokens_of}
-use Rattle.rb_depth.specs.Levels.{deep}
-use Rattle.rb_tree.specs.Node.{Node}
-use Rattle.tree_rules.specs.Places.{placed, program}
+use Rattle.lexer_depth.specs.Levels.{deep}
+use Rattle.parser_tree.specs.Node.{Node}
+use Rattle.parser_checks.specs.Places.{placed, program}
 use Rattle.rb_parser.specs.Program.{tree_of}
-use Rattle.outside_search.specs.Search.{found}
-use Rattle.rb_core.specs.CoreForm.{CoreForm}
-use Rattle.lower_rows.specs.Lowering.{core}
+use Rattle.lower_outside.specs.Search.{found}
+use Rattle.ir_core.specs.CoreForm.{CoreForm}
+use Rattle.lower_table.specs.Lowering.{core}
 use Rattle.rb_front.specs.Front.{IsTree, HasTree, core_within, core_of_tree, core_of_tokens, core_of}
 
 of_tree : (n : Node) → placed program n ≡ true → found None n ≡ None → core_of_tree (Ok n) ≡ Some (core [] 0 n)

@@ -1,6 +1,6 @@
 -- The error of the front for one of its parts.
-use Rattle.lex_state.specs.declared.error.LexError.{LexError}
-use Rattle.lex_state.specs.declared.error.LexError.TheVariants as lexing
+use Rattle.lexer_steps.specs.declared.error.LexError.{LexError}
+use Rattle.lexer_steps.specs.declared.error.LexError.TheVariants as lexing
 use Rattle.rb_parser.specs.declared.error.ParseError.{ParseError}
 use Rattle.rb_parser.specs.declared.error.ParseError.TheVariants as parsing
 use Rattle.rb_lower.specs.declared.error.LowerError.{LowerError}

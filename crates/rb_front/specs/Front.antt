@@ -2,14 +2,14 @@
 use Rattle.std.specs.Prelude.{◌≡◌, ℕ, ◌≤◌, ◌<◌, nat_le, Bool, true, false, if◌then◌else◌, List, [], length, Option, None, Some, Result, Ok, Err}
 use Rattle.rb_syntax.specs.declared.token.Token.{Token}
 use Rattle.rb_lexer.specs.Lexing.{tokens_of}
-use Rattle.rb_depth.specs.Levels.{deep}
-use Rattle.rb_tree.specs.Node.{Node}
-use Rattle.tree_rules.specs.Places.{placed, program}
+use Rattle.lexer_depth.specs.Levels.{deep}
+use Rattle.parser_tree.specs.Node.{Node}
+use Rattle.parser_checks.specs.Places.{placed, program}
 use Rattle.rb_parser.specs.Program.{tree_of, Misses}
-use Rattle.outside_search.specs.Search.{found}
-use Rattle.outside_search.specs.declared.construct.Found.{Found}
-use Rattle.rb_core.specs.CoreForm.{CoreForm}
-use Rattle.lower_rows.specs.Lowering.{core}
+use Rattle.lower_outside.specs.Search.{found}
+use Rattle.lower_outside.specs.declared.construct.Found.{Found}
+use Rattle.ir_core.specs.CoreForm.{CoreForm}
+use Rattle.lower_table.specs.Lowering.{core}
 use Rattle.rb_front.specs.declared.error.FrontError.{FrontError}
 use Rattle.rb_front.specs.declared.error.FrontError.TheVariants.{TooLong, Syntax, TooDeep, Outside, NoMemory}
 

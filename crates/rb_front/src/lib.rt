@@ -4,8 +4,8 @@
 #![tactic(auto)]
 
 ghost use Rattle.std.specs.Prelude.{◌≡◌, Some, IfOk, IfErr};
-ghost use Rattle.rb_core.specs.View.{core_view};
-ghost use Rattle.rb_tree.specs.View.{view};
+ghost use Rattle.ir_core.specs.View.{core_view};
+ghost use Rattle.parser_tree.specs.View.{view};
 ghost use Rattle.rb_front.specs.Front as front;
 
 pub mod error;
@@ -19,11 +19,11 @@ mod rows;
 mod tests;
 
 pub use error::FrontError;
-use rb_core::Core;
+use ir_core::Core;
 use rb_lexer::{depth, lex};
 use rb_lower::lower;
 use rb_parser::parse;
-use rb_tree::Tree;
+use parser_tree::Tree;
 use std::alloc::Global;
 
 /// The most bytes of a text.

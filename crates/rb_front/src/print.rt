@@ -1,6 +1,6 @@
 //! Cores as text, for tests. A call of a name alone has a `~` before it.
 use rb_base::{Bytes, List};
-use rb_core::{BeginForm, Clause, Function, Receiver, Term};
+use ir_core::{BeginForm, Clause, Function, Receiver, Term};
 use rb_syntax::{Branch, DefinedKind, Item, Pair, Parameters};
 use std::alloc::{AllocError, Global};
 

@@ -1,11 +1,11 @@
 -- Steps of reading, one after the other.
 use Rattle.std.proofs.Common.{◌≡◌, ℕ, zero, suc, ◌<◌, List, arith, refl, sym, ◌∙◌, Option, Some, None, Result, Ok, Err, length, subst, IfSome}
-use Rattle.lex_state.specs.declared.error.LexError.{LexError}
-use Rattle.lex_state.specs.declared.error.LexError.TheVariants.{NoMemory, Syntax}
+use Rattle.lexer_steps.specs.declared.error.LexError.{LexError}
+use Rattle.lexer_steps.specs.declared.error.LexError.TheVariants.{NoMemory, Syntax}
 use Rattle.rb_lexer.specs.declared.reach.Reach.{Reach}
-use Rattle.lex_state.specs.LexError.{◌>>=◌, Fails}
+use Rattle.lexer_steps.specs.LexError.{◌>>=◌, Fails}
 use Rattle.rb_lexer.specs.Lexing.{advance, run, finished}
-use Rattle.lex_state.specs.State.{State}
+use Rattle.lexer_steps.specs.State.{State}
 
 -- enough steps are left: more than there is to read, and they give what all give
 pub record Enough (text : List ℕ) (unread : ℕ) (s : State) (r : Reach) (all : Result State ℕ) : Type 0 where

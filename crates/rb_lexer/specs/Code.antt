@@ -1,14 +1,14 @@
 -- One step of reading: outside of literals, and in what the place is inside of.
 use Rattle.std.specs.Prelude.{ℕ, ◌==◌, not, true, ◌||◌, ◌&&◌, if◌then◌else◌, List, length, Option, Some, None, Result, Ok, slice_index}
-use Rattle.rb_words.specs.ByteClass.{is_name_start, is_wide}
-use Rattle.rb_words.specs.Following.{wants_name}
-use Rattle.lex_state.specs.declared.mode.Mode.{Mode}
-use Rattle.lex_state.specs.declared.mode.Mode.TheVariants.{Braces, Interpolation, Text, Words, Body}
-use Rattle.lex_words.specs.Names.{is_end_marker, name_of, operator_end, variable_step, wide_name, word_step}
-use Rattle.lex_words.specs.Signs.{sign_step}
-use Rattle.lex_state.specs.State.{State}
+use Rattle.lexer_tables.specs.ByteClass.{is_name_start, is_wide}
+use Rattle.lexer_tables.specs.Following.{wants_name}
+use Rattle.lexer_steps.specs.declared.mode.Mode.{Mode}
+use Rattle.lexer_steps.specs.declared.mode.Mode.TheVariants.{Braces, Interpolation, Text, Words, Body}
+use Rattle.lexer_steps.specs.Names.{is_end_marker, name_of, operator_end, variable_step, wide_name, word_step}
+use Rattle.lexer_steps.specs.Signs.{sign_step}
+use Rattle.lexer_steps.specs.State.{State}
 use Rattle.rb_lexer.specs.Strings.{text_step, words_step, body_step}
-use Rattle.lex_state.specs.Trivia.{is_trivia, trivia_step}
+use Rattle.lexer_steps.specs.Trivia.{is_trivia, trivia_step}
 
 -- the line that ends the text ends it; any other word is a token
 abbrev pub word_or_end_step : List ℕ → ℕ → State → Result (State × ℕ) ℕ

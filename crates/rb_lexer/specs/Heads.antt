@@ -1,10 +1,10 @@
 -- Heads of heredocs.
 use Rattle.std.specs.Prelude.{ℕ, ◌+◌, ◌==◌, not, Bool, ◌||◌, ◌&&◌, if◌then◌else◌, List, [], ◌∷◌, drop, Option, Some, None, slice_index}
-use Rattle.rb_words.specs.ByteClass.{is_capital, is_name_start}
-use Rattle.rb_words.specs.Following.{expects_value, is_name, wants_name}
+use Rattle.lexer_tables.specs.ByteClass.{is_capital, is_name_start}
+use Rattle.lexer_tables.specs.Following.{expects_value, is_name, wants_name}
 use Rattle.rb_lexer.specs.declared.heads.HeadPlace.{HeadPlace}
-use Rattle.lex_state.specs.Scan.{name_end}
-use Rattle.lex_state.specs.State.{State}
+use Rattle.lexer_steps.specs.Scan.{name_end}
+use Rattle.lexer_steps.specs.State.{State}
 
 abbrev pub ends_quoted : ℕ → ℕ → Bool
 ends_quoted quote b = (b == quote) || (b == 10)

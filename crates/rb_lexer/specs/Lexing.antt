@@ -6,20 +6,20 @@ use Rattle.rb_heredoc.specs.Bodies.{bodies_at}
 use Rattle.rb_syntax.specs.declared.outside.Outside.TheVariants.{SquigglyHeredoc}
 use Rattle.rb_syntax.specs.declared.token.Token.{Token}
 use Rattle.rb_syntax.specs.declared.token.TokenKind.TheVariants as kinds
-use Rattle.rb_words.specs.declared.context.Context.TheVariants as contexts
+use Rattle.lexer_tables.specs.declared.context.Context.TheVariants as contexts
 use Rattle.rb_lexer.specs.declared.heads.HeadPlace.{HeadPlace}
-use Rattle.lex_state.specs.declared.mode.Mode.{Mode}
-use Rattle.lex_state.specs.declared.mode.Mode.TheVariants as modes
+use Rattle.lexer_steps.specs.declared.mode.Mode.{Mode}
+use Rattle.lexer_steps.specs.declared.mode.Mode.TheVariants as modes
 use Rattle.rb_lexer.specs.declared.reach.Reach.{Reach}
 use Rattle.rb_lexer.specs.declared.reach.Region.{Region}
 use Rattle.rb_lexer.specs.declared.reach.Region.TheVariants.{Plain, Line, Body}
 use Rattle.rb_lexer.specs.Code.{step_in}
 use Rattle.rb_lexer.specs.Heads.{begins_heredoc, is_indented}
-use Rattle.lex_state.specs.LexError.{◌>>=◌}
-use Rattle.lex_words.specs.Names.{spelled}
-use Rattle.lex_state.specs.Scan.{line_end}
-use Rattle.lex_state.specs.State.{State, opening, pushed, entered, left, top, flushed}
-use Rattle.lex_state.specs.Trivia.{newline_step}
+use Rattle.lexer_steps.specs.LexError.{◌>>=◌}
+use Rattle.lexer_steps.specs.Names.{spelled}
+use Rattle.lexer_steps.specs.Scan.{line_end}
+use Rattle.lexer_steps.specs.State.{State, opening, pushed, entered, left, top, flushed}
+use Rattle.lexer_steps.specs.Trivia.{newline_step}
 
 -- a stretch lies in a text of n bytes, and so does what is read behind it
 abbrev pub RegionFits : ℕ → ℕ → Region → Type 0

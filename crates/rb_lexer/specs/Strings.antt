@@ -1,19 +1,19 @@
 -- The insides of literals. Each step gives the state behind it and the place there.
 use Rattle.std.specs.Prelude.{ℕ, ◌+◌, ◌-◌, ◌==◌, Bool, ◌||◌, ◌&&◌, if◌then◌else◌, List, Option, Some, None, Result, Ok, Err, slice_index}
-use Rattle.rb_literals.specs.declared.fault.Fault.{Fault}
-use Rattle.rb_literals.specs.declared.escaped.Escape.{Escape}
-use Rattle.rb_literals.specs.declared.plain_escapes.Delimiters.{Delimiters}
-use Rattle.rb_literals.specs.Escaping.{bytes_of, full_escape_at}
-use Rattle.rb_literals.specs.PlainEscapes.{plain_escape_at, word_escape_at}
+use Rattle.lexer_literals.specs.declared.fault.Fault.{Fault}
+use Rattle.lexer_literals.specs.declared.escaped.Escape.{Escape}
+use Rattle.lexer_literals.specs.declared.plain_escapes.Delimiters.{Delimiters}
+use Rattle.lexer_literals.specs.Escaping.{bytes_of, full_escape_at}
+use Rattle.lexer_literals.specs.PlainEscapes.{plain_escape_at, word_escape_at}
 use Rattle.rb_syntax.specs.declared.outside.Outside.TheVariants as outsides
 use Rattle.rb_syntax.specs.declared.token.TokenKind.TheVariants as kinds
-use Rattle.rb_words.specs.declared.context.Context.TheVariants as contexts
-use Rattle.rb_words.specs.ByteClass.{is_name_start, is_white}
-use Rattle.lex_state.specs.declared.mode.Literal.{Literal}
-use Rattle.lex_state.specs.declared.mode.Mode.{Mode}
-use Rattle.lex_state.specs.declared.mode.Mode.TheVariants.{Text, Words}
-use Rattle.lex_words.specs.Names.{is_colon, variable_of}
-use Rattle.lex_state.specs.State.{State, pushed, entered, left, appended, extended, flushed, flushed_word, interpolating}
+use Rattle.lexer_tables.specs.declared.context.Context.TheVariants as contexts
+use Rattle.lexer_tables.specs.ByteClass.{is_name_start, is_white}
+use Rattle.lexer_steps.specs.declared.mode.Literal.{Literal}
+use Rattle.lexer_steps.specs.declared.mode.Mode.{Mode}
+use Rattle.lexer_steps.specs.declared.mode.Mode.TheVariants.{Text, Words}
+use Rattle.lexer_steps.specs.Names.{is_colon, variable_of}
+use Rattle.lexer_steps.specs.State.{State, pushed, entered, left, appended, extended, flushed, flushed_word, interpolating}
 
 -- a byte that stands for itself, or the one behind a backslash
 abbrev pub byte_step : ℕ → ℕ → ℕ → State → Result (State × ℕ) ℕ

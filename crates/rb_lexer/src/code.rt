@@ -1,19 +1,19 @@
 //! One step of reading: outside of literals, and in what the place is inside of.
 ghost use Rattle.std.specs.Prelude.{◌≡◌, ◌≤◌, ◌<◌, length, IfOk, IfErr};
-ghost use Rattle.lex_state.specs.LexError.{Gives, IsWithin};
-ghost use Rattle.lex_state.specs.State.{state_of, top};
+ghost use Rattle.lexer_steps.specs.LexError.{Gives, IsWithin};
+ghost use Rattle.lexer_steps.specs.State.{state_of, top};
 ghost use Rattle.rb_lexer.specs.Code as code;
 
 use crate::strings::{body_step, text_step, words_step};
-use lex_state::error::LexError;
-use lex_state::mode::Mode;
-use lex_state::state::Lexer;
-use lex_state::trivia::{is_trivia, trivia_step};
-use lex_words::names::{
+use lexer_steps::error::LexError;
+use lexer_steps::mode::Mode;
+use lexer_steps::state::Lexer;
+use lexer_steps::trivia::{is_trivia, trivia_step};
+use lexer_steps::names::{
     is_end_marker, operator_end, push_operator, push_wide, variable_step, word_step,
 };
-use lex_words::signs::sign_step;
-use rb_words::bytes::{is_name_start, is_wide};
+use lexer_steps::signs::sign_step;
+use lexer_tables::bytes::{is_name_start, is_wide};
 use std::alloc::Global;
 
 /// A word, or the line that ends the text.

@@ -1,11 +1,11 @@
 //! Heads of heredocs.
 ghost use Rattle.std.specs.Prelude.{◌≡◌, ◌≤◌, ◌<◌, ◌+◌, length, drop, IfSome};
-ghost use Rattle.lex_state.specs.State.{state_of};
+ghost use Rattle.lexer_steps.specs.State.{state_of};
 ghost use Rattle.rb_lexer.specs.Heads as heads;
 
-use lex_state::scan::{byte_at, name_end};
-use lex_state::state::Lexer;
-use rb_words::bytes::{is_capital, is_name_start};
+use lexer_steps::scan::{byte_at, name_end};
+use lexer_steps::state::Lexer;
+use lexer_tables::bytes::{is_capital, is_name_start};
 
 /// A head of a heredoc in the text.
 #[derive(Clone, Copy, Debug, PartialEq, Eq)]

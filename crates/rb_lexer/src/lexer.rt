@@ -1,22 +1,22 @@
 //! The tokens of a text.
 ghost use Rattle.std.specs.Prelude.{◌≡◌, ◌≤◌, ◌<◌, ◌+◌, ◌-◌, ℕ, length, IfOk, IfErr, IfSome};
-ghost use Rattle.lex_state.specs.LexError.{Gives, IsWithin};
-ghost use Rattle.lex_state.specs.State.{state_of};
+ghost use Rattle.lexer_steps.specs.LexError.{Gives, IsWithin};
+ghost use Rattle.lexer_steps.specs.State.{state_of};
 ghost use Rattle.rb_lexer.specs.Lexing as lexing;
-ghost use Rattle.lex_state.specs.declared.error.LexError.TheVariants as errors;
+ghost use Rattle.lexer_steps.specs.declared.error.LexError.TheVariants as errors;
 
 use crate::code::step;
 use crate::heads::{HeadPlace, begins_heredoc, is_indented};
 use crate::reach::{Reach, Region};
-use lex_state::error::LexError;
-use lex_state::mode::Mode;
-use lex_state::scan::line_end;
-use lex_state::state::Lexer;
-use lex_state::trivia::newline_step;
+use lexer_steps::error::LexError;
+use lexer_steps::mode::Mode;
+use lexer_steps::scan::line_end;
+use lexer_steps::state::Lexer;
+use lexer_steps::trivia::newline_step;
 use rb_base::Bytes;
 use rb_heredoc::{Head, bodies};
 use rb_syntax::{Outside, Token, TokenKind};
-use rb_words::Context;
+use lexer_tables::Context;
 use std::alloc::Global;
 
 fn first_length(pieces: &[Bytes]) -> usize

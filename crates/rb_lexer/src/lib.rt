@@ -9,9 +9,9 @@ pub mod lexer;
 pub mod reach;
 pub mod strings;
 
-pub use lex_state::LexError;
+pub use lexer_steps::LexError;
 pub use lexer::lex;
-pub use rb_depth::depth;
+pub use lexer_depth::depth;
 
 #[cfg(test)]
 mod tests;

@@ -1,19 +1,19 @@
 //! The insides of literals.
 ghost use Rattle.std.specs.Prelude.{◌≡◌, ◌≤◌, ◌<◌, ◌+◌, length, IfOk, IfErr};
-ghost use Rattle.lex_state.specs.declared.error.LexError.TheVariants.{NoMemory};
-ghost use Rattle.lex_state.specs.LexError.{Gives, IsWithin};
-ghost use Rattle.lex_state.specs.State.{state_of};
+ghost use Rattle.lexer_steps.specs.declared.error.LexError.TheVariants.{NoMemory};
+ghost use Rattle.lexer_steps.specs.LexError.{Gives, IsWithin};
+ghost use Rattle.lexer_steps.specs.State.{state_of};
 ghost use Rattle.rb_lexer.specs.Strings as strings;
 
-use lex_state::error::LexError;
-use lex_state::mode::{Literal, Mode};
-use lex_state::scan::byte_at;
-use lex_state::state::Lexer;
-use lex_words::names::{is_colon, push_variable};
-use rb_literals::{Delimiters, full_escape, plain_escape, word_escape};
+use lexer_steps::error::LexError;
+use lexer_steps::mode::{Literal, Mode};
+use lexer_steps::scan::byte_at;
+use lexer_steps::state::Lexer;
+use lexer_steps::names::{is_colon, push_variable};
+use lexer_literals::{Delimiters, full_escape, plain_escape, word_escape};
 use rb_syntax::{Outside, TokenKind};
-use rb_words::Context;
-use rb_words::bytes::{is_name_start, is_white};
+use lexer_tables::Context;
+use lexer_tables::bytes::{is_name_start, is_white};
 use std::alloc::Global;
 
 /// A byte that stands for itself, or the one behind a backslash.

@@ -1,6 +1,6 @@
 -- Why lowering refuses a tree.
 use Rattle.std.specs.Prelude.{◌≡◌, Option, Some, None}
-use Rattle.outside_search.specs.declared.construct.Found.{Found}
+use Rattle.lower_outside.specs.declared.construct.Found.{Found}
 use Rattle.rb_lower.specs.declared.error.LowerError.{LowerError}
 use Rattle.rb_lower.specs.declared.error.LowerError.TheVariants.{Outside, NoMemory}
 

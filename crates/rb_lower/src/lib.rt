@@ -1,4 +1,4 @@
-//! From trees of the grammar to cores, by the table of lowering (docs/core.md; the table is a definition of lower_rows).
+//! From trees of the grammar to cores, by the table of lowering (docs/core.md; the table is a definition of lower_table).
 //! The first construct outside the language is sought before anything is made; what is left is total. Which construct
 //! is refused stands in specs/Refusal.antt.
 //!
@@ -8,17 +8,17 @@
 pub mod error;
 
 ghost use Rattle.std.specs.Prelude.{◌≡◌, [], None, IfOk, IfErr};
-ghost use Rattle.rb_core.specs.View.{core_view};
-ghost use Rattle.rb_tree.specs.View.{view};
-ghost use Rattle.outside_search.specs.Search.{found};
-ghost use Rattle.lower_rows.specs.Lowering.{core};
+ghost use Rattle.ir_core.specs.View.{core_view};
+ghost use Rattle.parser_tree.specs.View.{view};
+ghost use Rattle.lower_outside.specs.Search.{found};
+ghost use Rattle.lower_table.specs.Lowering.{core};
 ghost use Rattle.rb_lower.specs.Refusal.{Refuses};
 
 pub use error::LowerError;
-use lower_rows::Lower;
-use outside_search::first_outside;
-use rb_core::Core;
-use rb_tree::Tree;
+use lower_table::Lower;
+use lower_outside::first_outside;
+use ir_core::Core;
+use parser_tree::Tree;
 use std::alloc::Global;
 
 /// The core of a tree. `Outside` comes exactly where the tree has a construct outside the language; it is the one

@@ -1,7 +1,7 @@
 -- A level holds the rules of the one below it.
 use Rattle.std.proofs.Common.{◌≡◌, Box, ap, sym, ◌∙◌}
 use Rattle.std.specs.declared.alloc.Global.{Global}
-use Rattle.rule_base.specs.Reading.{Inside}
+use Rattle.parser_forms.specs.Reading.{Inside}
 use Rattle.rb_parser.specs.Levels.{inside, inside_step, level_above, nothing}
 use Rattle.rb_parser.specs.declared.level.Level as level
 use Rattle.rb_parser.specs.declared.level.Level.{Level, fold-roll-Level}

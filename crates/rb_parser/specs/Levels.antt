@@ -1,13 +1,13 @@
 -- The rules over those a level deeper, and as many levels as there are.
 use Rattle.std.specs.Prelude.{ℕ, zero, suc, length, Err}
-use Rattle.rule_base.specs.Reading.{Inside}
-use Rattle.form_rules.specs.Definitions.{block}
-use Rattle.operand_rules.specs.Operators.{operation}
-use Rattle.phrase_rules.specs.Phrases.{phrase, argument}
-use Rattle.phrase_rules.specs.Targets.{targets}
-use Rattle.statement_rules.specs.Lists.{list}
-use Rattle.statement_rules.specs.Sections.{sections}
-use Rattle.statement_rules.specs.Statements.{statements, expression, negation}
+use Rattle.parser_forms.specs.Reading.{Inside}
+use Rattle.parser_forms.specs.Definitions.{block}
+use Rattle.parser_operands.specs.Operators.{operation}
+use Rattle.parser_phrases.specs.Phrases.{phrase, argument}
+use Rattle.parser_phrases.specs.Targets.{targets}
+use Rattle.parser_statements.specs.Lists.{list}
+use Rattle.parser_statements.specs.Sections.{sections}
+use Rattle.parser_statements.specs.Statements.{statements, expression, negation}
 use Rattle.rb_parser.specs.declared.level.Level.{Level, fold-Level}
 use Rattle.rb_parser.specs.declared.level.Level.TheOpen.{Level-F}
 

@@ -1,13 +1,13 @@
 -- The tree of a whole text.
 use Rattle.std.specs.Prelude.{◌≡◌, ◌≤◌, ℕ, ◌-◌, Bool, true, false, if◌then◌else◌, [], ◌∷◌, length, drop, min, Result, Ok, Err}
-use Rattle.rb_tree.specs.Node.{Node}
-use Rattle.rb_tree.specs.View.{Tree, view}
-use Rattle.rb_grammar.specs.Tokens.{first}
-use Rattle.rb_grammar.specs.declared.word.Word.{Word}
-use Rattle.rb_grammar.specs.declared.word.Word.TheVariants as words
-use Rattle.rule_base.specs.Reading.{Tokens, Inside, ◌>>=◌}
-use Rattle.statement_rules.specs.Statements.{statements}
-use Rattle.tree_rules.specs.Places.{placed, program as program_around}
+use Rattle.parser_tree.specs.Node.{Node}
+use Rattle.parser_tree.specs.View.{Tree, view}
+use Rattle.parser_tokens.specs.Tokens.{first}
+use Rattle.parser_tokens.specs.declared.word.Word.{Word}
+use Rattle.parser_tokens.specs.declared.word.Word.TheVariants as words
+use Rattle.parser_forms.specs.Reading.{Tokens, Inside, ◌>>=◌}
+use Rattle.parser_statements.specs.Statements.{statements}
+use Rattle.parser_checks.specs.Places.{placed, program as program_around}
 use Rattle.rb_parser.specs.Levels.{levels}
 use Rattle.rb_parser.specs.declared.error.ParseError.{ParseError}
 use Rattle.rb_parser.specs.declared.error.ParseError.TheVariants as errors

@@ -2,25 +2,25 @@
 ghost use Rattle.std.specs.Prelude.{◌≡◌, ◌<◌, ◌≤◌, length, IfOk};
 ghost use Rattle.rb_parser.specs.Levels as deep;
 
-use form_builder::sections::Section;
-use form_builder::targets::Targets;
-use form_rules::definition::block;
-use operand_rules::operators::operation;
-use phrase_rules::phrases::{argument, phrase};
-use phrase_rules::targets::targets;
-use rb_grammar::failure::syntax;
-use rb_heads::groups::TargetUse;
-use rb_heads::names::Names;
-use rb_heads::primary::{BlockStyle, DoOwner, Place};
-use rb_heads::sections::Compound;
+use parser_form_nodes::sections::Section;
+use parser_form_nodes::targets::Targets;
+use parser_forms::definition::block;
+use parser_operands::operators::operation;
+use parser_phrases::phrases::{argument, phrase};
+use parser_phrases::targets::targets;
+use parser_tokens::failure::syntax;
+use parser_ahead::groups::TargetUse;
+use parser_ahead::names::Names;
+use parser_ahead::primary::{BlockStyle, DoOwner, Place};
+use parser_ahead::sections::Compound;
 use rb_syntax::Token;
-use rb_tree::{Definition, Tree};
-use rule_base::{Inner, Read};
-use statement_rules::lists::list;
-use statement_rules::sections::sections;
-use statement_rules::statements::{expression, negation, statements};
+use parser_tree::{Definition, Tree};
+use parser_forms::{Inner, Read};
+use parser_statements::lists::list;
+use parser_statements::sections::sections;
+use parser_statements::statements::{expression, negation, statements};
 use std::alloc::{AllocError, Global};
-use tree_builder::listed::{Listed, Phrase};
+use parser_nodes::listed::{Listed, Phrase};
 
 /// The levels that are left.
 #[derive(Drop)]

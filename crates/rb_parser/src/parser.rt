@@ -1,20 +1,20 @@
 ghost use Rattle.std.specs.Prelude.{◌≡◌, ◌≤◌, IfErr};
-ghost use Rattle.rb_tree.specs.View.{view};
-ghost use Rattle.rb_grammar.specs.Reads.{Gives};
+ghost use Rattle.parser_tree.specs.View.{view};
+ghost use Rattle.parser_tokens.specs.Reads.{Gives};
 ghost use Rattle.rb_parser.specs.Program as grammar;
 
 use crate::error::ParseError;
 use crate::level::{Level, levels_above, release};
-use rb_grammar::failure::{Failure, syntax};
-use rb_grammar::tokens::first;
-use rb_grammar::word::Word;
-use rb_heads::names::Names;
+use parser_tokens::failure::{Failure, syntax};
+use parser_tokens::tokens::first;
+use parser_tokens::word::Word;
+use parser_ahead::names::Names;
 use rb_syntax::Token;
-use rb_tree::Tree;
-use rule_base::Inner;
-use statement_rules::statements::statements;
+use parser_tree::Tree;
+use parser_forms::Inner;
+use parser_statements::statements::statements;
 use std::alloc::Global;
-use tree_rules::{RuleError, check};
+use parser_checks::{RuleError, check};
 
 /// The place of the token with which so many are left, or else the end of a text of `size` bytes.
 fn place(tokens: &[Token], left: usize, size: u32) -> u32

@@ -1,7 +1,7 @@
 //! Trees as text, for tests. A local is its name; a name that is called without arguments has a `~` before it.
 use rb_base::{Bytes, List};
 use rb_syntax::{Branch, Item, Outside, Pair};
-use rb_tree::{
+use parser_tree::{
     Arguments, AssignmentOperator, Definition, Parameter, ParameterList, Piece, RescueBody,
     RestParameter, Scope, TargetList, TreeForm, WhenClause,
 };

@@ -3,7 +3,7 @@ use crate::print::{Page, Printed};
 use crate::{ParseError, derive, parse};
 use rb_lexer::{LexError, lex};
 use rb_syntax::Token;
-use rb_tree::Tree;
+use parser_tree::Tree;
 use std::alloc::Global;
 use std::process::Abort;
 use std::test::Fail;

@@ -1,5 +1,5 @@
 use Rattle.std.proofs.Common.{sym, ◌∙◌}
-use Rattle.rb_core.specs.View.{core_view}
+use Rattle.ir_core.specs.View.{core_view}
 use Rattle.rb_compile.proofs.Coded.{coded, refused_past}
 use Rattle.rb_compile.proofs.generate_code.Goals as goal
 

@@ -1,5 +1,5 @@
-use Rattle.rb_tree.specs.View.{view}
-use Rattle.rb_core.specs.View.{core_view}
+use Rattle.parser_tree.specs.View.{view}
+use Rattle.ir_core.specs.View.{core_view}
 use Rattle.rb_front.proofs.Cores.{has_core}
 use Rattle.rb_front.proofs.read.Goals as goal
 

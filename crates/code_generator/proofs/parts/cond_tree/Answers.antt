@@ -1,5 +1,5 @@
 use Rattle.std.proofs.Common.{◌≡◌, drop, arith, sym, ap, ◌∙◌}
-use Rattle.core_parts.specs.Parts as by
+use Rattle.ir_core.specs.PartsBy as by
 use Rattle.code_generator.specs.Built.{cond_of, form_of}
 use Rattle.code_generator.proofs.parts.cond_tree.Goals as goal
 

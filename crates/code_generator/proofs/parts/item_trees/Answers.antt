@@ -1,6 +1,6 @@
 use Rattle.std.proofs.Common.{◌≡◌, ◌+◌, [], ◌∷◌, ◌++◌, Some, drop, arith, sym, ap, ◌∙◌, subst}
 use Rattle.std.proofs.lemmas.List.{drop_all, drop_more}
-use Rattle.core_parts.specs.Parts.{item_by}
+use Rattle.ir_core.specs.PartsBy.{item_by}
 use Rattle.code_generator.specs.Built.{form_of}
 use Rattle.code_generator.specs.Emission.{form, form_in}
 use Rattle.code_generator.proofs.Lists.{trees_step, trees_end}

@@ -1,5 +1,5 @@
 use Rattle.std.proofs.Common.{◌≡◌, drop, map}
-use Rattle.core_parts.specs.Parts as by
+use Rattle.ir_core.specs.PartsBy as by
 use Rattle.code_generator.specs.Built.{all_of}
 use Rattle.code_generator.specs.Emission.{form, before_all}
 use Rattle.code_generator.proofs.parts.trees.Given as goal

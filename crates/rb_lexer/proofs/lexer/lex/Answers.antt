@@ -2,7 +2,7 @@ use Rattle.std.proofs.Common.{◌≡◌, ◌+◌, ◌<◌, length, Ok}
 use Rattle.std.proofs.lemmas.Result.{err_from_is_err_and}
 use Rattle.rb_lexer.specs.declared.reach.Reach.{Reach}
 use Rattle.rb_lexer.specs.Lexing.{Fits, unread, run, whole, tokens_of}
-use Rattle.lex_state.specs.State.{state_of, opening}
+use Rattle.lexer_steps.specs.State.{state_of, opening}
 use Rattle.rb_lexer.proofs.Steps.{kept, goes_on, ends, fails}
 use Rattle.rb_lexer.proofs.lexer.lex.Goals as goal
 

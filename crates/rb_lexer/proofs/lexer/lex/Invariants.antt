@@ -1,6 +1,6 @@
 use Rattle.std.proofs.Common.{length, ◌+◌}
 use Rattle.rb_lexer.specs.Lexing.{Fits, unread, run, whole}
-use Rattle.lex_state.specs.State.{state_of, opening}
+use Rattle.lexer_steps.specs.State.{state_of, opening}
 use Rattle.rb_lexer.proofs.Steps.{Enough}
 use Rattle.rb_lexer.proofs.lexer.lex.Given as goal
 

@@ -1,8 +1,8 @@
 use Rattle.std.proofs.Common.{◌≡◌, ap, sym, ◌∙◌, subst}
 use Rattle.std.specs.Prelude.{IfOk}
-use Rattle.rb_core.specs.View.{term_view}
-use Rattle.core_parts.specs.Parts as by
-use Rattle.core_parts.proofs.Views.{view-Cond, view-Call}
+use Rattle.ir_core.specs.View.{term_view}
+use Rattle.ir_core.specs.PartsBy as by
+use Rattle.ir_core.proofs.ViewsBy.{view-Cond, view-Call}
 use Rattle.code_generator.specs.Built.{form_of}
 use Rattle.code_generator.specs.Emission.{form_in}
 use Rattle.code_generator.proofs.Absent.{called_is}

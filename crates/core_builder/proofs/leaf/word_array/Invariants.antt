@@ -1,7 +1,0 @@
-use Rattle.std.proofs.Common.{◌≡◌, map, take}
-use Rattle.rb_core.specs.Parts.{item_form}
-use Rattle.rb_core.specs.CoreForm as form
-use Rattle.core_builder.proofs.leaf.word_array.Given as goal
-
-abbrev pub invariant-loop-word : goal.invariant-loop-word
-invariant-loop-word l = map item_form l.items.items ≡ map form.str (take l.word-index l.words)

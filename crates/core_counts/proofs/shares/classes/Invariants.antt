@@ -1,8 +1,0 @@
-use Rattle.std.proofs.Common.{◌≡◌, ◌+◌, drop}
-use Rattle.rb_core.specs.View.{term_view}
-use Rattle.core_parts.specs.Parts.{clauses_by}
-use Rattle.core_counts.specs.Tables.{classes}
-use Rattle.core_counts.proofs.shares.classes.Given as goal
-
-abbrev pub invariant-loop-clause : goal.invariant-loop-clause
-invariant-loop-clause l = classes (clauses_by term_view l.clauses) ≡ l.sum + classes (clauses_by term_view (drop l.clause-index l.clauses))

@@ -1,7 +1,0 @@
-use Rattle.std.proofs.Common.{◌≡◌, drop}
-use Rattle.core_walk.specs.Steps.{steps}
-use Rattle.core_counts.specs.Tally.{tallied, no_form}
-use Rattle.core_counts.proofs.tally.tally_of.Given as goal
-
-abbrev pub invariant-loop-step : goal.invariant-loop-step
-invariant-loop-step l = tallied no_form (steps l.steps) ≡ tallied l.tally (steps (drop l.step-index l.steps))

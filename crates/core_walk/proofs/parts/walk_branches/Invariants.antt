@@ -1,9 +1,0 @@
-use Rattle.std.proofs.Common.{◌≡◌, drop}
-use Rattle.core_parts.specs.Parts.{branches_by}
-use Rattle.core_walk.specs.Steps.{steps}
-use Rattle.core_walk.specs.Walk.{walked_all}
-use Rattle.core_walk.proofs.parts.walk_branches.Given as goal
-
-abbrev pub invariant-loop-branch : goal.invariant-loop-branch
-invariant-loop-branch g l =
-    walked_all l.extent (steps l.trail.items) (branches_by g.T.Walked.form (drop l.branch-index l.branches.items)) ≡ walked_all l.extent (steps l.fn.trail.items) (branches_by g.T.Walked.form l.branches.items)

@@ -1,9 +1,0 @@
-use Rattle.std.proofs.Common.{◌≡◌, drop}
-use Rattle.core_parts.specs.Parts.{pairs_by}
-use Rattle.core_walk.specs.Steps.{steps}
-use Rattle.core_walk.specs.Walk.{walked_all}
-use Rattle.core_walk.proofs.parts.walk_pairs.Given as goal
-
-abbrev pub invariant-loop-pair : goal.invariant-loop-pair
-invariant-loop-pair g l =
-    walked_all l.extent (steps l.trail.items) (pairs_by g.T.Walked.form (drop l.pair-index l.pairs.items)) ≡ walked_all l.extent (steps l.fn.trail.items) (pairs_by g.T.Walked.form l.pairs.items)

@@ -1,8 +1,0 @@
-use Rattle.std.proofs.Common.{◌≡◌, ◌++◌, drop}
-use Rattle.core_parts.specs.Parts.{clauses_by}
-use Rattle.core_width.specs.Width.{widths}
-use Rattle.core_width.proofs.parts.add_clauses.Given as goal
-
-abbrev pub invariant-loop-clause : goal.invariant-loop-clause
-invariant-loop-clause g l =
-    l.all.items ++ widths (clauses_by g.T.Measured.form (drop l.clause-index l.clauses.items)) ≡ l.fn.all.items ++ widths (clauses_by g.T.Measured.form l.clauses.items)

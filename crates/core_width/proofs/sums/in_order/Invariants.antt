@@ -1,6 +1,0 @@
-use Rattle.std.proofs.Common.{◌≡◌, drop}
-use Rattle.core_width.specs.Width.{behind}
-use Rattle.core_width.proofs.sums.in_order.Given as goal
-
-abbrev pub invariant-loop-part : goal.invariant-loop-part
-invariant-loop-part l = behind 0 0 l.parts ≡ behind l.most l.place (drop l.part-index l.parts)

@@ -1,6 +1,0 @@
-use Rattle.rb_syntax.specs.declared.outside.Outside.TheVariants.{PatternMatch}
-use Rattle.rb_tree.proofs.Views.{view-Outside}
-use Rattle.form_builder.proofs.sections.pattern_of.Goals as goal
-
-pub returns : goal.returns
-returns c = view-Outside PatternMatch c.args.at c.args.parts

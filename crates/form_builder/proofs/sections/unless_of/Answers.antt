@@ -1,5 +1,0 @@
-use Rattle.rb_tree.proofs.Views.{view-Unless}
-use Rattle.form_builder.proofs.sections.unless_of.Goals as goal
-
-pub returns : goal.returns
-returns c = view-Unless c.args.test c.args.body c.args.otherwise

@@ -1,4 +1,0 @@
-pub mod Literals
-pub mod Brackets
-pub mod Parameters
-pub mod Definitions

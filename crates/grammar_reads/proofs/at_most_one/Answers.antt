@@ -1,5 +1,0 @@
-use Rattle.grammar_reads.proofs.Laws.{argument_once, statements_once}
-use Rattle.grammar_reads.proofs.at_most_one.Goals as goal
-
-pub returns : goal.returns
-returns c = record { argument = argument_once; statements = statements_once }

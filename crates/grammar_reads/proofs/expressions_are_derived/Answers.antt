@@ -1,5 +1,0 @@
-use Rattle.grammar_reads.proofs.Laws.{argument_derived, operation_derived, statements_derived, program_derived}
-use Rattle.grammar_reads.proofs.expressions_are_derived.Goals as goal
-
-pub returns : goal.returns
-returns c = record { argument = argument_derived; operation = operation_derived; statements = statements_derived; program = program_derived }

@@ -1,0 +1,5 @@
+pub mod CoreForm
+pub mod View
+pub mod Parts
+pub mod Forms
+pub mod PartsBy

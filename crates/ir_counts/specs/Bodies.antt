@@ -1,0 +1,16 @@
+-- The bodies of a program, depth first.
+use Rattle.std.specs.Prelude.{List, [], ◌∷◌}
+use Rattle.ir_core.specs.CoreForm.{CoreForm}
+use Rattle.ir_walk.specs.Body.{Body, open_body}
+use Rattle.ir_walk.specs.Walk.{Step, at, enter, leave, walked}
+use Rattle.ir_walk.specs.declared.extent.Extent.TheVariants as extent
+
+-- the bodies that steps begin, in order
+abbrev pub begun : List Step → List Body
+begun [] = []
+begun (at f ∷ ss) = begun ss
+begun (enter b ∷ ss) = b ∷ begun ss
+begun (leave ∷ ss) = begun ss
+
+abbrev pub bodies : CoreForm → List Body
+bodies program = open_body program ∷ begun (walked extent.Program [] program)

@@ -1,0 +1,166 @@
+//! The counts of a body.
+ghost use Rattle.std.specs.Prelude.{◌≡◌, IfOk};
+ghost use Rattle.ir_core.specs.View.{core_view};
+ghost use Rattle.ir_walk.specs.Body.{open_body};
+ghost use Rattle.ir_counts.specs.Counts as spec;
+ghost use Rattle.text_set.specs.Sets.{texts as shown};
+ghost use Rattle.ir_walk.specs.Steps.{body as view};
+
+use crate::naming::named_locals;
+use crate::tally::{Tally, tally_of};
+use ir_walk::{Body, Extent, Walked, form};
+use ir_walk::Measured;
+use ir_walk::sums::{add, scaled, scaled_by};
+use rb_base::Bytes;
+use ir_core::Core;
+use std::alloc::{AllocError, Global};
+use std::cmp::max;
+
+/// The counts of a body. `bytes` is what it takes in a file.
+#[derive(Clone, Copy, Debug, PartialEq, Eq)]
+pub struct Counts {
+    pub parameters: u64,
+    pub registers: u64,
+    pub pool: u64,
+    pub symbols: u64,
+    pub children: u64,
+    pub code: u64,
+    pub bytes: u64,
+}
+
+fn one_if(name: &Option<Bytes>) -> u64
+    ensures { result ≡ spec.one_if name.now }
+{
+    match name {
+        Some(_) => 1,
+        None => 0,
+    }
+}
+
+/// How many parameters a body has.
+fn parameter_count(body: Body) -> Result<u64, AllocError>
+    ensures { IfOk result (λ n. n ≡ spec.parameter_count (view body.entry)) }
+{
+    match body {
+        Body::Open(_) => Ok(0),
+        Body::Function(function) => {
+            let parameters = &function.parameters;
+            let required = parameters.required.len() as u64;
+            let optional = parameters.optional.len() as u64;
+            let front = add(add(required, optional)?, one_if(&parameters.rest))?;
+            add(front, parameters.post.len() as u64)
+        }
+    }
+}
+
+/// The greatest of the numbers of parameters of one kind.
+fn of_a_kind(body: Body) -> u64
+    ensures { result ≡ spec.of_a_kind (view body.entry) }
+{
+    match body {
+        Body::Open(_) => 0,
+        Body::Function(function) => {
+            let parameters = &function.parameters;
+            let behind = max(parameters.optional.len(), parameters.post.len());
+            max(parameters.required.len(), behind) as u64
+        }
+    }
+}
+
+/// How many different names the main program, or what stands in a class or module, has.
+fn open_local_count(alloc: Global, form: &Core) -> Result<u64, AllocError>
+    ensures { IfOk result (λ n. n ≡ spec.local_count (open_body (core_view form.now))) }
+{
+    let mut steps = Vec::new(alloc);
+    form.walk(Extent::Scope, &mut steps)?;
+    Ok(named_locals(alloc, &steps)?.len() as u64)
+}
+
+/// How many named locals a body has.
+fn local_count(alloc: Global, body: Body) -> Result<u64, AllocError>
+    ensures { IfOk result (λ n. n ≡ spec.local_count (view body.entry)) }
+{
+    match body {
+        Body::Open(form) => open_local_count(alloc, form),
+        Body::Function(function) => Ok(function.locals.len() as u64),
+    }
+}
+
+/// Adds what texts take in a file.
+fn text_bytes(bytes: u64, texts: &[&[u8]]) -> Result<u64, AllocError>
+    ensures { IfOk result (λ n. n ≡ spec.text_bytes bytes (shown texts.now)) }
+{
+    let mut bytes = bytes;
+    for text in texts {
+        bytes = add(bytes, add(8, text.len() as u64)?)?;
+    }
+    Ok(bytes)
+}
+
+/// What a body of so many bytes of code takes in a file.
+fn byte_count(code: u64, tally: &Tally) -> Result<u64, AllocError>
+    ensures { IfOk result (λ n. n ≡ spec.bytes_of code tally.now) }
+{
+    let record = scaled_by(add(64, code)?, 13, tally.handlers)?;
+    let integers = scaled(record, 9, tally.integers.len())?;
+    let texts = text_bytes(integers, tally.texts.as_slice())?;
+    text_bytes(texts, tally.symbols.as_slice())
+}
+
+fn own_tally<'a>(alloc: Global, body: Body<'a>) -> Result<Tally<'a>, AllocError>
+    ensures { IfOk result (λ t. t ≡ spec.tally (view body.entry)) }
+{
+    let mut steps = Vec::new(alloc);
+    form(body).walk(Extent::Body, &mut steps)?;
+    tally_of(alloc, &steps)
+}
+
+fn register_count(alloc: Global, body: Body, tally: &Tally) -> Result<u64, AllocError>
+    ensures { IfOk result (λ n. n ≡ spec.registers_of (view body.entry) tally.now) }
+{
+    let fixed = add(2, parameter_count(body)?)?;
+    let locals = add(fixed, local_count(alloc, body)?)?;
+    let width = form(body).width(alloc)?;
+    add(add(locals, tally.hidden)?, width)
+}
+
+/// How many different texts and integers outside 32 bits there are.
+fn pool_count(tally: &Tally) -> Result<u64, AllocError>
+    ensures { IfOk result (λ n. n ≡ spec.pool_of tally.now) }
+{
+    add(tally.texts.len() as u64, tally.integers.len() as u64)
+}
+
+/// Bytes of code.
+fn code_count(body: Body, tally: &Tally) -> Result<u64, AllocError>
+    ensures { IfOk result (λ n. n ≡ spec.code_of (view body.entry) tally.now) }
+{
+    add(scaled_by(16, 32, parameter_count(body)?)?, tally.code)
+}
+
+/// The counts of a body whose forms have the tally.
+fn counts_from(alloc: Global, body: Body, tally: &Tally) -> Result<Counts, AllocError>
+    ensures { IfOk result (λ c. c ≡ spec.counts_from (view body.entry) tally.now) }
+{
+    let registers = register_count(alloc, body, tally)?;
+    let pool = pool_count(tally)?;
+    let code = code_count(body, tally)?;
+    let bytes = byte_count(code, tally)?;
+    Ok(Counts {
+        parameters: max(of_a_kind(body), tally.kind),
+        registers,
+        pool,
+        symbols: tally.symbols.len() as u64,
+        children: tally.children,
+        code,
+        bytes,
+    })
+}
+
+/// The counts of a body.
+pub fn counts_of(alloc: Global, body: Body) -> Result<Counts, AllocError>
+    ensures { IfOk result (λ c. c ≡ spec.counts (view body.entry)) }
+{
+    let tally = own_tally(alloc, body)?;
+    counts_from(alloc, body, &tally)
+}

@@ -1,0 +1,28 @@
+//! The counts of each body of a core program, by which a source with too much of something is refused before its
+//! code is generated. A body is the main program, a function, or what stands in a class or module; a form belongs
+//! to the innermost body around it.
+//!
+//! [`first_past_limit`] gives the first count that exceeds its limit. What is counted is said in
+//! specs/Counts.antt (a body), specs/Tables.antt (what a form adds), ir_walk's specs/Width.antt (registers of a
+//! form), specs/Scopes.antt (local names), specs/Bodies.antt (the order of bodies) and specs/Limits.antt.
+//!
+//! A walk (of ir_walk) notes the forms of a body in a list; each count is then a loop over that list.
+#![tactic(auto)]
+
+mod binding;
+mod bodies;
+mod counts;
+mod excess;
+mod facts;
+mod hidden;
+mod integer_set;
+mod names;
+mod naming;
+mod scopes;
+mod shares;
+mod tally;
+
+pub use excess::{Excess, first_past_limit};
+
+#[cfg(test)]
+mod tests;

@@ -1,0 +1,4 @@
+pub mod Width
+pub mod Body
+pub mod Steps
+pub mod Walk

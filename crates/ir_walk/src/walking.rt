@@ -1,0 +1,93 @@
+//! The walk over a core.
+ghost use Rattle.ir_core.specs.View.{term_view};
+
+use crate::body::Body;
+use crate::extent::Extent;
+use crate::walk_forms::{
+    walk_begin, walk_call, walk_class, walk_cond, walk_define_on, walk_function, walk_module,
+    walk_singleton, walk_super, walk_two,
+};
+use crate::walk_parts::{walk_all, walk_items, walk_optional, walk_pairs};
+use crate::step::Step;
+use crate::trail::meet;
+use crate::walked::{Noted, Walked};
+use ir_core::Term;
+
+impl Walked for Term {
+    ghost form = { λ t. term_view t };
+
+    #[cycle(walk)]
+    #[tactic(auto, using(ir_core::proofs::ViewsBy::views))]
+    fn walk<'a>(&'a self, extent: Extent, trail: &mut Vec<Step<'a>>) -> Noted {
+        meet(trail, self)?;
+        match self {
+            Term::Nil
+            | Term::True
+            | Term::False
+            | Term::SelfRef
+            | Term::Int(_)
+            | Term::Str(_)
+            | Term::Sym(_)
+            | Term::Local(_)
+            | Term::Ivar(_)
+            | Term::Gvar(_)
+            | Term::Const(_)
+            | Term::TopConst(_)
+            | Term::Retry
+            | Term::Alias(_, _)
+            | Term::Undef(_) => Ok(()),
+            Term::SetLocal(_, e)
+            | Term::SetIvar(_, e)
+            | Term::SetGvar(_, e)
+            | Term::InConst(e, _)
+            | Term::SetConst(_, e)
+            | Term::Intern(e)
+            | Term::Return(e)
+            | Term::Break(e)
+            | Term::Next(e)
+            | Term::Item(e, _)
+            | Term::Rest { of: e, .. } => e.walk(extent, trail),
+            Term::SetInConst(a, _, b)
+            | Term::Range { from: a, to: b, .. }
+            | Term::And(a, b)
+            | Term::Or(a, b) => walk_two(extent, trail, a, b),
+            Term::While { test, body, .. } => walk_two(extent, trail, test, body),
+            Term::Text(list) | Term::Seq(list) => walk_all(extent, trail, list),
+            Term::Array(items) | Term::Yield(items) => walk_items(extent, trail, items),
+            Term::Hash(pairs) => walk_pairs(extent, trail, pairs),
+            Term::Cond(branches, otherwise) => walk_cond(extent, trail, branches, otherwise),
+            Term::Call {
+                receiver,
+                items,
+                block,
+                ..
+            } => walk_call(extent, trail, receiver, items, block),
+            Term::Super(items, block) => walk_super(extent, trail, items, block),
+            Term::Fn(function) | Term::Lambda(function) => {
+                let body = Body::Function(function);
+                walk_function(extent, extent.enters_blocks(), trail, body, function)
+            }
+            Term::Begin(begin) => walk_begin(extent, trail, begin),
+            Term::Def(_, function) => {
+                let body = Body::Function(function);
+                walk_function(extent, extent.enters_bodies(), trail, body, function)
+            }
+            Term::DefOn(e, _, function) => {
+                walk_define_on(extent, trail, e, Body::Function(function), function)
+            }
+            Term::Class {
+                scope,
+                parent,
+                body,
+                ..
+            } => walk_class(extent, trail, scope, parent, Body::Open(body), body),
+            Term::Module { scope, body, .. } => {
+                walk_module(extent, trail, scope, Body::Open(body), body)
+            }
+            Term::SingletonClass(e, body) => {
+                walk_singleton(extent, trail, e, Body::Open(body), body)
+            }
+            Term::Defined(_, _, e) => walk_optional(extent, trail, e),
+        }
+    }
+}

@@ -1,5 +1,0 @@
-use Rattle.lex_reads.proofs.Comments.{comment_sound, comment_complete}
-use Rattle.lex_reads.proofs.comments_are_passed.Goals as goal
-
-pub returns : goal.returns
-returns c = record { sound = comment_sound; complete = comment_complete }

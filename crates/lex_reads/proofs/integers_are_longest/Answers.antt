@@ -1,5 +1,0 @@
-use Rattle.lex_reads.proofs.Numbers.{integer_sound, integer_complete}
-use Rattle.lex_reads.proofs.integers_are_longest.Goals as goal
-
-pub returns : goal.returns
-returns c = record { sound = integer_sound; complete = integer_complete }

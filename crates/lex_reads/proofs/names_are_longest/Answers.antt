@@ -1,5 +1,0 @@
-use Rattle.lex_reads.proofs.Runs.{name_sound, name_complete}
-use Rattle.lex_reads.proofs.names_are_longest.Goals as goal
-
-pub returns : goal.returns
-returns c = record { sound = name_sound; complete = name_complete }

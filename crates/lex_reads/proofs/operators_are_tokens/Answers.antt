@@ -1,5 +1,0 @@
-use Rattle.lex_reads.proofs.MarkTokens.{mark_token, mark_read}
-use Rattle.lex_reads.proofs.operators_are_tokens.Goals as goal
-
-pub returns : goal.returns
-returns c = record { sound = mark_token; complete = mark_read }

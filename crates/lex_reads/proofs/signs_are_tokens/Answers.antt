@@ -1,5 +1,0 @@
-use Rattle.lex_reads.proofs.SignTokens.{semicolon_read, character_token, character_read}
-use Rattle.lex_reads.proofs.signs_are_tokens.Goals as goal
-
-pub returns : goal.returns
-returns c = record { semicolon = semicolon_read; sound_character = character_token; character = character_read }

@@ -1,5 +1,0 @@
-use Rattle.lex_reads.proofs.White.{white_sound, white_complete}
-use Rattle.lex_reads.proofs.white_space_is_longest.Goals as goal
-
-pub returns : goal.returns
-returns c = record { sound = white_sound; complete = white_complete }

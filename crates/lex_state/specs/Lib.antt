@@ -1,4 +1,0 @@
-pub mod LexError
-pub mod State
-pub mod Scan
-pub mod Trivia

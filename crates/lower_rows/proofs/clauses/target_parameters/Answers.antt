@@ -1,6 +1,0 @@
-use Rattle.tree_parts.specs.Parts.{tree_by}
-use Rattle.lower_rows.proofs.Numbers.{target_names-end}
-use Rattle.lower_rows.proofs.clauses.target_parameters.Goals as goal
-
-pub returns : goal.returns
-returns g c = target_names-end (tree_by g.T.Whole.node) _ _ _ _ _ c.loop-target.invariant c.loop-target-test.false

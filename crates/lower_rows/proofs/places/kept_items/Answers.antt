@@ -1,6 +1,0 @@
-use Rattle.tree_parts.specs.Parts.{item_by}
-use Rattle.lower_rows.proofs.Numbers.{kept-end}
-use Rattle.lower_rows.proofs.places.kept_items.Goals as goal
-
-pub returns : goal.returns
-returns g c = kept-end (item_by g.T.Whole.node) _ _ _ _ _ c.loop-item.invariant c.loop-item-test.false

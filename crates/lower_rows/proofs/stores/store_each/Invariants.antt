@@ -1,9 +1,0 @@
-use Rattle.std.proofs.Common.{◌≡◌, [], fold, map, take}
-use Rattle.rb_core.specs.View.{core_view}
-use Rattle.lower_rows.specs.Numbered.{numbered_step, assigned}
-use Rattle.lower_rows.specs.Sources.{source_form}
-use Rattle.tree_parts.specs.Parts.{tree_by}
-use Rattle.lower_rows.proofs.stores.store_each.Given as goal
-
-abbrev pub invariant-loop-target : goal.invariant-loop-target
-invariant-loop-target g l = (map core_view l.all.items, l.place) ≡ fold (numbered_step (assigned l.fn.passed l.fn.depth (source_form l.fn.source))) ([], 0) (map (tree_by g.T.Whole.node) (take l.target-index l.targets))

@@ -1,7 +1,0 @@
-use Rattle.std.proofs.Common.{◌≡◌, [], fold, map, take}
-use Rattle.lower_rows.specs.Pieces.{joined_step}
-use Rattle.tree_parts.specs.Parts.{piece_by}
-use Rattle.lower_rows.proofs.texts.joined.Given as goal
-
-abbrev pub invariant-loop-piece : goal.invariant-loop-piece
-invariant-loop-piece g l = l.bytes.items ≡ fold joined_step [] (map (piece_by g.T.Whole.node) (take l.piece-index l.pieces))

@@ -1,4 +1,0 @@
-pub mod CoreForm
-pub mod View
-pub mod Parts
-pub mod Forms

@@ -1,9 +1,0 @@
-use Rattle.std.proofs.Common.{◌≡◌, ◌≤◌, length}
-use Rattle.rb_grammar.specs.Expect.{skip_newlines}
-use Rattle.rb_grammar.proofs.expect.skip_newlines.Given as goal
-
-abbrev pub invariant-newlines : goal.invariant-newlines
-invariant-newlines l = (skip_newlines l.rest ≡ skip_newlines l.fn.tokens) × (length l.rest ≤ length l.fn.tokens)
-
-abbrev pub decreases-newlines : goal.decreases-newlines
-decreases-newlines l = length l.rest

@@ -1,9 +1,0 @@
-use Rattle.std.proofs.Common.{◌≡◌, ◌≤◌, length}
-use Rattle.rb_grammar.specs.Expect.{skip_separators}
-use Rattle.rb_grammar.proofs.expect.skip_separators.Given as goal
-
-abbrev pub invariant-separators : goal.invariant-separators
-invariant-separators l = (skip_separators l.rest ≡ skip_separators l.fn.tokens) × (length l.rest ≤ length l.fn.tokens)
-
-abbrev pub decreases-separators : goal.decreases-separators
-decreases-separators l = length l.rest

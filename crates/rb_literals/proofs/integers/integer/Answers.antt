@@ -1,8 +1,0 @@
-use Rattle.std.proofs.Common.{sym}
-use Rattle.rb_literals.specs.Integers.{integer_at}
-use Rattle.rb_literals.proofs.Values.{scanned_is}
-use Rattle.rb_literals.proofs.integers.integer.Goals as goal
-
-pub returns-clause-value : goal.returns-clause-value
-unfolding integer_at
-returns-clause-value c = rw (sym c.radix-base.ensures.value) (scanned_is c.digits.result _ c.digits.ensures.value)

@@ -1,4 +1,0 @@
-pub mod Operator
-pub mod Node
-pub mod View
-pub mod Parts

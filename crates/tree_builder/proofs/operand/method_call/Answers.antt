@@ -1,5 +1,0 @@
-use Rattle.tree_builder.proofs.Calls.{method_call_of}
-use Rattle.tree_builder.proofs.operand.method_call.Goals as goal
-
-pub returns : goal.returns
-returns c = method_call_of _ _ _ _

@@ -1,7 +1,0 @@
--- Names in order.
-use Rattle.std.proofs.lemmas.List.{append_assoc, append-nil}
-use Rattle.tree_parts.proofs.Views.{views}
-
-pub ruleset name_laws = (append_assoc, append-nil)
-
-pub ruleset pattern_laws = (views, append-nil)

@@ -1,6 +1,0 @@
-use Rattle.std.proofs.Common.{◌≡◌, [], drop}
-use Rattle.tree_rules.specs.Doubled.{are_distinct}
-use Rattle.tree_rules.proofs.doubled.are_distinct.Given as goal
-
-abbrev pub invariant-loop-name : goal.invariant-loop-name
-invariant-loop-name l = are_distinct l.seen (drop l.name-index l.names) ≡ are_distinct [] l.names

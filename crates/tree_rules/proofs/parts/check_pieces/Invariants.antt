@@ -1,8 +1,0 @@
-use Rattle.std.proofs.Common.{◌≡◌, drop}
-use Rattle.tree_parts.specs.Parts.{pieces_by}
-use Rattle.tree_rules.specs.Places.{all_placed}
-use Rattle.tree_rules.proofs.parts.check_pieces.Given as goal
-
-abbrev pub invariant-loop-piece : goal.invariant-loop-piece
-invariant-loop-piece g l =
-    all_placed l.context.around (pieces_by g.T.Placed.node (drop l.piece-index l.pieces.items)) ≡ all_placed l.context.around (pieces_by g.T.Placed.node l.pieces.items)

@@ -1,8 +1,0 @@
-use Rattle.std.proofs.Common.{◌≡◌, ◌++◌, drop}
-use Rattle.tree_parts.specs.Parts.{trees_by}
-use Rattle.tree_rules.specs.Doubled.{all_bound}
-use Rattle.tree_rules.proofs.targets.all_names.Given as goal
-
-abbrev pub invariant-loop-tree : goal.invariant-loop-tree
-invariant-loop-tree g l =
-    l.names ++ all_bound (trees_by g.T.Placed.node (drop l.tree-index l.trees.items)) ≡ l.fn.names ++ all_bound (trees_by g.T.Placed.node l.trees.items)
