@@ -3,8 +3,8 @@ use Rattle.std.proofs.Common.{◌≡◌, ℕ, ◌+◌, ◌*◌, ◌<◌, ◌≤�
 use Rattle.std.proofs.Math.Nat.{max-le}
 use Rattle.std.proofs.lemmas.Bool.{and_parts, leb-true}
 use Rattle.std.proofs.lemmas.Bool.Decides.{Decides-eqb}
-use Rattle.rb_syntax.specs.Form.{Action, give_nil, give_true, give_int, call_operator, call_puts, Form, strict, local, set_local, seq, cond, while_form, Forms, none, more}
-use Rattle.rb_syntax.specs.Limits.{arity, count, is_plain_action, is_plain, are_plain, operation_count, operations, all_operations, are_short, has_short_sums, have_short_sums, parts, all_parts, IsWithin}
+use Rattle.path_core.specs.Form.{Action, give_nil, give_true, give_int, call_operator, call_puts, Form, strict, local, set_local, seq, cond, while_form, Forms, none, more}
+use Rattle.code_generator.specs.Limits.{arity, count, is_plain_action, is_plain, are_plain, operation_count, operations, all_operations, are_short, has_short_sums, have_short_sums, parts, all_parts, IsWithin}
 use Rattle.code_generator.specs.Gen.{len, len_all, len_rest, number_size, action_size, width, operands_width, all_width, before_operands, first_free}
 
 -- an action that is plain has its operands, and these are plain

@@ -2,7 +2,8 @@
 use Rattle.std.proofs.Common.{◌≡◌, ◌⊎◌, inl, inr, ℕ, ◌+◌, ◌-◌, ◌≤◌, ◌<◌, Bool, true, false, nat_le, Option, Some, None, is_some, if◌then◌else◌, refl, ap, sym, ◌∙◌, arith}
 use Rattle.std.proofs.Math.Dec.{leb-zero}
 use Rattle.std.proofs.lemmas.Bool.Decides.{leb_tells}
-use Rattle.code_generator.specs.Built.{◌>>=◌, left_after}
+use Rattle.code_generator.specs.Built.{left_after}
+use Rattle.rb_base.specs.Option.{◌>>=◌}
 
 left_enough : (b n : ℕ) → nat_le n b ≡ true → left_after b n ≡ Some (b - n)
 left_enough b n e = ap (λ t. if t then Some (b - n) else None) e

@@ -4,9 +4,10 @@ use Rattle.std.specs.Prelude.{IsTrue, codes}
 use Rattle.std.proofs.lemmas.List.{map-append}
 use Rattle.std.proofs.lemmas.Grind.{flat_map-append}
 use Rattle.std.proofs.lemmas.Bool.{and_parts}
-use Rattle.rb_syntax.specs.Form.{Name, Form, strict, local, set_local, seq, cond as cond_form, while_form, Forms, none, more}
-use Rattle.rb_syntax.specs.Names.{is_among, names_of}
-use Rattle.rb_syntax.specs.Limits.{is_plain, are_plain, is_scoped, are_scoped, lines_scoped, known_after, IsWithin}
+use Rattle.path_core.specs.Form.{Name, Form, strict, local, set_local, seq, cond as cond_form, while_form, Forms, none, more}
+use Rattle.text_set.specs.Sets.{is_among}
+use Rattle.code_generator.specs.Names.{names_of}
+use Rattle.code_generator.specs.Limits.{is_plain, are_plain, is_scoped, are_scoped, lines_scoped, known_after, IsWithin}
 use Rattle.rite_code.specs.Code.{Program}
 use Rattle.rite_code.specs.declared.operation.Operation.{Operation}
 use Rattle.rite_code.specs.declared.operation.Operation.TheVariants.{Stop}

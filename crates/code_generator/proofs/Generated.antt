@@ -1,8 +1,8 @@
 -- The generated code stands where it is placed.
 use Rattle.std.proofs.Common.{◌≡◌, ℕ, ◌+◌, ◌<◌, ◌≤◌, List, [], ◌∷◌, ◌++◌, refl, ◌∙◌, subst, arith, true, get_or}
 use Rattle.std.specs.Prelude.{codes}
-use Rattle.rb_syntax.specs.Form.{Name, Action, Form, strict, local, set_local, seq, cond, while_form, Forms, none, more}
-use Rattle.rb_syntax.specs.Limits.{arity, count}
+use Rattle.path_core.specs.Form.{Name, Action, Form, strict, local, set_local, seq, cond, while_form, Forms, none, more}
+use Rattle.code_generator.specs.Limits.{arity, count}
 use Rattle.rite_code.specs.Code.{Program}
 use Rattle.rite_code.specs.declared.operation.Operation.{Operation}
 use Rattle.rite_code.specs.declared.operation.Operation.TheVariants.{Move}

@@ -1,8 +1,9 @@
 -- Forms in front of others.
 use Rattle.std.proofs.Common.{◌≡◌, ◌≤◌, ◌<◌, List, [], ◌∷◌, ◌++◌, Option, Some, None, length, map, refl, sym, ap, ◌∙◌, arith}
 use Rattle.ir_core.specs.CoreForm.{CoreForm, forms as cores}
-use Rattle.rb_syntax.specs.Form.{Form, Forms, none, more, forms}
-use Rattle.code_generator.specs.Built.{◌>>=◌, form_of, all_of}
+use Rattle.path_core.specs.Form.{Form, Forms, none, more, forms}
+use Rattle.code_generator.specs.Built.{form_of, all_of}
+use Rattle.rb_base.specs.Option.{◌>>=◌}
 use Rattle.code_generator.specs.declared.tree.Tree.{Tree}
 use Rattle.code_generator.specs.Emission.{form, all_forms, only_form, before, before_all}
 

@@ -1,7 +1,7 @@
 -- A program without a line.
 use Rattle.std.proofs.Common.{◌≡◌, ℕ, zero, suc, ◌+◌, ◌*◌, ◌≤◌, List, [], refl, sym, ◌∙◌, ap, arith, true, false, inr}
 use Rattle.std.proofs.lemmas.List.Elements.{All-cons, All-nil}
-use Rattle.rb_syntax.specs.Form.{Form, seq, none}
+use Rattle.path_core.specs.Form.{Form, seq, none}
 use Rattle.rite_code.specs.Code.{IsText, IsItem, IsBody, none as no_tree, node, IsWhole}
 use Rattle.rite_code.specs.Spelling.{encoding, decode_at, decode_wide_at, front, narrow_front}
 use Rattle.rite_code.specs.Table.{opcode_of, opcodes}

@@ -1,8 +1,8 @@
 -- The numbers of a plain form have 32 bits.
 use Rattle.std.proofs.Common.{◌≡◌, true, nat_eq}
 use Rattle.std.proofs.lemmas.Bool.{and_parts}
-use Rattle.rb_syntax.specs.Form.{Action, give_nil, give_true, give_int, call_operator, call_puts, Form, strict, local, set_local, seq, cond, while_form, Forms, none, more}
-use Rattle.rb_syntax.specs.Limits.{count, arity, is_plain_action, is_plain, are_plain, IsWithin}
+use Rattle.path_core.specs.Form.{Action, give_nil, give_true, give_int, call_operator, call_puts, Form, strict, local, set_local, seq, cond, while_form, Forms, none, more}
+use Rattle.code_generator.specs.Limits.{count, arity, is_plain_action, is_plain, are_plain, IsWithin}
 use Rattle.code_generator.specs.Emission.{IsNumbered, HasNumbers, HaveNumbers}
 use Rattle.code_generator.proofs.Bounds.{three_parts}
 

@@ -1,7 +1,7 @@
 -- What holds of the code of each form within the limits.
 use Rattle.std.proofs.Common.{Bool, true, false, cond}
-use Rattle.rb_syntax.specs.Form.{Form, strict, local, set_local, seq, cond as cond_form, while_form, none, more}
-use Rattle.rb_syntax.specs.Limits.{IsWithin}
+use Rattle.path_core.specs.Form.{Form, strict, local, set_local, seq, cond as cond_form, while_form, none, more}
+use Rattle.code_generator.specs.Limits.{IsWithin}
 use Rattle.rite_code.specs.Code.{Program, IsWhole}
 use Rattle.code_verifier.specs.Verified.{IsVerified}
 use Rattle.code_generator.specs.Gen.{is_nothing, nothing_code, full_code, code_of}

@@ -3,8 +3,8 @@ use Rattle.std.proofs.Common.{◌≡◌, ◌≢◌, ℕ, zero, suc, ◌+◌, ◌
 use Rattle.std.proofs.lemmas.List.{take-set-le, map-set, get_or-take, get_or-map}
 use Rattle.std.proofs.Math.Seq.{map-set_same, take-set-lt, take-nil}
 use Rattle.std.proofs.Math.ListN.{get_or-map as get_or_map}
-use Rattle.rb_syntax.specs.Form.{Name}
-use Rattle.rb_syntax.specs.Names.{place_of}
+use Rattle.path_core.specs.Form.{Name}
+use Rattle.path_core.specs.Form.{place_of}
 use Rattle.path_value.specs.declared.value.Value.{Value}
 use Rattle.path_value.specs.declared.value.Value.TheVariants.{Nil}
 use Rattle.rite_code.specs.Code.{Program}

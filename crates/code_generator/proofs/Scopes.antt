@@ -1,8 +1,8 @@
 -- Names that are known, and those that lines add behind them.
 use Rattle.std.proofs.Common.{◌≡◌, ℕ, zero, suc, List, [], ◌∷◌, ◌++◌, ◌≤◌, take, length, length-append, Bool, true, false, if◌then◌else◌, refl, ap, ◌∙◌, arith}
-use Rattle.rb_syntax.specs.Form.{Name, Form, strict, local, set_local, seq, cond, while_form}
-use Rattle.rb_syntax.specs.Names.{is_among, with_name}
-use Rattle.rb_syntax.specs.Limits.{known_after}
+use Rattle.path_core.specs.Form.{Name, Form, strict, local, set_local, seq, cond, while_form}
+use Rattle.text_set.specs.Sets.{is_among, with_text}
+use Rattle.code_generator.specs.Limits.{known_after}
 
 take_front : (n : ℕ) (names : List Name) (x : Name) → n ≤ length names → take n (names ++ x ∷ []) ≡ take n names
 take_front zero names x h = refl
@@ -10,7 +10,7 @@ take_front (suc n) [] x h = absurd (omega (arith, h))
 take_front (suc n) (y ∷ names) x h = ap (λ ys. y ∷ ys) (take_front n names x (omega (arith, h)))
 
 -- the front stays where a name is added
-front_stays : (n : ℕ) (names : List Name) (x : Name) → n ≤ length names → take n (with_name names x) ≡ take n names
+front_stays : (n : ℕ) (names : List Name) (x : Name) → n ≤ length names → take n (with_text names x) ≡ take n names
 front_stays n names x h = at (is_among x names)
   where
     at : (b : Bool) → take n (if b then names else names ++ x ∷ []) ≡ take n names

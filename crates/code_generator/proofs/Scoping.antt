@@ -2,9 +2,11 @@
 use Rattle.std.proofs.Common.{◌≡◌, ◌+◌, ◌<◌, List, [], ◌∷◌, ◌++◌, refl, sym, ap, subst, arith, Bool, true, false, cond, length}
 use Rattle.std.specs.Prelude.{bytes_eq}
 use Rattle.std.proofs.lemmas.Slice.Eq.{bytes_eq-Decides}
-use Rattle.rb_syntax.specs.Form.{Name, Form, strict, local, set_local, seq, cond as cond_form, while_form, Forms, none, more}
-use Rattle.rb_syntax.specs.Names.{place_of, is_among, with_name, add_names, add_all, names_of}
-use Rattle.rb_syntax.specs.Limits.{known_after}
+use Rattle.path_core.specs.Form.{Name, Form, strict, local, set_local, seq, cond as cond_form, while_form, Forms, none, more}
+use Rattle.text_set.specs.Sets.{is_among, with_text}
+use Rattle.path_core.specs.Form.{place_of}
+use Rattle.code_generator.specs.Names.{add_names, add_all, names_of}
+use Rattle.code_generator.specs.Limits.{known_after}
 
 -- each name of the first list is in the second
 abbrev pub Within : List Name → List Name → Type 0
@@ -30,14 +32,14 @@ with_by : (s : Bool) (xs : List Name) (x : Name) → Within xs (cond s xs (xs ++
 with_by true xs x = λ y h. h
 with_by false xs x = λ y h. among_more y xs (x ∷ []) h
 
-with_within : (xs : List Name) (x : Name) → Within xs (with_name xs x)
+with_within : (xs : List Name) (x : Name) → Within xs (with_text xs x)
 with_within xs x = with_by (is_among x xs) xs x
 
 with_has_by : (s : Bool) (xs : List Name) (x : Name) → is_among x xs ≡ s → is_among x (cond s xs (xs ++ x ∷ [])) ≡ true
 with_has_by true xs x e = e
 with_has_by false xs x e = among_end x xs
 
-with_has : (xs : List Name) (x : Name) → is_among x (with_name xs x) ≡ true
+with_has : (xs : List Name) (x : Name) → is_among x (with_text xs x) ≡ true
 with_has xs x = with_has_by (is_among x xs) xs x refl
 
 -- a list with a name is within what has both
@@ -62,7 +64,7 @@ split_by : (s : Bool) (xs bs : List Name) (x y : Name) → Within xs bs → is_a
 split_by true xs bs x y w h k = w y k
 split_by false xs bs x y w h k = end_bounded xs bs x y w h k
 
-pub with_bounded : (xs bs : List Name) (x : Name) → Within xs bs → is_among x bs ≡ true → Within (with_name xs x) bs
+pub with_bounded : (xs bs : List Name) (x : Name) → Within xs bs → is_among x bs ≡ true → Within (with_text xs x) bs
 with_bounded xs bs x w h y k = split_by (is_among x xs) xs bs x y w h k
 
 -- a name that is among names has a place there
@@ -92,7 +94,7 @@ mutual
   add_within : (xs : List Name) (e : Form) → Within xs (add_names xs e)
   add_within xs (strict a es) = add_all_within xs es
   add_within xs (local x) = λ y h. h
-  add_within xs (set_local x e) = λ y h. add_within (with_name xs x) e y (with_within xs x y h)
+  add_within xs (set_local x e) = λ y h. add_within (with_text xs x) e y (with_within xs x y h)
   add_within xs (seq es) = add_all_within xs es
   add_within xs (cond_form t a b) = λ y h. add_within (add_names (add_names xs t) a) b y (add_within (add_names xs t) a y (add_within xs t y h))
   add_within xs (while_form t b) = λ y h. add_within (add_names xs t) b y (add_within xs t y h)
@@ -105,7 +107,7 @@ mutual
   assigned_in : (xs ns : List Name) (e : Form) → Within (add_names xs e) ns → Assigned ns e
   assigned_in xs ns (strict a es) w = all_assigned xs ns es w
   assigned_in xs ns (local x) w = tt
-  assigned_in xs ns (set_local x e) w = (w x (add_within (with_name xs x) e x (with_has xs x)), assigned_in (with_name xs x) ns e w)
+  assigned_in xs ns (set_local x e) w = (w x (add_within (with_text xs x) e x (with_has xs x)), assigned_in (with_text xs x) ns e w)
   assigned_in xs ns (seq es) w = all_assigned xs ns es w
   assigned_in xs ns (cond_form t a b) w = (
     assigned_in xs ns t (λ y h. w y (add_within (add_names (add_names xs t) a) b y (add_within (add_names xs t) a y h))),

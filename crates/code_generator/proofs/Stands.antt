@@ -1,8 +1,8 @@
 -- The code of a form, as a relation: from which byte to which it stands in a body.
 use Rattle.std.proofs.Common.{◌≡◌, ◌⊎◌, ℕ, ◌+◌, ◌<◌, ◌≤◌, ℤ, List, [], Some, true, map, length, get_or}
 use Rattle.std.specs.Prelude.{codes}
-use Rattle.rb_syntax.specs.Form.{Name, Action, Form, strict, local, set_local, seq, cond, while_form, Forms, none, more}
-use Rattle.rb_syntax.specs.Limits.{arity}
+use Rattle.path_core.specs.Form.{Name, Action, Form, strict, local, set_local, seq, cond, while_form, Forms, none, more}
+use Rattle.code_generator.specs.Limits.{arity}
 use Rattle.rite_code.specs.Code.{Program}
 use Rattle.rite_code.specs.declared.operation.Operation.{Operation}
 use Rattle.rite_code.specs.declared.operation.Operation.TheVariants.{Move, LoadNil, Jmp, JmpNot}

@@ -2,9 +2,9 @@
 use Rattle.std.proofs.Common.{◌≡◌, ℕ, ◌+◌, ◌<◌, List, [], ◌∷◌, ◌++◌, refl, sym, ◌∙◌, ap, subst, arith, Bool, true, false, length, Option, None, ◌||◌, nat_eq, nat_lt, get_or, append_assoc}
 use Rattle.std.specs.Prelude.{codes}
 use Rattle.std.proofs.lemmas.Bool.{eq-eqb, eqb-true, le-leb, lt-ltb}
-use Rattle.rb_syntax.specs.Form.{Form}
-use Rattle.rb_syntax.specs.Names.{names_of}
-use Rattle.rb_syntax.specs.Limits.{IsWithin}
+use Rattle.path_core.specs.Form.{Form}
+use Rattle.code_generator.specs.Names.{names_of}
+use Rattle.code_generator.specs.Limits.{IsWithin}
 use Rattle.rite_code.specs.Code.{Program}
 use Rattle.rite_code.specs.declared.code.Irep.{Irep}
 use Rattle.rite_code.specs.declared.operation.Operation.{Operation}

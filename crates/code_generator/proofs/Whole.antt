@@ -1,7 +1,7 @@
 -- The step law, by cases on the focus, and the theorem for a main program.
 use Rattle.std.proofs.Common.{◌≡◌, ℕ, zero, suc, ◌+◌, ◌≤◌, List, [], ◌∷◌, refl, sym, ap, ◌∙◌, arith, true, false, length, map, take, replicate, true≢false}
 use Rattle.std.proofs.lemmas.List.{take-replicate, length-replicate}
-use Rattle.rb_syntax.specs.Form.{Form, strict, local, set_local, seq, cond, while_form}
+use Rattle.path_core.specs.Form.{Form, strict, local, set_local, seq, cond, while_form}
 use Rattle.path_value.specs.declared.value.Value.{Value}
 use Rattle.path_value.specs.declared.value.Value.TheVariants.{Nil}
 use Rattle.rite_code.specs.Code.{Program}

@@ -1,7 +1,7 @@
 -- Every form takes a register.
 use Rattle.std.proofs.Common.{◌≡◌, ℕ, ◌≤◌, arith, max}
 use Rattle.std.proofs.Math.Nat.{le-max_right, max-eq_left, max-eq_right}
-use Rattle.rb_syntax.specs.Form.{Forms, none, more}
+use Rattle.path_core.specs.Form.{Forms, none, more}
 use Rattle.code_generator.specs.Gen.{width, all_width}
 
 pub one_at_least : (es : Forms) → 1 ≤ all_width es

@@ -1,9 +1,9 @@
 -- What the limits of the generator say together.
 use Rattle.std.proofs.Common.{◌≡◌, true, [], length, nat_le}
 use Rattle.std.proofs.lemmas.Bool.{and_parts, leb-true}
-use Rattle.rb_syntax.specs.Form.{Form}
-use Rattle.rb_syntax.specs.Names.{names_of}
-use Rattle.rb_syntax.specs.Limits.{is_plain, is_scoped, has_short_sums, IsWithin}
+use Rattle.path_core.specs.Form.{Form}
+use Rattle.code_generator.specs.Names.{names_of}
+use Rattle.code_generator.specs.Limits.{is_plain, is_scoped, has_short_sums, IsWithin}
 use Rattle.code_generator.specs.Built.{is_within}
 
 pub is_within_means : (f : Form) → is_within f ≡ true → IsWithin f

@@ -2,17 +2,13 @@
 use Rattle.std.specs.Prelude.{ℕ, ◌-◌, nat_le, Bool, true, false, ◌&&◌, [], length, Option, Some, None, codes, bytes_eq, if◌then◌else◌}
 use Rattle.ir_core.specs.CoreForm as core
 use Rattle.ir_core.specs.CoreForm.{CoreForm, CoreForms}
-use Rattle.rb_syntax.specs.Form.{Name, give_nil, give_true, give_int, call_operator, call_puts, Form, strict, local, set_local, seq, cond, while_form, Forms, none, more, one, two}
-use Rattle.rb_syntax.specs.Limits.{is_plain, is_scoped, has_short_sums, parts}
-use Rattle.rb_syntax.specs.Names.{names_of}
+use Rattle.path_core.specs.Form.{Name, give_nil, give_true, give_int, call_operator, call_puts, Form, strict, local, set_local, seq, cond, while_form, Forms, none, more, one, two}
+use Rattle.code_generator.specs.Limits.{is_plain, is_scoped, has_short_sums, parts}
+use Rattle.code_generator.specs.Names.{names_of}
 use Rattle.rb_syntax.specs.Operator.{operator_named}
 use Rattle.rite_code.specs.Code.{Program}
 use Rattle.code_generator.specs.Gen.{code_of}
-
-infixl 10 ◌>>=◌
-abbrev pub ◌>>=◌ : {A B : Type 0} → Option A → (A → Option B) → Option B
-(Some x) >>= f = f x
-None >>= f = None
+use Rattle.rb_base.specs.Option.{◌>>=◌}
 
 -- puts with one item
 abbrev pub puts_of : Name → Forms → Option Form

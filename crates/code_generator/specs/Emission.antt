@@ -1,14 +1,15 @@
 -- What the generator's own types mean.
 use Rattle.std.specs.Prelude.{List, [], ◌∷◌, map, Option, Some, None, true, false, IsTrue, Vec}
 use Rattle.std.specs.declared.alloc.Global.{Global}
-use Rattle.rb_syntax.specs.Form.{Name, Action, Form, Forms, none, more, forms, one, two, give_nil, give_true, give_int, call_operator, call_puts, strict, local, set_local, seq, cond, while_form}
-use Rattle.rb_syntax.specs.Limits.{is_number}
+use Rattle.path_core.specs.Form.{Name, Action, Form, Forms, none, more, forms, one, two, give_nil, give_true, give_int, call_operator, call_puts, strict, local, set_local, seq, cond, while_form}
+use Rattle.code_generator.specs.Limits.{is_number}
 use Rattle.ir_core.specs.CoreForm as core
 use Rattle.ir_core.specs.CoreForm.{CoreForm, CoreForms}
 use Rattle.ir_core.specs.declared.term.Receiver.{Receiver}
 use Rattle.ir_core.specs.declared.term.Receiver.TheVariants.{To, Absent, Bare}
 use Rattle.ir_core.specs.PartsBy.{Boxed}
-use Rattle.code_generator.specs.Built.{◌>>=◌, form_of, all_of, call_of}
+use Rattle.code_generator.specs.Built.{form_of, all_of, call_of}
+use Rattle.rb_base.specs.Option.{◌>>=◌}
 use Rattle.code_generator.specs.declared.tree.Tree.{Tree, fold-Tree}
 use Rattle.code_generator.specs.declared.tree.Tree.TheOpen.{Tree-F}
 

@@ -1,7 +1,7 @@
 -- What it means that code implements a source.
 use Rattle.std.specs.Prelude.{ℕ, List, [], ◌∷◌}
-use Rattle.rb_syntax.specs.Form.{Form}
-use Rattle.rb_syntax.specs.Names.{names_of}
+use Rattle.path_core.specs.Form.{Form}
+use Rattle.code_generator.specs.Names.{names_of}
 use Rattle.rite_code.specs.Code.{Program}
 use Rattle.def_eval.specs.Steps.{Follows}
 use Rattle.def_eval.specs.Seen.{over}

@@ -1,3 +1,5 @@
+pub mod Names
+pub mod Limits
 pub mod Emission
 pub mod Gen
 pub mod Implements

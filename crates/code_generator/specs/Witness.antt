@@ -1,8 +1,8 @@
 -- A program whose evaluation and whose code end alike.
 use Rattle.std.specs.Prelude.{◌≡◌, ℕ, pos, List, codes}
 use Rattle.rb_syntax.specs.declared.operator.Operator.TheVariants.{Minus, Greater}
-use Rattle.rb_syntax.specs.Form.{Form, strict, local, set_local, seq, while_form, give_int, call_operator, call_puts, none, more, one, two}
-use Rattle.rb_syntax.specs.Limits.{IsWithin}
+use Rattle.path_core.specs.Form.{Form, strict, local, set_local, seq, while_form, give_int, call_operator, call_puts, none, more, one, two}
+use Rattle.code_generator.specs.Limits.{IsWithin}
 use Rattle.def_eval.specs.Steps.{times}
 use Rattle.def_eval.specs.Seen.{Ended, Over}
 use Rattle.def_eval.specs.Configuration.{opening, seen}

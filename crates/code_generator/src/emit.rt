@@ -1,6 +1,6 @@
 //! The instructions of a form.
 ghost use Rattle.std.specs.Prelude.{◌≡◌, ◌+◌, ◌<◌, ◌≤◌, ◌++◌, [], ◌∷◌, false, length, map, OnOk, IsTrue};
-ghost use Rattle.rb_syntax.specs.Limits.{is_number};
+ghost use Rattle.code_generator.specs.Limits.{is_number};
 ghost use Rattle.rite_code.specs.declared.operation.Operation.TheVariants.{Move, Jmp, JmpNot};
 ghost use Rattle.rite_code.specs.Shape.{fits_as, is_short};
 ghost use Rattle.code_generator.specs.Gen.{distance, gen, gen_rest, len, len_rest, load_number, operate, register_of, width, all_width};

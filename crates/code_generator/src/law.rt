@@ -1,6 +1,6 @@
 //! The theorem of the generator, about definitions alone, and a program that it speaks of.
-ghost use Rattle.rb_syntax.specs.Form.{Form};
-ghost use Rattle.rb_syntax.specs.Limits.{IsWithin};
+ghost use Rattle.path_core.specs.Form.{Form};
+ghost use Rattle.code_generator.specs.Limits.{IsWithin};
 ghost use Rattle.code_verifier.specs.Verified.{IsVerified};
 ghost use Rattle.code_generator.specs.Gen.{code_of};
 ghost use Rattle.code_generator.specs.Implements.{Implements};

@@ -1,7 +1,7 @@
 //! Whether a form is within the limits of the generator: known names, numbers that fit, and sizes.
 ghost use Rattle.std.specs.Prelude.{◌≡◌, [], length, nat_le, take, IfOk, OnOk};
-ghost use Rattle.rb_syntax.specs.Limits as limits;
-ghost use Rattle.rb_syntax.specs.Names.{names_of};
+ghost use Rattle.code_generator.specs.Limits as limits;
+ghost use Rattle.code_generator.specs.Names.{names_of};
 ghost use Rattle.code_generator.specs.Built as built;
 ghost use Rattle.code_generator.specs.Built.{left_after};
 ghost use Rattle.code_generator.specs.Emission.{form, all_forms};

@@ -1,6 +1,8 @@
 //! The local names of a form, each with its register.
 ghost use Rattle.std.specs.Prelude.{◌≡◌, ◌≤◌, length, OnOk, map};
-ghost use Rattle.rb_syntax.specs.Names.{place_of, is_among, with_name, add_names, add_all};
+ghost use Rattle.text_set.specs.Sets.{is_among, with_text};
+ghost use Rattle.path_core.specs.Form.{place_of};
+ghost use Rattle.code_generator.specs.Names.{add_names, add_all};
 ghost use Rattle.code_generator.specs.Emission.{form, all_forms};
 
 use crate::tree::Tree;
@@ -32,7 +34,7 @@ fn is_known(name: &[u8], names: &[Bytes]) -> bool
 }
 
 fn add_name(alloc: Global, names: &mut Vec<Bytes>, name: &Bytes) -> Result<(), AllocError>
-    ensures { OnOk result (names.new.items ≡ with_name names.old.items name.now) }
+    ensures { OnOk result (names.new.items ≡ with_text names.old.items name.now) }
 {
     if !is_known(name.as_slice(), names) {
         let name = Bytes::from_slice(alloc, name.as_slice())?;

@@ -1,7 +1,7 @@
 //! The code of a main program.
 ghost use Rattle.std.specs.Prelude.{◌≡◌, [], ◌∷◌, IfOk};
 ghost use Rattle.rite_code.specs.Code.{IsWhole};
-ghost use Rattle.rb_syntax.specs.Limits.{IsWithin};
+ghost use Rattle.code_generator.specs.Limits.{IsWithin};
 ghost use Rattle.ir_core.specs.View.{core_view};
 ghost use Rattle.code_generator.specs.Built as built;
 ghost use Rattle.code_generator.specs.Gen.{any_calls_puts, code_of, symbols_of};

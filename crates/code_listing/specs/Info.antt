@@ -5,7 +5,7 @@ use Rattle.rite_file.specs.declared.error.LoadError.{LoadError}
 use Rattle.rite_file.specs.declared.front.Header.{Header}
 use Rattle.rite_file.specs.declared.front.Section.{Section}
 use Rattle.rite_file.specs.Front.{header_of, sections_of}
-use Rattle.rite_file.specs.Gives.{◌>>=◌}
+use Rattle.rb_base.specs.Result.{◌>>=◌}
 use Rattle.code_listing.specs.declared.info_fault.InfoFault.{InfoFault}
 use Rattle.code_listing.specs.declared.info_fault.InfoFault.TheVariants.{Refused, Failed}
 use Rattle.code_listing.specs.Writing.{Stream}

@@ -1,7 +1,7 @@
 -- Where the evaluation of a source stands.
 use Rattle.std.specs.Prelude.{ℕ, ◌+◌, List, [], ◌∷◌, map, get_or, set, length, replicate}
-use Rattle.rb_syntax.specs.Form.{Name, Action, give_nil, Form, strict, Forms, none}
-use Rattle.rb_syntax.specs.Names.{place_of}
+use Rattle.path_core.specs.Form.{Name, Action, give_nil, Form, strict, Forms, none}
+use Rattle.path_core.specs.Form.{place_of}
 use Rattle.path_value.specs.declared.value.Value.{Value}
 use Rattle.path_value.specs.declared.value.Value.TheVariants.{Nil}
 use Rattle.path_value.specs.declared.failure.Failure.{Failure}

@@ -1,6 +1,6 @@
 -- One transition of the evaluation, by cases on what is under way.
 use Rattle.std.specs.Prelude.{ℕ, ◌+◌, List, [], ◌∷◌, ◌++◌, Bool, true, false, get_or, map}
-use Rattle.rb_syntax.specs.Form.{Name, Action, give_nil, give_true, give_int, call_operator, call_puts, Form, strict, local, set_local, seq, cond, while_form, Forms, none, more}
+use Rattle.path_core.specs.Form.{Name, Action, give_nil, give_true, give_int, call_operator, call_puts, Form, strict, local, set_local, seq, cond, while_form, Forms, none, more}
 use Rattle.rb_syntax.specs.declared.operator.Operator.{Operator}
 use Rattle.path_value.specs.Value.{is_true}
 use Rattle.path_value.specs.declared.value.Value.{Value}

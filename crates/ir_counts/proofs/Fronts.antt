@@ -2,7 +2,7 @@
 use Rattle.std.proofs.Common.{◌≡◌, ℕ, ◌≤◌, List, [], ◌∷◌, ◌++◌, length, take, refl, ap, ◌∙◌, arith, length-append, take_all}
 use Rattle.std.specs.Prelude.{Option, Some, None, Bool, true, false, if◌then◌else◌, reverse}
 use Rattle.std.proofs.lemmas.List.{take-append-le, reverse-append}
-use Rattle.rb_syntax.specs.Names.{is_among, with_name}
+use Rattle.text_set.specs.Sets.{is_among, with_text}
 use Rattle.rb_syntax.specs.declared.core_form.Parameters.{Parameters}
 use Rattle.ir_counts.specs.Sets.{with_names, with_optional}
 use Rattle.ir_counts.specs.Scopes.{binding, fronts}
@@ -24,7 +24,7 @@ extends_trans xs ys zs p q = record {
 extends_append : (xs zs : List (List ℕ)) → Extends xs (xs ++ zs)
 extends_append xs zs = record { long = omega (arith, length-append xs zs); front = λ n h. take-append-le n xs zs h }
 
-extends_name : (xs : List (List ℕ)) (x : List ℕ) → Extends xs (with_name xs x)
+extends_name : (xs : List (List ℕ)) (x : List ℕ) → Extends xs (with_text xs x)
 extends_name xs x = at (is_among x xs)
   where
     at : (b : Bool) → Extends xs (if b then xs else xs ++ x ∷ [])
@@ -33,7 +33,7 @@ extends_name xs x = at (is_among x xs)
 
 extends_names : (xs ys : List (List ℕ)) → Extends xs (with_names xs ys)
 extends_names xs [] = extends_refl xs
-extends_names xs (y ∷ ys) = extends_trans xs (with_name xs y) (with_names (with_name xs y) ys) (extends_name xs y) (extends_names (with_name xs y) ys)
+extends_names xs (y ∷ ys) = extends_trans xs (with_text xs y) (with_names (with_text xs y) ys) (extends_name xs y) (extends_names (with_text xs y) ys)
 
 extends_optional : (xs : List (List ℕ)) (o : Option (List ℕ)) → Extends xs (with_optional xs o)
 extends_optional xs None = extends_refl xs

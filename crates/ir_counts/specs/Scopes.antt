@@ -1,6 +1,6 @@
 -- The names that functions around a form bind, and the local names of a body that has no list of them.
 use Rattle.std.specs.Prelude.{ℕ, List, [], ◌∷◌, take, Option, Some, None, true, if◌then◌else◌}
-use Rattle.rb_syntax.specs.Names.{is_among, with_name}
+use Rattle.text_set.specs.Sets.{is_among, with_text}
 use Rattle.rb_syntax.specs.declared.core_form.Parameters.{Parameters}
 use Rattle.ir_core.specs.CoreForm.{Name}
 use Rattle.ir_walk.specs.Body.{Body, open_body, function_body}
@@ -34,7 +34,7 @@ left s = innermost s.outer
 -- the names found, with a local that a source spells and that no function around it binds
 abbrev pub noted : List (List ℕ) → Scopes → Option Name → List (List ℕ)
 noted found s None = found
-noted found s (Some x) = if (if is_made x then true else is_among x s.known) then found else with_name found x
+noted found s (Some x) = if (if is_made x then true else is_among x s.known) then found else with_text found x
 
 abbrev pub named : List (List ℕ) → Scopes → List Step → List (List ℕ)
 named found s [] = found

@@ -1,6 +1,6 @@
 //! The names that the functions around a form bind.
 ghost use Rattle.std.specs.Prelude.{◌≡◌, OnOk};
-ghost use Rattle.rb_syntax.specs.Names.{is_among};
+ghost use Rattle.text_set.specs.Sets.{is_among};
 ghost use Rattle.ir_counts.specs.Scopes.{no_scope, entered, left};
 ghost use Rattle.ir_walk.specs.Steps.{body as view};
 

@@ -9,7 +9,8 @@ use Rattle.lexer_literals.specs.declared.numbers.Number.{Number}
 use Rattle.lexer_literals.specs.declared.numbers.Tail.{Tail}
 use Rattle.lexer_literals.specs.declared.numbers.Tail.TheVariants as tails
 use Rattle.lexer_literals.specs.Kinds.{is_digit, goes_on}
-use Rattle.lexer_literals.specs.Integers.{◌>>=◌, digits, radix_at, narrow, integer_at}
+use Rattle.lexer_literals.specs.Integers.{digits, radix_at, narrow, integer_at}
+use Rattle.rb_base.specs.Result.{◌>>=◌}
 use Rattle.lexer_literals.specs.Numbers.{is_plain, decimal_end, fraction_end, sign_end, exponent_end, parts_end, suffix_at, numeral_at}
 use Rattle.lexer_steps.specs.State.{State}
 use Rattle.lexer_steps.specs.Signs.{number_step}

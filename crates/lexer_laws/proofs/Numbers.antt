@@ -5,7 +5,8 @@ use Rattle.std.proofs.lemmas.List.{get_or-drop}
 use Rattle.lexer_literals.specs.declared.fault.Fault.{Fault}
 use Rattle.lexer_literals.specs.declared.integers.Scanned.{Scanned}
 use Rattle.lexer_literals.specs.Kinds.{is_digit, digit_value}
-use Rattle.lexer_literals.specs.Integers.{◌>>=◌, fault_at, digits, radix_at, narrow, integer_at}
+use Rattle.lexer_literals.specs.Integers.{fault_at, digits, radix_at, narrow, integer_at}
+use Rattle.rb_base.specs.Result.{◌>>=◌}
 use Rattle.lexer_laws.specs.Numbers.{begins_with_digit, GoesOn, IsNumeral, IsInteger, IsWholeInteger}
 
 abbrev pub done : ℕ → ℕ → Result (ℕ × ℕ) Fault

@@ -1,6 +1,6 @@
 -- White space: reading over it, step by step.
 use Rattle.std.specs.Prelude.{ℕ, zero, suc, List, Result, Ok}
-use Rattle.lexer_steps.specs.LexError.{◌>>=◌}
+use Rattle.rb_base.specs.Result.{◌>>=◌}
 use Rattle.lexer_steps.specs.State.{State}
 use Rattle.rb_lexer.specs.Code.{code_step}
 

@@ -3,7 +3,8 @@ use Rattle.std.proofs.Common.{◌≡◌, ℕ, ◌≤◌, refl, ap, arith, Option
 use Rattle.std.specs.Prelude.{SomeIff, MatchResult}
 use Rattle.lexer_literals.specs.declared.fault.Fault.{Fault}
 use Rattle.lexer_literals.specs.declared.integers.Scanned.{Scanned}
-use Rattle.lexer_literals.specs.Integers.{◌>>=◌, narrow}
+use Rattle.lexer_literals.specs.Integers.{narrow}
+use Rattle.rb_base.specs.Result.{◌>>=◌}
 
 pub is_narrow : (value : Option ℕ) (n : ℕ) → SomeIff value (n ≤ 9223372036854775808) n → value ≡ narrow n
 is_narrow (Some v) n is = grind (arith, is.0, is.1)

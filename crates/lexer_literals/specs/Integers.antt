@@ -3,11 +3,7 @@ use Rattle.std.specs.Prelude.{ℕ, ◌+◌, ◌*◌, List, [], ◌∷◌, drop, 
 use Rattle.lexer_literals.specs.declared.fault.Fault.{Fault}
 use Rattle.lexer_literals.specs.declared.integers.Scanned.{Scanned}
 use Rattle.lexer_literals.specs.Kinds.{is_digit, digit_value}
-
-infixl 10 ◌>>=◌
-abbrev pub ◌>>=◌ : {A B : Type 0} → Result A Fault → (A → Result B Fault) → Result B Fault
-(Ok x) >>= f = f x
-(Err e) >>= f = Err e
+use Rattle.rb_base.specs.Result.{◌>>=◌}
 
 abbrev pub fault_at : {A : Type 0} → ℕ → Result A Fault
 fault_at at = Err (record { at = at })

@@ -5,7 +5,8 @@ use Rattle.lexer_literals.specs.declared.numbers.Number.{Number}
 use Rattle.lexer_literals.specs.declared.numbers.Tail.{Tail}
 use Rattle.lexer_literals.specs.declared.numbers.Tail.TheVariants.{Nothing, Float, Rational, Imaginary}
 use Rattle.lexer_literals.specs.Kinds.{is_digit, goes_on}
-use Rattle.lexer_literals.specs.Integers.{◌>>=◌, digits, radix_at, integer_at}
+use Rattle.lexer_literals.specs.Integers.{digits, radix_at, integer_at}
+use Rattle.rb_base.specs.Result.{◌>>=◌}
 
 -- the place behind the decimal digits that begin at a place
 abbrev pub decimal_end : List ℕ → ℕ → Result ℕ Fault

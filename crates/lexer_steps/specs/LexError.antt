@@ -3,11 +3,6 @@ use Rattle.std.specs.Prelude.{◌≡◌, ◌≤◌, ℕ, Result, Ok, Err}
 use Rattle.lexer_steps.specs.declared.error.LexError.{LexError}
 use Rattle.lexer_steps.specs.declared.error.LexError.TheVariants.{NoMemory, Syntax}
 
-infixl 10 ◌>>=◌
-abbrev pub ◌>>=◌ : {A B : Type 0} → Result A ℕ → (A → Result B ℕ) → Result B ℕ
-(Ok x) >>= f = f x
-(Err e) >>= f = Err e
-
 abbrev pub Fails : {Y : Type 0} → LexError → Result Y ℕ → Type 0
 Fails NoMemory read = Unit {0}
 Fails (Syntax at) read = read ≡ Err at

@@ -1,6 +1,6 @@
 -- A text and the bytes of its file.
 use Rattle.std.proofs.Common.{◌≡◌, ℕ, List, Option, Some, None, MatchOption, refl}
-use Rattle.rb_syntax.specs.Form.{Form}
+use Rattle.path_core.specs.Form.{Form}
 use Rattle.rite_code.specs.Code.{Program, IsWhole}
 use Rattle.rb_compile.specs.Language.{program_of}
 use Rattle.rite_file.specs.File.{Spells}

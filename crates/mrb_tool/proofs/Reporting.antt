@@ -2,7 +2,7 @@
 use Rattle.std.proofs.Common.{◌≡◌, ℕ, List, refl, ap, inr, Result, Ok, Err}
 use Rattle.rite_code.specs.Code.{Program}
 use Rattle.rite_file.specs.declared.error.LoadError.{LoadError}
-use Rattle.rite_file.specs.Gives.{◌>>=◌}
+use Rattle.rb_base.specs.Result.{◌>>=◌}
 use Rattle.code_listing.specs.Listing.{listing_of}
 use Rattle.code_listing.specs.Writing.{Stream}
 use Rattle.path_machine.specs.Run.{seen_after}

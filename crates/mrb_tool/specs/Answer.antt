@@ -1,7 +1,7 @@
 -- Each answer of the program with its cause, and what files and streams then hold.
 use Rattle.std.specs.Prelude.{◌≡◌, ◌⊎◌, ℕ, ◌≤◌, List, [], Option, Some, None, IsTrue, length, take}
 use Rattle.rb_base.specs.Outside.{Rose, with_more, IsLoaded}
-use Rattle.rb_syntax.specs.Form.{Form}
+use Rattle.path_core.specs.Form.{Form}
 use Rattle.path_value.specs.declared.failure.Failure.{Failure}
 use Rattle.rite_code.specs.Code.{Program}
 use Rattle.def_eval.specs.Seen.{Ended, Uncaught, Going, Over, Seen, output_of}

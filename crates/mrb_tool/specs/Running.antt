@@ -2,7 +2,7 @@
 use Rattle.std.specs.Prelude.{◌≡◌, ℕ, ◌≤◌, List, [], Option, Some, None, Bool, IsTrue, Result, Ok, Err, Vec, length}
 use Rattle.std.specs.declared.alloc.Global.{Global}
 use Rattle.rb_base.specs.Outside.{Rose, with_more, TookFront}
-use Rattle.rb_syntax.specs.Form.{Form}
+use Rattle.path_core.specs.Form.{Form}
 use Rattle.rite_code.specs.Code.{Program, IsWhole}
 use Rattle.def_eval.specs.Seen.{Ended, Uncaught, Going, Over, Seen, output_of}
 use Rattle.rb_compile.specs.Language.{program_of}

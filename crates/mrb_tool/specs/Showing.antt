@@ -4,7 +4,7 @@ use Rattle.rb_base.specs.Outside.{Rose, with_more, TookFront, IsLoaded}
 use Rattle.rite_file.specs.declared.error.LoadError.{LoadError}
 use Rattle.rite_file.specs.declared.error.LoadError.TheVariants as errors
 use Rattle.rite_file.specs.Loaded.{loaded}
-use Rattle.rite_file.specs.Gives.{◌>>=◌}
+use Rattle.rb_base.specs.Result.{◌>>=◌}
 use Rattle.code_listing.specs.Listing.{listing_of}
 use Rattle.code_listing.specs.declared.refusal.Refusal.{Refusal}
 use Rattle.code_listing.specs.declared.refusal.Refusal.TheVariants as refusals

@@ -1,6 +1,6 @@
 -- The names of parameters, and whether two are one.
 use Rattle.std.specs.Prelude.{Bool, true, not, ◌&&◌, if◌then◌else◌, List, [], ◌∷◌, ◌++◌, Option, Some, None, bytes_eq, codes}
-use Rattle.rb_syntax.specs.Names.{is_among, with_name}
+use Rattle.text_set.specs.Sets.{is_among, with_text}
 use Rattle.parser_tree.specs.declared.tree.RestParameter.{RestParameter}
 use Rattle.parser_tree.specs.declared.tree.RestParameter.TheVariants.{Absent, Unnamed, Named}
 use Rattle.parser_tree.specs.Node as node
@@ -37,4 +37,4 @@ abbrev pub are_distinct : List Name → List Name → Bool
 are_distinct before [] = true
 are_distinct before (x ∷ xs) =
     if bytes_eq x (codes "_") then are_distinct before xs
-    else not (is_among x before) && are_distinct (with_name before x) xs
+    else not (is_among x before) && are_distinct (with_text before x) xs

@@ -8,7 +8,8 @@ use Rattle.parser_tokens.specs.Tokens.{first, behind, bytes_at}
 use Rattle.parser_ahead.specs.Names.{declared}
 use Rattle.parser_ahead.specs.Primary.{is_comma_word}
 use Rattle.parser_form_nodes.specs.Parameters.{ParameterNodes, begins_parameter}
-use Rattle.parser_forms.specs.Reading.{Names, Tokens, Inside, ◌>>=◌}
+use Rattle.parser_forms.specs.Reading.{Names, Tokens, Inside}
+use Rattle.rb_base.specs.Result.{◌>>=◌}
 use Rattle.parser_forms.specs.Literals.{ends_literal, begins_string, next_piece, pieces_from, string, strings_from}
 use Rattle.parser_forms.specs.Parameters.{is_identifier, parameters_turn, parameters_from, locals_from}
 

@@ -14,7 +14,8 @@ use Rattle.parser_ahead.specs.declared.primary.DoOwner.TheVariants as owners
 use Rattle.parser_ahead.specs.declared.sections.Compound.{Compound}
 use Rattle.parser_nodes.specs.Listed.{ListNode, is_empty, is_none, whole_items, arguments_node}
 use Rattle.parser_form_nodes.specs.Sections.{is_whole, compound_node}
-use Rattle.parser_forms.specs.Reading.{Names, Tokens, Read, ◌>>=◌, Inside}
+use Rattle.parser_forms.specs.Reading.{Names, Tokens, Read, Inside}
+use Rattle.rb_base.specs.Result.{◌>>=◌}
 
 abbrev pub pairs_alone : ListNode → Bool
 pairs_alone l = is_none l.block && is_empty l.items

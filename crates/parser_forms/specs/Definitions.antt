@@ -22,7 +22,8 @@ use Rattle.parser_form_nodes.specs.Parameters.{ParameterNodes, BlockNode, block_
 use Rattle.parser_form_nodes.specs.Sections.{body_node}
 use Rattle.parser_tree.specs.Parts.{class_path}
 use Rattle.parser_form_nodes.specs.Definitions.{HeadNode, method_name, singleton_at, method_node}
-use Rattle.parser_forms.specs.Reading.{Names, Tokens, Read, ◌>>=◌, Inside}
+use Rattle.parser_forms.specs.Reading.{Names, Tokens, Read, Inside}
+use Rattle.rb_base.specs.Result.{◌>>=◌}
 use Rattle.parser_forms.specs.Parameters.{block_parameters, open_parameters, is_assign}
 
 -- the defaults of the optional parameters, which are nodes of their own

@@ -13,7 +13,8 @@ use Rattle.parser_tokens.specs.declared.expect.Wanted.TheVariants as wanted
 use Rattle.parser_tokens.specs.declared.word.Word.{Word}
 use Rattle.parser_tokens.specs.declared.word.Word.TheVariants as words
 use Rattle.parser_nodes.specs.Leaf.{leaf}
-use Rattle.parser_forms.specs.Reading.{Names, Tokens, Read, ◌>>=◌, Inside}
+use Rattle.parser_forms.specs.Reading.{Names, Tokens, Read, Inside}
+use Rattle.rb_base.specs.Result.{◌>>=◌}
 
 abbrev pub ends_literal : Word → Bool
 ends_literal words.LiteralEnd = true

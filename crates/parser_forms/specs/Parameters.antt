@@ -22,7 +22,8 @@ use Rattle.parser_form_nodes.specs.Parameters.{ParameterNode, required, optional
 use Rattle.parser_tree.specs.declared.tree.ParameterList.{ParameterList}
 use Rattle.parser_form_nodes.specs.Targets.{no_targets, list_node}
 use Rattle.parser_nodes.specs.Nodes.{outside_node}
-use Rattle.parser_forms.specs.Reading.{Names, Tokens, Read, ◌>>=◌, Inside}
+use Rattle.parser_forms.specs.Reading.{Names, Tokens, Read, Inside}
+use Rattle.rb_base.specs.Result.{◌>>=◌}
 
 abbrev pub is_identifier : Word → Bool
 is_identifier words.Identifier = true

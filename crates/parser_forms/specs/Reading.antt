@@ -25,11 +25,6 @@ Tokens = List Token
 abbrev pub Read : Type 0 → Type 0
 Read A = Result (A × Names × Tokens) ℕ
 
-infixl 10 ◌>>=◌
-abbrev pub ◌>>=◌ : {A B : Type 0} → Result A ℕ → (A → Result B ℕ) → Result B ℕ
-(Ok x) >>= f = f x
-(Err e) >>= f = Err e
-
 -- what a function returned, seen by f, with the names known then, is what is read, unless memory ran out
 abbrev pub Reads : {A B : Type 0} → (A → B) → Result (A × Bor (List Token)) Failure → Names → Read B → Type 0
 Reads f r names read = Gives (λ p. (f p.0, names, p.1.now)) r read

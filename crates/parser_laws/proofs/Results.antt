@@ -2,7 +2,8 @@
 use Rattle.std.proofs.Common.{◌≡◌, ℕ, Bool, true, false, ◌&&◌, Result, Ok, Err, if◌then◌else◌, inl, inr, refl, sym, ap, subst, ◌∙◌, not}
 use Rattle.std.proofs.lemmas.Bool.{cases_Bool}
 use Rattle.parser_tree.specs.Node.{Node}
-use Rattle.parser_forms.specs.Reading.{Names, Tokens, Read, ◌>>=◌}
+use Rattle.parser_forms.specs.Reading.{Names, Tokens, Read}
+use Rattle.rb_base.specs.Result.{◌>>=◌}
 use Rattle.parser_laws.specs.Expressions.{is_expression}
 
 pub bind_ok : {A B : Type 0} (r : Result A ℕ) (f : A → Result B ℕ) (y : B) → (r >>= f) ≡ Ok y → (x : A) × (r ≡ Ok x) × (f x ≡ Ok y)

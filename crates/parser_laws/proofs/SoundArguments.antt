@@ -22,7 +22,8 @@ use Rattle.parser_nodes.specs.declared.listed.Sort.TheVariants as sorts
 use Rattle.parser_forms.specs.Literals.{pieces}
 use Rattle.parser_phrases.specs.Phrases.{phrase, argument, is_argument}
 use Rattle.parser_statements.specs.Lists.{part_place, quoted_key, goes_on, clashes, valued, double_splat, quoted_pair, plain_or_pair, value_part, part_by, part, with_part, next_part, list_from, list}
-use Rattle.parser_forms.specs.Reading.{Names, Tokens, Read, ◌>>=◌, Inside}
+use Rattle.parser_forms.specs.Reading.{Names, Tokens, Read, Inside}
+use Rattle.rb_base.specs.Result.{◌>>=◌}
 use Rattle.parser_laws.specs.Rules.{Argument, Part, Parts, Listing}
 use Rattle.parser_laws.specs.Derives.{Derives, PlainPart, PairPart, LabelPart, SplatPart, FirstPart, NextPart, NoPart, AllParts, LastComma}
 use Rattle.parser_laws.specs.Expressions.{is_expression}

@@ -23,7 +23,8 @@ use Rattle.parser_ahead.specs.declared.primary.Primary.TheVariants as primaries
 use Rattle.parser_nodes.specs.Calls.{CalleeNode, name_callee, method_callee, super_callee, outside_callee, OperandNode, whole, callee, Given, operand_node, target_node, target_names}
 use Rattle.parser_forms.specs.Brackets.{call_arguments, elements}
 use Rattle.parser_operands.specs.Operands.{continues, has_block, postfix_callee, outside_name, scoped, is_scoped_constant, is_outside_name, with_block_at, suffix, compound, primary_by, primary, called, plain_named, named, dotted, postfixed, chain_turn, chain_within, chain}
-use Rattle.parser_forms.specs.Reading.{Names, Tokens, ◌>>=◌, Inside}
+use Rattle.parser_forms.specs.Reading.{Names, Tokens, Inside}
+use Rattle.rb_base.specs.Result.{◌>>=◌}
 use Rattle.parser_laws.specs.Rules.{Primary as PrimaryRule, Target}
 use Rattle.parser_laws.specs.Derives.{Derives, MethodTarget}
 use Rattle.parser_laws.specs.Expressions.{is_expression}

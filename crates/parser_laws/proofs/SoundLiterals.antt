@@ -19,7 +19,8 @@ use Rattle.parser_nodes.specs.Leaf.{leaf}
 use Rattle.parser_forms.specs.Literals as literals
 use Rattle.parser_forms.specs.Literals.{is_literal_end, is_character, with_character, leaf_piece, piece_at, piece, next_piece, pieces_from, pieces, string, strings_from, strings}
 use Rattle.parser_operands.specs.Operands.{text, quoted_symbol}
-use Rattle.parser_forms.specs.Reading.{Names, Tokens, Read, ◌>>=◌, Inside}
+use Rattle.parser_forms.specs.Reading.{Names, Tokens, Read, Inside}
+use Rattle.rb_base.specs.Result.{◌>>=◌}
 use Rattle.parser_laws.specs.Rules.{Primary as PrimaryRule, Piece, Pieces, Quoted, Strings, begins_string}
 use Rattle.parser_laws.specs.Derives.{Derives, BytesPiece, StatementsPiece, InstanceVariablePiece, GlobalVariablePiece, NoPiece, OnePiece, StringLiteral, CharacterLiteral, LastString, NextString, Text, QuotedSymbol}
 use Rattle.parser_laws.specs.Expressions.{is_expression, is_piece, are_pieces}

@@ -31,7 +31,8 @@ use Rattle.parser_operands.specs.Operands.{operand}
 use Rattle.parser_operands.specs.Operators.{value_from}
 use Rattle.parser_phrases.specs.Phrases.{assign, may_command, value_phrase, first_of_several, begins_several, target_phrase, command_or_value, phrase_from, negated_command, negated_operand, negated, operand_phrase, defined, phrase_by, phrase, argument, is_command, is_command_there}
 use Rattle.parser_statements.specs.Statements.{is_not, is_statement_sort, negation}
-use Rattle.parser_forms.specs.Reading.{Names, Tokens, Read, ◌>>=◌, Inside}
+use Rattle.parser_forms.specs.Reading.{Names, Tokens, Read, Inside}
+use Rattle.rb_base.specs.Result.{◌>>=◌}
 use Rattle.parser_laws.specs.Rules.{Expression, Operand, Argument, Negation, takes_target, is_taken, begins_jump}
 use Rattle.parser_laws.specs.Derives.{Derives, DefinedValue, AllOperators, OneOperand, Prefixed, Unnegated, Negated}
 use Rattle.parser_laws.specs.Expressions.{is_expression}

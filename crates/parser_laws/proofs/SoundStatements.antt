@@ -24,7 +24,8 @@ use Rattle.parser_form_nodes.specs.Definitions.{alias, undef, undef_from, is_glo
 use Rattle.parser_statements.specs.declared.statements.StatementStart.{StatementStart}
 use Rattle.parser_statements.specs.declared.statements.StatementStart.TheVariants as beginnings
 use Rattle.parser_statements.specs.Statements.{is_statement_sort, statement_start, negation, junction_with, junctions_turn, junctions_from, expression, braced, base_by, base, modifier_part, modified, modifiers_turn, modifiers_from, statement, separated, with_statement, statements_from, statement_list, statements}
-use Rattle.parser_forms.specs.Reading.{Names, Tokens, ◌>>=◌, Inside}
+use Rattle.parser_forms.specs.Reading.{Names, Tokens, Inside}
+use Rattle.rb_base.specs.Result.{◌>>=◌}
 use Rattle.parser_laws.specs.Rules.{Statements, StatementList, Statement, Modified, Base, Expression, Joined, is_rescue}
 use Rattle.parser_laws.specs.Derives.{Derives, Separated, NoMore, OneMore, WithModifiers, Unmodified, Tested, Rescued, Plain, AllJoined, Unjoined, Junctioned}
 use Rattle.parser_laws.specs.Expressions.{is_expression, are_expressions}

@@ -27,7 +27,8 @@ use Rattle.parser_nodes.specs.Nodes.{prefix_node, defined_node}
 use Rattle.parser_nodes.specs.Leaf.{leaf}
 use Rattle.parser_nodes.specs.Listed.{is_none}
 use Rattle.parser_nodes.specs.Calls.{CalleeNode, name_callee, method_callee, super_callee, outside_callee, OperandNode, whole, callee, Given, call_node, operand_node}
-use Rattle.parser_forms.specs.Reading.{Names, Tokens, Read, ◌>>=◌, Inside}
+use Rattle.parser_forms.specs.Reading.{Names, Tokens, Read, Inside}
+use Rattle.rb_base.specs.Result.{◌>>=◌}
 use Rattle.parser_forms.specs.Literals.{pieces, string, strings, is_literal_end}
 use Rattle.parser_forms.specs.Brackets.{call_arguments, elements, hash, yielded, sectioned}
 use Rattle.parser_forms.specs.Definitions.{lambda, define, class_form, module_form}

@@ -12,7 +12,8 @@ use Rattle.parser_tokens.specs.declared.word.Word.TheVariants as words
 use Rattle.parser_ahead.specs.declared.primary.DoOwner.{DoOwner}
 use Rattle.parser_nodes.specs.Nodes.{infix_node, choice_node}
 use Rattle.parser_nodes.specs.Calls.{operand_node}
-use Rattle.parser_forms.specs.Reading.{Names, Tokens, Read, ◌>>=◌, Inside}
+use Rattle.parser_forms.specs.Reading.{Names, Tokens, Read, Inside}
+use Rattle.rb_base.specs.Result.{◌>>=◌}
 use Rattle.parser_operands.specs.Operands.{operand}
 
 module _ (inside : Inside) where

@@ -9,7 +9,8 @@ use Rattle.parser_ahead.specs.declared.primary.Start.TheVariants.{Operand}
 use Rattle.parser_ahead.specs.Groups.{begins_target}
 use Rattle.parser_ahead.specs.declared.groups.TargetUse.{TargetUse}
 use Rattle.parser_form_nodes.specs.Targets.{TargetsNode}
-use Rattle.parser_forms.specs.Reading.{Names, Tokens, ◌>>=◌, Inside}
+use Rattle.parser_forms.specs.Reading.{Names, Tokens, Inside}
+use Rattle.rb_base.specs.Result.{◌>>=◌}
 use Rattle.parser_phrases.specs.Targets.{is_for, next_target, targets_from}
 
 module _ (i : Inside) where

@@ -30,7 +30,8 @@ use Rattle.parser_nodes.specs.Calls.{CalleeNode, OperandNode, whole, callee, Blo
 use Rattle.parser_nodes.specs.declared.listed.Sort.{Sort}
 use Rattle.parser_nodes.specs.declared.listed.Sort.TheVariants as sorts
 use Rattle.parser_form_nodes.specs.Targets.{TargetsNode, no_targets, one_target, put, targets_list}
-use Rattle.parser_forms.specs.Reading.{Names, Tokens, Read, ◌>>=◌, Inside}
+use Rattle.parser_forms.specs.Reading.{Names, Tokens, Read, Inside}
+use Rattle.rb_base.specs.Result.{◌>>=◌}
 use Rattle.parser_operands.specs.Operands.{begins_command, chain_from, operand}
 use Rattle.parser_operands.specs.Operators.{value_from}
 use Rattle.parser_phrases.specs.Targets.{targets}

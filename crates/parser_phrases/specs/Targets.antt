@@ -16,7 +16,8 @@ use Rattle.parser_ahead.specs.declared.groups.TargetUse.{TargetUse}
 use Rattle.parser_ahead.specs.declared.groups.TargetUse.TheVariants as uses
 use Rattle.parser_nodes.specs.Calls.{OperandNode, is_target, target_node, target_names}
 use Rattle.parser_form_nodes.specs.Targets.{TargetNode, one_target, group_target, star_target, TargetsNode, no_targets, may_follow, put}
-use Rattle.parser_forms.specs.Reading.{Names, Tokens, Read, ◌>>=◌, Inside}
+use Rattle.parser_forms.specs.Reading.{Names, Tokens, Read, Inside}
+use Rattle.rb_base.specs.Result.{◌>>=◌}
 use Rattle.parser_operands.specs.Operands.{chain}
 
 abbrev pub is_star : Word → Bool

@@ -11,7 +11,8 @@ use Rattle.parser_ahead.specs.declared.sections.Compound.{Compound}
 use Rattle.parser_ahead.specs.declared.sections.SectionKind.{SectionKind}
 use Rattle.parser_nodes.specs.Listed.{ListNode}
 use Rattle.parser_form_nodes.specs.Sections.{SectionNode}
-use Rattle.parser_forms.specs.Reading.{Names, Tokens, Inside, ◌>>=◌}
+use Rattle.parser_forms.specs.Reading.{Names, Tokens, Inside}
+use Rattle.rb_base.specs.Result.{◌>>=◌}
 use Rattle.parser_statements.specs.Lists.{goes_on, next_part, list_from}
 use Rattle.parser_statements.specs.Sections.{sections_turn, sections_from, with_test, tests_from}
 use Rattle.parser_statements.specs.Statements.{with_statement, statements_from, junctions_turn, junctions_from, modifiers_turn, modifiers_from}

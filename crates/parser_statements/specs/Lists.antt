@@ -15,7 +15,8 @@ use Rattle.parser_ahead.specs.declared.primary.PartStart.{PartStart}
 use Rattle.parser_ahead.specs.declared.primary.PartStart.TheVariants as parts
 use Rattle.parser_nodes.specs.Nodes.{outside_node}
 use Rattle.parser_nodes.specs.Listed.{ListNode, PartNode, command_part, plain_part, splat_part, pair_part, block_part, nothing_listed, may_follow, put, with_comma}
-use Rattle.parser_forms.specs.Reading.{Names, Tokens, Read, ◌>>=◌, Inside}
+use Rattle.parser_forms.specs.Reading.{Names, Tokens, Read, Inside}
+use Rattle.rb_base.specs.Result.{◌>>=◌}
 use Rattle.parser_forms.specs.Literals.{pieces}
 use Rattle.parser_phrases.specs.Phrases.{phrase, argument, is_argument}
 

@@ -22,7 +22,8 @@ use Rattle.parser_nodes.specs.Listed.{is_empty}
 use Rattle.parser_nodes.specs.Nodes.{outside_node}
 use Rattle.parser_form_nodes.specs.Targets.{TargetsNode, no_targets}
 use Rattle.parser_form_nodes.specs.Sections.{SectionNode, pattern_heads}
-use Rattle.parser_forms.specs.Reading.{Names, Tokens, Read, ◌>>=◌, Inside}
+use Rattle.parser_forms.specs.Reading.{Names, Tokens, Read, Inside}
+use Rattle.rb_base.specs.Result.{◌>>=◌}
 use Rattle.parser_phrases.specs.Phrases.{argument}
 use Rattle.parser_phrases.specs.Targets.{targets, is_star}
 use Rattle.parser_statements.specs.Statements.{expression, statements}

@@ -27,7 +27,8 @@ use Rattle.parser_nodes.specs.declared.listed.Sort.TheVariants as sorts
 use Rattle.parser_form_nodes.specs.Definitions.{alias, undef}
 use Rattle.parser_statements.specs.declared.statements.StatementStart.{StatementStart}
 use Rattle.parser_statements.specs.declared.statements.StatementStart.TheVariants as beginnings
-use Rattle.parser_forms.specs.Reading.{Names, Tokens, Read, ◌>>=◌, Inside}
+use Rattle.parser_forms.specs.Reading.{Names, Tokens, Read, Inside}
+use Rattle.rb_base.specs.Result.{◌>>=◌}
 use Rattle.parser_phrases.specs.Phrases.{phrase}
 
 abbrev pub is_not : Word → Bool

@@ -1,7 +1,7 @@
 -- The code of a core, as that of the text's form, and why there is none.
 use Rattle.std.proofs.Common.{◌≡◌, ℕ, true, false, List, Option, Some, None, is_some, inr, refl, sym, subst, if◌then◌else◌}
-use Rattle.rb_syntax.specs.Form.{Form}
-use Rattle.rb_syntax.specs.Limits.{IsWithin}
+use Rattle.path_core.specs.Form.{Form}
+use Rattle.code_generator.specs.Limits.{IsWithin}
 use Rattle.rite_code.specs.Code.{Program}
 use Rattle.ir_core.specs.CoreForm.{CoreForm}
 use Rattle.rb_front.specs.Front.{core_of}
@@ -9,7 +9,8 @@ use Rattle.ir_counts.specs.Counts.{need}
 use Rattle.ir_counts.specs.Limits.{first_excess}
 use Rattle.ir_counts.specs.declared.excess.Excess.{Excess}
 use Rattle.code_generator.specs.Gen.{code_of}
-use Rattle.code_generator.specs.Built.{◌>>=◌, form_of, of_program, is_within, within, built, code_built}
+use Rattle.code_generator.specs.Built.{form_of, of_program, is_within, within, built, code_built}
+use Rattle.rb_base.specs.Option.{◌>>=◌}
 use Rattle.code_generator.proofs.Within.{is_within_means}
 use Rattle.rb_compile.specs.Language.{unless_past, form_of_core, program_of}
 use Rattle.rb_syntax.specs.declared.outside.Outside.TheVariants.{Unbuilt}

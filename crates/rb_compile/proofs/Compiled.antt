@@ -2,8 +2,8 @@
 use Rattle.std.proofs.Common.{ℕ, ◌+◌, ◌^◌, ◌<◌, List, [], ◌∷◌, Option, Some, None, sym, subst, arith, length, length-append, Bool, true, false, cond}
 use Rattle.std.specs.Prelude.{MatchOption, codes}
 use Rattle.rb_compile.specs.Compiled.{IsCodeOf}
-use Rattle.rb_syntax.specs.Form.{Form}
-use Rattle.rb_syntax.specs.Limits.{IsWithin}
+use Rattle.path_core.specs.Form.{Form}
+use Rattle.code_generator.specs.Limits.{IsWithin}
 use Rattle.rite_code.specs.Code.{Program, IsWhole}
 use Rattle.rite_file.specs.File.{canonical, record_of}
 use Rattle.code_verifier.specs.Verified.{IsVerified}

@@ -1,7 +1,7 @@
 -- The code of a text, and when a text isn't compiled.
 use Rattle.std.specs.Prelude.{◌≡◌, ◌⊎◌, ℕ, ◌<◌, List, length, Option, Some, None, is_some, true}
-use Rattle.rb_syntax.specs.Form.{Form}
-use Rattle.rb_syntax.specs.Limits.{IsWithin}
+use Rattle.path_core.specs.Form.{Form}
+use Rattle.code_generator.specs.Limits.{IsWithin}
 use Rattle.rite_code.specs.Code.{Program}
 use Rattle.rb_syntax.specs.declared.count.Count.{Count}
 use Rattle.rb_syntax.specs.declared.count.Count.TheVariants.{Source}

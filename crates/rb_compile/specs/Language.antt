@@ -1,12 +1,13 @@
 -- The language as it is built: which texts are in it, and the form of each.
 use Rattle.std.specs.Prelude.{ℕ, List, Option, Some, None}
-use Rattle.rb_syntax.specs.Form.{Form}
+use Rattle.path_core.specs.Form.{Form}
 use Rattle.ir_core.specs.CoreForm.{CoreForm}
 use Rattle.rb_front.specs.Front.{core_of}
 use Rattle.ir_counts.specs.Counts.{need}
 use Rattle.ir_counts.specs.Limits.{first_excess}
 use Rattle.ir_counts.specs.declared.excess.Excess.{Excess}
-use Rattle.code_generator.specs.Built.{◌>>=◌, built}
+use Rattle.code_generator.specs.Built.{built}
+use Rattle.rb_base.specs.Option.{◌>>=◌}
 
 abbrev pub unless_past : Option Excess → Form → Option Form
 unless_past None f = Some f

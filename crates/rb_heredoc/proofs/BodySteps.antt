@@ -6,7 +6,8 @@ use Rattle.std.proofs.Math.ListN.{drop_of_length-le}
 use Rattle.std.specs.List.{concat}
 use Rattle.rb_heredoc.specs.declared.heredoc.Head.{Head}
 use Rattle.rb_heredoc.specs.Lines.{lines_of, line_end}
-use Rattle.rb_heredoc.specs.Bodies.{◌>>=◌, is_end_line, body_in, bodies_in}
+use Rattle.rb_heredoc.specs.Bodies.{is_end_line, body_in, bodies_in}
+use Rattle.rb_base.specs.Option.{◌>>=◌}
 use Rattle.rb_heredoc.proofs.LinesFrom.{lines_here, joined}
 
 abbrev Body : Type 0

@@ -5,11 +5,7 @@ use Rattle.std.specs.Str.{bytes_eq}
 use Rattle.rb_heredoc.specs.declared.heredoc.Head.{Head}
 use Rattle.rb_heredoc.specs.declared.heredoc.Bodies.{Bodies}
 use Rattle.rb_heredoc.specs.Lines.{lines_of, are_white, content}
-
-infixl 10 ◌>>=◌
-abbrev pub ◌>>=◌ : {A B : Type 0} → Option A → (A → Option B) → Option B
-None >>= f = None
-(Some x) >>= f = f x
+use Rattle.rb_base.specs.Option.{◌>>=◌}
 
 -- the line is the identifier of the head, before which white space may stand where the head is indented
 unfoldable pub is_end_line : Head → List ℕ → Bool

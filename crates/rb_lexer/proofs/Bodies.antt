@@ -4,7 +4,8 @@ use Rattle.std.proofs.lemmas.List.{length-append, length-drop}
 use Rattle.std.specs.List.{concat}
 use Rattle.rb_heredoc.specs.declared.heredoc.Head.{Head}
 use Rattle.rb_heredoc.specs.declared.heredoc.Bodies.{Bodies}
-use Rattle.rb_heredoc.specs.Bodies.{◌>>=◌, is_end_line, body_in, bodies_in, bodies_at}
+use Rattle.rb_heredoc.specs.Bodies.{is_end_line, body_in, bodies_in, bodies_at}
+use Rattle.rb_base.specs.Option.{◌>>=◌}
 use Rattle.rb_heredoc.specs.Lines.{lines_of}
 use Rattle.rb_heredoc.proofs.LinesFrom.{joined}
 use Rattle.rb_lexer.specs.Lexing.{first_length}

@@ -3,7 +3,8 @@ use Rattle.std.proofs.Common.{◌≡◌, ℕ, zero, suc, ◌<◌, List, arith, r
 use Rattle.lexer_steps.specs.declared.error.LexError.{LexError}
 use Rattle.lexer_steps.specs.declared.error.LexError.TheVariants.{NoMemory, Syntax}
 use Rattle.rb_lexer.specs.declared.reach.Reach.{Reach}
-use Rattle.lexer_steps.specs.LexError.{◌>>=◌, Fails}
+use Rattle.lexer_steps.specs.LexError.{Fails}
+use Rattle.rb_base.specs.Result.{◌>>=◌}
 use Rattle.rb_lexer.specs.Lexing.{advance, run, finished}
 use Rattle.lexer_steps.specs.State.{State}
 

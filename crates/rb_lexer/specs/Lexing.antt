@@ -15,7 +15,7 @@ use Rattle.rb_lexer.specs.declared.reach.Region.{Region}
 use Rattle.rb_lexer.specs.declared.reach.Region.TheVariants.{Plain, Line, Body}
 use Rattle.rb_lexer.specs.Code.{step_in}
 use Rattle.rb_lexer.specs.Heads.{begins_heredoc, is_indented}
-use Rattle.lexer_steps.specs.LexError.{◌>>=◌}
+use Rattle.rb_base.specs.Result.{◌>>=◌}
 use Rattle.lexer_steps.specs.Names.{spelled}
 use Rattle.lexer_steps.specs.Scan.{line_end}
 use Rattle.lexer_steps.specs.State.{State, opening, pushed, entered, left, top, flushed}

@@ -5,7 +5,8 @@ use Rattle.parser_tree.specs.View.{Tree, view}
 use Rattle.parser_tokens.specs.Tokens.{first}
 use Rattle.parser_tokens.specs.declared.word.Word.{Word}
 use Rattle.parser_tokens.specs.declared.word.Word.TheVariants as words
-use Rattle.parser_forms.specs.Reading.{Tokens, Inside, ◌>>=◌}
+use Rattle.parser_forms.specs.Reading.{Tokens, Inside}
+use Rattle.rb_base.specs.Result.{◌>>=◌}
 use Rattle.parser_statements.specs.Statements.{statements}
 use Rattle.parser_checks.specs.Places.{placed, program as program_around}
 use Rattle.rb_parser.specs.Levels.{levels}

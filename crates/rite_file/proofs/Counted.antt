@@ -15,7 +15,7 @@ use Rattle.rite_code.specs.declared.code.CatchEntry.{CatchEntry}
 use Rattle.rite_code.specs.declared.code.PoolItem.TheVariants.{Int, Text}
 use Rattle.rite_file.specs.declared.error.LoadError.{LoadError}
 use Rattle.rite_file.specs.File.{text, catch_entry, pool_item, counted, IsHeldEntry}
-use Rattle.rite_file.specs.Gives.{◌>>=◌}
+use Rattle.rb_base.specs.Result.{◌>>=◌}
 use Rattle.rite_file.specs.Record.{Reader, guarded, number_at, text_at, item_at, catch_at, list_at, any, is_new, item_eq, catches_at, pool_at, symbols_at}
 use Rattle.rite_file.proofs.Fields.{IsBytes, bind_ok, guard_ok, not-true, ok_is, Takes, Takes-then, rest_at, IsField, wide16, number_field, IsShort, text_field}
 use Rattle.rite_file.proofs.Parts.{catch_field, FitsItem, item_field}

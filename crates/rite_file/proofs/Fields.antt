@@ -9,7 +9,7 @@ use Rattle.std.proofs.lemmas.Int.{to_z-of_z, of_z-to_z}
 use mir.Val.{SFits}
 use Rattle.rite_file.specs.declared.error.LoadError.{LoadError}
 use Rattle.rite_file.specs.File.{text, IsInteger}
-use Rattle.rite_file.specs.Gives.{◌>>=◌}
+use Rattle.rb_base.specs.Result.{◌>>=◌}
 use Rattle.rite_file.specs.Record.{Reader, guarded, bytes_at, number_at, tested_at, text_at, int_at}
 
 abbrev pub IsBytes : List ℕ → Type 0

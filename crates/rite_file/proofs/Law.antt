@@ -17,7 +17,8 @@ use Rattle.rite_file.specs.declared.front.Section.{Section}
 use Rattle.rite_file.specs.declared.records.Record.{Record}
 use Rattle.rite_file.specs.File.{section, irep_name, irep_section, end_section, record_of, version_name, file_of, canonical, IsHeld, Spells, AreSkipped, none}
 use Rattle.rite_file.specs.Front.{four_at, front_of, sized, version_of, section_at, sections_of}
-use Rattle.rite_file.specs.Gives.{◌>>=◌, Gives}
+use Rattle.rite_file.specs.Gives.{Gives}
+use Rattle.rb_base.specs.Result.{◌>>=◌}
 use Rattle.rite_file.specs.Record.{records_at}
 use Rattle.rite_file.specs.Loaded.{irep_in, numbered, records_in, program_in, checked, loaded}
 use Rattle.rite_file.proofs.Fields.{IsBytes, IsBytes-drop, IsBytes-take, bind_ok, ok_is, rest_at, wide32}

@@ -9,7 +9,7 @@ use Rattle.rite_code.specs.declared.code.PoolItem.TheVariants.{Int, Text}
 use Rattle.rite_file.specs.declared.error.LoadError.{LoadError}
 use Rattle.rite_file.specs.declared.counts.Counts.{Counts}
 use Rattle.rite_file.specs.File.{text, kind, catch_entry, pool_item, IsInteger, IsHeldEntry}
-use Rattle.rite_file.specs.Gives.{◌>>=◌}
+use Rattle.rb_base.specs.Result.{◌>>=◌}
 use Rattle.rite_file.specs.Record.{number_at, tested_at, text_at, int_at, are_registers, counts_at, catch_at, item_at}
 use Rattle.rite_file.proofs.Fields.{IsBytes, bind_ok, ok_is, Takes, Takes-then, rest_at, IsField, wide8, wide16, wide32, number_field, IsTested, tested_field, IsShort, text_field, integer, int_field}
 

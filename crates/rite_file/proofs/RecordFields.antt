@@ -12,7 +12,7 @@ use Rattle.rite_file.specs.declared.error.LoadError.{LoadError}
 use Rattle.rite_file.specs.declared.counts.Counts.{Counts}
 use Rattle.rite_file.specs.declared.records.Record.{Record}
 use Rattle.rite_file.specs.File.{text, catch_entry, pool_item, counted, IsHeldEntry}
-use Rattle.rite_file.specs.Gives.{◌>>=◌}
+use Rattle.rb_base.specs.Result.{◌>>=◌}
 use Rattle.rite_file.specs.Record.{guarded, number_at, text_at, counts_at, catches_at, pool_at, symbols_at, record_with, fields_at, record_at, records_at}
 use Rattle.rite_file.proofs.Fields.{IsBytes, bind_ok, guard_ok, ok_is, Takes, Takes-then, rest_at, IsField, wide32, number_field, IsShort, text_field}
 use Rattle.rite_file.proofs.Parts.{spelled_counts, AreCounts, counts_field, FitsItem}

@@ -6,7 +6,7 @@ use Rattle.rite_file.specs.declared.error.LoadError.{LoadError}
 use Rattle.rite_file.specs.declared.error.LoadError.TheVariants.{NotRite, Foreign, Truncated, BadSection}
 use Rattle.rite_file.specs.declared.front.Header.{Header}
 use Rattle.rite_file.specs.declared.front.Section.{Section}
-use Rattle.rite_file.specs.Gives.{◌>>=◌}
+use Rattle.rb_base.specs.Result.{◌>>=◌}
 
 -- four bytes at a place
 unfoldable pub four_at : List ℕ → ℕ → List ℕ

@@ -3,11 +3,6 @@ use Rattle.std.specs.Prelude.{◌≡◌, Result, Ok, Err}
 use Rattle.rite_file.specs.declared.error.LoadError.{LoadError}
 use Rattle.rite_file.specs.declared.error.LoadError.TheVariants.{NotRite, Foreign, Truncated, BadSection, BadRecord, NoMemory}
 
-infixl 10 ◌>>=◌
-abbrev pub ◌>>=◌ : {A B : Type 0} → Result A LoadError → (A → Result B LoadError) → Result B LoadError
-(Ok x) >>= f = f x
-(Err e) >>= f = Err e
-
 -- a function that failed so was to fail so, unless memory ran out
 abbrev pub Fails : {A : Type 0} → LoadError → Result A LoadError → Type 0
 Fails NotRite wanted = wanted ≡ Err NotRite

@@ -7,7 +7,7 @@ use Rattle.rite_file.specs.declared.error.LoadError.{LoadError}
 use Rattle.rite_file.specs.declared.error.LoadError.TheVariants.{BadSection, BadRecord}
 use Rattle.rite_file.specs.declared.front.Section.{Section}
 use Rattle.rite_file.specs.declared.records.Record.{Record}
-use Rattle.rite_file.specs.Gives.{◌>>=◌}
+use Rattle.rb_base.specs.Result.{◌>>=◌}
 use Rattle.rite_file.specs.File.{irep_name, end_name, debug_name, locals_name}
 use Rattle.rite_file.specs.Front.{four_at, front_of, sized, version_of, sections_of}
 use Rattle.rite_file.specs.Record.{records_at}

@@ -11,7 +11,7 @@ use Rattle.rite_file.specs.declared.error.LoadError.{LoadError}
 use Rattle.rite_file.specs.declared.error.LoadError.TheVariants.{BadRecord}
 use Rattle.rite_file.specs.declared.counts.Counts.{Counts}
 use Rattle.rite_file.specs.declared.records.Record.{Record}
-use Rattle.rite_file.specs.Gives.{◌>>=◌}
+use Rattle.rb_base.specs.Result.{◌>>=◌}
 
 -- a reader: the value at a place of the bytes and the place behind it, or the place of the field at fault
 abbrev pub Reader : Type 0 → Type 0

@@ -5,7 +5,7 @@ use Rattle.std.proofs.lemmas.List.{map-append, length-map, take-map}
 use Rattle.std.specs.Borrow.{Bor}
 use Rattle.text_set.specs.Sets.{text, texts}
 use Rattle.std.specs.List.{list_any}
-use Rattle.rb_syntax.specs.Names.{is_among, with_name}
+use Rattle.text_set.specs.Sets.{is_among, with_text}
 
 among_or : (a b : Bool) → (if a then true else b) ≡ (a || b)
 among_or true b = refl
@@ -15,8 +15,8 @@ pub is_among-texts : (x : List ℕ) (ks : List (Bor (List ℕ))) → is_among x 
 is_among-texts x [] = refl
 is_among-texts x (k ∷ ks) = rw (is_among-texts x ks) (among_or (bytes_eq x k.now) (list_any (λ (k : Bor (List ℕ)). bytes_eq x k.now) ks))
 
-pub with_name-texts : (k : Bor (List ℕ)) (ks : List (Bor (List ℕ))) → texts (if list_any (λ (y : Bor (List ℕ)). bytes_eq k.now y.now) ks then ks else ks ++ k ∷ []) ≡ with_name (texts ks) k.now
-with_name-texts k ks = rw (is_among-texts k.now ks) (at (list_any (λ (y : Bor (List ℕ)). bytes_eq k.now y.now) ks))
+pub with_text-texts : (k : Bor (List ℕ)) (ks : List (Bor (List ℕ))) → texts (if list_any (λ (y : Bor (List ℕ)). bytes_eq k.now y.now) ks then ks else ks ++ k ∷ []) ≡ with_text (texts ks) k.now
+with_text-texts k ks = rw (is_among-texts k.now ks) (at (list_any (λ (y : Bor (List ℕ)). bytes_eq k.now y.now) ks))
   where
     at : (b : Bool) → texts (if b then ks else ks ++ k ∷ []) ≡ (if b then texts ks else texts ks ++ k.now ∷ [])
     at true = refl
@@ -28,4 +28,4 @@ length-texts ks = length-map ks text
 pub take-texts : (n : ℕ) (ks : List (Bor (List ℕ))) → texts (take n ks) ≡ take n (texts ks)
 take-texts n ks = sym (take-map text n ks)
 
-pub ruleset set_laws = (is_among-texts, with_name-texts, length-texts, take-texts)
+pub ruleset set_laws = (is_among-texts, with_text-texts, length-texts, take-texts)

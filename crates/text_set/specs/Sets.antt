@@ -1,5 +1,5 @@
 -- Lists of different texts, in the order in which they were added.
-use Rattle.std.specs.Prelude.{ℕ, List, map}
+use Rattle.std.specs.Prelude.{ℕ, List, [], ◌∷◌, ◌++◌, map, Bool, true, false, bytes_eq, if◌then◌else◌}
 use Rattle.std.specs.Borrow.{Bor}
 
 -- the text that a slice shows
@@ -8,3 +8,12 @@ text t = t.now
 
 abbrev pub texts : List (Bor (List ℕ)) → List (List ℕ)
 texts ts = map text ts
+
+-- whether a text is one of a list
+abbrev pub is_among : List ℕ → List (List ℕ) → Bool
+is_among x [] = false
+is_among x (y ∷ ys) = if bytes_eq x y then true else is_among x ys
+
+-- the list with a text at its end, where it isn't there yet
+abbrev pub with_text : List (List ℕ) → List ℕ → List (List ℕ)
+with_text texts x = if is_among x texts then texts else texts ++ x ∷ []

@@ -1,5 +1,5 @@
 ghost use Rattle.std.specs.Prelude.{◌≡◌, [], length, not, take, IfOk, OnOk};
-ghost use Rattle.rb_syntax.specs.Names.{is_among, with_name};
+ghost use Rattle.text_set.specs.Sets.{is_among, with_text};
 ghost use Rattle.text_set.specs.Sets.{texts};
 
 use indexmap::IndexSet;
@@ -34,7 +34,7 @@ impl<'a> TextSet<'a> {
     /// Adds a text, and says whether it wasn't there yet.
     #[tactic(auto, using(crate::proofs::Sets::set_laws))]
     pub fn add(&mut self, text: &'a [u8]) -> Result<bool, AllocError>
-        ensures set { OnOk result (self.new ≡ with_name self.old text.now) }
+        ensures set { OnOk result (self.new ≡ with_text self.old text.now) }
         ensures fresh { IfOk result (λ new. new ≡ not (is_among text.now self.old)) }
     {
         let new = self.texts.insert(text)?;

@@ -1,6 +1,6 @@
 -- Branches.
 use Rattle.std.proofs.Common.{◌≡◌, ◌⊎◌, ℕ, ◌+◌, ℤ, List, ◌∷◌, refl, sym, ap, ◌∙◌, subst, inl, inr, arith, Bool, true, false, if◌then◌else◌}
-use Rattle.rb_syntax.specs.Form.{Form, cond}
+use Rattle.path_core.specs.Form.{Form, cond}
 use Rattle.path_value.specs.Value.{is_true}
 use Rattle.path_value.specs.declared.value.Value.{Value}
 use Rattle.rite_code.specs.Code.{Program}

@@ -1,6 +1,6 @@
 -- Reading and assigning a local variable.
 use Rattle.std.proofs.Common.{◌≡◌, ℕ, ◌+◌, ◌<◌, List, ◌∷◌, sym, ap, ◌∙◌, subst, arith}
-use Rattle.rb_syntax.specs.Form.{Name, Form, local, set_local}
+use Rattle.path_core.specs.Form.{Name, Form, local, set_local}
 use Rattle.path_value.specs.declared.value.Value.{Value}
 use Rattle.rite_code.specs.Code.{Program}
 use Rattle.rite_code.specs.declared.operation.Operation.TheVariants.{Move}

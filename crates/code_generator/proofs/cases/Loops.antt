@@ -1,6 +1,6 @@
 -- Loops.
 use Rattle.std.proofs.Common.{◌≡◌, ℕ, ◌+◌, List, ◌∷◌, refl, sym, ap, ◌∙◌, subst, arith, Bool, true, false, if◌then◌else◌}
-use Rattle.rb_syntax.specs.Form.{Form, while_form}
+use Rattle.path_core.specs.Form.{Form, while_form}
 use Rattle.path_value.specs.Value.{is_true}
 use Rattle.path_value.specs.declared.value.Value.{Value}
 use Rattle.path_value.specs.declared.value.Value.TheVariants.{Nil}

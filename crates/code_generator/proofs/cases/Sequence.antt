@@ -1,6 +1,6 @@
 -- Sequences.
 use Rattle.std.proofs.Common.{◌≡◌, ℕ, ◌+◌, List, ◌∷◌, sym, subst, arith}
-use Rattle.rb_syntax.specs.Form.{seq, Forms, none, more}
+use Rattle.path_core.specs.Form.{seq, Forms, none, more}
 use Rattle.path_value.specs.declared.value.Value.{Value}
 use Rattle.path_value.specs.declared.value.Value.TheVariants.{Nil}
 use Rattle.rite_code.specs.Code.{Program}

@@ -2,8 +2,8 @@
 use Rattle.std.proofs.Common.{◌≡◌, ℕ, ◌+◌, ◌<◌, ℤ, pos, negsuc, List, [], ◌∷◌, ◌++◌, refl, sym, ap, ◌∙◌, subst, arith, length, map, Bool, true, false, cond, length-append, get_or}
 use Rattle.std.specs.Prelude.{nat_lt, codes}
 use Rattle.std.proofs.lemmas.List.{map-append, length-map}
-use Rattle.rb_syntax.specs.Form.{Action, give_nil, give_true, give_int, call_operator, call_puts, strict, Forms, none, more}
-use Rattle.rb_syntax.specs.Limits.{arity}
+use Rattle.path_core.specs.Form.{Action, give_nil, give_true, give_int, call_operator, call_puts, strict, Forms, none, more}
+use Rattle.code_generator.specs.Limits.{arity}
 use Rattle.rb_syntax.specs.declared.operator.Operator.{Operator}
 use Rattle.rb_syntax.specs.declared.operator.Operator.TheVariants.{Plus, Minus, Times, Equal, Less, LessEqual, Greater, GreaterEqual}
 use Rattle.path_value.specs.declared.value.Value.{Value}

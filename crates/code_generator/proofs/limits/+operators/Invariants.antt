@@ -1,5 +1,5 @@
 use Rattle.std.proofs.Common.{◌≡◌, drop}
-use Rattle.rb_syntax.specs.Limits.{all_operations}
+use Rattle.code_generator.specs.Limits.{all_operations}
 use Rattle.code_generator.specs.Built.{left_after}
 use Rattle.code_generator.specs.Emission.{all_forms}
 use Rattle.code_generator.proofs.limits.+operators.Given as goal

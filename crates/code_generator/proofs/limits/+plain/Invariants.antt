@@ -1,5 +1,5 @@
 use Rattle.std.proofs.Common.{◌≡◌, drop}
-use Rattle.rb_syntax.specs.Limits.{are_plain}
+use Rattle.code_generator.specs.Limits.{are_plain}
 use Rattle.code_generator.specs.Emission.{all_forms}
 use Rattle.code_generator.proofs.limits.+plain.Given as goal
 

@@ -1,5 +1,5 @@
 use Rattle.std.proofs.Common.{◌≡◌, ◌≤◌, drop, take, length}
-use Rattle.rb_syntax.specs.Limits.{lines_scoped}
+use Rattle.code_generator.specs.Limits.{lines_scoped}
 use Rattle.code_generator.specs.Emission.{all_forms}
 use Rattle.code_generator.proofs.limits.+scopes.Given as goal
 

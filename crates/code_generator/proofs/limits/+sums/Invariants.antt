@@ -1,5 +1,5 @@
 use Rattle.std.proofs.Common.{◌≡◌, drop}
-use Rattle.rb_syntax.specs.Limits.{have_short_sums}
+use Rattle.code_generator.specs.Limits.{have_short_sums}
 use Rattle.code_generator.specs.Emission.{all_forms}
 use Rattle.code_generator.proofs.limits.+sums.Given as goal
 

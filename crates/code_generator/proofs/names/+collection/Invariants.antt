@@ -1,5 +1,5 @@
 use Rattle.std.proofs.Common.{◌≡◌, drop}
-use Rattle.rb_syntax.specs.Names.{add_all}
+use Rattle.code_generator.specs.Names.{add_all}
 use Rattle.code_generator.specs.Emission.{all_forms}
 use Rattle.code_generator.proofs.names.+collection.Given as goal
 

@@ -1,5 +1,5 @@
 use Rattle.std.proofs.Common.{◌≡◌, drop}
-use Rattle.rb_syntax.specs.Names.{is_among}
+use Rattle.text_set.specs.Sets.{is_among}
 use Rattle.code_generator.proofs.names.is_known.Given as goal
 
 abbrev pub invariant-loop-known : goal.invariant-loop-known

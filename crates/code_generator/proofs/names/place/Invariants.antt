@@ -1,5 +1,5 @@
 use Rattle.std.proofs.Common.{◌≡◌, ◌+◌, drop}
-use Rattle.rb_syntax.specs.Names.{place_of}
+use Rattle.path_core.specs.Form.{place_of}
 use Rattle.code_generator.proofs.names.place.Given as goal
 
 abbrev pub invariant-loop-i : goal.invariant-loop-i

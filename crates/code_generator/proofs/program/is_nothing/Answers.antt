@@ -1,6 +1,6 @@
 use Rattle.std.proofs.Common.{◌≡◌, ◌∙◌, ap, ℕ, List, [], ◌∷◌, refl, length, nat_eq, map, arith}
 use Rattle.std.proofs.lemmas.Bool.{ne_eqb}
-use Rattle.rb_syntax.specs.Form.{Form, seq, forms}
+use Rattle.path_core.specs.Form.{Form, seq, forms}
 use Rattle.code_generator.specs.Gen.{is_nothing}
 use Rattle.code_generator.specs.declared.tree.Tree.{the_lemmas}
 use Rattle.code_generator.proofs.program.is_nothing.Goals as goal

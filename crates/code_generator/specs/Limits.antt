@@ -1,7 +1,8 @@
 -- What is asked of a form besides its grammar: known names, numbers that fit, and sizes.
 use Rattle.std.specs.Prelude.{◌≡◌, ℕ, ◌+◌, ◌≤◌, ℤ, pos, negsuc, Bool, true, false, ◌&&◌, nat_le, nat_lt, nat_eq, List, [], ◌∷◌, length}
-use Rattle.rb_syntax.specs.Form.{Name, Action, give_nil, give_true, give_int, call_operator, call_puts, Form, strict, local, set_local, seq, cond, while_form, Forms, none, more}
-use Rattle.rb_syntax.specs.Names.{is_among, with_name, names_of}
+use Rattle.path_core.specs.Form.{Name, Action, give_nil, give_true, give_int, call_operator, call_puts, Form, strict, local, set_local, seq, cond, while_form, Forms, none, more}
+use Rattle.text_set.specs.Sets.{is_among, with_text}
+use Rattle.code_generator.specs.Names.{names_of}
 
 -- how many operands an action takes
 abbrev pub arity : Action → ℕ
@@ -45,7 +46,7 @@ abbrev mutual
 abbrev pub known_after : List Name → Form → List Name
 known_after known (strict a es) = known
 known_after known (local x) = known
-known_after known (set_local x e) = with_name known x
+known_after known (set_local x e) = with_text known x
 known_after known (seq es) = known
 known_after known (cond t a b) = known
 known_after known (while_form t b) = known

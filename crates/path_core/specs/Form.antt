@@ -1,5 +1,5 @@
 -- A core form, without where it lies in memory.
-use Rattle.std.specs.Prelude.{ℕ, ℤ, List, [], ◌∷◌}
+use Rattle.std.specs.Prelude.{ℕ, ◌+◌, ℤ, List, [], ◌∷◌, bytes_eq, if◌then◌else◌}
 use Rattle.rb_syntax.specs.declared.operator.Operator.{Operator}
 
 -- a name, by its bytes
@@ -40,3 +40,8 @@ one f = more f none
 
 abbrev pub two : Form → Form → Forms
 two f g = more f (more g none)
+
+-- the place of a name in a list, or the length of the list where it isn't there
+abbrev pub place_of : Name → List Name → ℕ
+place_of x [] = 0
+place_of x (y ∷ ys) = if bytes_eq x y then 0 else place_of x ys + 1
