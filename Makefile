@@ -2,11 +2,15 @@
 SRC ?= examples/one.rb
 OUT ?= $(basename $(SRC)).mrb
 STEPS ?=
+JOBS ?=
+CRATE ?=
 PREFIX ?= /usr/local
-RITE := crates/mrb_tool/out/mrb_tool
-SOURCES := crates.txt HANDLES $(shell find crates -path '*/out' -prune -o \( -name '*.rt' -o -name '*.antt' \) -print)
+RITE := build/rite
+BELOW := $(addprefix crates/,$(shell scripts/crates.py below mrb_tool))
+SOURCES := crates.txt HANDLES $(shell find $(addsuffix /src,$(BELOW)) -name '*.rt') \
+	$(shell find $(wildcard $(addsuffix /specs,$(BELOW)) $(addsuffix /proofs,$(BELOW))) -name '*.antt')
 
-.PHONY: run build test wrong-bodies install
+.PHONY: run build install check test wrong-bodies pages
 
 # Compiles SRC, writes its code to OUT and runs the file that was written.
 run: $(RITE)
@@ -14,20 +18,26 @@ run: $(RITE)
 
 build: $(RITE)
 
-# The first build proves every crate below the program, which takes about an hour. Without words the program ends with
-# status 120.
+# The first build proves every crate that the program stands on; later ones prove what changed.
 $(RITE): $(SOURCES)
-	@cd crates/mrb_tool && { rt run >out.log 2>&1; status=$$?; \
-		if [ $$status -ne 120 ]; then cat out.log; rm -f out.log; exit 1; fi; rm -f out.log; touch out/mrb_tool; }
+	@scripts/build $(JOBS)
+
+install: $(RITE)
+	install -D $(RITE) $(DESTDIR)$(PREFIX)/bin/rite
+
+# Checks the crate CRATE and those that stand on it, the lowest first, over what earlier checks kept.
+check:
+	@crates=$$(scripts/crates.py above $(CRATE)) && for crate in $$crates; do \
+		echo "== $$crate"; (cd crates/$$crate && rt check) || exit 1; done
 
 test:
 	@rt ci
 
-# Tries the wrong bodies that are not among the tests, in a copy: each must be refused.
+# Tries the wrong bodies that are not in the gate, all of them or those of the crate CRATE: each must be refused.
 wrong-bodies:
-	@copy=$$(mktemp -d) && cp -r . $$copy/all && cd $$copy/all && for more in crates/*/wrong-bodies; do \
-		mkdir -p $$(dirname $$more)/must-fail && mv $$more/*.edit $$(dirname $$more)/must-fail/; done && rt must-fail; \
-		status=$$?; rm -rf $$copy; exit $$status
+	@scripts/wrong-bodies $(CRATE)
 
-install: $(RITE)
-	install -D $(RITE) $(PREFIX)/rite
+# Writes the tables that scripts make into docs/.
+pages:
+	@scripts/definitions --write
+	@scripts/sizes --write
