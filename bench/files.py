@@ -4,7 +4,7 @@
     bench/files.py speed RITE [MEBIBYTES]   time of `list` and `info` over a file of many bodies, in MB/s
     bench/files.py broken RITE [FILES]      files with one to four bytes changed: each call must end with an answer
 
-RITE is the built program (crates/mrb_tool/out/mrb_tool).
+RITE is the built program (build/rite).
 """
 import os
 import random

@@ -3,7 +3,7 @@
 
     bench/front.py RITE [LINES]
 
-RITE is the built program (crates/mrb_tool/out/mrb_tool), `mrbc` stands on the path. The source is made of the programs
+RITE is the built program (build/rite), `mrbc` stands on the path. The source is made of the programs
 of examples/programs that both read, again and again up to about so many lines (9,000 without a number; mruby refuses a
 body of some 11,000). RITE reads it as tokens, tree and core, and refuses the core, of which it builds little so far:
 what is timed is the front end alone. mruby's compiler makes the code, too, also with `-c`, which doesn't write it.

@@ -3,7 +3,7 @@
 
     bench/texts.py RITE [MEBIBYTES]
 
-RITE is the built program (crates/mrb_tool/out/mrb_tool). Each text of about so many MiB (16 without a number) is given
+RITE is the built program (build/rite). Each text of about so many MiB (16 without a number) is given
 to `build`; it is read up to its core, or refused on the way, and little of it is built so far.
 """
 import os
