@@ -2,7 +2,6 @@
 SRC ?= examples/one.rb
 OUT ?= $(basename $(SRC)).mrb
 STEPS ?=
-JOBS ?=
 CRATE ?=
 PREFIX ?= /usr/local
 RITE := build/rite
@@ -18,9 +17,9 @@ run: $(RITE)
 
 build: $(RITE)
 
-# The first build proves every crate that the program stands on; later ones prove what changed.
+# The first build proves every crate that the program stands on; later ones prove what changed and what stands on it.
 $(RITE): $(SOURCES)
-	@scripts/build $(JOBS)
+	@scripts/build
 
 install: $(RITE)
 	install -D $(RITE) $(DESTDIR)$(PREFIX)/bin/rite
