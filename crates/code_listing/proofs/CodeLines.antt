@@ -12,11 +12,20 @@ unfoldable pub lines_at : ℕ → ℕ → List ℕ → ℕ → List ℕ
 lines_at most version code at = lines_from code at (standings most version code at)
 
 -- an instruction can be read
-pub next_line : (most version : ℕ) (code : List ℕ) (at next : ℕ) (i : Instruction) → at < length code → length code - at ≤ most → decode version code at ≡ Some (i, next) → at < next → (m : ℕ) × ((length code - next ≤ m) × (lines_at most version code at ≡ instruction_line (standing at (i, next)) ++ lines_at m version code next))
+pub next_line : (most version : ℕ) (code : List ℕ) (at next : ℕ) (i : Instruction) → at < length code
+    → length code - at ≤ most → decode version code at ≡ Some (i, next) → at < next
+    → (m : ℕ) × ((length code - next ≤ m) × (lines_at most version code at ≡ instruction_line (standing at (i, next))
+    ++ lines_at m version code next))
 unfolding lines_at standings end_of
 next_line zero version code at next i h enough e further = absurd (omega arith)
-next_line (suc m) version code at next i h enough e further =
-    (m, (omega arith, ap (λ (found : Option (Instruction × ℕ)). lines_from code at (begun at found (standings m version code))) e ∙ append_assoc (instruction_line (standing at (i, next))) _ _))
+next_line (suc m) version code at next i h enough e further = (
+  m,
+  (
+    omega arith,
+    ap (λ (found : Option (Instruction × ℕ)). lines_from code at (begun at found (standings m version code))) e
+        ∙ append_assoc (instruction_line (standing at (i, next))) _ _,
+  ),
+)
 
 inside : (at size : ℕ) (a b : List ℕ) → at < size → (if nat_lt at size then a else b) ≡ a
 inside at size a b h =
@@ -29,11 +38,13 @@ outside at size a b h =
     rw it_is_not
 
 -- none can be read within the code
-pub no_line : (most version : ℕ) (code : List ℕ) (at : ℕ) → at < length code → length code - at ≤ most → decode version code at ≡ None → lines_at most version code at ≡ unreadable_line at
+pub no_line : (most version : ℕ) (code : List ℕ) (at : ℕ) → at < length code → length code - at ≤ most
+    → decode version code at ≡ None → lines_at most version code at ≡ unreadable_line at
 unfolding lines_at standings end_of
 no_line zero version code at h enough e = absurd (omega arith)
 no_line (suc m) version code at h enough e =
-    ap (λ (found : Option (Instruction × ℕ)). lines_from code at (begun at found (standings m version code))) e ∙ inside at (length code) (unreadable_line at) [] h
+    ap (λ (found : Option (Instruction × ℕ)). lines_from code at (begun at found (standings m version code))) e
+    ∙ inside at (length code) (unreadable_line at) [] h
 
 narrow_none : (code : List ℕ) (at : ℕ) → length code ≤ at → decode_at code at ≡ None
 unfolding decode_at narrow_front
@@ -52,4 +63,6 @@ pub end_lines : (most version : ℕ) (code : List ℕ) (at : ℕ) → length cod
 unfolding lines_at standings end_of
 end_lines zero version code at h = outside at (length code) (unreadable_line at) [] h
 end_lines (suc m) version code at h =
-    ap (λ (found : Option (Instruction × ℕ)). lines_from code at (begun at found (standings m version code))) (either (nat_eq version 1) _ _ (narrow_none code at h) (wide_none code at h)) ∙ outside at (length code) (unreadable_line at) [] h
+    ap (λ (found : Option (Instruction × ℕ)). lines_from code at (begun at found (standings m version code)))
+    (either (nat_eq version 1) _ _ (narrow_none code at h) (wide_none code at h))
+    ∙ outside at (length code) (unreadable_line at) [] h

@@ -4,7 +4,8 @@ use Rattle.rite_file.specs.declared.error.LoadError.{LoadError}
 use Rattle.rite_file.specs.declared.front.Section.{Section}
 use Rattle.code_listing.specs.Info.{fitting, first_error, section_line}
 
-pub one_fits : (xs rest : List (Result Section LoadError)) (s : Section) → Some (Ok s) ≡ slice_get xs 0 → rest ≡ drop 1 xs → flat_map section_line (fitting xs) ≡ section_line s ++ flat_map section_line (fitting rest)
+pub one_fits : (xs rest : List (Result Section LoadError)) (s : Section) → Some (Ok s) ≡ slice_get xs 0
+    → rest ≡ drop 1 xs → flat_map section_line (fitting xs) ≡ section_line s ++ flat_map section_line (fitting rest)
 unfolding fitting
 one_fits [] rest s e f = cc
 one_fits (Ok t ∷ xs) rest s e f =
@@ -24,13 +25,15 @@ none_left [] e = refl
 none_left (Ok t ∷ xs) e = cc
 none_left (Err y ∷ xs) e = refl
 
-pub fits_on : (xs rest : List (Result Section LoadError)) (s : Section) → Some (Ok s) ≡ slice_get xs 0 → rest ≡ drop 1 xs → first_error rest ≡ first_error xs
+pub fits_on : (xs rest : List (Result Section LoadError)) (s : Section) → Some (Ok s) ≡ slice_get xs 0
+    → rest ≡ drop 1 xs → first_error rest ≡ first_error xs
 unfolding first_error
 fits_on [] rest s e f = cc
 fits_on (Ok t ∷ xs) rest s e f = rw f
 fits_on (Err x ∷ xs) rest s e f = cc
 
-pub fits_not : (xs : List (Result Section LoadError)) (x : LoadError) → Some (Err x) ≡ slice_get xs 0 → first_error xs ≡ Err x
+pub fits_not : (xs : List (Result Section LoadError)) (x : LoadError) → Some (Err x) ≡ slice_get xs 0
+    → first_error xs ≡ Err x
 unfolding first_error
 fits_not [] x e = cc
 fits_not (Ok t ∷ xs) x e = cc

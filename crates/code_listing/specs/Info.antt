@@ -8,12 +8,14 @@ use Rattle.rite_file.specs.Front.{header_of, sections_of}
 use Rattle.rb_base.specs.Result.{◌>>=◌}
 use Rattle.code_listing.specs.declared.info_fault.InfoFault.{InfoFault}
 use Rattle.code_listing.specs.declared.info_fault.InfoFault.TheVariants.{Refused, Failed}
-use Rattle.code_listing.specs.Writing.{Stream}
+use Rattle.rb_refusal.specs.Writing.{Stream}
 use Rattle.code_listing.specs.Listing.{line}
-use Rattle.code_listing.specs.RefusalText.{visible_name}
+use Rattle.rb_refusal.specs.RefusalText.{visible_name}
 
 unfoldable pub header_line : Header → List ℕ
-header_line h = line (codes "RITE 0300 size " ++ (decimal h.size ++ (codes " compiler " ++ (visible_name h.name ++ (codes " " ++ visible_name h.version)))))
+header_line h =
+    line (codes "RITE 0300 size "
+    ++ (decimal h.size ++ (codes " compiler " ++ (visible_name h.name ++ (codes " " ++ visible_name h.version)))))
 
 -- an identifier, without a last zero byte
 abbrev pub section_name : List ℕ → List ℕ
@@ -48,6 +50,9 @@ info_of bytes = checked bytes >>= λ h. Ok (lines_of (sections_of bytes) h)
 -- the text that was meant went out whole, or a call failed and a front of it went out; or an error was meant, and
 -- nothing went out
 abbrev pub Informs : Result (List ℕ) LoadError → Stream → Stream → Result Unit InfoFault → Type 0
-Informs meant before after (Ok done) = (text : List ℕ) × (meant ≡ Ok text) × (after.taken ≡ with_more before.taken text) × (after.faults ≡ before.faults)
-Informs meant before after (Err (Refused e)) = (meant ≡ Err e) × (after.taken ≡ before.taken) × (after.faults ≡ before.faults)
-Informs meant before after (Err Failed) = (text : List ℕ) × (meant ≡ Ok text) × TookFront before.taken after.taken text × Rose before.faults after.faults
+Informs meant before after (Ok done) = (text : List ℕ) × (meant ≡ Ok text)
+    × (after.taken ≡ with_more before.taken text) × (after.faults ≡ before.faults)
+Informs meant before after (Err (Refused e)) = (meant ≡ Err e) × (after.taken ≡ before.taken)
+    × (after.faults ≡ before.faults)
+Informs meant before after (Err Failed) = (text : List ℕ) × (meant ≡ Ok text) × TookFront before.taken after.taken
+    text × Rose before.faults after.faults

@@ -1,12 +1,12 @@
 -- A text as the language writes it: in quotes, with escapes.
 use Rattle.std.specs.Prelude.{ℕ, ◌+◌, ◌/◌, ◌%◌, List, [], ◌∷◌, ◌++◌, Option, Some, None, Bool, false, ◌&&◌, ◌||◌, nat_eq, nat_lt, nat_le, if◌then◌else◌}
 
--- behind `#`, an insertion would begin at `{`, `$` or `@`
+-- after `#`, an insertion would begin at `{`, `$` or `@`
 abbrev pub begins_insertion : List ℕ → Bool
 begins_insertion [] = false
 begins_insertion (c ∷ cs) = nat_eq c 123 || nat_eq c 36 || nat_eq c 64
 
--- what stands behind the backslash, for a byte with a letter of its own
+-- what stands after the backslash, for a byte with a letter of its own
 abbrev pub letter_of : ℕ → Option ℕ
 letter_of c =
     if nat_eq c 7 then Some 97
@@ -21,7 +21,7 @@ letter_of c =
     else if nat_eq c 92 then Some 92
     else None
 
--- the same, with `#` where an insertion would begin behind it
+-- the same, with `#` where an insertion would begin after it
 abbrev pub escape_of : ℕ → Bool → Option ℕ
 escape_of c inserts = if nat_eq c 35 && inserts then Some 35 else letter_of c
 

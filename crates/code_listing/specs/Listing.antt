@@ -40,7 +40,7 @@ signed_number z = 32 ∷ signed_decimal z
 abbrev pub is_jump : Opcode → Bool
 is_jump o = nat_le (number_of opcode.Jmp) (number_of o) && nat_le (number_of o) (number_of opcode.JmpUw)
 
--- a jump shows its target, from the place behind the instruction
+-- a jump shows its target, from the place after the instruction
 abbrev pub signed_shown : ℕ → Opcode → ℤ → ℤ
 signed_shown next o by = if is_jump o then pos next +ℤ by else by
 
@@ -57,7 +57,8 @@ numbers_shown BSS o by = pos o.a ∷ (by ∷ [])
 numbers_shown W o by = pos (word_of o.parameters) ∷ []
 
 abbrev pub operands_shown : ℕ → Operation → List ℤ
-operands_shown next o = numbers_shown (shape_of (opcode_in o)) (operands_in o) (signed_shown next (opcode_in o) (operands_in o).by)
+operands_shown next o = numbers_shown (shape_of (opcode_in o)) (operands_in o)
+    (signed_shown next (opcode_in o) (operands_in o).by)
 
 -- a wide instruction shows its prefix
 abbrev pub prefix : Bool → List ℕ
@@ -67,14 +68,17 @@ abbrev pub mnemonic : Bool → Opcode → List ℕ
 mnemonic wide o = prefix wide ++ name_of o
 
 unfoldable pub instruction_line : Standing → List ℕ
-instruction_line s = line (address s.at ++ (mnemonic s.instruction.wide (opcode_in s.instruction.operation) ++ flat_map signed_number (operands_shown s.next s.instruction.operation)))
+instruction_line s =
+    line (address s.at ++ (mnemonic s.instruction.wide (opcode_in s.instruction.operation) ++ flat_map signed_number
+    (operands_shown s.next s.instruction.operation)))
 
 unfoldable pub unreadable_line : ℕ → List ℕ
 unreadable_line at = line (address at ++ codes " ???")
 
 -- the instructions from a place on, and a line where reading ends within the code
 abbrev pub lines_from : List ℕ → ℕ → List Standing → List ℕ
-lines_from code at ss = flat_map instruction_line ss ++ (if nat_lt (end_of at ss) (length code) then unreadable_line (end_of at ss) else [])
+lines_from code at ss = flat_map instruction_line ss
+    ++ (if nat_lt (end_of at ss) (length code) then unreadable_line (end_of at ss) else [])
 
 unfoldable pub code_lines : ℕ → List ℕ → List ℕ
 code_lines version code = lines_from code 0 (layout version code)
@@ -100,7 +104,10 @@ unfoldable pub symbol_line : ℕ → List ℕ → List ℕ
 symbol_line n name = (codes "sym " ++ (decimal n ++ codes " ")) ++ text_end name
 
 unfoldable pub head_line : ℕ → Irep → List ℕ
-head_line n b = line (codes "irep " ++ (decimal n ++ (codes " locals " ++ (decimal b.locals ++ (codes " registers " ++ (decimal b.registers ++ (codes " children " ++ decimal (length b.children))))))))
+head_line n b =
+    line (codes "irep " ++ (decimal n
+    ++ (codes " locals " ++ (decimal b.locals
+    ++ (codes " registers " ++ (decimal b.registers ++ (codes " children " ++ decimal (length b.children))))))))
 
 -- the texts of a list's entries, each by its number
 unfoldable pub numbered : {A : Type 0} → (ℕ → A → List ℕ) → ℕ → List A → List ℕ
@@ -108,7 +115,9 @@ numbered f n [] = []
 numbered f n (x ∷ xs) = f n x ++ numbered f (n + 1) xs
 
 unfoldable pub body_lines : ℕ → ℕ → Irep → List ℕ
-body_lines version n b = head_line n b ++ (code_lines version b.code ++ (flat_map catch_line b.catches ++ (numbered pool_line 0 b.pool ++ numbered symbol_line 0 b.symbols)))
+body_lines version n b =
+    head_line n b ++ (code_lines version b.code
+    ++ (flat_map catch_line b.catches ++ (numbered pool_line 0 b.pool ++ numbered symbol_line 0 b.symbols)))
 
 -- the bodies by number
 unfoldable pub listing_of : Program → List ℕ

@@ -1,14 +1,14 @@
 //! Programs as text: a line for each body, and in it one for each instruction, catch entry, pool entry and symbol.
-ghost use Rattle.std.specs.Prelude.{◌≡◌, ◌++◌, codes, decimal, flat_map, All};
+ghost use Rattle.std.specs.Prelude.{◌≡◌, ◌++◌, decimal, flat_map, All};
 ghost use Rattle.rite_code.specs.Code.{IsBody};
 ghost use Rattle.code_listing.specs.Listing as texts;
-ghost use Rattle.code_listing.specs.Writing.{Says};
+ghost use Rattle.rb_refusal.specs.Writing.{Says};
 
 use crate::inspecting::write_inspected;
 use crate::instructions::write_code;
-use crate::pieces::{write_pieces, write_text};
 use itoa::Buffer;
 use rb_base::{Bytes, Failed, Sink};
+use rb_refusal::{write_pieces, write_text};
 use rite_code::{CatchEntry, Code, Irep, PoolItem};
 
 // Which exits an entry takes.
@@ -54,20 +54,20 @@ fn write_catches<O: Sink>(out: &mut O, entries: &[CatchEntry]) -> Result<(), Fai
     Ok(())
 }
 
-// Writes a kind of entry, its number, and what stands behind it.
+// Writes a kind of entry, its number, and what comes after it.
 fn write_numbered<O: Sink>(
     out: &mut O,
     kind: &'static [u8],
     number: usize,
-    behind: &'static [u8],
+    rest: &'static [u8],
 ) -> Result<(), Failed>
-    ensures { Says (kind.now ++ (decimal number ++ behind.now))
+    ensures { Says (kind.now ++ (decimal number ++ rest.now))
         (record { taken = O.taken out.old; faults = O.faults out.old })
         (record { taken = O.taken out.new; faults = O.faults out.new }) result }
 {
     let mut buffer = Buffer::new();
     let digits = buffer.format(number).as_bytes();
-    write_pieces(out, &[kind, digits, behind])
+    write_pieces(out, &[kind, digits, rest])
 }
 
 // Writes a text in quotes and ends the line.

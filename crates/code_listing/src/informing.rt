@@ -1,14 +1,13 @@
 //! What a file is, as text: its header and its sections.
-ghost use Rattle.std.specs.Prelude.{◌≡◌, ◌++◌, Ok, flat_map};
+ghost use Rattle.std.specs.Prelude.{◌≡◌, Ok, flat_map};
 ghost use Rattle.rite_file.specs.Front.{header_of, sections_of};
 ghost use Rattle.code_listing.specs.Info as texts;
-ghost use Rattle.code_listing.specs.Writing.{Says};
+ghost use Rattle.rb_refusal.specs.Writing.{Says};
 
 use crate::info_fault::InfoFault;
-use crate::pieces::write_pieces;
-use crate::refusal_texts::visible_name;
 use itoa::Buffer;
 use rb_base::{Failed, Sink};
+use rb_refusal::{visible_name, write_pieces};
 use rite_file::{Header, LoadError, Section, Sections, header, sections};
 
 #[tactic(auto, unfolding(crate::specs::Info::header_line))]

@@ -1,10 +1,10 @@
 //! Texts as the language writes them: in quotes, with escapes.
 ghost use Rattle.std.specs.Prelude.{◌≡◌, ◌<◌};
 ghost use Rattle.code_listing.specs.Inspect as texts;
-ghost use Rattle.code_listing.specs.Writing.{Says};
+ghost use Rattle.rb_refusal.specs.Writing.{Says};
 
-use crate::pieces::write_text;
 use rb_base::{Failed, Sink};
+use rb_refusal::write_text;
 
 // Whether an insertion would begin here, if `#` stood before it.
 fn begins_insertion(text: &[u8]) -> bool
@@ -16,7 +16,7 @@ fn begins_insertion(text: &[u8]) -> bool
     }
 }
 
-// What stands behind the backslash, for a byte with a letter of its own.
+// What follows the backslash, for a byte with a letter of its own.
 fn letter_of(byte: u8) -> Option<u8>
     ensures { result ≡ texts.letter_of byte }
 {
@@ -63,7 +63,7 @@ fn hexadecimal(digit: u8) -> u8
     }
 }
 
-// Writes a byte of a text; `inserts` says whether an insertion would begin behind `#`.
+// Writes a byte of a text; `inserts` says whether an insertion would begin after `#`.
 #[tactic(auto, unfolding(crate::specs::Inspect::inspected_byte))]
 fn write_byte<O: Sink>(out: &mut O, byte: u8, inserts: bool) -> Result<(), Failed>
     ensures { Says (texts.inspected_byte byte inserts)

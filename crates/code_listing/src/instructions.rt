@@ -1,26 +1,13 @@
 //! The code of a body, a line for each instruction.
-ghost use Rattle.std.specs.Prelude.{◌≡◌, ◌++◌, ◌<◌, ◌≤◌, ◌^◌, length, flat_map, IfSome};
-ghost use Rattle.rite_code.specs.Spelling as spelling;
+ghost use Rattle.std.specs.Prelude.{◌≡◌, ◌++◌, ◌<◌, ◌^◌, length, flat_map};
 ghost use Rattle.code_listing.specs.Listing as texts;
 ghost use Rattle.code_outline.specs.Layout.{standing};
-ghost use Rattle.code_listing.specs.Writing.{Says};
+ghost use Rattle.rb_refusal.specs.Writing.{Says};
 
-use crate::pieces::{write_pieces, write_text};
 use itoa::Buffer;
 use rb_base::{Failed, Sink};
-use rite_code::{Instr, Opcode, Operation, Parameters, Shape, decode_at, decode_wide_at};
-
-// The instruction that stands whole at a place, with the place behind it.
-fn decode(version: u8, code: &[u8], at: usize) -> Option<(Instr, usize)>
-    ensures value { result ≡ spelling.decode version code.now at }
-    ensures within { IfSome result (λ found. (at < found.1) × (found.1 ≤ length code.now)) }
-{
-    if version == 1 {
-        decode_at(code, at)
-    } else {
-        decode_wide_at(code, at)
-    }
-}
+use rb_refusal::{write_pieces, write_text};
+use rite_code::{Instr, Opcode, Operation, Shape, decode, word_of};
 
 // The zeros in front of so many digits, so that there are five.
 fn zeros_before(digits: usize) -> &'static [u8]
@@ -81,7 +68,7 @@ fn is_jump(opcode: Opcode) -> bool
     Opcode::Jmp.number() <= opcode.number() && opcode.number() <= Opcode::JmpUw.number()
 }
 
-// The signed operand as it is shown: of a jump the target, from the place behind the instruction.
+// The signed operand as it is shown: of a jump the target, from the place after the instruction.
 fn signed_shown(next: usize, opcode: Opcode, by: i32) -> i64
     requires { next < 2 ^ 32 }
     ensures { result ≡ texts.signed_shown next opcode by }
@@ -91,18 +78,6 @@ fn signed_shown(next: usize, opcode: Opcode, by: i32) -> i64
     } else {
         i64::from(by)
     }
-}
-
-// The 24 bits of ENTER.
-fn word_of(parameters: Parameters) -> u32
-    ensures { result ≡ spelling.word_of parameters }
-{
-    u32::from(parameters.required) * 131072
-        + u32::from(parameters.optional) * 1024
-        + u32::from(parameters.rest) * 512
-        + u32::from(parameters.post) * 4
-        + u32::from(parameters.block) * 2
-        + u32::from(parameters.spare)
 }
 
 // Writes the operands as the shape has them.
@@ -137,7 +112,7 @@ fn prefix(wide: bool) -> &'static [u8]
     if wide { b" EXT " } else { b" " }
 }
 
-// Writes the line of an instruction at a place, with the place behind it.
+// Writes the line of an instruction at a place, with the place after it.
 fn write_instruction<O: Sink>(
     out: &mut O,
     at: usize,

@@ -1,6 +1,6 @@
-//! What a file holds, as text, and why a source or a file is refused.
+//! What a file holds, as text.
 //!
-//! Types: [`Refusal`], [`InfoFault`]. Calls: [`list`], [`info`], [`refusal_text`], and [`write_pieces`], which writes a text given in pieces. None of
+//! Type: [`InfoFault`]. Calls: [`list`], [`info`], and [`write_inspected`], which writes a text between quotes. None of
 //! them takes memory.
 #![tactic(auto)]
 
@@ -9,17 +9,11 @@ pub mod info_fault;
 pub mod informing;
 pub mod inspecting;
 pub mod instructions;
-pub mod pieces;
-pub mod refusal;
-pub mod refusal_texts;
 
 pub use bodies::list;
 pub use info_fault::InfoFault;
 pub use informing::info;
 pub use inspecting::write_inspected;
-pub use pieces::write_pieces;
-pub use refusal::Refusal;
-pub use refusal_texts::refusal_text;
 
 #[cfg(test)]
 mod tests;

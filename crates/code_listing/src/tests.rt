@@ -2,10 +2,9 @@
 ghost use Rattle.std.specs.Prelude.{◌≡◌, ◌⊎◌, ◌<◌, ◌^◌, ℕ, [], length, All, IfOk};
 ghost use Rattle.rite_code.specs.Code.{IsBody, IsItem, IsText, AreDistinct};
 
-use crate::{InfoFault, Refusal, info, list, refusal_text};
+use crate::{InfoFault, info, list};
 use rb_base::{Bytes, Failed, List, MemorySink};
-use rb_syntax::{Count, Outside};
-use rite_code::{CatchEntry, Cause, Code, Irep, PoolItem};
+use rite_code::{CatchEntry, Code, Irep, PoolItem};
 use rite_file::LoadError;
 use std::alloc::{AllocError, Global};
 use std::test::Fail;
@@ -165,51 +164,6 @@ fn stops_where_a_call_fails(rt: HostRuntime) -> Result<(), Fail> {
     let code = plain(rt.alloc(), 2, &[0x48])?;
     assert_eq!(rt; list(&code, &mut out), Err(Failed));
     assert_eq!(rt; out.bytes(), b"irep ".as_slice());
-    Ok(())
-}
-
-#[test]
-fn tells_each_refusal(rt: HostRuntime) -> Result<(), Fail> {
-    let name = *b"M\x00 ~";
-    let rows: [(Refusal, &str); 10] = [
-        (Refusal::Syntax { at: 3 }, "Syntax at 3"),
-        (Refusal::TooDeep, "TooDeep"),
-        (
-            Refusal::Outside {
-                what: Outside::WideInteger,
-                at: 2,
-            },
-            "Outside WideInteger at 2",
-        ),
-        (
-            Refusal::TooLarge {
-                what: Count::Symbols,
-                count: 65536,
-            },
-            "TooLarge Symbols 65536",
-        ),
-        (Refusal::NotRite, "NotRite"),
-        (Refusal::Foreign { name }, "Foreign M..~"),
-        (Refusal::Truncated { at: 19 }, "Truncated at 19"),
-        (Refusal::BadSection { at: 20 }, "BadSection at 20"),
-        (
-            Refusal::BadRecord { at: 4294967296 },
-            "BadRecord at 4294967296",
-        ),
-        (
-            Refusal::Bad {
-                irep: 0,
-                at: 0,
-                cause: Cause::Extended,
-            },
-            "Bad irep 0 at 0 Extended",
-        ),
-    ];
-    for (refusal, want) in rows {
-        let mut out = sink(rt.alloc(), 5);
-        assert_eq!(rt; refusal_text(&refusal, &mut out), Ok(()));
-        assert_eq!(rt; out.bytes(), want.as_bytes());
-    }
     Ok(())
 }
 

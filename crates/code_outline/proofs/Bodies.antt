@@ -11,39 +11,48 @@ use Rattle.code_outline.specs.Laws.{IsWithin}
 use Rattle.code_outline.specs.Outlined.{LaysOut, AreLaidOut}
 
 -- there is a layout for each body
-pub laid_out-length : (version : ℕ) (bs : List Irep) (ls : List Layout) → AreLaidOut version bs ls → length ls ≡ length bs
+pub laid_out-length : (version : ℕ) (bs : List Irep) (ls : List Layout) → AreLaidOut version bs ls
+    → length ls ≡ length bs
 unfolding AreLaidOut
 laid_out-length version [] [] h = refl
 laid_out-length version [] (l ∷ ls) h = absurd h
 laid_out-length version (b ∷ bs) [] h = absurd h
 laid_out-length version (b ∷ bs) (l ∷ ls) h = ap suc (laid_out-length version bs ls h.1)
 
-pub laid_out-at : (version : ℕ) (bs : List Irep) (ls : List Layout) (k : ℕ) (b : Irep) (l : Layout) → AreLaidOut version bs ls → k < length bs → LaysOut version (get_or bs k b).code (get_or ls k l)
+pub laid_out-at : (version : ℕ) (bs : List Irep) (ls : List Layout) (k : ℕ) (b : Irep) (l : Layout)
+    → AreLaidOut version bs ls → k < length bs → LaysOut version (get_or bs k b).code (get_or ls k l)
 unfolding AreLaidOut
 laid_out-at version [] ls k b l h lt = absurd (omega arith)
 laid_out-at version (a ∷ bs) [] k b l h lt = absurd h
 laid_out-at version (a ∷ bs) (m ∷ ls) zero b l h lt = h.0
 laid_out-at version (a ∷ bs) (m ∷ ls) (suc k) b l h lt = laid_out-at version bs ls k b l h.1 (omega arith)
 
--- the roots of a forest are among its bodies, and so are the children of each, behind it
+-- the roots of a forest are among its bodies, and so are the children of each, after it
 all_left : (P : ℕ → Type 0) (xs ys : List ℕ) → All P (xs ++ ys) → All P xs
-all_left P xs ys h = All-same P xs (take (length xs) (xs ++ ys)) (sym (take_at xs ys (length xs) refl)) (All-take P (length xs) (xs ++ ys) h)
+all_left P xs ys h = All-same P xs (take (length xs) (xs ++ ys)) (sym (take_at xs ys (length xs) refl))
+    (All-take P (length xs) (xs ++ ys) h)
 
 all_right : (P : ℕ → Type 0) (xs ys : List ℕ) → All P (xs ++ ys) → All P ys
-all_right P xs ys h = All-same P ys (drop (length xs) (xs ++ ys)) (sym (drop_at xs ys (length xs) refl)) (All-drop P (length xs) (xs ++ ys) h)
+all_right P xs ys h = All-same P ys (drop (length xs) (xs ++ ys)) (sym (drop_at xs ys (length xs) refl))
+    (All-drop P (length xs) (xs ++ ys) h)
 
-pub roots-within : {at : ℕ} {bs : List Irep} {roots : List ℕ} → IsForest at bs roots → All (IsWithin at (at + length bs)) roots
+pub roots-within : {at : ℕ} {bs : List Irep} {roots : List ℕ} → IsForest at bs roots
+    → All (IsWithin at (at + length bs)) roots
 roots-within (none {at}) = All-nil (IsWithin at (at + 0))
 roots-within (node {at} {b} {bs} {others} f) =
     All-cons (IsWithin at (at + length (b ∷ bs))) at others (omega arith, omega arith)
-    (All-weaker (IsWithin (at + 1) (at + 1 + length bs)) (IsWithin at (at + length (b ∷ bs))) (λ j h. (omega (arith, h.0), omega (arith, h.1))) others
+    (All-weaker (IsWithin (at + 1) (at + 1 + length bs)) (IsWithin at (at + length (b ∷ bs)))
+    (λ j h. (omega (arith, h.0), omega (arith, h.1))) others
     (all_right (IsWithin (at + 1) (at + 1 + length bs)) b.children others (roots-within f)))
 
-pub children-within : {at : ℕ} {bs : List Irep} {roots : List ℕ} (k : ℕ) (b : Irep) → IsForest at bs roots → slice_get bs k ≡ Some b → All (IsWithin (at + k + 1) (at + length bs)) b.children
+pub children-within : {at : ℕ} {bs : List Irep} {roots : List ℕ} (k : ℕ) (b : Irep) → IsForest at bs roots
+    → slice_get bs k ≡ Some b → All (IsWithin (at + k + 1) (at + length bs)) b.children
 children-within k b none e = absurd (none-some b e)
 children-within zero d (node {at} {b} {bs} {others} f) e =
     let c = all_left (IsWithin (at + 1) (at + 1 + length bs)) b.children others (roots-within f) in
-    All-weaker (IsWithin (at + 1) (at + 1 + length bs)) (IsWithin (at + 0 + 1) (at + length (b ∷ bs))) (λ j h. (omega (arith, h.0), omega (arith, h.1))) d.children
+    All-weaker (IsWithin (at + 1) (at + 1 + length bs)) (IsWithin (at + 0 + 1) (at + length (b ∷ bs)))
+    (λ j h. (omega (arith, h.0), omega (arith, h.1))) d.children
     (rw (← same_Some b d e) c)
 children-within (suc k) d (node {at} {b} {bs} {others} f) e =
-    All-weaker (IsWithin (at + 1 + k + 1) (at + 1 + length bs)) (IsWithin (at + suc k + 1) (at + length (b ∷ bs))) (λ j h. (omega (arith, h.0), omega (arith, h.1))) d.children (children-within k d f e)
+    All-weaker (IsWithin (at + 1 + k + 1) (at + 1 + length bs)) (IsWithin (at + suc k + 1) (at + length (b ∷ bs)))
+    (λ j h. (omega (arith, h.0), omega (arith, h.1))) d.children (children-within k d f e)

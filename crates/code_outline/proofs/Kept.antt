@@ -13,10 +13,13 @@ use Rattle.code_outline.proofs.Makes.{maker_of-makes}
 use Rattle.code_outline.proofs.Rows.{row-layout, index_from-get, index_from-found}
 use Rattle.code_outline.proofs.Scopes.{scope_out-below}
 
-by_place : (version : ℕ) (code : List ℕ) (k : ℕ) (s : Standing) → slice_get (layout version code) k ≡ Some s → index_from 0 (layout version code) s.at ≡ Some k
-by_place version code k s e = let n : 0 + k ≡ k = omega arith in rw (← n) (index_from-get (length code) 0 0 k (layout version code) s (row-layout version code) e)
+by_place : (version : ℕ) (code : List ℕ) (k : ℕ) (s : Standing) → slice_get (layout version code) k ≡ Some s
+    → index_from 0 (layout version code) s.at ≡ Some k
+by_place version code k s e = let n : 0 + k ≡ k = omega arith in
+    rw (← n) (index_from-get (length code) 0 0 k (layout version code) s (row-layout version code) e)
 
-at_place : (version : ℕ) (code : List ℕ) (place k : ℕ) → index_from 0 (layout version code) place ≡ Some k → (s : Standing) × (slice_get (layout version code) k ≡ Some s) × (s.at ≡ place)
+at_place : (version : ℕ) (code : List ℕ) (place k : ℕ) → index_from 0 (layout version code) place ≡ Some k
+    → (s : Standing) × (slice_get (layout version code) k ≡ Some s) × (s.at ≡ place)
 at_place version code place k e =
     let f = index_from-found 0 place k (layout version code) e in
     let n : k - 0 ≡ k = omega arith in
@@ -31,8 +34,10 @@ lays version code = record {
   at_place = at_place version code;
 }
 
-children : (p : Program) → IsWhole p → (k : ℕ) (b : Irep) → slice_get p.bodies k ≡ Some b → All (IsWithin (k + 1) (length p.bodies)) b.children
-children p w k b e = All-weaker (IsWithin (0 + k + 1) (0 + length p.bodies)) (IsWithin (k + 1) (length p.bodies)) (λ j h. (omega (arith, h.0), omega (arith, h.1))) b.children (children-within k b w.tree e)
+children : (p : Program) → IsWhole p → (k : ℕ) (b : Irep) → slice_get p.bodies k ≡ Some b
+    → All (IsWithin (k + 1) (length p.bodies)) b.children
+children p w k b e = All-weaker (IsWithin (0 + k + 1) (0 + length p.bodies)) (IsWithin (k + 1) (length p.bodies))
+    (λ j h. (omega (arith, h.0), omega (arith, h.1))) b.children (children-within k b w.tree e)
 
 pub nests : (p : Program) → Nests p
 nests p = record { makers = maker_of-makes p; scopes = scope_out-below p; children = children p }

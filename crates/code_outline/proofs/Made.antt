@@ -18,13 +18,16 @@ use Rattle.code_outline.proofs.Marks.{marks-append}
 made_in-append : (k : ℕ) (b : Irep) (ss ts : List Standing) → made_in k b (ss ++ ts) ≡ made_in k b ss ++ made_in k b ts
 unfolding made_in
 made_in-append k b [] ts = refl
-made_in-append k b (s ∷ ss) ts = ap (λ x. made_by k b s ++ x) (made_in-append k b ss ts) ∙ sym (append_assoc (made_by k b s) (made_in k b ss) (made_in k b ts))
+made_in-append k b (s ∷ ss) ts = ap (λ x. made_by k b s ++ x) (made_in-append k b ss ts)
+    ∙ sym (append_assoc (made_by k b s) (made_in k b ss) (made_in k b ts))
 
 made_in-alone : (k : ℕ) (b : Irep) (s : Standing) → made_in k b (s ∷ []) ≡ made_by k b s
 unfolding made_in
 made_in-alone k b s = append-nil (made_by k b s)
 
-pub made_in-more : (k : ℕ) (b : Irep) (ss : List StandingValue) (i : ℕ) (s : StandingValue) → i < length ss → s ≡ get_or ss i s → made_in k b (map seen (take (i + 1) ss)) ≡ made_in k b (map seen (take i ss)) ++ made_by k b (seen s)
+pub made_in-more : (k : ℕ) (b : Irep) (ss : List StandingValue) (i : ℕ) (s : StandingValue) → i < length ss
+    → s ≡ get_or ss i s → made_in k b (map seen (take (i + 1) ss)) ≡ made_in k b (map seen (take i ss)) ++ made_by k b
+    (seen s)
 made_in-more k b ss i s h r =
     ap (λ xs. made_in k b (map seen xs)) (take_more ss i s h)
     ∙ ap (λ x. made_in k b (map seen (take i ss ++ x ∷ []))) (sym r)
@@ -32,19 +35,22 @@ made_in-more k b ss i s h r =
     ∙ made_in-append k b (map seen (take i ss)) (seen s ∷ [])
     ∙ ap (λ x. made_in k b (map seen (take i ss)) ++ x) (made_in-alone k b (seen s))
 
-made_from-append : (version k : ℕ) (bs cs : List Irep) → made_from version k (bs ++ cs) ≡ made_from version k bs ++ made_from version (k + length bs) cs
+made_from-append : (version k : ℕ) (bs cs : List Irep)
+    → made_from version k (bs ++ cs) ≡ made_from version k bs ++ made_from version (k + length bs) cs
 unfolding made_from
 made_from-append version k [] cs = let e : k + 0 ≡ k = omega arith in rw e refl
 made_from-append version k (b ∷ bs) cs =
     let e : k + length (b ∷ bs) ≡ k + 1 + length bs = omega arith in
     rw e (ap (λ x. made_in k b (layout version b.code) ++ x) (made_from-append version (k + 1) bs cs)
-    ∙ sym (append_assoc (made_in k b (layout version b.code)) (made_from version (k + 1) bs) (made_from version (k + 1 + length bs) cs)))
+    ∙ sym (append_assoc (made_in k b (layout version b.code)) (made_from version (k + 1) bs)
+    (made_from version (k + 1 + length bs) cs)))
 
 made_from-alone : (version k : ℕ) (b : Irep) → made_from version k (b ∷ []) ≡ made_in k b (layout version b.code)
 unfolding made_from
 made_from-alone version k b = append-nil (made_in k b (layout version b.code))
 
-pub made_from-more : (version : ℕ) (bs : List Irep) (i : ℕ) (b : Irep) → i < length bs → b ≡ get_or bs i b → made_from version 0 (take (i + 1) bs) ≡ made_from version 0 (take i bs) ++ made_in i b (layout version b.code)
+pub made_from-more : (version : ℕ) (bs : List Irep) (i : ℕ) (b : Irep) → i < length bs → b ≡ get_or bs i b
+    → made_from version 0 (take (i + 1) bs) ≡ made_from version 0 (take i bs) ++ made_in i b (layout version b.code)
 made_from-more version bs i b h r =
     let n : 0 + length (take i bs) ≡ i = omega (arith, h, length-take-le i bs (omega arith)) in
     ap (made_from version 0) (take_more bs i b h)
@@ -53,33 +59,44 @@ made_from-more version bs i b h r =
     ∙ ap (λ x. made_from version 0 (take i bs) ++ x) (made_from-alone version (0 + length (take i bs)) b)
     ∙ ap (λ x. made_from version 0 (take i bs) ++ made_in x b (layout version b.code)) n
 
-laid_out-push : (version : ℕ) (bs : List Irep) (ls : List Layout) (b : Irep) (l : Layout) → AreLaidOut version bs ls → LaysOut version b.code l → AreLaidOut version (bs ++ b ∷ []) (ls ++ l ∷ [])
+laid_out-push : (version : ℕ) (bs : List Irep) (ls : List Layout) (b : Irep) (l : Layout) → AreLaidOut version bs ls
+    → LaysOut version b.code l → AreLaidOut version (bs ++ b ∷ []) (ls ++ l ∷ [])
 unfolding AreLaidOut
 laid_out-push version [] [] b l h k = (k, tt)
 laid_out-push version [] (m ∷ ls) b l h k = absurd h
 laid_out-push version (a ∷ bs) [] b l h k = absurd h
 laid_out-push version (a ∷ bs) (m ∷ ls) b l h k = (h.0, laid_out-push version bs ls b l h.1 k)
 
-pub laid_out-more : (version : ℕ) (bs : List Irep) (ls : List Layout) (i : ℕ) (b : Irep) (l : Layout) → i < length bs → b ≡ get_or bs i b → AreLaidOut version (take i bs) ls → LaysOut version b.code l → AreLaidOut version (take (i + 1) bs) (ls ++ l ∷ [])
+pub laid_out-more : (version : ℕ) (bs : List Irep) (ls : List Layout) (i : ℕ) (b : Irep) (l : Layout) → i < length bs
+    → b ≡ get_or bs i b → AreLaidOut version (take i bs) ls → LaysOut version b.code l
+    → AreLaidOut version (take (i + 1) bs) (ls ++ l ∷ [])
 laid_out-more version bs ls i b l h r a k = rw (take_more bs i b h, ← r) (laid_out-push version (take i bs) ls b l a k)
 
 -- the makers of one body more, and of all
-pub marked-more : (version : ℕ) (bs : List Irep) (i : ℕ) (b : Irep) (ss : List StandingValue) (old mid new : List (Option Maker)) → i < length bs → b ≡ get_or bs i b → map seen ss ≡ layout version b.code → length mid ≡ length old → AreMarked (made_from version 0 (take i bs)) old mid → AreMarked (made_in i b (map seen ss)) mid new → AreMarked (made_from version 0 (take (i + 1) bs)) old new
+pub marked-more : (version : ℕ) (bs : List Irep) (i : ℕ) (b : Irep) (ss : List StandingValue)
+    (old mid new : List (Option Maker)) → i < length bs → b ≡ get_or bs i b → map seen ss ≡ layout version b.code
+    → length mid ≡ length old → AreMarked (made_from version 0 (take i bs)) old mid
+    → AreMarked (made_in i b (map seen ss)) mid new → AreMarked (made_from version 0 (take (i + 1) bs)) old new
 marked-more version bs i b ss old mid new h r e n f g =
-    rw (made_from-more version bs i b h r, ← e) (marks-append (made_from version 0 (take i bs)) (made_in i b (map seen ss)) old mid new n f g)
+    rw (made_from-more version bs i b h r, ← e)
+    (marks-append (made_from version 0 (take i bs)) (made_in i b (map seen ss)) old mid new n f g)
 
-pub marked-all : (p : Program) (n : ℕ) (xs : List (Option Maker)) → length p.bodies ≤ n → AreMarked (made_from p.version 0 (take n p.bodies)) (replicate (length p.bodies) None) xs → (j : ℕ) → j < length p.bodies → get_or xs j None ≡ maker_of p j
+pub marked-all : (p : Program) (n : ℕ) (xs : List (Option Maker)) → length p.bodies ≤ n
+    → AreMarked (made_from p.version 0 (take n p.bodies)) (replicate (length p.bodies) None) xs → (j : ℕ)
+    → j < length p.bodies → get_or xs j None ≡ maker_of p j
 unfolding maker_of
 marked-all p n xs h m j l =
     let none : Option Maker = None in
-    let e : get_or (replicate (length p.bodies) none) j None ≡ none = get_or-replicate (length p.bodies) j None None l in
+    let e : get_or (replicate (length p.bodies) none) j None ≡ none = get_or-replicate (length p.bodies) j None None
+    l in
     m j (omega (arith, l, length-replicate (length p.bodies) none))
     ∙ ap (λ o. option_or o (first_maker j (made_from p.version 0 (take n p.bodies)))) e
     ∙ ap (λ bs. first_maker j (made_from p.version 0 bs)) (take_all n p.bodies h)
 
 -- what is outlined up to body n, where there are no more
 abbrev pub Reaches : Program → List Irep → ℕ → Outline → Type 0
-Reaches p bs n o = (length bs ≤ n) × AreLaidOut p.version (take n bs) o.layouts × (length o.makers ≡ length bs) × AreMarked (made_from p.version 0 (take n bs)) (replicate (length bs) None) o.makers
+Reaches p bs n o = (length bs ≤ n) × AreLaidOut p.version (take n bs) o.layouts × (length o.makers ≡ length bs)
+    × AreMarked (made_from p.version 0 (take n bs)) (replicate (length bs) None) o.makers
 
 outlined-whole : (p : Program) (n : ℕ) (o : Outline) → Reaches p p.bodies n o → Outlines p o
 outlined-whole p n o h = record {

@@ -1,4 +1,4 @@
--- Makers as they are found, one instruction behind the other.
+-- Makers as they are found, one instruction after the other.
 use Rattle.std.specs.Prelude.{◌≡◌, ◌<◌, ℕ, List, [], ◌∷◌, length, get_or, Option, Some, None}
 use Rattle.std.specs.Option.{option_or}
 use Rattle.code_outline.specs.declared.maker.Maker.{Maker}

@@ -2,7 +2,8 @@
 //! read, with the place of each instruction, the index of the instruction at each place, and for each body the
 //! first instruction that uses it.
 //!
-//! Types: [`Standing`], [`Layout`], [`Purpose`], [`Maker`], [`Outline`]. Call: [`outline`]. Law: [`laws_of_outlines`].
+//! Types: [`Standing`], [`Layout`], [`Purpose`], [`Maker`], [`Outline`]. Calls: [`outline`] and
+//! [`use_in`]. Law: [`laws_of_outlines`].
 #![tactic(auto)]
 
 ghost use Rattle.std.specs.Prelude.{ℕ, IfOk};
@@ -20,6 +21,7 @@ use crate::laying::layout;
 use crate::making::put_makers;
 pub use layout::{Layout, Outline, Standing};
 pub use maker::{Maker, Purpose};
+pub use making::use_in;
 use rb_base::List;
 use rite_code::Code;
 use std::alloc::{AllocError, Global};
@@ -48,7 +50,7 @@ pub fn outline(alloc: Global, code: &Code) -> Result<Outline, AllocError>
     })
 }
 
-/// What every layout and every program keeps: instructions stand one behind the other and are found by their
+/// What every layout and every program keeps: instructions stand one after the other and are found by their
 /// places, and makers, scopes and children are bodies of the program.
 pub fn laws_of_outlines()
     ensures lays { (version : ℕ) (code : prelude.List ℕ) → Lays version code }

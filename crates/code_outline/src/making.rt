@@ -1,5 +1,5 @@
 //! Who makes each body.
-ghost use Rattle.std.specs.Prelude.{◌≡◌, ◌∷◌, []};
+ghost use Rattle.std.specs.Prelude.{◌≡◌};
 ghost use Rattle.code_outline.specs.Makers as made;
 ghost use Rattle.code_outline.specs.Making.{listed, AreMarked};
 ghost use Rattle.code_outline.specs.Outlined.{seen};
@@ -10,14 +10,14 @@ use crate::maker::{Maker, Purpose};
 use rite_code::{Irep, Operation};
 
 /// The index among the children and the purpose, where the instruction uses a child.
-fn use_in(operation: Operation) -> Option<(u16, Purpose)>
+pub fn use_in(operation: Operation) -> Option<(u16, Purpose)>
     ensures { result ≡ made.use_in operation }
 {
     match operation {
-        Operation::Lambda { a: _, b } => Some((b, Purpose::Lambda)),
-        Operation::Block { a: _, b } => Some((b, Purpose::Block)),
-        Operation::Exec { a: _, b } => Some((b, Purpose::ClassBody)),
-        Operation::Def { a: _, b: _, c } => Some((c, Purpose::Method)),
+        Operation::Lambda { b, .. } => Some((b, Purpose::Lambda)),
+        Operation::Block { b, .. } => Some((b, Purpose::Block)),
+        Operation::Exec { b, .. } => Some((b, Purpose::ClassBody)),
+        Operation::Def { c, .. } => Some((c, Purpose::Method)),
         _ => None,
     }
 }

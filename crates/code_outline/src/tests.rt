@@ -86,7 +86,7 @@ fn tells_makers(rt: HostRuntime) -> Result<(), AllocError> {
     Ok(())
 }
 
-/// LOADI R1 5, and MOVE R300 R1 behind EXT, which version 1 doesn't have.
+/// LOADI R1 5, and MOVE R300 R1 after EXT, which version 1 doesn't have.
 #[test]
 fn reads_by_version(rt: HostRuntime) -> Result<(), AllocError> {
     let code = [0x03, 1, 5, 0x49, 0x01, 0x01, 0x2C, 0x00, 0x01];

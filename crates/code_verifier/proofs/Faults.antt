@@ -12,10 +12,18 @@ pub no_fault : (found : Option Bad) → Ok tt ≡ answer found → found ≡ Non
 no_fault None h = refl
 no_fault (Some x) h = absurd cc
 
-same_bad : (x : Bad) (k at : ℕ) (c : Cause) → k ≡ x.irep → at ≡ x.at → c ≡ x.cause → Some x ≡ Some (record { irep = k; at = at; cause = c })
+same_bad : (x : Bad) (k at : ℕ) (c : Cause) → k ≡ x.irep → at ≡ x.at → c ≡ x.cause → Some x ≡ Some (record {
+  irep = k;
+  at = at;
+  cause = c;
+})
 same_bad x k at c e f g =
     ap (λ (n : ℕ). Some (record { irep = n; at = x.at; cause = x.cause })) (sym e)
-    ∙ (ap (λ (n : ℕ). Some (record { irep = k; at = n; cause = x.cause })) (sym f) ∙ ap (λ (d : Cause). Some (record { irep = k; at = at; cause = d })) (sym g))
+    ∙ (ap (λ (n : ℕ). Some (record { irep = k; at = n; cause = x.cause })) (sym f) ∙ ap (λ (d : Cause). Some (record {
+      irep = k;
+      at = at;
+      cause = d;
+    })) (sym g))
 
 pub is_fault : (found : Option Bad) (e : VerifyError) → Err e ≡ answer found → IsFault found e
 is_fault None e h = absurd cc

@@ -14,11 +14,14 @@ use Rattle.code_outline.specs.declared.maker.Maker.{Maker}
 use Rattle.code_outline.proofs.Kept.{nests}
 use Rattle.code_verifier.specs.Known.{KnowsMakers}
 
-unmade : (p : Program) (j : ℕ) (found : Option Maker) → IsWhole p → length p.bodies ≤ j → found ≡ maker_of p j → None ≡ maker_of p j
+unmade : (p : Program) (j : ℕ) (found : Option Maker) → IsWhole p → length p.bodies ≤ j → found ≡ maker_of p j
+    → None ≡ maker_of p j
 unmade p j None whole past e = e
 unmade p j (Some m) whole past e =
     let made = (nests p).makers j m (sym e) in
-    let within = All-get_or (IsWithin (m.body + 1) (length p.bodies)) made.body.children made.index j (slice_get_within made.body.children made.index j made.child) ((nests p).children whole m.body made.body made.number) in
+    let within = All-get_or (IsWithin (m.body + 1) (length p.bodies)) made.body.children made.index j
+    (slice_get_within made.body.children made.index j made.child)
+    ((nests p).children whole m.body made.body made.number) in
     let same = get_or_from_slice_get made.body.children made.index j j made.child in
     absurd (omega (arith, within.1, same))
 

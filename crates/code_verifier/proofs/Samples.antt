@@ -11,7 +11,8 @@ leaf at b e =
     let inner : P b.children = subst P (sym e) none in
     node inner
 
-pub alone : (version : ℕ) (b : Irep) → (version ≡ 1) ⊎ (version ≡ 2) → IsBody version b → b.children ≡ [] → IsWhole (program version (b ∷ []))
+pub alone : (version : ℕ) (b : Irep) → (version ≡ 1) ⊎ (version ≡ 2) → IsBody version b → b.children ≡ []
+    → IsWhole (program version (b ∷ []))
 alone version b v x e = record {
   version = v;
   count = omega arith;
@@ -19,7 +20,8 @@ alone version b v x e = record {
   tree = leaf 0 b e;
 }
 
-pub with_child : (b c : Irep) → IsBody 1 b → IsBody 1 c → b.children ≡ 1 ∷ [] → c.children ≡ [] → IsWhole (program 1 (b ∷ c ∷ []))
+pub with_child : (b c : Irep) → IsBody 1 b → IsBody 1 c → b.children ≡ 1 ∷ [] → c.children ≡ []
+    → IsWhole (program 1 (b ∷ c ∷ []))
 with_child b c x y e f =
     let P : List ℕ → Type 0 = λ roots. IsForest 1 (c ∷ []) (roots ++ []) in
     let inner : P b.children = subst P (sym e) (leaf 1 c f) in

@@ -43,14 +43,14 @@ unless false c = Some c
 
 -- ## What no instruction can be read at
 
--- behind EXT: an instruction whose operands pass the end is cut; one that may not be wide is extended
+-- after EXT: an instruction whose operands pass the end is cut; one that may not be wide is extended
 abbrev pub unread_wide : Option Opcode → ℕ → Cause
 unread_wide None left = cause.Opcode
 unread_wide (Some o) left = if nat_lt left (operand_size true (shape_of o)) then cause.Cut else cause.Extended
 
-abbrev pub unread_behind : List ℕ → Cause
-unread_behind [] = cause.Cut
-unread_behind (n ∷ rest) = if nat_eq n ext then cause.Extended else unread_wide (opcode_of n) (length rest)
+abbrev pub unread_extended : List ℕ → Cause
+unread_extended [] = cause.Cut
+unread_extended (n ∷ rest) = if nat_eq n ext then cause.Extended else unread_wide (opcode_of n) (length rest)
 
 abbrev pub unread_narrow : Option Opcode → Cause
 unread_narrow None = cause.Opcode
@@ -59,7 +59,8 @@ unread_narrow (Some o) = cause.Cut
 -- the cause where no instruction can be read at the front of these bytes
 unfoldable pub unread : ℕ → List ℕ → Cause
 unread version [] = cause.Cut
-unread version (n ∷ rest) = if nat_eq version 2 && nat_eq n ext then unread_behind rest else unread_narrow (opcode_of n)
+unread version (n ∷ rest) = if nat_eq version 2 && nat_eq n ext then unread_extended rest else unread_narrow
+    (opcode_of n)
 
 -- ## What an instruction needs
 
@@ -124,7 +125,7 @@ takes_arguments (Some m) = binds m.purpose
 abbrev pub parameter_count : Parameters → ℕ
 parameter_count q = q.required + q.optional + bit q.rest + q.post
 
--- behind ENTER with optional parameters stands a jump for each number of them that may be given
+-- after ENTER with optional parameters stands a jump for each number of them that may be given
 abbrev pub are_jumps : List Standing → Bool
 are_jumps ss = list_all (λ s. is_jump s.instruction.operation) ss
 
@@ -203,10 +204,12 @@ bad k at (Some c) = Some (record { irep = k; at = at; cause = c })
 -- the code is read to its end, and has an instruction
 abbrev pub read_whole : ℕ → List ℕ → ℕ → Option Cause
 read_whole version [] end = Some cause.Cut
-read_whole version (n ∷ rest) end = if nat_eq end (length rest + 1) then None else Some (unread version (drop end (n ∷ rest)))
+read_whole version (n ∷ rest) end = if nat_eq end (length rest + 1) then None else Some
+    (unread version (drop end (n ∷ rest)))
 
 abbrev pub catch_holds : ℕ → List Standing → CatchEntry → Bool
-catch_holds size ss e = nat_lt e.begin e.end && is_start ss e.begin && is_start ss e.target && (is_start ss e.end || nat_eq e.end size)
+catch_holds size ss e = nat_lt e.begin e.end && is_start ss e.begin && is_start ss e.target &&
+    (is_start ss e.end || nat_eq e.end size)
 
 -- the failures of some of the instructions, of the place where reading ends, and of catch entries
 abbrev pub instructions_bad : Program → ℕ → Irep → List Standing → List Standing → List (Option Bad)

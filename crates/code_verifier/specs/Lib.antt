@@ -4,3 +4,4 @@ pub mod Verified
 pub mod Known
 pub mod Answers
 pub mod Holds
+pub mod Refusal

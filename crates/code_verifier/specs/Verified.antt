@@ -9,7 +9,7 @@ use Rattle.code_verifier.specs.declared.error.VerifyError.TheVariants as error
 abbrev pub IsVerified : Program → Type 0
 IsVerified p = first_bad p ≡ None
 
--- want of memory, or the first check that fails
+-- memory ran out, or the first check that fails
 abbrev pub IsFault : Option Bad → VerifyError → Type 0
 IsFault found (error.Bad k at c) = found ≡ Some (record { irep = k; at = at; cause = c })
 IsFault found error.NoMemory = Unit

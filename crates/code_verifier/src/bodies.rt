@@ -1,10 +1,10 @@
 //! The checks of a body: its instructions, the place where reading ends, its catch entries; and of all bodies.
-ghost use Rattle.std.specs.Prelude.{◌≡◌, ◌<◌, ◌≤◌, ◌^◌, length, map};
+ghost use Rattle.std.specs.Prelude.{◌≡◌, ◌≤◌, length, map};
 ghost use Rattle.code_outline.specs.Layout as laid;
 ghost use Rattle.code_outline.specs.Outlined.{LaysOut, Outlines, seen};
 ghost use Rattle.code_verifier.specs.Answers.{answer, outcome};
 ghost use Rattle.code_verifier.specs.Checks as checks;
-ghost use Rattle.code_verifier.specs.Known.{KnowsMakers};
+ghost use Rattle.code_verifier.specs.Known.{KnowsBody};
 
 use crate::causes::check_instruction;
 use crate::checks::catch_holds;
@@ -20,12 +20,9 @@ fn check_instructions(
     body: &Irep,
     layout: &Layout,
 ) -> Result<(), VerifyError>
-    requires outlined { Outlines code.now outline.now }
-    requires makers { KnowsMakers code.now outline.now }
-    requires number { number < length code.now.bodies }
-    requires small { length body.now.code < 2 ^ 32 }
-    requires laid { LaysOut code.now.version body.now.code layout.now }
-    ensures { let list = laid.layout code.now.version body.now.code in result ≡ answer (checks.first (checks.instructions_bad code.now number body.now list list)) }
+    requires { KnowsBody code.now outline.now number body.now layout.now }
+    ensures { let list = laid.layout code.now.version body.now.code in
+        result ≡ answer (checks.first (checks.instructions_bad code.now number body.now list list)) }
 {
     for standing in layout.instructions.as_slice() {
         let at = standing.at;
@@ -66,7 +63,8 @@ fn check_end(version: u8, code: &[u8], end: u32) -> Result<(), Cause>
 
 fn check_catches(version: u8, number: u32, body: &Irep, layout: &Layout) -> Result<(), VerifyError>
     requires laid { LaysOut version body.now.code layout.now }
-    ensures { result ≡ answer (checks.first (checks.catches_bad number body.now (laid.layout version body.now.code) body.now.catches)) }
+    ensures { let list = laid.layout version body.now.code in
+        result ≡ answer (checks.first (checks.catches_bad number body.now list body.now.catches)) }
 {
     for entry in body.catches.as_slice() {
         if !catch_holds(body.code.len(), layout, entry) {
@@ -90,11 +88,7 @@ fn check_body(
     body: &Irep,
     layout: &Layout,
 ) -> Result<(), VerifyError>
-    requires outlined { Outlines code.now outline.now }
-    requires makers { KnowsMakers code.now outline.now }
-    requires number { number < length code.now.bodies }
-    requires small { length body.now.code < 2 ^ 32 }
-    requires laid { LaysOut code.now.version body.now.code layout.now }
+    requires { KnowsBody code.now outline.now number body.now layout.now }
     ensures { result ≡ answer (checks.body_bad code.now number body.now) }
 {
     check_instructions(code, outline, number, body, layout)?;

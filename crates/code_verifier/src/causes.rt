@@ -1,10 +1,10 @@
 //! The first check of an instruction that fails.
-ghost use Rattle.std.specs.Prelude.{◌≡◌, ◌<◌, ◌^◌, length};
+ghost use Rattle.std.specs.Prelude.{◌≡◌};
 ghost use Rattle.code_outline.specs.Layout as laid;
-ghost use Rattle.code_outline.specs.Outlined.{LaysOut, Outlines, seen};
+ghost use Rattle.code_outline.specs.Outlined.{seen};
 ghost use Rattle.code_verifier.specs.Answers.{outcome};
 ghost use Rattle.code_verifier.specs.Checks as checks;
-ghost use Rattle.code_verifier.specs.Known.{KnowsMakers};
+ghost use Rattle.code_verifier.specs.Known.{KnowsBody};
 
 use crate::checks::{
     catch_holds, child_holds, count_holds, enter_holds, entry_holds, is_used, jump_holds,
@@ -31,12 +31,9 @@ pub fn check_instruction(
     layout: &Layout,
     standing: &Standing,
 ) -> Result<(), Cause>
-    requires outlined { Outlines code.now outline.now }
-    requires makers { KnowsMakers code.now outline.now }
-    requires number { number < length code.now.bodies }
-    requires small { length body.now.code < 2 ^ 32 }
-    requires laid { LaysOut code.now.version body.now.code layout.now }
-    ensures { result ≡ outcome (checks.cause_of code.now number body.now (laid.layout code.now.version body.now.code) (seen standing.now)) }
+    requires { KnowsBody code.now outline.now number body.now layout.now }
+    ensures { let list = laid.layout code.now.version body.now.code in
+        result ≡ outcome (checks.cause_of code.now number body.now list (seen standing.now)) }
 {
     let Standing { at, next, instr } = *standing;
     let operation = instr.operation();

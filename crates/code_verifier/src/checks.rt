@@ -8,8 +8,8 @@ ghost use Rattle.code_verifier.specs.Checks as checks;
 ghost use Rattle.code_verifier.specs.Known.{KnowsMakers};
 ghost use Rattle.code_verifier.specs.Needs as needs;
 
-use crate::needs::{count_of, distance_of, is_jump, parameters_of, use_of};
-use code_outline::{Layout, Maker, Outline, Purpose, Standing};
+use crate::needs::{count_of, distance_of, is_jump, parameters_of};
+use code_outline::{Layout, Maker, Outline, Purpose, Standing, use_in};
 use rite_code::{CatchEntry, Code, Instr, Irep, Operation, Parameters, PoolItem};
 
 /// A count of arguments above 255 means nothing.
@@ -34,7 +34,7 @@ pub fn entry_holds(pool: &[PoolItem], operation: Operation) -> bool
 pub fn child_holds(body: &Irep, operation: Operation) -> bool
     ensures { result ≡ checks.child_holds body.now (use_in operation) }
 {
-    match use_of(operation) {
+    match use_in(operation) {
         None => true,
         Some((index, _)) => usize::from(index) < body.children.len(),
     }
@@ -42,7 +42,8 @@ pub fn child_holds(body: &Irep, operation: Operation) -> bool
 
 /// A jump from before the place `next` leads to the start of an instruction.
 pub fn jump_holds(layout: &Layout, next: u32, operation: Operation) -> bool
-    ensures { (version : ℕ) (code : prelude.List ℕ) → length code < 2 ^ 32 → LaysOut version code layout.now → result ≡ checks.jump_holds (laid.layout version code) next (needs.distance_of operation) }
+    ensures { (version : ℕ) (code : prelude.List ℕ) → length code < 2 ^ 32 → LaysOut version code layout.now
+        → result ≡ checks.jump_holds (laid.layout version code) next (needs.distance_of operation) }
 {
     match distance_of(operation) {
         None => true,
@@ -51,7 +52,8 @@ pub fn jump_holds(layout: &Layout, next: u32, operation: Operation) -> bool
 }
 
 fn leads_to_start(layout: &Layout, target: i64) -> bool
-    ensures { (version : ℕ) (code : prelude.List ℕ) → length code < 2 ^ 32 → LaysOut version code layout.now → result ≡ checks.leads_to_start (laid.layout version code) target }
+    ensures { (version : ℕ) (code : prelude.List ℕ) → length code < 2 ^ 32 → LaysOut version code layout.now
+        → result ≡ checks.leads_to_start (laid.layout version code) target }
 {
     match u32::try_from(target) {
         Ok(at) => layout.is_start(at),
@@ -107,14 +109,14 @@ fn are_jumps(list: &[Standing]) -> bool
     true
 }
 
-/// Behind ENTER with optional parameters stands a jump for each number of them that may be given.
-fn jumps_follow(optional: u8, behind: &[Standing]) -> bool
-    ensures { result ≡ checks.jumps_follow optional (map seen behind.now) }
+/// After ENTER with optional parameters stands a jump for each number of them that may be given.
+fn jumps_follow(optional: u8, others: &[Standing]) -> bool
+    ensures { result ≡ checks.jumps_follow optional (map seen others.now) }
 {
     if optional == 0 {
         return true;
     }
-    match behind.get(..usize::from(optional) + 1) {
+    match others.get(..usize::from(optional) + 1) {
         None => false,
         Some(jumps) => are_jumps(jumps),
     }
@@ -130,21 +132,21 @@ fn parameter_count(parameters: Parameters) -> u32
         + u32::from(parameters.post)
 }
 
-fn parameters_hold(body: &Irep, behind: &[Standing], parameters: Parameters) -> bool
-    ensures { result ≡ checks.parameters_hold body.now (map seen behind.now) parameters }
+fn parameters_hold(body: &Irep, others: &[Standing], parameters: Parameters) -> bool
+    ensures { result ≡ checks.parameters_hold body.now (map seen others.now) parameters }
 {
     parameter_count(parameters) + 2 <= u32::from(body.locals)
         && !parameters.spare
-        && jumps_follow(parameters.optional, behind)
+        && jumps_follow(parameters.optional, others)
 }
 
-/// The instructions behind the first.
-fn behind_first(list: &[Standing]) -> &[Standing]
+/// The instructions after the first.
+fn after_first(list: &[Standing]) -> &[Standing]
     ensures { map seen result.now ≡ drop 1 (map seen list.now) }
 {
     match list {
         [] => list,
-        [_, behind @ ..] => behind,
+        [_, others @ ..] => others,
     }
 }
 
@@ -156,13 +158,14 @@ pub fn enter_holds(
     list: &[Standing],
     operation: Operation,
 ) -> bool
-    ensures { result ≡ checks.enter_holds takes at body.now (drop 1 (map seen list.now)) (needs.parameters_of operation) }
+    ensures { result
+        ≡ checks.enter_holds takes at body.now (drop 1 (map seen list.now)) (needs.parameters_of operation) }
 {
     match parameters_of(operation) {
         None => !(takes && at == 0),
         Some(parameters) => takes
             && at == 0
-            && parameters_hold(body, behind_first(list), parameters),
+            && parameters_hold(body, after_first(list), parameters),
     }
 }
 
@@ -209,7 +212,7 @@ pub fn makes_once(
     requires { KnowsMakers code.now outline.now }
     ensures { result ≡ checks.makes_once code.now number at (child_made number body.now at (use_in operation)) }
 {
-    let Some((index, _)) = use_of(operation) else {
+    let Some((index, _)) = use_in(operation) else {
         return true;
     };
     match body.children.as_slice().get(usize::from(index)) {
@@ -229,7 +232,8 @@ pub fn is_used(code: &Code, outline: &Outline, number: u32, at: u32) -> bool
 /// The entry covers something, and begins, ends and leads to where an instruction starts or, as to its end, where
 /// the code ends.
 pub fn catch_holds(size: usize, layout: &Layout, entry: &CatchEntry) -> bool
-    ensures { (version : ℕ) (code : prelude.List ℕ) → LaysOut version code layout.now → result ≡ checks.catch_holds size (laid.layout version code) entry.now }
+    ensures { (version : ℕ) (code : prelude.List ℕ) → LaysOut version code layout.now
+        → result ≡ checks.catch_holds size (laid.layout version code) entry.now }
 {
     entry.begin < entry.end
         && layout.is_start(entry.begin)

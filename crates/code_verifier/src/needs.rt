@@ -1,10 +1,8 @@
 //! What an instruction needs: registers, symbols, places.
-ghost use Rattle.std.specs.Prelude.{◌≡◌, ◌≤◌, ℕ, nat_lt};
+ghost use Rattle.std.specs.Prelude.{◌≡◌, ◌≤◌, nat_lt};
 ghost use Rattle.std.specs.List.{list_all};
-ghost use Rattle.code_outline.specs.Makers.{use_in};
 ghost use Rattle.code_verifier.specs.Needs as needs;
 
-use code_outline::Purpose;
 use rite_code::{Operation, Parameters};
 
 /// The registers that hold the arguments of a call.
@@ -124,19 +122,6 @@ pub fn symbols_hold(count: usize, operation: Operation) -> bool
         Operation::Undef { a } => usize::from(a) < count,
         Operation::Defined { b, c, .. } => b >= 6 || usize::from(c) < count,
         _ => true,
-    }
-}
-
-/// The index of the child that it uses, and what it makes of it.
-pub fn use_of(operation: Operation) -> Option<(u16, Purpose)>
-    ensures { result ≡ use_in operation }
-{
-    match operation {
-        Operation::Lambda { b, .. } => Some((b, Purpose::Lambda)),
-        Operation::Block { b, .. } => Some((b, Purpose::Block)),
-        Operation::Exec { b, .. } => Some((b, Purpose::ClassBody)),
-        Operation::Def { c, .. } => Some((c, Purpose::Method)),
-        _ => None,
     }
 }
 

@@ -5,9 +5,9 @@ ghost use Rattle.code_verifier.specs.Checks as checks;
 use rite_code::decoding::EXT;
 use rite_code::{Cause, Opcode};
 
-/// The cause behind EXT where no instruction can be read.
-fn unread_behind(rest: &[u8]) -> Cause
-    ensures { result ≡ checks.unread_behind rest.now }
+/// The cause after EXT where no instruction can be read.
+fn unread_extended(rest: &[u8]) -> Cause
+    ensures { result ≡ checks.unread_extended rest.now }
 {
     let [number, operands @ ..] = rest else {
         return Cause::Cut;
@@ -33,11 +33,11 @@ fn unread_behind(rest: &[u8]) -> Cause
 pub fn unread(version: u8, rest: &[u8]) -> Cause
     ensures { result ≡ checks.unread version rest.now }
 {
-    let [number, behind @ ..] = rest else {
+    let [number, others @ ..] = rest else {
         return Cause::Cut;
     };
     if version == 2 && *number == EXT {
-        return unread_behind(behind);
+        return unread_extended(others);
     }
     match Opcode::from_number(*number) {
         None => Cause::Opcode,

@@ -42,12 +42,16 @@ signed_long n h =
     ]
 
 short_fits : (bytes : List ℕ) (i : ℕ) → AreBytes bytes → IsTrue (is_short (short_at bytes i))
-short_fits bytes i h = signed_short (from_be_bytes w16 (get_or bytes i 0 ∷ get_or bytes (i + 1) 0 ∷ [])) (omega (arith, h i, h (i + 1)))
+short_fits bytes i h = signed_short (from_be_bytes w16 (get_or bytes i 0 ∷ get_or bytes (i + 1) 0 ∷ []))
+    (omega (arith, h i, h (i + 1)))
 
 long_fits : (bytes : List ℕ) (i : ℕ) → AreBytes bytes → IsTrue (is_long (long_at bytes i))
-long_fits bytes i h = signed_long (from_be_bytes w32 (get_or bytes i 0 ∷ get_or bytes (i + 1) 0 ∷ get_or bytes (i + 2) 0 ∷ get_or bytes (i + 3) 0 ∷ [])) (omega (arith, h i, h (i + 1), h (i + 2), h (i + 3)))
+long_fits bytes i h =
+    signed_long (from_be_bytes w32 (get_or bytes i 0 ∷ get_or bytes (i + 1) 0 ∷ get_or bytes (i + 2) 0 ∷ get_or bytes
+    (i + 3) 0 ∷ [])) (omega (arith, h i, h (i + 1), h (i + 2), h (i + 3)))
 
-signed_index_fits : (w : Bool) (bytes : List ℕ) (i : ℕ) → AreBytes bytes → IsTrue (is_signed_index w (signed_index_at w bytes i))
+signed_index_fits : (w : Bool) (bytes : List ℕ) (i : ℕ) → AreBytes bytes
+    → IsTrue (is_signed_index w (signed_index_at w bytes i))
 signed_index_fits false bytes i h = signed_byte (get_or bytes i 0) (h i)
 signed_index_fits true bytes i h = short_fits bytes i h
 
@@ -59,7 +63,9 @@ pub word_small : (bytes : List ℕ) → AreBytes bytes → word_at bytes 0 < 167
 word_small bytes h = omega (arith, h 0, h 1, h 2)
 
 counts_fit : (n : ℕ) → n < 16777216 → IsTrue (are_counts (parameters_of n))
-counts_fit n h = and_from _ _ (and_from _ _ (lt-ltb (n / 131072) 128 (omega (arith, h))) (lt-ltb (n / 1024 % 128) 128 (omega arith))) (lt-ltb (n / 4 % 128) 128 (omega arith))
+counts_fit n h =
+    and_from _ _ (and_from _ _ (lt-ltb (n / 131072) 128 (omega (arith, h)))
+    (lt-ltb (n / 1024 % 128) 128 (omega arith))) (lt-ltb (n / 4 % 128) 128 (omega arith))
 
 -- EXT stands before an instruction that has an operand that grows
 abbrev pub MayBe : Bool → Shape → Type 0
@@ -69,16 +75,25 @@ never_wide : (w : Bool) → (IsTrue w → IsTrue false) → IsTrue (not w)
 never_wide false may = refl
 never_wide true may = may refl
 
-shape_fits : (w : Bool) (s : Shape) (bytes : List ℕ) → AreBytes bytes → MayBe w s → IsTrue (fits_shape w s (keep s (operands w s bytes)))
+shape_fits : (w : Bool) (s : Shape) (bytes : List ℕ) → AreBytes bytes → MayBe w s
+    → IsTrue (fits_shape w s (keep s (operands w s bytes)))
 shape_fits w Z bytes h may = never_wide w may
 shape_fits w B bytes h may = index_fits w bytes 0 h
 shape_fits w BB bytes h may = and_from _ _ (index_fits w bytes 0 h) (index_fits w bytes (index_size w) h)
-shape_fits w BBB bytes h may = and_from _ _ (and_from _ _ (index_fits w bytes 0 h) (index_fits w bytes (index_size w) h)) (index_fits w bytes (index_size w + index_size w) h)
-shape_fits w BBI bytes h may = and_from _ _ (and_from _ _ (index_fits w bytes 0 h) (index_fits w bytes (index_size w) h)) (signed_index_fits w bytes (index_size w + index_size w) h)
+shape_fits w BBB bytes h may =
+    and_from _ _ (and_from _ _ (index_fits w bytes 0 h) (index_fits w bytes (index_size w) h))
+    (index_fits w bytes (index_size w + index_size w) h)
+shape_fits w BBI bytes h may =
+    and_from _ _ (and_from _ _ (index_fits w bytes 0 h) (index_fits w bytes (index_size w) h))
+    (signed_index_fits w bytes (index_size w + index_size w) h)
 shape_fits w S bytes h may = distance_fits w bytes 0 h
 shape_fits w BS bytes h may = and_from _ _ (index_fits w bytes 0 h) (distance_fits w bytes (index_size w) h)
 shape_fits w BSS bytes h may = and_from _ _ (index_fits w bytes 0 h) (long_fits bytes (index_size w) h)
 shape_fits w W bytes h may = and_from _ _ (never_wide w may) (counts_fit (word_at bytes 0) (word_small bytes h))
 
-pub decoded_fits : (w : Bool) (op : Opcode) (bytes : List ℕ) → AreBytes bytes → MayBe w (shape_of op) → IsTrue (fits_as w (operation_of op (operands w (shape_of op) bytes)))
-decoded_fits w op bytes h may = rw (opcode_in-operation_of op (operands w (shape_of op) bytes), operands_in-operation_of op (operands w (shape_of op) bytes)) (shape_fits w (shape_of op) bytes h may)
+pub decoded_fits : (w : Bool) (op : Opcode) (bytes : List ℕ) → AreBytes bytes → MayBe w (shape_of op)
+    → IsTrue (fits_as w (operation_of op (operands w (shape_of op) bytes)))
+decoded_fits w op bytes h may = rw (
+  opcode_in-operation_of op (operands w (shape_of op) bytes),
+  operands_in-operation_of op (operands w (shape_of op) bytes),
+) (shape_fits w (shape_of op) bytes h may)

@@ -47,11 +47,15 @@ long_bits (negsuc n) h = omega arith
 pub tiny : (z : ℤ) → IsTrue (is_signed_byte z) → cast_signed w8 (cast_unsigned w8 z) ≡ z
 tiny z h = to_z-of_z w8 z (byte_fits z h)
 
-pub short : (z : ℤ) → IsTrue (is_short z) → cast_signed w16 (from_be_bytes w16 (to_be_bytes w16 (cast_unsigned w16 z))) ≡ z
-short z h = ap (cast_signed w16) (from_be_bytes-to_be_bytes_2 (cast_unsigned w16 z) (short_bits z h)) ∙ to_z-of_z w16 z (short_fits z h)
+pub short : (z : ℤ) → IsTrue (is_short z)
+    → cast_signed w16 (from_be_bytes w16 (to_be_bytes w16 (cast_unsigned w16 z))) ≡ z
+short z h = ap (cast_signed w16) (from_be_bytes-to_be_bytes_2 (cast_unsigned w16 z) (short_bits z h))
+    ∙ to_z-of_z w16 z (short_fits z h)
 
-pub long : (z : ℤ) → IsTrue (is_long z) → cast_signed w32 (from_be_bytes w32 (to_be_bytes w32 (cast_unsigned w32 z))) ≡ z
-long z h = ap (cast_signed w32) (from_be_bytes-to_be_bytes_4 (cast_unsigned w32 z) (long_bits z h)) ∙ to_z-of_z w32 z (long_fits z h)
+pub long : (z : ℤ) → IsTrue (is_long z) → cast_signed w32 (from_be_bytes w32 (to_be_bytes w32 (cast_unsigned w32 z)))
+    ≡ z
+long z h = ap (cast_signed w32) (from_be_bytes-to_be_bytes_4 (cast_unsigned w32 z) (long_bits z h))
+    ∙ to_z-of_z w32 z (long_fits z h)
 
 -- the bits of ENTER
 bit_small : (b : Bool) → bit b < 2
@@ -68,16 +72,18 @@ record Counts (p : Parameters) : Type 0 where
   post : p.post < 128
 
 counts : (p : Parameters) → IsTrue (are_counts p) → Counts p
-counts p h = let last = and_parts (ltb p.required 128 && ltb p.optional 128) (ltb p.post 128) h in let first = and_parts (ltb p.required 128) (ltb p.optional 128) last.0 in record {
-  required = ltb-true p.required 128 first.0;
-  optional = ltb-true p.optional 128 first.1;
-  post = ltb-true p.post 128 last.1;
-}
+counts p h = let last = and_parts (ltb p.required 128 && ltb p.optional 128) (ltb p.post 128) h in
+    let first = and_parts (ltb p.required 128) (ltb p.optional 128) last.0 in record {
+      required = ltb-true p.required 128 first.0;
+      optional = ltb-true p.optional 128 first.1;
+      post = ltb-true p.post 128 last.1;
+    }
 
 abbrev parameters : ℕ → ℕ → Bool → ℕ → Bool → Bool → Parameters
 parameters r o e p b s = record { required = r; optional = o; rest = e; post = p; block = b; spare = s }
 
-same_parameters : {r r' o o' p p' : ℕ} {e e' b b' s s' : Bool} → r ≡ r' → o ≡ o' → e ≡ e' → p ≡ p' → b ≡ b' → s ≡ s' → parameters r o e p b s ≡ parameters r' o' e' p' b' s'
+same_parameters : {r r' o o' p p' : ℕ} {e e' b b' s s' : Bool} → r ≡ r' → o ≡ o' → e ≡ e' → p ≡ p' → b ≡ b' → s ≡ s'
+    → parameters r o e p b s ≡ parameters r' o' e' p' b' s'
 same_parameters a b c d e f = cc
 
 pub parameters_again : (p : Parameters) → IsTrue (are_counts p) → parameters_of (word_of p) ≡ p
@@ -98,7 +104,8 @@ word_again : (n : ℕ) (rest : List ℕ) → n < 16777216 → word_at (word_byte
 word_again n rest h = omega (arith, h)
 
 word_small : (p : Parameters) → IsTrue (are_counts p) → word_of p < 16777216
-word_small p h = let k = counts p h in omega (arith, k.required, k.optional, k.post, bit_small p.rest, bit_small p.block, bit_small p.spare)
+word_small p h = let k = counts p h in
+    omega (arith, k.required, k.optional, k.post, bit_small p.rest, bit_small p.block, bit_small p.spare)
 
 -- the operands of a shape
 numbers_same : {a a' b b' c c' : ℕ} → a ≡ a' → b ≡ b' → c ≡ c' → numbers a b c ≡ numbers a' b' c'
@@ -107,29 +114,42 @@ numbers_same p q r = cc
 signed_same : {a a' b b' : ℕ} {z z' : ℤ} → a ≡ a' → b ≡ b' → z ≡ z' → with_signed a b z ≡ with_signed a' b' z'
 signed_same p q r = cc
 
-narrow_again : (s : Shape) (x : Operands) (rest : List ℕ) → IsTrue (fits_shape false s x) → operands false s (shape_bytes false s x ++ rest) ≡ keep s x
+narrow_again : (s : Shape) (x : Operands) (rest : List ℕ) → IsTrue (fits_shape false s x)
+    → operands false s (shape_bytes false s x ++ rest) ≡ keep s x
 narrow_again Z x rest h = refl
 narrow_again B x rest h = refl
 narrow_again BB x rest h = refl
 narrow_again BBB x rest h = refl
-narrow_again BBI x rest h = signed_same refl refl (tiny x.by (and_parts (is_byte x.a && is_byte x.b) (is_signed_byte x.by) h).1)
+narrow_again BBI x rest h = signed_same refl refl
+    (tiny x.by (and_parts (is_byte x.a && is_byte x.b) (is_signed_byte x.by) h).1)
 narrow_again S x rest h = signed_same refl refl (short x.by h)
 narrow_again BS x rest h = signed_same refl refl (short x.by (and_parts (is_byte x.a) (is_short x.by) h).1)
 narrow_again BSS x rest h = signed_same refl refl (long x.by (and_parts (is_byte x.a) (is_long x.by) h).1)
-narrow_again W x rest h = ap (λ n. with_parameters (parameters_of n)) (word_again (word_of x.parameters) rest (word_small x.parameters h)) ∙ ap with_parameters (parameters_again x.parameters h)
+narrow_again W x rest h = ap (λ n. with_parameters (parameters_of n))
+    (word_again (word_of x.parameters) rest (word_small x.parameters h))
+    ∙ ap with_parameters (parameters_again x.parameters h)
 
-wide_again : (s : Shape) (x : Operands) (rest : List ℕ) → IsTrue (fits_shape true s x) → operands true s (shape_bytes true s x ++ rest) ≡ keep s x
+wide_again : (s : Shape) (x : Operands) (rest : List ℕ) → IsTrue (fits_shape true s x)
+    → operands true s (shape_bytes true s x ++ rest) ≡ keep s x
 wide_again Z x rest h = absurd cc
 wide_again B x rest h = numbers_same (two x.a h) refl refl
-wide_again BB x rest h = let p = and_parts (is_two_bytes x.a) (is_two_bytes x.b) h in numbers_same (two x.a p.0) (two x.b p.1) refl
-wide_again BBB x rest h = let q = and_parts (is_two_bytes x.a && is_two_bytes x.b) (is_two_bytes x.c) h in let p = and_parts (is_two_bytes x.a) (is_two_bytes x.b) q.0 in numbers_same (two x.a p.0) (two x.b p.1) (two x.c q.1)
-wide_again BBI x rest h = let q = and_parts (is_two_bytes x.a && is_two_bytes x.b) (is_short x.by) h in let p = and_parts (is_two_bytes x.a) (is_two_bytes x.b) q.0 in signed_same (two x.a p.0) (two x.b p.1) (short x.by q.1)
+wide_again BB x rest h = let p = and_parts (is_two_bytes x.a) (is_two_bytes x.b) h in
+    numbers_same (two x.a p.0) (two x.b p.1) refl
+wide_again BBB x rest h = let q = and_parts (is_two_bytes x.a && is_two_bytes x.b) (is_two_bytes x.c) h in
+    let p = and_parts (is_two_bytes x.a) (is_two_bytes x.b) q.0 in
+    numbers_same (two x.a p.0) (two x.b p.1) (two x.c q.1)
+wide_again BBI x rest h = let q = and_parts (is_two_bytes x.a && is_two_bytes x.b) (is_short x.by) h in
+    let p = and_parts (is_two_bytes x.a) (is_two_bytes x.b) q.0 in
+    signed_same (two x.a p.0) (two x.b p.1) (short x.by q.1)
 wide_again S x rest h = signed_same refl refl (long x.by h)
-wide_again BS x rest h = let p = and_parts (is_two_bytes x.a) (is_long x.by) h in signed_same (two x.a p.0) refl (long x.by p.1)
-wide_again BSS x rest h = let p = and_parts (is_two_bytes x.a) (is_long x.by) h in signed_same (two x.a p.0) refl (long x.by p.1)
+wide_again BS x rest h = let p = and_parts (is_two_bytes x.a) (is_long x.by) h in
+    signed_same (two x.a p.0) refl (long x.by p.1)
+wide_again BSS x rest h = let p = and_parts (is_two_bytes x.a) (is_long x.by) h in
+    signed_same (two x.a p.0) refl (long x.by p.1)
 wide_again W x rest h = absurd cc
 
-operands_again : (w : Bool) (s : Shape) (x : Operands) (rest : List ℕ) → IsTrue (fits_shape w s x) → operands w s (shape_bytes w s x ++ rest) ≡ keep s x
+operands_again : (w : Bool) (s : Shape) (x : Operands) (rest : List ℕ) → IsTrue (fits_shape w s x)
+    → operands w s (shape_bytes w s x ++ rest) ≡ keep s x
 operands_again false s x rest h = narrow_again s x rest h
 operands_again true s x rest h = wide_again s x rest h
 
@@ -153,10 +173,19 @@ length-shape_bytes true BS x = refl
 length-shape_bytes true BSS x = refl
 length-shape_bytes true W x = refl
 
-long_enough : (w : Bool) (s : Shape) (x : Operands) (rest : List ℕ) → ltb (length (shape_bytes w s x ++ rest)) (operand_size w s) ≡ false
+long_enough : (w : Bool) (s : Shape) (x : Operands) (rest : List ℕ)
+    → ltb (length (shape_bytes w s x ++ rest)) (operand_size w s) ≡ false
 long_enough w s x rest = le-ltb _ _ (simp (length-append, length-shape_bytes w s x) (omega arith))
 
-body_again : (w : Bool) (prefix : ℕ) (op : Opcode) (x : Operands) (rest : List ℕ) → IsTrue (fits_shape w (shape_of op) x) → body_of w prefix op (shape_bytes w (shape_of op) x ++ rest) ≡ Some (record { wide = w; operation = operation_of op (keep (shape_of op) x) }, prefix + 1 + operand_size w (shape_of op))
+body_again : (w : Bool) (prefix : ℕ) (op : Opcode) (x : Operands) (rest : List ℕ)
+    → IsTrue (fits_shape w (shape_of op) x)
+    → body_of w prefix op (shape_bytes w (shape_of op) x ++ rest) ≡ Some (
+      record {
+        wide = w;
+        operation = operation_of op (keep (shape_of op) x);
+      },
+      prefix + 1 + operand_size w (shape_of op),
+    )
 body_again w prefix op x rest h = rw (long_enough w (shape_of op) x rest, operands_again w (shape_of op) x rest h) refl
 
 wide_grows : (s : Shape) (x : Operands) → IsTrue (fits_shape true s x) → grows s ≡ true
@@ -173,38 +202,64 @@ wide_grows W x h = absurd cc
 abbrev whole : Bool → Operation → ℕ → Option (Instruction × ℕ)
 whole w o size = Some (record { wide = w; operation = o }, size)
 
-narrow_front_again : (o : Operation) (rest : List ℕ) → IsTrue (fits_as false o) → narrow_front (encoding (record { wide = false; operation = o }) ++ rest) ≡ whole false o (1 + operand_size false (shape_of (opcode_in o)))
+narrow_front_again : (o : Operation) (rest : List ℕ) → IsTrue (fits_as false o) → narrow_front (encoding (record {
+  wide = false;
+  operation = o;
+}) ++ rest) ≡ whole false o (1 + operand_size false (shape_of (opcode_in o)))
 unfolding encoding narrow_front
-narrow_front_again o rest h = rw (opcode_of-number_of (opcode_in o)) (body_again false 0 (opcode_in o) (operands_in o) rest h ∙ ap (λ p. whole false p (1 + operand_size false (shape_of (opcode_in o)))) (operation_of-keep o))
+narrow_front_again o rest h = rw (opcode_of-number_of (opcode_in o))
+    (body_again false 0 (opcode_in o) (operands_in o) rest h
+    ∙ ap (λ p. whole false p (1 + operand_size false (shape_of (opcode_in o)))) (operation_of-keep o))
 
-front_narrow : (o : Operation) (rest : List ℕ) → IsTrue (fits_as false o) → front (encoding (record { wide = false; operation = o }) ++ rest) ≡ whole false o (1 + operand_size false (shape_of (opcode_in o)))
+front_narrow : (o : Operation) (rest : List ℕ) → IsTrue (fits_as false o) → front (encoding (record {
+  wide = false;
+  operation = o;
+}) ++ rest) ≡ whole false o (1 + operand_size false (shape_of (opcode_in o)))
 unfolding encoding front narrow_front
 front_narrow o rest h = rw (number_of-ext (opcode_in o)) (narrow_front_again o rest h)
 
-front_wide : (o : Operation) (rest : List ℕ) → IsTrue (fits_as true o) → front (encoding (record { wide = true; operation = o }) ++ rest) ≡ whole true o (2 + operand_size true (shape_of (opcode_in o)))
+front_wide : (o : Operation) (rest : List ℕ) → IsTrue (fits_as true o) → front (encoding (record {
+  wide = true;
+  operation = o;
+}) ++ rest) ≡ whole true o (2 + operand_size true (shape_of (opcode_in o)))
 unfolding encoding front wide_front
-front_wide o rest h = rw (opcode_of-number_of (opcode_in o), wide_grows (shape_of (opcode_in o)) (operands_in o) h) (body_again true 1 (opcode_in o) (operands_in o) rest h ∙ ap (λ p. whole true p (2 + operand_size true (shape_of (opcode_in o)))) (operation_of-keep o))
+front_wide o rest h = rw (opcode_of-number_of (opcode_in o), wide_grows (shape_of (opcode_in o)) (operands_in o) h)
+    (body_again true 1 (opcode_in o) (operands_in o) rest h
+    ∙ ap (λ p. whole true p (2 + operand_size true (shape_of (opcode_in o)))) (operation_of-keep o))
 
-length-encoding : (w : Bool) (o : Operation) → length (encoding (record { wide = w; operation = o })) ≡ (if w then 2 else 1) + operand_size w (shape_of (opcode_in o))
+length-encoding : (w : Bool) (o : Operation) → length (encoding (record {
+  wide = w;
+  operation = o;
+})) ≡ (if w then 2 else 1) + operand_size w (shape_of (opcode_in o))
 unfolding encoding
 length-encoding false o = omega (arith, length-shape_bytes false (shape_of (opcode_in o)) (operands_in o))
 length-encoding true o = omega (arith, length-shape_bytes true (shape_of (opcode_in o)) (operands_in o))
 
-front_as : (w : Bool) (o : Operation) (rest : List ℕ) → IsTrue (fits_as w o) → front (encoding (record { wide = w; operation = o }) ++ rest) ≡ Some (record { wide = w; operation = o }, length (encoding (record { wide = w; operation = o })))
+front_as : (w : Bool) (o : Operation) (rest : List ℕ) → IsTrue (fits_as w o) → front (encoding (record {
+  wide = w;
+  operation = o;
+}) ++ rest)
+    ≡ Some (record { wide = w; operation = o }, length (encoding (record { wide = w; operation = o })))
 front_as false o rest h = front_narrow o rest h ∙ ap (whole false o) (sym (length-encoding false o))
 front_as true o rest h = front_wide o rest h ∙ ap (whole true o) (sym (length-encoding true o))
 
-front_encoding : (i : Instruction) (rest : List ℕ) → IsTrue (fits i) → front (encoding i ++ rest) ≡ Some (i, length (encoding i))
+front_encoding : (i : Instruction) (rest : List ℕ) → IsTrue (fits i)
+    → front (encoding i ++ rest) ≡ Some (i, length (encoding i))
 front_encoding i rest h = front_as i.wide i.operation rest h
 
-pub decode_encoded : (pre rest : List ℕ) (i : Instruction) → IsTrue (fits i) → decode_wide_at (pre ++ (encoding i ++ rest)) (length pre) ≡ Some (i, length pre + length (encoding i))
+pub decode_encoded : (pre rest : List ℕ) (i : Instruction) → IsTrue (fits i)
+    → decode_wide_at (pre ++ (encoding i ++ rest)) (length pre) ≡ Some (i, length pre + length (encoding i))
 unfolding decode_wide_at
-decode_encoded pre rest i h = ap (λ (bytes : List ℕ). placed (length pre) (front bytes)) (drop_at pre (encoding i ++ rest) (length pre) refl) ∙ ap (placed (length pre)) (front_encoding i rest h)
+decode_encoded pre rest i h = ap (λ (bytes : List ℕ). placed (length pre) (front bytes))
+    (drop_at pre (encoding i ++ rest) (length pre) refl) ∙ ap (placed (length pre)) (front_encoding i rest h)
 
 -- a narrow instruction is decoded without EXT, too
-pub decode_narrow : (pre rest : List ℕ) (o : Operation) → IsTrue (fits_as false o) → decode_at (pre ++ (encoding (narrow o) ++ rest)) (length pre) ≡ Some (narrow o, length pre + size_of o)
+pub decode_narrow : (pre rest : List ℕ) (o : Operation) → IsTrue (fits_as false o)
+    → decode_at (pre ++ (encoding (narrow o) ++ rest)) (length pre) ≡ Some (narrow o, length pre + size_of o)
 unfolding decode_at
-decode_narrow pre rest o h = ap (λ (bytes : List ℕ). placed (length pre) (narrow_front bytes)) (drop_at pre (encoding (narrow o) ++ rest) (length pre) refl) ∙ ap (placed (length pre)) (narrow_front_again o rest h)
+decode_narrow pre rest o h = ap (λ (bytes : List ℕ). placed (length pre) (narrow_front bytes))
+    (drop_at pre (encoding (narrow o) ++ rest) (length pre) refl)
+    ∙ ap (placed (length pre)) (narrow_front_again o rest h)
 
 pub length-encoding_narrow : (o : Operation) → length (encoding (narrow o)) ≡ size_of o
 length-encoding_narrow o = length-encoding false o

@@ -13,7 +13,7 @@ pub record Program : Type 0 where
 abbrev pub program : ℕ → List Irep → Program
 program version bodies = record { version = version; bodies = bodies }
 
--- no two entries are equal: each differs from all behind it
+-- no two entries are equal: each differs from all after it
 abbrev pub AreDistinct : {A : Type 0} → List A → Type 0
 AreDistinct [] = Unit
 AreDistinct (x ∷ xs) = All (λ y. x ≢ y) xs × AreDistinct xs
@@ -42,11 +42,12 @@ pub record IsBody (version : ℕ) (b : Irep) : Type 0 where
   pub symbols : AreDistinct b.symbols
   pub child_count : length b.children < 2 ^ 16
 
--- The bodies from number `at` on are trees with these roots, one behind the other: the children of a body are
--- the first roots of what stands behind it.
+-- The bodies from number `at` on are trees with these roots, one after the other: the children of a body are
+-- the first roots of what stands after it.
 pub data IsForest : ℕ → List Irep → List ℕ → Type 0 where
   none : {at : ℕ} → IsForest at [] []
-  node : {at : ℕ} {b : Irep} {bs : List Irep} {others : List ℕ} → IsForest (at + 1) bs (b.children ++ others) → IsForest at (b ∷ bs) (at ∷ others)
+  node : {at : ℕ} {b : Irep} {bs : List Irep} {others : List ℕ} → IsForest (at + 1) bs (b.children ++ others)
+      → IsForest at (b ∷ bs) (at ∷ others)
 
 -- one tree of at most 65,536 bodies
 pub record IsWhole (p : Program) : Type 0 where

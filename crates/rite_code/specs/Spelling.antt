@@ -37,7 +37,7 @@ bit false = 0
 bit true = 1
 
 -- the 24 bits of ENTER: seven of required parameters, seven of optional ones, one of the rest parameter, seven of
--- those behind it, one of the block, one to spare
+-- those after it, one of the block, one to spare
 abbrev pub word_of : Parameters → ℕ
 word_of p = p.required * 131072 + p.optional * 1024 + bit p.rest * 512 + p.post * 4 + bit p.block * 2 + bit p.spare
 
@@ -74,7 +74,9 @@ abbrev pub short_at : List ℕ → ℕ → ℤ
 short_at bytes i = cast_signed w16 (from_be_bytes w16 (slice_index bytes i ∷ slice_index bytes (i + 1) ∷ []))
 
 abbrev pub long_at : List ℕ → ℕ → ℤ
-long_at bytes i = cast_signed w32 (from_be_bytes w32 (slice_index bytes i ∷ slice_index bytes (i + 1) ∷ slice_index bytes (i + 2) ∷ slice_index bytes (i + 3) ∷ []))
+long_at bytes i =
+    cast_signed w32 (from_be_bytes w32 (slice_index bytes i ∷ slice_index bytes (i + 1) ∷ slice_index bytes (i + 2)
+    ∷ slice_index bytes (i + 3) ∷ []))
 
 abbrev pub signed_index_at : Bool → List ℕ → ℕ → ℤ
 signed_index_at false bytes i = cast_signed w8 (slice_index bytes i)
@@ -102,19 +104,27 @@ abbrev pub operands : Bool → Shape → List ℕ → Operands
 operands w Z bytes = numbers 0 0 0
 operands w B bytes = numbers (index_at w bytes 0) 0 0
 operands w BB bytes = numbers (index_at w bytes 0) (index_at w bytes (index_size w)) 0
-operands w BBB bytes = numbers (index_at w bytes 0) (index_at w bytes (index_size w)) (index_at w bytes (index_size w + index_size w))
-operands w BBI bytes = with_signed (index_at w bytes 0) (index_at w bytes (index_size w)) (signed_index_at w bytes (index_size w + index_size w))
+operands w BBB bytes = numbers (index_at w bytes 0) (index_at w bytes (index_size w))
+    (index_at w bytes (index_size w + index_size w))
+operands w BBI bytes = with_signed (index_at w bytes 0) (index_at w bytes (index_size w))
+    (signed_index_at w bytes (index_size w + index_size w))
 operands w S bytes = with_signed 0 0 (distance_at w bytes 0)
 operands w BS bytes = with_signed (index_at w bytes 0) 0 (distance_at w bytes (index_size w))
 operands w BSS bytes = with_signed (index_at w bytes 0) 0 (long_at bytes (index_size w))
 operands w W bytes = with_parameters (parameters_of (word_at bytes 0))
 
--- the instruction with the operands at the front of the bytes behind a prefix of this size, and how many bytes
+-- the instruction with the operands at the front of the bytes after a prefix of this size, and how many bytes
 -- it takes in all
 abbrev pub body_of : Bool → ℕ → Opcode → List ℕ → Option (Instruction × ℕ)
 body_of w prefix o rest =
     if nat_lt (length rest) (operand_size w (shape_of o)) then None
-    else Some (record { wide = w; operation = operation_of o (operands w (shape_of o) rest) }, prefix + 1 + operand_size w (shape_of o))
+    else Some (
+      record {
+        wide = w;
+        operation = operation_of o (operands w (shape_of o) rest);
+      },
+      prefix + 1 + operand_size w (shape_of o),
+    )
 
 abbrev pub narrow_body : Option Opcode → List ℕ → Option (Instruction × ℕ)
 narrow_body None rest = None
@@ -125,7 +135,7 @@ abbrev pub wide_body : Option Opcode → List ℕ → Option (Instruction × ℕ
 wide_body None rest = None
 wide_body (Some o) rest = if grows (shape_of o) then body_of true 1 o rest else None
 
--- the instruction at the front of the bytes, behind EXT, without EXT, and either way
+-- the instruction at the front of the bytes, after EXT, without EXT, and either way
 unfoldable pub wide_front : List ℕ → Option (Instruction × ℕ)
 wide_front [] = None
 wide_front (n ∷ rest) = wide_body (opcode_of n) rest
@@ -138,7 +148,7 @@ unfoldable pub front : List ℕ → Option (Instruction × ℕ)
 front [] = None
 front (n ∷ rest) = if nat_eq n ext then wide_front rest else narrow_front (n ∷ rest)
 
--- the instruction that stands whole at a place, with the place behind it
+-- the instruction that stands whole at a place, with the place after it
 abbrev pub placed : ℕ → Option (Instruction × ℕ) → Option (Instruction × ℕ)
 placed at None = None
 placed at (Some p) = Some (p.0, at + p.1)

@@ -96,7 +96,17 @@ shape_of o = (row_of o).shape
 
 -- the instructions in the order of their numbers
 unfoldable pub opcodes : List Opcode
-opcodes = opcode.Nop ∷ opcode.Move ∷ opcode.LoadL ∷ opcode.LoadI ∷ opcode.LoadI16 ∷ opcode.LoadI32 ∷ opcode.LoadSym ∷ opcode.LoadNil ∷ opcode.LoadSelf ∷ opcode.LoadT ∷ opcode.LoadF ∷ opcode.GetGv ∷ opcode.SetGv ∷ opcode.GetIv ∷ opcode.SetIv ∷ opcode.GetConst ∷ opcode.SetConst ∷ opcode.GetMCnst ∷ opcode.SetMCnst ∷ opcode.GetUpVar ∷ opcode.SetUpVar ∷ opcode.Jmp ∷ opcode.JmpIf ∷ opcode.JmpNot ∷ opcode.JmpUw ∷ opcode.Except ∷ opcode.Rescue ∷ opcode.RaiseIf ∷ opcode.SSend ∷ opcode.SSendB ∷ opcode.Send ∷ opcode.SendB ∷ opcode.Call ∷ opcode.Super ∷ opcode.Enter ∷ opcode.BlkPush ∷ opcode.Return ∷ opcode.ReturnBlk ∷ opcode.Break ∷ opcode.Add ∷ opcode.Sub ∷ opcode.Mul ∷ opcode.Div ∷ opcode.Eq ∷ opcode.Lt ∷ opcode.Le ∷ opcode.Gt ∷ opcode.Ge ∷ opcode.Array ∷ opcode.AryPush ∷ opcode.AryCat ∷ opcode.ARef ∷ opcode.APost ∷ opcode.Intern ∷ opcode.String ∷ opcode.StrCat ∷ opcode.Hash ∷ opcode.HashAdd ∷ opcode.Lambda ∷ opcode.Block ∷ opcode.RangeInc ∷ opcode.RangeExc ∷ opcode.OClass ∷ opcode.Class ∷ opcode.Module ∷ opcode.Exec ∷ opcode.Def ∷ opcode.Alias ∷ opcode.Undef ∷ opcode.SClass ∷ opcode.TClass ∷ opcode.Defined ∷ opcode.Stop ∷ []
+opcodes = opcode.Nop ∷ opcode.Move ∷ opcode.LoadL ∷ opcode.LoadI ∷ opcode.LoadI16 ∷ opcode.LoadI32 ∷ opcode.LoadSym
+    ∷ opcode.LoadNil ∷ opcode.LoadSelf ∷ opcode.LoadT ∷ opcode.LoadF ∷ opcode.GetGv ∷ opcode.SetGv ∷ opcode.GetIv
+    ∷ opcode.SetIv ∷ opcode.GetConst ∷ opcode.SetConst ∷ opcode.GetMCnst ∷ opcode.SetMCnst ∷ opcode.GetUpVar
+    ∷ opcode.SetUpVar ∷ opcode.Jmp ∷ opcode.JmpIf ∷ opcode.JmpNot ∷ opcode.JmpUw ∷ opcode.Except ∷ opcode.Rescue
+    ∷ opcode.RaiseIf ∷ opcode.SSend ∷ opcode.SSendB ∷ opcode.Send ∷ opcode.SendB ∷ opcode.Call ∷ opcode.Super
+    ∷ opcode.Enter ∷ opcode.BlkPush ∷ opcode.Return ∷ opcode.ReturnBlk ∷ opcode.Break ∷ opcode.Add ∷ opcode.Sub
+    ∷ opcode.Mul ∷ opcode.Div ∷ opcode.Eq ∷ opcode.Lt ∷ opcode.Le ∷ opcode.Gt ∷ opcode.Ge ∷ opcode.Array
+    ∷ opcode.AryPush ∷ opcode.AryCat ∷ opcode.ARef ∷ opcode.APost ∷ opcode.Intern ∷ opcode.String ∷ opcode.StrCat
+    ∷ opcode.Hash ∷ opcode.HashAdd ∷ opcode.Lambda ∷ opcode.Block ∷ opcode.RangeInc ∷ opcode.RangeExc ∷ opcode.OClass
+    ∷ opcode.Class ∷ opcode.Module ∷ opcode.Exec ∷ opcode.Def ∷ opcode.Alias ∷ opcode.Undef ∷ opcode.SClass
+    ∷ opcode.TClass ∷ opcode.Defined ∷ opcode.Stop ∷ []
 
 -- the instruction of a number, where there is one
 unfoldable pub opcode_of : ℕ → Option Opcode

@@ -130,7 +130,7 @@ fn operands(wide: bool, shape: Shape, bytes: &[u8]) -> Operands
     found
 }
 
-/// The instruction with the operands at the front of the bytes, behind a prefix of this size.
+/// The instruction with the operands at the front of the bytes, after a prefix of this size.
 #[inline(always)]
 fn body_of(wide: bool, prefix: usize, opcode: Opcode, rest: &[u8]) -> Option<(Instr, usize)>
     requires small { prefix ≤ 1 }
@@ -163,7 +163,7 @@ fn narrow_front(bytes: &[u8]) -> Option<(Instr, usize)>
     }
 }
 
-/// The instruction at the front of the bytes behind EXT, and how many bytes both take.
+/// The instruction at the front of the bytes after EXT, and how many bytes both take.
 #[tactic(auto, unfolding(crate::specs::Spelling::wide_front))]
 fn wide_front(bytes: &[u8]) -> Option<(Instr, usize)>
     ensures value { result ≡ spelling.wide_front bytes.now }
@@ -198,7 +198,7 @@ fn front(bytes: &[u8]) -> Option<(Instr, usize)>
     }
 }
 
-/// The instruction without EXT that stands whole at a place, with the place behind it. There is none past the
+/// The instruction without EXT that stands whole at a place, with the place after it. There is none past the
 /// end, where the number is that of no instruction, or where the code ends within the operands.
 #[inline(always)]
 #[tactic(auto, unfolding(crate::specs::Spelling::decode_at, crate::specs::Spelling::narrow_front))]
@@ -211,7 +211,7 @@ pub fn decode_at(code: &[u8], at: usize) -> Option<(Instr, usize)>
     Some((instr, at + size))
 }
 
-/// The instruction with EXT or without that stands whole at a place, with the place behind it.
+/// The instruction with EXT or without that stands whole at a place, with the place after it.
 #[inline(always)]
 #[tactic(auto, unfolding(crate::specs::Spelling::decode_wide_at, crate::specs::Spelling::front))]
 pub fn decode_wide_at(code: &[u8], at: usize) -> Option<(Instr, usize)>
@@ -223,9 +223,24 @@ pub fn decode_wide_at(code: &[u8], at: usize) -> Option<(Instr, usize)>
     Some((instr, at + size))
 }
 
-/// What is spelled is decoded again, with the place behind it, wherever it stands; and a narrow instruction
+/// The instruction that stands whole at a place of code of this version, with the place after it. Version 1 has no
+/// EXT.
+pub fn decode(version: u8, code: &[u8], at: usize) -> Option<(Instr, usize)>
+    ensures value { result ≡ spelling.decode version code.now at }
+    ensures within { IfSome result (λ found. (at < found.1) × (found.1 ≤ length code.now)) }
+{
+    if version == 1 {
+        decode_at(code, at)
+    } else {
+        decode_wide_at(code, at)
+    }
+}
+
+/// What is spelled is decoded again, with the place after it, wherever it stands; and a narrow instruction
 /// is spelled in the bytes of its size.
 pub fn decoding_undoes_encoding()
-    ensures decoded { (pre rest : List ℕ) (i : Instruction) → IsTrue (fits i) → spelling.decode_wide_at (pre ++ (encoding i ++ rest)) (length pre) ≡ Some (i, length pre + length (encoding i)) }
+    ensures decoded { (pre rest : List ℕ) (i : Instruction) → IsTrue (fits i)
+        → spelling.decode_wide_at (pre ++ (encoding i ++ rest)) (length pre)
+        ≡ Some (i, length pre + length (encoding i)) }
     ensures sizes { (o : OperationValue) → length (encoding (narrow o)) ≡ shapes.size_of o }
 {}

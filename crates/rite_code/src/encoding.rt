@@ -53,11 +53,9 @@ fn put_signed_index(out: &mut Vec<u8>, wide: bool, n: i32) -> Result<(), AllocEr
     Ok(())
 }
 
-/// The 24 bits of ENTER.
-fn word_of(parameters: Parameters) -> u32
-    requires { IsTrue (shapes.are_counts parameters) }
-    ensures value { result ≡ spelling.word_of parameters }
-    ensures small { result < 16777216 }
+/// The number that ENTER has: 24 bits, where each count is below 128.
+pub fn word_of(parameters: Parameters) -> u32
+    ensures { result ≡ spelling.word_of parameters }
 {
     u32::from(parameters.required) * 131072
         + u32::from(parameters.optional) * 1024
@@ -75,6 +73,14 @@ fn put_word(out: &mut Vec<u8>, word: u32) -> Result<(), AllocError>
     out.push((word / 256 % 256) as u8)?;
     out.push((word % 256) as u8)?;
     Ok(())
+}
+
+/// Puts the 24 bits of ENTER.
+fn put_parameters(out: &mut Vec<u8>, parameters: Parameters) -> Result<(), AllocError>
+    requires { IsTrue (shapes.are_counts parameters) }
+    ensures { OnOk result (out.new.items ≡ out.old.items ++ spelling.word_bytes (spelling.word_of parameters)) }
+{
+    put_word(out, word_of(parameters))
 }
 
 /// Puts the operands that the shape has.
@@ -120,7 +126,7 @@ fn put_operands(
             put_index(out, wide, a)?;
             put_long(out, by)?;
         }
-        Shape::W => put_word(out, word_of(parameters))?,
+        Shape::W => put_parameters(out, parameters)?,
     }
     Ok(())
 }
@@ -139,7 +145,7 @@ fn put(out: &mut Vec<u8>, instr: &Instr) -> Result<(), AllocError>
     put_operands(out, instr.is_wide(), opcode.shape(), operation.operands())
 }
 
-/// The bytes of the instructions, one behind the other.
+/// The bytes of the instructions, one after the other.
 pub fn encode(alloc: Global, list: &[Instr]) -> Result<Vec<u8>, AllocError>
     ensures { IfOk result (λ bytes. bytes.items ≡ encodings list.now) }
 {

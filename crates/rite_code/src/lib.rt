@@ -2,7 +2,8 @@
 //!
 //! Types: [`Instr`] over [`Operation`], [`Opcode`], [`Shape`], [`Parameters`], [`Irep`], [`CatchEntry`], [`PoolItem`],
 //! [`Code`], [`Cause`].
-//! Calls: [`decode_at`], [`decode_wide_at`], [`encode`]. Law: [`decoding_undoes_encoding`].
+//! Calls: [`decode`], which chooses by the version between [`decode_at`] and [`decode_wide_at`], [`encode`], and
+//! [`word_of`], the number that ENTER has. Law: [`decoding_undoes_encoding`].
 #![tactic(auto)]
 
 pub mod cause;
@@ -15,8 +16,8 @@ pub mod operation;
 
 pub use cause::Cause;
 pub use code::{CatchEntry, Code, Irep, PoolItem};
-pub use decoding::{decode_at, decode_wide_at, decoding_undoes_encoding};
-pub use encoding::encode;
+pub use decoding::{decode, decode_at, decode_wide_at, decoding_undoes_encoding};
+pub use encoding::{encode, word_of};
 pub use instr::Instr;
 pub use opcode::{Opcode, Shape};
 pub use operation::{Operands, Operation, Parameters};

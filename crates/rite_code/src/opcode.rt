@@ -4,7 +4,7 @@ ghost use Rattle.std.specs.Prelude.{◌≤◌};
 ghost use Rattle.rite_code.specs.Shape as shapes;
 ghost use Rattle.rite_code.specs.Table as table;
 
-/// The operands behind a number. `B` is a byte (two bytes where wide), `S` a signed number of two bytes (four
+/// The operands after a number. `B` is a byte (two bytes where wide), `S` a signed number of two bytes (four
 /// where wide), `I` a byte (two bytes) that is signed, `SS` a signed number of four bytes, `W` the three bytes
 /// of ENTER.
 #[derive(Clone, Copy, Debug, PartialEq, Eq)]

@@ -4,7 +4,7 @@ ghost use Rattle.rite_code.specs.Operation as operations;
 
 use crate::opcode::Opcode;
 
-/// What ENTER says of the parameters: how many are required, optional and behind the rest parameter, whether
+/// What ENTER says of the parameters: how many are required, optional and after the rest parameter, whether
 /// there is a rest parameter and whether the block has a name. `spare` is the lowest bit, which has no meaning.
 #[derive(Clone, Copy, Debug, PartialEq, Eq)]
 pub struct Parameters {

@@ -28,20 +28,33 @@ Goes fits seen [] = Unit {0}
 Goes fits seen (x ∷ xs) = (fits seen x ≡ true) × Goes fits (seen ++ x ∷ []) xs
 
 -- what stands between two places
-pub record IsList {A : Type 0} (spelled : A → List ℕ) (Fits : A → Type 0) (fits : List A → A → Bool) (seen : List A) (n : ℕ) (bytes : List ℕ) (at : ℕ) (xs : List A) (next : ℕ) : Type 0 where
+pub record IsList {A : Type 0} (spelled : A → List ℕ) (Fits : A → Type 0) (fits : List A → A → Bool) (seen : List A)
+    (n : ℕ) (bytes : List ℕ) (at : ℕ) (xs : List A) (next : ℕ) : Type 0 where
   pub takes : Takes bytes at (flat_map spelled xs) next
   pub count : length xs ≡ n
   pub each : AllByRecursion Fits xs
   pub goes : Goes fits seen xs
 
-abbrev Found : {A : Type 0} → (A → List ℕ) → (A → Type 0) → (List A → A → Bool) → List A → ℕ → List ℕ → ℕ → List A × ℕ → Type 0
-Found {A} spelled Fits fits seen n bytes at y = (xs : List A) × (y.0 ≡ seen ++ xs) × IsList spelled Fits fits seen n bytes at xs y.1
+abbrev Found : {A : Type 0} → (A → List ℕ) → (A → Type 0) → (List A → A → Bool) → List A → ℕ → List ℕ → ℕ → List A × ℕ
+    → Type 0
+Found {A} spelled Fits fits seen n bytes at y = (xs : List A) × (y.0 ≡ seen ++ xs) × IsList spelled Fits fits seen n
+    bytes at xs y.1
 
-pub list_takes : {A : Type 0} (spelled : A → List ℕ) (Fits : A → Type 0) (read : Reader A) → IsField spelled Fits read → (fits : List A → A → Bool) (n : ℕ) (seen : List A) (bytes : List ℕ) (at : ℕ) (y : List A × ℕ) → IsBytes bytes
+pub list_takes : {A : Type 0} (spelled : A → List ℕ) (Fits : A → Type 0) (read : Reader A) → IsField spelled Fits read
+    → (fits : List A → A → Bool) (n : ℕ) (seen : List A) (bytes : List ℕ) (at : ℕ) (y : List A × ℕ) → IsBytes bytes
     → list_at fits read seen n bytes at ≡ Ok y → Found spelled Fits fits seen n bytes at y
 unfolding list_at
 list_takes spelled Fits read field fits zero seen bytes at y are e =
-    subst (Found spelled Fits fits seen 0 bytes at) (ok_is (seen, at) y e) ([], sym (append-nil seen), record { takes = record { parts = refl; place = omega arith }; count = refl; each = tt; goes = tt })
+    subst (Found spelled Fits fits seen 0 bytes at) (ok_is (seen, at) y e) (
+      [],
+      sym (append-nil seen),
+      record {
+        takes = record { parts = refl; place = omega arith };
+        count = refl;
+        each = tt;
+        goes = tt;
+      },
+    )
 list_takes {A} spelled Fits read field fits (suc n) seen bytes at y are e =
     let second : A × ℕ → Result (List A × ℕ) LoadError = λ z. list_at fits read (seen ++ z.0 ∷ []) n bytes z.1 in
     let first : A × ℕ → Result (List A × ℕ) LoadError = λ x. guarded (fits seen x.0) at x >>= second in
@@ -52,19 +65,36 @@ list_takes {A} spelled Fits read field fits (suc n) seen bytes at y are e =
     let t = field.takes bytes at a.0.0 a.0.1 are a.1 in
     let others = list_takes spelled Fits read field fits n (seen ++ a.0.0 ∷ []) bytes a.0.1 y are rest in
     let l = others.2 in
-    let joined : Takes bytes at (flat_map spelled (a.0.0 ∷ others.0)) y.1 = rw flat_map-cons (Takes-then bytes at (spelled a.0.0) a.0.1 (flat_map spelled others.0) y.1 t.0 l.takes) in
-    (a.0.0 ∷ others.0, others.1 ∙ append_assoc seen (a.0.0 ∷ []) others.0, record { takes = joined; count = ap suc l.count; each = (t.1, l.each); goes = (g.0, l.goes) })
+    let joined : Takes bytes at (flat_map spelled (a.0.0 ∷ others.0)) y.1 =
+    rw flat_map-cons (Takes-then bytes at (spelled a.0.0) a.0.1 (flat_map spelled others.0) y.1 t.0 l.takes) in (
+      a.0.0 ∷ others.0,
+      others.1 ∙ append_assoc seen (a.0.0 ∷ []) others.0,
+      record {
+        takes = joined;
+        count = ap suc l.count;
+        each = (t.1, l.each);
+        goes = (g.0, l.goes);
+      },
+    )
 
-pub list_again : {A : Type 0} (spelled : A → List ℕ) (Fits : A → Type 0) (read : Reader A) → IsField spelled Fits read → (fits : List A → A → Bool) (xs seen : List A) (bytes : List ℕ) (at : ℕ) (rest : List ℕ) → AllByRecursion Fits xs → Goes fits seen xs
-    → drop at bytes ≡ flat_map spelled xs ++ rest → list_at fits read seen (length xs) bytes at ≡ Ok (seen ++ xs, at + length (flat_map spelled xs))
+pub list_again : {A : Type 0} (spelled : A → List ℕ) (Fits : A → Type 0) (read : Reader A) → IsField spelled Fits read
+    → (fits : List A → A → Bool) (xs seen : List A) (bytes : List ℕ) (at : ℕ) (rest : List ℕ) → AllByRecursion Fits xs
+    → Goes fits seen xs
+    → drop at bytes ≡ flat_map spelled xs ++ rest
+    → list_at fits read seen (length xs) bytes at ≡ Ok (seen ++ xs, at + length (flat_map spelled xs))
 unfolding list_at
-list_again spelled Fits read field fits [] seen bytes at rest each goes e = rw append-nil (ap (λ (k : ℕ). Ok (seen, k)) (omega arith))
+list_again spelled Fits read field fits [] seen bytes at rest each goes e =
+    rw append-nil (ap (λ (k : ℕ). Ok (seen, k)) (omega arith))
 list_again spelled Fits read field fits (x ∷ xs) seen bytes at rest each goes e =
-    let parts : drop at bytes ≡ spelled x ++ (flat_map spelled xs ++ rest) = e ∙ ap (λ (t : List ℕ). t ++ rest) (flat_map-cons spelled x xs) ∙ append_assoc (spelled x) (flat_map spelled xs) rest in
+    let parts : drop at bytes ≡ spelled x ++ (flat_map spelled xs ++ rest) = e
+    ∙ ap (λ (t : List ℕ). t ++ rest) (flat_map-cons spelled x xs)
+    ∙ append_assoc (spelled x) (flat_map spelled xs) rest in
     let r = field.again bytes at x (flat_map spelled xs ++ rest) each.0 parts in
-    let others = list_again spelled Fits read field fits xs (seen ++ x ∷ []) bytes (at + length (spelled x)) rest each.1 goes.1 (rest_at bytes at (spelled x) (flat_map spelled xs ++ rest) parts) in
+    let others = list_again spelled Fits read field fits xs (seen ++ x ∷ []) bytes (at + length (spelled x)) rest
+    each.1 goes.1 (rest_at bytes at (spelled x) (flat_map spelled xs ++ rest) parts) in
     let all : (seen ++ x ∷ []) ++ xs ≡ seen ++ x ∷ xs = append_assoc seen (x ∷ []) xs in
-    let len : at + length (spelled x) + length (flat_map spelled xs) ≡ at + length (flat_map spelled (x ∷ xs)) = rw flat_map-cons (omega (arith, length-append (spelled x) (flat_map spelled xs))) in
+    let len : at + length (spelled x) + length (flat_map spelled xs) ≡ at + length (flat_map spelled (x ∷ xs)) =
+    rw flat_map-cons (omega (arith, length-append (spelled x) (flat_map spelled xs))) in
     rw (r, goes.0, others, all, len) refl
 
 -- ---- values without doubles
@@ -72,7 +102,8 @@ list_again spelled Fits read field fits (x ∷ xs) seen bytes at rest each goes 
 abbrev Each : {A : Type 0} → (A → Type 0) → List A → Type 0
 Each P xs = AllByRecursion P xs
 
-each_zip : {A : Type 0} (P Q R : A → Type 0) → ((x : A) → P x → Q x → R x) → (xs : List A) → Each P xs → Each Q xs → Each R xs
+each_zip : {A : Type 0} (P Q R : A → Type 0) → ((x : A) → P x → Q x → R x) → (xs : List A) → Each P xs → Each Q xs
+    → Each R xs
 each_zip P Q R f [] h k = tt
 each_zip P Q R f (x ∷ xs) h k = (f x h.0 k.0, each_zip P Q R f xs h.1 k.1)
 
@@ -116,38 +147,52 @@ Tells {A} eq = (x y : A) → Decides (eq x y) (x ≡ y)
 abbrev Apart : {A : Type 0} → List A → List A → Type 0
 Apart seen xs = Each (λ s. Each (λ y. s ≢ y) xs) seen
 
-differ : {A : Type 0} (eq : A → A → Bool) → Tells eq → (seen : List A) (x : A) → is_new eq seen x ≡ true → Each (λ s. s ≢ x) seen
+differ : {A : Type 0} (eq : A → A → Bool) → Tells eq → (seen : List A) (x : A) → is_new eq seen x ≡ true
+    → Each (λ s. s ≢ x) seen
 differ eq tells seen x h =
-    each_map (λ s. eq s x ≡ false) (λ s. s ≢ x) (λ s e. not_from_Decides (eq s x) (tells s x) e) seen (none_passes (λ y. eq y x) seen (not-true _ h))
+    each_map (λ s. eq s x ≡ false) (λ s. s ≢ x) (λ s e. not_from_Decides (eq s x) (tells s x) e) seen
+    (none_passes (λ y. eq y x) seen (not-true _ h))
 
 false_from : {P : Type 0} (b : Bool) → Decides b P → (P → ⊥) → b ≡ false
 false_from true d h = absurd (h (d.0 refl))
 false_from false d h = refl
 
-new_from : {A : Type 0} (eq : A → A → Bool) → Tells eq → (seen : List A) (x : A) → Each (λ s. s ≢ x) seen → is_new eq seen x ≡ true
-new_from eq tells seen x h = ap not (any_none (λ y. eq y x) seen (each_map (λ s. s ≢ x) (λ s. eq s x ≡ false) (λ s k. false_from (eq s x) (tells s x) k) seen h))
+new_from : {A : Type 0} (eq : A → A → Bool) → Tells eq → (seen : List A) (x : A) → Each (λ s. s ≢ x) seen
+    → is_new eq seen x ≡ true
+new_from eq tells seen x h =
+    ap not (any_none (λ y. eq y x) seen
+    (each_map (λ s. s ≢ x) (λ s. eq s x ≡ false) (λ s k. false_from (eq s x) (tells s x) k) seen h))
 
-goes_apart : {A : Type 0} (eq : A → A → Bool) → Tells eq → (xs seen : List A) → Goes (is_new eq) seen xs → Apart seen xs × AreDistinct xs
+goes_apart : {A : Type 0} (eq : A → A → Bool) → Tells eq → (xs seen : List A) → Goes (is_new eq) seen xs
+    → Apart seen xs × AreDistinct xs
 goes_apart eq tells [] seen g = (each_true _ (λ s. tt) seen, tt)
 goes_apart eq tells (x ∷ xs) seen g =
     let first = differ eq tells seen x g.0 in
     let later = goes_apart eq tells xs (seen ++ x ∷ []) g.1 in
     let before = each_left (λ s. Each (λ y. s ≢ y) xs) seen (x ∷ []) later.0 in
-    let own = (each_right (λ s. Each (λ y. s ≢ y) xs) seen (x ∷ []) later.0).0 in
-    (each_zip (λ s. s ≢ x) (λ s. Each (λ y. s ≢ y) xs) (λ s. Each (λ y. s ≢ y) (x ∷ xs)) (λ s p q. (p, q)) seen first before, (All-from_recursion (λ y. x ≢ y) xs own, later.1))
+    let own = (each_right (λ s. Each (λ y. s ≢ y) xs) seen (x ∷ []) later.0).0 in (
+      each_zip (λ s. s ≢ x) (λ s. Each (λ y. s ≢ y) xs) (λ s. Each (λ y. s ≢ y) (x ∷ xs)) (λ s p q. (p, q)) seen first
+          before,
+      (All-from_recursion (λ y. x ≢ y) xs own, later.1),
+    )
 
-goes_from : {A : Type 0} (eq : A → A → Bool) → Tells eq → (xs seen : List A) → Apart seen xs → AreDistinct xs → Goes (is_new eq) seen xs
+goes_from : {A : Type 0} (eq : A → A → Bool) → Tells eq → (xs seen : List A) → Apart seen xs → AreDistinct xs
+    → Goes (is_new eq) seen xs
 goes_from eq tells [] seen apart distinct = tt
 goes_from eq tells (x ∷ xs) seen apart distinct =
     let first = each_map (λ s. Each (λ y. s ≢ y) (x ∷ xs)) (λ s. s ≢ x) (λ s h. h.0) seen apart in
     let before = each_map (λ s. Each (λ y. s ≢ y) (x ∷ xs)) (λ s. Each (λ y. s ≢ y) xs) (λ s h. h.1) seen apart in
-    let own = recursion_from_All (λ y. x ≢ y) xs distinct.0 in
-    (new_from eq tells seen x first, goes_from eq tells xs (seen ++ x ∷ []) (each_append (λ s. Each (λ y. s ≢ y) xs) seen (x ∷ []) before (own, tt)) distinct.1)
+    let own = recursion_from_All (λ y. x ≢ y) xs distinct.0 in (
+      new_from eq tells seen x first,
+      goes_from eq tells xs (seen ++ x ∷ []) (each_append (λ s. Each (λ y. s ≢ y) xs) seen (x ∷ []) before
+          (own, tt)) distinct.1,
+    )
 
 pub distinct : {A : Type 0} (eq : A → A → Bool) → Tells eq → (xs : List A) → Goes (is_new eq) [] xs → AreDistinct xs
 distinct eq tells xs g = (goes_apart eq tells xs [] g).1
 
-pub from_distinct : {A : Type 0} (eq : A → A → Bool) → Tells eq → (xs : List A) → AreDistinct xs → Goes (is_new eq) [] xs
+pub from_distinct : {A : Type 0} (eq : A → A → Bool) → Tells eq → (xs : List A) → AreDistinct xs
+    → Goes (is_new eq) [] xs
 from_distinct eq tells xs h = goes_from eq tells xs [] tt h
 
 goes_any : {A : Type 0} (xs seen : List A) → Goes any seen xs
@@ -162,15 +207,20 @@ item_tells (Text x) (Int n) = ((λ e. absurd cc), (λ e. absurd cc))
 
 -- ---- catch entries
 
-pub catches_take : (n : ℕ) (bytes : List ℕ) (at : ℕ) (xs : List CatchEntry) (next : ℕ) → IsBytes bytes → catches_at n bytes at ≡ Ok (xs, next) → Takes bytes at (flat_map catch_entry xs) next × ((length xs ≡ n) × AllByRecursion IsHeldEntry xs)
+pub catches_take : (n : ℕ) (bytes : List ℕ) (at : ℕ) (xs : List CatchEntry) (next : ℕ) → IsBytes bytes
+    → catches_at n bytes at ≡ Ok (xs, next)
+    → Takes bytes at (flat_map catch_entry xs) next × ((length xs ≡ n) × AllByRecursion IsHeldEntry xs)
 unfolding catches_at
 catches_take n bytes at xs next are e =
     let f = list_takes catch_entry IsHeldEntry catch_at catch_field any n [] bytes at (xs, next) are e in
     rw f.1 (f.2.takes, (f.2.count, f.2.each))
 
-pub catches_again : (bytes : List ℕ) (at : ℕ) (xs : List CatchEntry) (rest : List ℕ) → AllByRecursion IsHeldEntry xs → drop at bytes ≡ flat_map catch_entry xs ++ rest → catches_at (length xs) bytes at ≡ Ok (xs, at + length (flat_map catch_entry xs))
+pub catches_again : (bytes : List ℕ) (at : ℕ) (xs : List CatchEntry) (rest : List ℕ) → AllByRecursion IsHeldEntry xs
+    → drop at bytes ≡ flat_map catch_entry xs ++ rest
+    → catches_at (length xs) bytes at ≡ Ok (xs, at + length (flat_map catch_entry xs))
 unfolding catches_at
-catches_again bytes at xs rest each e = list_again catch_entry IsHeldEntry catch_at catch_field any xs [] bytes at rest each (goes_any xs []) e
+catches_again bytes at xs rest each e = list_again catch_entry IsHeldEntry catch_at catch_field any xs [] bytes at
+    rest each (goes_any xs []) e
 
 -- ---- a count, and so many values without doubles
 
@@ -185,23 +235,34 @@ counted_at eq read bytes at = number_at w16 bytes at >>= λ n. list_at (is_new e
 two : IsField (to_be_bytes w16) (λ n. n < 2 ^ 16) (number_at w16)
 two = number_field w16 (2 ^ 16) wide16
 
-counted_takes : {A : Type 0} (spelled : A → List ℕ) (Fits : A → Type 0) (read : Reader A) → IsField spelled Fits read → (eq : A → A → Bool) → Tells eq → (bytes : List ℕ) (at : ℕ) (xs : List A) (next : ℕ) → IsBytes bytes
+counted_takes : {A : Type 0} (spelled : A → List ℕ) (Fits : A → Type 0) (read : Reader A) → IsField spelled Fits read
+    → (eq : A → A → Bool) → Tells eq → (bytes : List ℕ) (at : ℕ) (xs : List A) (next : ℕ) → IsBytes bytes
     → counted_at eq read bytes at ≡ Ok (xs, next) → Takes bytes at (counted spelled xs) next × AreCounted Fits xs
 counted_takes {A} spelled Fits read field eq tells bytes at xs next are e =
     let n = bind_ok (number_at w16 bytes at) (λ n. list_at (is_new eq) read [] n.0 bytes n.1) (xs, next) e in
     let t = two.takes bytes at n.0.0 n.0.1 are n.1 in
     let f = list_takes spelled Fits read field (is_new eq) n.0.0 [] bytes n.0.1 (xs, next) are n.2 in
     let whole = Takes-then bytes at (to_be_bytes w16 n.0.0) n.0.1 (flat_map spelled f.0) next t.0 f.2.takes in
-    let same : Takes bytes at (counted spelled f.0) next = subst (λ (k : ℕ). Takes bytes at (to_be_bytes w16 k ++ flat_map spelled f.0) next) (sym f.2.count) whole in
-    let fit : AreCounted Fits f.0 = record { count = omega (arith, f.2.count, t.1); each = f.2.each; distinct = distinct eq tells f.0 f.2.goes } in
+    let same : Takes bytes at (counted spelled f.0) next =
+    subst (λ (k : ℕ). Takes bytes at (to_be_bytes w16 k ++ flat_map spelled f.0) next) (sym f.2.count) whole in
+    let fit : AreCounted Fits f.0 = record {
+      count = omega (arith, f.2.count, t.1);
+      each = f.2.each;
+      distinct = distinct eq tells f.0 f.2.goes;
+    } in
     rw f.1 (same, fit)
 
-counted_again : {A : Type 0} (spelled : A → List ℕ) (Fits : A → Type 0) (read : Reader A) → IsField spelled Fits read → (eq : A → A → Bool) → Tells eq → (bytes : List ℕ) (at : ℕ) (xs : List A) (rest : List ℕ)
-    → AreCounted Fits xs → drop at bytes ≡ counted spelled xs ++ rest → counted_at eq read bytes at ≡ Ok (xs, at + length (counted spelled xs))
+counted_again : {A : Type 0} (spelled : A → List ℕ) (Fits : A → Type 0) (read : Reader A) → IsField spelled Fits read
+    → (eq : A → A → Bool) → Tells eq → (bytes : List ℕ) (at : ℕ) (xs : List A) (rest : List ℕ)
+    → AreCounted Fits xs → drop at bytes ≡ counted spelled xs ++ rest
+    → counted_at eq read bytes at ≡ Ok (xs, at + length (counted spelled xs))
 counted_again spelled Fits read field eq tells bytes at xs rest fit e =
-    let parts : drop at bytes ≡ to_be_bytes w16 (length xs) ++ (flat_map spelled xs ++ rest) = e ∙ append_assoc (to_be_bytes w16 (length xs)) (flat_map spelled xs) rest in
+    let parts : drop at bytes ≡ to_be_bytes w16 (length xs) ++ (flat_map spelled xs ++ rest) = e
+    ∙ append_assoc (to_be_bytes w16 (length xs)) (flat_map spelled xs) rest in
     let n = two.again bytes at (length xs) (flat_map spelled xs ++ rest) fit.count parts in
-    let l = list_again spelled Fits read field (is_new eq) xs [] bytes (at + 2) rest fit.each (from_distinct eq tells xs fit.distinct) (rest_at bytes at (to_be_bytes w16 (length xs)) (flat_map spelled xs ++ rest) parts) in
+    let l = list_again spelled Fits read field (is_new eq) xs [] bytes (at + 2) rest fit.each
+    (from_distinct eq tells xs fit.distinct)
+    (rest_at bytes at (to_be_bytes w16 (length xs)) (flat_map spelled xs ++ rest) parts) in
     rw (n, l) (ap (λ (k : ℕ). Ok (xs, k)) (omega arith))
 
 pub pool_field : IsField (counted pool_item) (AreCounted FitsItem) pool_at

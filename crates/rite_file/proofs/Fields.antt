@@ -27,7 +27,8 @@ IsBytes-take n bytes h i =
 
 -- ---- steps that did not fail
 
-pub bind_ok : {A B : Type 0} (r : Result A LoadError) (f : A → Result B LoadError) (y : B) → (r >>= f) ≡ Ok y → (x : A) × (r ≡ Ok x) × (f x ≡ Ok y)
+pub bind_ok : {A B : Type 0} (r : Result A LoadError) (f : A → Result B LoadError) (y : B) → (r >>= f) ≡ Ok y
+    → (x : A) × (r ≡ Ok x) × (f x ≡ Ok y)
 bind_ok (Ok x) f y e = (x, refl, e)
 bind_ok (Err x) f y e = absurd cc
 
@@ -52,13 +53,17 @@ pub record Takes (text : List ℕ) (at : ℕ) (piece : List ℕ) (next : ℕ) : 
   pub parts : drop at text ≡ piece ++ drop next text
   pub place : next ≡ at + length piece
 
-pub rest_at : (text : List ℕ) (at : ℕ) (piece rest : List ℕ) → drop at text ≡ piece ++ rest → drop (at + length piece) text ≡ rest
-rest_at text at piece rest e = sym (drop-drop (length piece) at text) ∙ ap (drop (length piece)) e ∙ drop_at piece rest (length piece) refl
+pub rest_at : (text : List ℕ) (at : ℕ) (piece rest : List ℕ) → drop at text ≡ piece ++ rest
+    → drop (at + length piece) text ≡ rest
+rest_at text at piece rest e = sym (drop-drop (length piece) at text) ∙ ap (drop (length piece)) e
+    ∙ drop_at piece rest (length piece) refl
 
-pub Takes-from : (text : List ℕ) (at : ℕ) (piece rest : List ℕ) → drop at text ≡ piece ++ rest → Takes text at piece (at + length piece)
+pub Takes-from : (text : List ℕ) (at : ℕ) (piece rest : List ℕ) → drop at text ≡ piece ++ rest
+    → Takes text at piece (at + length piece)
 Takes-from text at piece rest e = record { parts = rw (rest_at text at piece rest e) e; place = refl }
 
-pub Takes-then : (text : List ℕ) (a : ℕ) (x : List ℕ) (b : ℕ) (y : List ℕ) (c : ℕ) → Takes text a x b → Takes text b y c → Takes text a (x ++ y) c
+pub Takes-then : (text : List ℕ) (a : ℕ) (x : List ℕ) (b : ℕ) (y : List ℕ) (c : ℕ) → Takes text a x b
+    → Takes text b y c → Takes text a (x ++ y) c
 Takes-then text a x b y c p q = record {
   parts = p.parts ∙ ap (λ (t : List ℕ). x ++ t) q.parts ∙ sym (append_assoc x y (drop c text));
   place = omega (arith, p.place, q.place, length-append x y);
@@ -68,33 +73,42 @@ Takes-then text a x b y c p q = record {
 
 -- what is read is spelled so, and what is spelled so is read
 pub record IsField {A : Type 0} (spelled : A → List ℕ) (Fits : A → Type 0) (read : Reader A) : Type 0 where
-  pub takes : (text : List ℕ) (at : ℕ) (x : A) (next : ℕ) → IsBytes text → read text at ≡ Ok (x, next) → Takes text at (spelled x) next × Fits x
-  pub again : (text : List ℕ) (at : ℕ) (x : A) (rest : List ℕ) → Fits x → drop at text ≡ spelled x ++ rest → read text at ≡ Ok (x, at + length (spelled x))
+  pub takes : (text : List ℕ) (at : ℕ) (x : A) (next : ℕ) → IsBytes text → read text at ≡ Ok (x, next)
+      → Takes text at (spelled x) next × Fits x
+  pub again : (text : List ℕ) (at : ℕ) (x : A) (rest : List ℕ) → Fits x → drop at text ≡ spelled x ++ rest
+      → read text at ≡ Ok (x, at + length (spelled x))
 
 -- ---- bytes
 
-pub bytes_take : (n : ℕ) (text : List ℕ) (at : ℕ) (x : List ℕ) (next : ℕ) → bytes_at n text at ≡ Ok (x, next) → Takes text at x next × ((length x ≡ n) × (x ≡ take n (drop at text)))
+pub bytes_take : (n : ℕ) (text : List ℕ) (at : ℕ) (x : List ℕ) (next : ℕ) → bytes_at n text at ≡ Ok (x, next)
+    → Takes text at x next × ((length x ≡ n) × (x ≡ take n (drop at text)))
 unfolding bytes_at
 bytes_take n text at x next e =
     let g = guard_ok (not (ltb (length text - at) n)) at (take n (drop at text), at + n) (x, next) e in
     let long : n ≤ length text - at = ltb-false _ _ (not-true _ g.0) in
     let x-is : take n (drop at text) ≡ x = ap (λ (p : List ℕ × ℕ). p.0) g.1 in
     let next-is : at + n ≡ next = ap (λ (p : List ℕ × ℕ). p.1) g.1 in
-    let len : length x ≡ n = ap length (sym x-is) ∙ omega (arith, long, length-take n (drop at text), length-drop at text) in
-    let parts : drop at text ≡ x ++ drop next text = sym (take-append-drop n (drop at text)) ∙ ap (λ (t : List ℕ). t ++ drop n (drop at text)) x-is ∙ ap (λ (t : List ℕ). x ++ t) (drop-drop n at text ∙ ap (λ (k : ℕ). drop k text) next-is) in
+    let len : length x ≡ n = ap length (sym x-is)
+    ∙ omega (arith, long, length-take n (drop at text), length-drop at text) in
+    let parts : drop at text ≡ x ++ drop next text = sym (take-append-drop n (drop at text))
+    ∙ ap (λ (t : List ℕ). t ++ drop n (drop at text)) x-is
+    ∙ ap (λ (t : List ℕ). x ++ t) (drop-drop n at text ∙ ap (λ (k : ℕ). drop k text) next-is) in
     (record { parts = parts; place = omega (arith, next-is, len) }, (len, sym x-is))
 
-pub bytes_again : (n : ℕ) (text : List ℕ) (at : ℕ) (x rest : List ℕ) → length x ≡ n → drop at text ≡ x ++ rest → bytes_at n text at ≡ Ok (x, at + n)
+pub bytes_again : (n : ℕ) (text : List ℕ) (at : ℕ) (x rest : List ℕ) → length x ≡ n → drop at text ≡ x ++ rest
+    → bytes_at n text at ≡ Ok (x, at + n)
 unfolding bytes_at
 bytes_again n text at x rest len e =
-    let long : ltb (length text - at) n ≡ false = le-ltb _ _ (omega (arith, len, length-drop at text, ap length e, length-append x rest)) in
+    let long : ltb (length text - at) n ≡ false =
+    le-ltb _ _ (omega (arith, len, length-drop at text, ap length e, length-append x rest)) in
     rw (long, e, take_at x rest n len) refl
 
 -- ---- numbers
 
 pub record IsWide (w : Width) (limit : ℕ) : Type 0 where
   pub len : (n : ℕ) → length (to_be_bytes w n) ≡ byte_len w
-  pub back : (bytes : List ℕ) → length bytes ≡ byte_len w → IsBytes bytes → to_be_bytes w (from_be_bytes w bytes) ≡ bytes
+  pub back : (bytes : List ℕ) → length bytes ≡ byte_len w → IsBytes bytes
+      → to_be_bytes w (from_be_bytes w bytes) ≡ bytes
   pub again : (n : ℕ) → n < limit → from_be_bytes w (to_be_bytes w n) ≡ n
   pub below : (bytes : List ℕ) → IsBytes bytes → from_be_bytes w bytes < limit
 
@@ -138,19 +152,23 @@ wide64 = record {
 abbrev Read : Type 0 → Type 0
 Read A = A × ℕ
 
-number_takes : (w : Width) (limit : ℕ) → IsWide w limit → (text : List ℕ) (at n next : ℕ) → IsBytes text → number_at w text at ≡ Ok (n, next) → Takes text at (to_be_bytes w n) next × (n < limit)
+number_takes : (w : Width) (limit : ℕ) → IsWide w limit → (text : List ℕ) (at n next : ℕ) → IsBytes text
+    → number_at w text at ≡ Ok (n, next) → Takes text at (to_be_bytes w n) next × (n < limit)
 unfolding number_at
 number_takes w limit wide text at n next fits e =
     let b = bind_ok (bytes_at (byte_len w) text at) (λ x. Ok (from_be_bytes w x.0, x.1)) (n, next) e in
     let t = bytes_take (byte_len w) text at b.0.0 b.0.1 b.1 in
-    let x-fits : IsBytes b.0.0 = subst IsBytes (sym t.1.1) (IsBytes-take (byte_len w) (drop at text) (IsBytes-drop at text fits)) in
+    let x-fits : IsBytes b.0.0 = subst IsBytes (sym t.1.1)
+    (IsBytes-take (byte_len w) (drop at text) (IsBytes-drop at text fits)) in
     let same : (from_be_bytes w b.0.0, b.0.1) ≡ (n, next) = ok_is (from_be_bytes w b.0.0, b.0.1) (n, next) b.2 in
     let whole : Takes text at (to_be_bytes w (from_be_bytes w b.0.0)) b.0.1 = rw (wide.back b.0.0 t.1.0 x-fits) t.0 in
     subst (λ (p : ℕ × ℕ). Takes text at (to_be_bytes w p.0) p.1 × (p.0 < limit)) same (whole, wide.below b.0.0 x-fits)
 
-number_again : (w : Width) (limit : ℕ) → IsWide w limit → (text : List ℕ) (at n : ℕ) (rest : List ℕ) → n < limit → drop at text ≡ to_be_bytes w n ++ rest → number_at w text at ≡ Ok (n, at + length (to_be_bytes w n))
+number_again : (w : Width) (limit : ℕ) → IsWide w limit → (text : List ℕ) (at n : ℕ) (rest : List ℕ) → n < limit
+    → drop at text ≡ to_be_bytes w n ++ rest → number_at w text at ≡ Ok (n, at + length (to_be_bytes w n))
 unfolding number_at
-number_again w limit wide text at n rest lt e = rw (bytes_again (byte_len w) text at (to_be_bytes w n) rest (wide.len n) e, wide.again n lt, wide.len n) refl
+number_again w limit wide text at n rest lt e =
+    rw (bytes_again (byte_len w) text at (to_be_bytes w n) rest (wide.len n) e, wide.again n lt, wide.len n) refl
 
 pub number_field : (w : Width) (limit : ℕ) → IsWide w limit → IsField (to_be_bytes w) (λ n. n < limit) (number_at w)
 number_field w limit wide = record { takes = number_takes w limit wide; again = number_again w limit wide }
@@ -158,7 +176,9 @@ number_field w limit wide = record { takes = number_takes w limit wide; again = 
 abbrev pub IsTested : ℕ → (ℕ → Bool) → ℕ → Type 0
 IsTested limit test n = (n < limit) × (test n ≡ true)
 
-tested_takes : (w : Width) (limit : ℕ) → IsWide w limit → (test : ℕ → Bool) (text : List ℕ) (at n next : ℕ) → IsBytes text → tested_at w test text at ≡ Ok (n, next) → Takes text at (to_be_bytes w n) next × IsTested limit test n
+tested_takes : (w : Width) (limit : ℕ) → IsWide w limit → (test : ℕ → Bool) (text : List ℕ) (at n next : ℕ)
+    → IsBytes text → tested_at w test text at ≡ Ok (n, next)
+    → Takes text at (to_be_bytes w n) next × IsTested limit test n
 unfolding tested_at
 tested_takes w limit wide test text at n next fits e =
     let b = bind_ok (number_at w text at) (λ m. guarded (test m.0) at m) (n, next) e in
@@ -166,19 +186,26 @@ tested_takes w limit wide test text at n next fits e =
     let t = number_takes w limit wide text at b.0.0 b.0.1 fits b.1 in
     subst (λ (p : ℕ × ℕ). Takes text at (to_be_bytes w p.0) p.1 × IsTested limit test p.0) g.1 (t.0, (t.1, g.0))
 
-tested_again : (w : Width) (limit : ℕ) → IsWide w limit → (test : ℕ → Bool) (text : List ℕ) (at n : ℕ) (rest : List ℕ) → IsTested limit test n → drop at text ≡ to_be_bytes w n ++ rest → tested_at w test text at ≡ Ok (n, at + length (to_be_bytes w n))
+tested_again : (w : Width) (limit : ℕ) → IsWide w limit → (test : ℕ → Bool) (text : List ℕ) (at n : ℕ) (rest : List ℕ)
+    → IsTested limit test n → drop at text ≡ to_be_bytes w n ++ rest
+    → tested_at w test text at ≡ Ok (n, at + length (to_be_bytes w n))
 unfolding tested_at
 tested_again w limit wide test text at n rest h e = rw (number_again w limit wide text at n rest h.0 e, h.1) refl
 
-pub tested_field : (w : Width) (limit : ℕ) → IsWide w limit → (test : ℕ → Bool) → IsField (to_be_bytes w) (IsTested limit test) (tested_at w test)
-tested_field w limit wide test = record { takes = tested_takes w limit wide test; again = tested_again w limit wide test }
+pub tested_field : (w : Width) (limit : ℕ) → IsWide w limit → (test : ℕ → Bool)
+    → IsField (to_be_bytes w) (IsTested limit test) (tested_at w test)
+tested_field w limit wide test = record {
+  takes = tested_takes w limit wide test;
+  again = tested_again w limit wide test;
+}
 
 -- ---- texts
 
 abbrev pub IsShort : List ℕ → Type 0
 IsShort bytes = length bytes < 2 ^ 32
 
-text_takes : (bytes : List ℕ) (at : ℕ) (x : List ℕ) (next : ℕ) → IsBytes bytes → text_at bytes at ≡ Ok (x, next) → Takes bytes at (text x) next × IsShort x
+text_takes : (bytes : List ℕ) (at : ℕ) (x : List ℕ) (next : ℕ) → IsBytes bytes → text_at bytes at ≡ Ok (x, next)
+    → Takes bytes at (text x) next × IsShort x
 unfolding text_at
 text_takes bytes at x next fits e =
     let b = bind_ok (number_at w32 bytes at) (λ n. bytes_at n.0 bytes n.1) (x, next) e in
@@ -187,10 +214,12 @@ text_takes bytes at x next fits e =
     let whole = Takes-then bytes at (to_be_bytes w32 b.0.0) b.0.1 x next t.0 u.0 in
     (subst (λ (k : ℕ). Takes bytes at (to_be_bytes w32 k ++ x) next) (sym u.1.0) whole, omega (arith, t.1, u.1.0))
 
-text_again : (bytes : List ℕ) (at : ℕ) (x rest : List ℕ) → IsShort x → drop at bytes ≡ text x ++ rest → text_at bytes at ≡ Ok (x, at + length (text x))
+text_again : (bytes : List ℕ) (at : ℕ) (x rest : List ℕ) → IsShort x → drop at bytes ≡ text x ++ rest
+    → text_at bytes at ≡ Ok (x, at + length (text x))
 unfolding text_at
 text_again bytes at x rest lt e =
-    let parts : drop at bytes ≡ to_be_bytes w32 (length x) ++ (x ++ rest) = e ∙ append_assoc (to_be_bytes w32 (length x)) x rest in
+    let parts : drop at bytes ≡ to_be_bytes w32 (length x) ++ (x ++ rest) = e
+    ∙ append_assoc (to_be_bytes w32 (length x)) x rest in
     let inside = rest_at bytes at (to_be_bytes w32 (length x)) (x ++ rest) parts in
     let n = number_again w32 (2 ^ 32) wide32 bytes at (length x) (x ++ rest) lt parts in
     rw (n, bytes_again (length x) bytes (at + 4) x rest refl inside) (ap (λ (k : ℕ). Ok (x, k)) (omega arith))
@@ -218,7 +247,8 @@ signed n h =
       | inr le ↦ rw (le-ltb n 9223372036854775808 le) (omega (arith, le, h))
     ]
 
-int_takes : (text : List ℕ) (at : ℕ) (z : ℤ) (next : ℕ) → IsBytes text → int_at text at ≡ Ok (z, next) → Takes text at (integer z) next × IsInteger z
+int_takes : (text : List ℕ) (at : ℕ) (z : ℤ) (next : ℕ) → IsBytes text → int_at text at ≡ Ok (z, next)
+    → Takes text at (integer z) next × IsInteger z
 unfolding int_at
 int_takes text at z next fits e =
     let b = bind_ok (number_at w64 text at) (λ n. Ok (cast_signed w64 n.0, n.1)) (z, next) e in
@@ -227,9 +257,13 @@ int_takes text at z next fits e =
     let whole : Takes text at (integer (cast_signed w64 b.0.0)) b.0.1 = rw (of_z-to_z w64 b.0.0 t.1) t.0 in
     subst (λ (p : ℤ × ℕ). Takes text at (integer p.0) p.1 × IsInteger p.0) same (whole, signed b.0.0 t.1)
 
-int_again : (text : List ℕ) (at : ℕ) (z : ℤ) (rest : List ℕ) → IsInteger z → drop at text ≡ integer z ++ rest → int_at text at ≡ Ok (z, at + length (integer z))
+int_again : (text : List ℕ) (at : ℕ) (z : ℤ) (rest : List ℕ) → IsInteger z → drop at text ≡ integer z ++ rest
+    → int_at text at ≡ Ok (z, at + length (integer z))
 unfolding int_at
-int_again text at z rest h e = rw (number_again w64 (2 ^ 64) wide64 text at (cast_unsigned w64 z) rest (bits z h) e, to_z-of_z w64 z (sfits z h)) refl
+int_again text at z rest h e = rw (
+  number_again w64 (2 ^ 64) wide64 text at (cast_unsigned w64 z) rest (bits z h) e,
+  to_z-of_z w64 z (sfits z h),
+) refl
 
 pub int_field : IsField integer IsInteger int_at
 int_field = record { takes = int_takes; again = int_again }

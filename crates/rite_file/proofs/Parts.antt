@@ -22,7 +22,8 @@ four = number_field w32 (2 ^ 32) wide32
 -- ---- counts
 
 abbrev pub spelled_counts : Counts → List ℕ
-spelled_counts c = to_be_bytes w16 c.locals ++ (to_be_bytes w16 c.registers ++ (to_be_bytes w16 c.children ++ to_be_bytes w16 c.catches))
+spelled_counts c = to_be_bytes w16 c.locals
+    ++ (to_be_bytes w16 c.registers ++ (to_be_bytes w16 c.children ++ to_be_bytes w16 c.catches))
 
 pub record AreCounts (version : ℕ) (c : Counts) : Type 0 where
   pub locals : IsTested (2 ^ 16) (ltb 0) c.locals
@@ -30,13 +31,23 @@ pub record AreCounts (version : ℕ) (c : Counts) : Type 0 where
   pub children : c.children < 2 ^ 16
   pub catches : c.catches < 2 ^ 16
 
-counts_take : (version : ℕ) (bytes : List ℕ) (at : ℕ) (x : Counts) (next : ℕ) → IsBytes bytes → counts_at version bytes at ≡ Ok (x, next) → Takes bytes at (spelled_counts x) next × AreCounts version x
+counts_take : (version : ℕ) (bytes : List ℕ) (at : ℕ) (x : Counts) (next : ℕ) → IsBytes bytes
+    → counts_at version bytes at ≡ Ok (x, next) → Takes bytes at (spelled_counts x) next × AreCounts version x
 unfolding counts_at
 counts_take version bytes at x next fits e =
-    let fourth : ℕ → ℕ → ℕ → ℕ × ℕ → Result (Counts × ℕ) LoadError = λ l r c n. Ok (record { locals = l; registers = r; children = c; catches = n.0 }, n.1) in
+    let fourth : ℕ → ℕ → ℕ → ℕ × ℕ → Result (Counts × ℕ) LoadError = λ l r c n. Ok (
+      record {
+        locals = l;
+        registers = r;
+        children = c;
+        catches = n.0;
+      },
+      n.1,
+    ) in
     let third : ℕ → ℕ → ℕ × ℕ → Result (Counts × ℕ) LoadError = λ l r c. number_at w16 bytes c.1 >>= fourth l r c.0 in
     let second : ℕ → ℕ × ℕ → Result (Counts × ℕ) LoadError = λ l r. number_at w16 bytes r.1 >>= third l r.0 in
-    let first : ℕ × ℕ → Result (Counts × ℕ) LoadError = λ l. tested_at w16 (are_registers version l.0) bytes l.1 >>= second l.0 in
+    let first : ℕ × ℕ → Result (Counts × ℕ) LoadError = λ l. tested_at w16 (are_registers version l.0) bytes l.1 >>=
+    second l.0 in
     let l = bind_ok (tested_at w16 (ltb 0) bytes at) first (x, next) e in
     let r = bind_ok (tested_at w16 (are_registers version l.0.0) bytes l.0.1) (second l.0.0) (x, next) l.2 in
     let c = bind_ok (number_at w16 bytes r.0.1) (third l.0.0 r.0.0) (x, next) r.2 in
@@ -46,16 +57,20 @@ counts_take version bytes at x next fits e =
     let tc = two.takes bytes r.0.1 c.0.0 c.0.1 fits c.1 in
     let tn = two.takes bytes c.0.1 n.0.0 n.0.1 fits n.1 in
     let made : Counts = record { locals = l.0.0; registers = r.0.0; children = c.0.0; catches = n.0.0 } in
-    let all = Takes-then bytes at _ l.0.1 _ n.0.1 tl.0 (Takes-then bytes l.0.1 _ r.0.1 _ n.0.1 tr.0 (Takes-then bytes r.0.1 _ c.0.1 _ n.0.1 tc.0 tn.0)) in
+    let all = Takes-then bytes at _ l.0.1 _ n.0.1 tl.0
+    (Takes-then bytes l.0.1 _ r.0.1 _ n.0.1 tr.0 (Takes-then bytes r.0.1 _ c.0.1 _ n.0.1 tc.0 tn.0)) in
     let fit : AreCounts version made = record { locals = tl.1; registers = tr.1; children = tc.1; catches = tn.1 } in
-    subst (λ (p : Counts × ℕ). Takes bytes at (spelled_counts p.0) p.1 × AreCounts version p.0) (ok_is (made, n.0.1) (x, next) n.2) (all, fit)
+    subst (λ (p : Counts × ℕ). Takes bytes at (spelled_counts p.0) p.1 × AreCounts version p.0)
+    (ok_is (made, n.0.1) (x, next) n.2) (all, fit)
 
-counts_again : (version : ℕ) (bytes : List ℕ) (at : ℕ) (x : Counts) (rest : List ℕ) → AreCounts version x → drop at bytes ≡ spelled_counts x ++ rest → counts_at version bytes at ≡ Ok (x, at + length (spelled_counts x))
+counts_again : (version : ℕ) (bytes : List ℕ) (at : ℕ) (x : Counts) (rest : List ℕ) → AreCounts version x
+    → drop at bytes ≡ spelled_counts x ++ rest → counts_at version bytes at ≡ Ok (x, at + length (spelled_counts x))
 unfolding counts_at
 counts_again version bytes at x rest fit e =
     let l = (tested_field w16 (2 ^ 16) wide16 (ltb 0)).again bytes at x.locals _ fit.locals e in
     let el = rest_at bytes at (to_be_bytes w16 x.locals) _ e in
-    let r = (tested_field w16 (2 ^ 16) wide16 (are_registers version x.locals)).again bytes (at + 2) x.registers _ fit.registers el in
+    let r = (tested_field w16 (2 ^ 16) wide16 (are_registers version x.locals)).again bytes (at + 2) x.registers _
+    fit.registers el in
     let er = rest_at bytes (at + 2) (to_be_bytes w16 x.registers) _ el in
     let c = two.again bytes (at + 2 + 2) x.children _ fit.children er in
     let ec = rest_at bytes (at + 2 + 2) (to_be_bytes w16 x.children) _ er in
@@ -86,11 +101,21 @@ kind_fits false = (omega arith, refl)
 one_byte : (n : ℕ) → n < 256 → to_be_bytes w8 n ≡ n ∷ []
 one_byte n h = ap (λ (k : ℕ). k ∷ []) (omega (arith, h))
 
-catch_takes : (bytes : List ℕ) (at : ℕ) (x : CatchEntry) (next : ℕ) → IsBytes bytes → catch_at bytes at ≡ Ok (x, next) → Takes bytes at (catch_entry x) next × IsHeldEntry x
+catch_takes : (bytes : List ℕ) (at : ℕ) (x : CatchEntry) (next : ℕ) → IsBytes bytes → catch_at bytes at ≡ Ok (x, next)
+    → Takes bytes at (catch_entry x) next × IsHeldEntry x
 unfolding catch_at
 catch_takes bytes at x next fits e =
-    let fourth : ℕ → ℕ → ℕ → ℕ × ℕ → Result (CatchEntry × ℕ) LoadError = λ k b d n. Ok (record { rescue = eqb k 0; begin = b; end = d; target = n.0 }, n.1) in
-    let third : ℕ → ℕ → ℕ × ℕ → Result (CatchEntry × ℕ) LoadError = λ k b d. number_at w32 bytes d.1 >>= fourth k b d.0 in
+    let fourth : ℕ → ℕ → ℕ → ℕ × ℕ → Result (CatchEntry × ℕ) LoadError = λ k b d n. Ok (
+      record {
+        rescue = eqb k 0;
+        begin = b;
+        end = d;
+        target = n.0;
+      },
+      n.1,
+    ) in
+    let third : ℕ → ℕ → ℕ × ℕ
+    → Result (CatchEntry × ℕ) LoadError = λ k b d. number_at w32 bytes d.1 >>= fourth k b d.0 in
     let second : ℕ → ℕ × ℕ → Result (CatchEntry × ℕ) LoadError = λ k b. number_at w32 bytes b.1 >>= third k b.0 in
     let first : ℕ × ℕ → Result (CatchEntry × ℕ) LoadError = λ k. number_at w32 bytes k.1 >>= second k.0 in
     let k = bind_ok (tested_at w8 (λ n. ltb n 2) bytes at) first (x, next) e in
@@ -102,17 +127,25 @@ catch_takes bytes at x next fits e =
     let td = four.takes bytes b.0.1 d.0.0 d.0.1 fits d.1 in
     let tn = four.takes bytes d.0.1 n.0.0 n.0.1 fits n.1 in
     let made : CatchEntry = record { rescue = eqb k.0.0 0; begin = b.0.0; end = d.0.0; target = n.0.0 } in
-    let k-is : to_be_bytes w8 k.0.0 ≡ kind (eqb k.0.0 0) ∷ [] = one_byte k.0.0 tk.1.0 ∙ ap (λ (m : ℕ). m ∷ []) (sym (kind_back k.0.0 (ltb-true k.0.0 2 tk.1.1))) in
-    let tkind : Takes bytes at (kind (eqb k.0.0 0) ∷ []) k.0.1 = subst (λ (p : List ℕ). Takes bytes at p k.0.1) k-is tk.0 in
-    let all = Takes-then bytes at _ k.0.1 _ n.0.1 tkind (Takes-then bytes k.0.1 _ b.0.1 _ n.0.1 tb.0 (Takes-then bytes b.0.1 _ d.0.1 _ n.0.1 td.0 tn.0)) in
+    let k-is : to_be_bytes w8 k.0.0 ≡ kind (eqb k.0.0 0) ∷ [] = one_byte k.0.0 tk.1.0
+    ∙ ap (λ (m : ℕ). m ∷ []) (sym (kind_back k.0.0 (ltb-true k.0.0 2 tk.1.1))) in
+    let tkind : Takes bytes at (kind (eqb k.0.0 0) ∷ []) k.0.1 = subst (λ (p : List ℕ). Takes bytes at p k.0.1) k-is
+    tk.0 in
+    let all = Takes-then bytes at _ k.0.1 _ n.0.1 tkind
+    (Takes-then bytes k.0.1 _ b.0.1 _ n.0.1 tb.0 (Takes-then bytes b.0.1 _ d.0.1 _ n.0.1 td.0 tn.0)) in
     let fit : IsHeldEntry made = record { begin = tb.1; end = td.1; target = tn.1 } in
-    subst (λ (p : CatchEntry × ℕ). Takes bytes at (catch_entry p.0) p.1 × IsHeldEntry p.0) (ok_is (made, n.0.1) (x, next) n.2) (all, fit)
+    subst (λ (p : CatchEntry × ℕ). Takes bytes at (catch_entry p.0) p.1 × IsHeldEntry p.0)
+    (ok_is (made, n.0.1) (x, next) n.2) (all, fit)
 
-catch_again : (bytes : List ℕ) (at : ℕ) (x : CatchEntry) (rest : List ℕ) → IsHeldEntry x → drop at bytes ≡ catch_entry x ++ rest → catch_at bytes at ≡ Ok (x, at + length (catch_entry x))
+catch_again : (bytes : List ℕ) (at : ℕ) (x : CatchEntry) (rest : List ℕ) → IsHeldEntry x
+    → drop at bytes ≡ catch_entry x ++ rest → catch_at bytes at ≡ Ok (x, at + length (catch_entry x))
 unfolding catch_at
 catch_again bytes at x rest fit e =
     let kf = kind_fits x.rescue in
-    let ek : drop at bytes ≡ to_be_bytes w8 (kind x.rescue) ++ (to_be_bytes w32 x.begin ++ (to_be_bytes w32 x.end ++ to_be_bytes w32 x.target) ++ rest) = e ∙ ap (λ (p : List ℕ). p ++ (to_be_bytes w32 x.begin ++ (to_be_bytes w32 x.end ++ to_be_bytes w32 x.target) ++ rest)) (sym (one_byte (kind x.rescue) kf.0)) in
+    let ek : drop at bytes ≡ to_be_bytes w8 (kind x.rescue)
+    ++ (to_be_bytes w32 x.begin ++ (to_be_bytes w32 x.end ++ to_be_bytes w32 x.target) ++ rest) = e
+    ∙ ap (λ (p : List ℕ). p ++ (to_be_bytes w32 x.begin ++ (to_be_bytes w32 x.end ++ to_be_bytes w32 x.target)
+    ++ rest)) (sym (one_byte (kind x.rescue) kf.0)) in
     let k = (tested_field w8 256 wide8 (λ m. ltb m 2)).again bytes at (kind x.rescue) _ kf ek in
     let eb = rest_at bytes at (to_be_bytes w8 (kind x.rescue)) _ ek in
     let b = four.again bytes (at + 1) x.begin _ fit.begin eb in
@@ -146,29 +179,37 @@ as_int n = Ok (Int n.0, n.1)
 abbrev TookItem : List ℕ → ℕ → PoolItem × ℕ → Type 0
 TookItem bytes at p = Takes bytes at (pool_item p.0) p.1 × FitsItem p.0
 
-item_by : (bytes : List ℕ) (at tag from : ℕ) (is_text : Bool) (x : PoolItem) (next : ℕ) → IsBytes bytes → is_text ≡ eqb tag 0 → tag < 2 → Takes bytes at (tag ∷ []) from
-    → cond is_text (text_at bytes from >>= as_text) (int_at bytes from >>= as_int) ≡ Ok (x, next) → TookItem bytes at (x, next)
+item_by : (bytes : List ℕ) (at tag from : ℕ) (is_text : Bool) (x : PoolItem) (next : ℕ) → IsBytes bytes
+    → is_text ≡ eqb tag 0 → tag < 2 → Takes bytes at (tag ∷ []) from
+    → cond is_text (text_at bytes from >>= as_text) (int_at bytes from >>= as_int) ≡ Ok (x, next)
+    → TookItem bytes at (x, next)
 item_by bytes at tag from true x next fits t small taken e =
     let b = bind_ok (text_at bytes from) as_text (x, next) e in
     let u = text_field.takes bytes from b.0.0 b.0.1 fits b.1 in
     let zero-is : tag ≡ 0 = eqb-true tag 0 (sym t) in
     let whole = Takes-then bytes at (tag ∷ []) from (text b.0.0) b.0.1 taken u.0 in
-    subst (TookItem bytes at) (ok_is (Text b.0.0, b.0.1) (x, next) b.2) (subst (λ (k : ℕ). Takes bytes at (k ∷ text b.0.0) b.0.1) zero-is whole, u.1)
+    subst (TookItem bytes at) (ok_is (Text b.0.0, b.0.1) (x, next) b.2)
+    (subst (λ (k : ℕ). Takes bytes at (k ∷ text b.0.0) b.0.1) zero-is whole, u.1)
 item_by bytes at tag from false x next fits t small taken e =
     let b = bind_ok (int_at bytes from) as_int (x, next) e in
     let u = int_field.takes bytes from b.0.0 b.0.1 fits b.1 in
     let whole = Takes-then bytes at (tag ∷ []) from (integer b.0.0) b.0.1 taken u.0 in
-    subst (TookItem bytes at) (ok_is (Int b.0.0, b.0.1) (x, next) b.2) (subst (λ (k : ℕ). Takes bytes at (k ∷ integer b.0.0) b.0.1) (tag_is tag small (sym t)) whole, u.1)
+    subst (TookItem bytes at) (ok_is (Int b.0.0, b.0.1) (x, next) b.2)
+    (subst (λ (k : ℕ). Takes bytes at (k ∷ integer b.0.0) b.0.1) (tag_is tag small (sym t)) whole, u.1)
 
-item_takes : (bytes : List ℕ) (at : ℕ) (x : PoolItem) (next : ℕ) → IsBytes bytes → item_at bytes at ≡ Ok (x, next) → TookItem bytes at (x, next)
+item_takes : (bytes : List ℕ) (at : ℕ) (x : PoolItem) (next : ℕ) → IsBytes bytes → item_at bytes at ≡ Ok (x, next)
+    → TookItem bytes at (x, next)
 unfolding item_at
 item_takes bytes at x next fits e =
-    let t = bind_ok (tested_at w8 (λ n. ltb n 2) bytes at) (λ tag. cond (eqb tag.0 0) (text_at bytes tag.1 >>= as_text) (int_at bytes tag.1 >>= as_int)) (x, next) e in
+    let t = bind_ok (tested_at w8 (λ n. ltb n 2) bytes at)
+    (λ tag. cond (eqb tag.0 0) (text_at bytes tag.1 >>= as_text) (int_at bytes tag.1 >>= as_int)) (x, next) e in
     let u = (tested_field w8 256 wide8 (λ m. ltb m 2)).takes bytes at t.0.0 t.0.1 fits t.1 in
-    let taken : Takes bytes at (t.0.0 ∷ []) t.0.1 = subst (λ (p : List ℕ). Takes bytes at p t.0.1) (one_byte t.0.0 u.1.0) u.0 in
+    let taken : Takes bytes at (t.0.0 ∷ []) t.0.1 = subst (λ (p : List ℕ). Takes bytes at p t.0.1)
+    (one_byte t.0.0 u.1.0) u.0 in
     item_by bytes at t.0.0 t.0.1 (eqb t.0.0 0) x next fits refl (ltb-true t.0.0 2 u.1.1) taken t.2
 
-item_again : (bytes : List ℕ) (at : ℕ) (x : PoolItem) (rest : List ℕ) → FitsItem x → drop at bytes ≡ pool_item x ++ rest → item_at bytes at ≡ Ok (x, at + length (pool_item x))
+item_again : (bytes : List ℕ) (at : ℕ) (x : PoolItem) (rest : List ℕ) → FitsItem x
+    → drop at bytes ≡ pool_item x ++ rest → item_at bytes at ≡ Ok (x, at + length (pool_item x))
 unfolding item_at
 item_again bytes at (Text x) rest fit e =
     let t = (tested_field w8 256 wide8 (λ m. ltb m 2)).again bytes at 0 (text x ++ rest) (omega arith, refl) e in

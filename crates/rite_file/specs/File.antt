@@ -21,7 +21,7 @@ kind false = 1
 abbrev pub catch_entry : CatchEntry → List ℕ
 catch_entry c = kind c.rescue ∷ (to_be_bytes w32 c.begin ++ (to_be_bytes w32 c.end ++ to_be_bytes w32 c.target))
 
--- a pool entry: a text behind the tag 0, or an integer in two's complement behind the tag 1
+-- a pool entry: a text after the tag 0, or an integer in two's complement after the tag 1
 abbrev pub pool_item : PoolItem → List ℕ
 pool_item (Text bytes) = 0 ∷ text bytes
 pool_item (Int n) = 1 ∷ to_be_bytes w64 (cast_unsigned w64 n)
@@ -32,11 +32,13 @@ counted spelled xs = to_be_bytes w16 (length xs) ++ flat_map spelled xs
 
 -- locals, registers, children and catch entries
 abbrev pub counts : Irep → List ℕ
-counts b = to_be_bytes w16 b.locals ++ (to_be_bytes w16 b.registers ++ (to_be_bytes w16 (length b.children) ++ to_be_bytes w16 (length b.catches)))
+counts b = to_be_bytes w16 b.locals
+    ++ (to_be_bytes w16 b.registers ++ (to_be_bytes w16 (length b.children) ++ to_be_bytes w16 (length b.catches)))
 
--- a record behind its size: the counts, the code, the catch entries, the pool and the symbols
+-- a record after its size: the counts, the code, the catch entries, the pool and the symbols
 abbrev pub fields : Irep → List ℕ
-fields b = counts b ++ (text b.code ++ (flat_map catch_entry b.catches ++ (counted pool_item b.pool ++ counted text b.symbols)))
+fields b = counts b
+    ++ (text b.code ++ (flat_map catch_entry b.catches ++ (counted pool_item b.pool ++ counted text b.symbols)))
 
 -- the size of a record counts itself
 unfoldable pub record_of : Irep → List ℕ
@@ -67,7 +69,7 @@ irep_section bodies = section irep_name (codes "0300" ++ flat_map record_of bodi
 abbrev pub end_section : List ℕ
 end_section = section end_name []
 
--- sections that a reader passes over, one behind the other
+-- sections that a reader passes over, one after the other
 pub data AreSkipped : List ℕ → Type 0 where
   none : AreSkipped []
   debug : (contents others : List ℕ) → AreSkipped others → AreSkipped (section debug_name contents ++ others)
@@ -104,13 +106,14 @@ version_name version = codes "000" ++ (48 + version) ∷ []
 
 -- header and sections; the header has the size of the whole file
 abbrev pub file_of : ℕ → List ℕ → List ℕ
-file_of version sections = codes "RITE0300" ++ (to_be_bytes w32 (length sections + 20) ++ (codes "RBWN" ++ (version_name version ++ sections)))
+file_of version sections = codes "RITE0300"
+    ++ (to_be_bytes w32 (length sections + 20) ++ (codes "RBWN" ++ (version_name version ++ sections)))
 
 -- the one file without sections to skip
 unfoldable pub canonical : Program → List ℕ
 canonical p = file_of p.version (irep_section p.bodies ++ end_section)
 
--- The bytes are a file of the program: besides its records there are sections to skip, before them and behind.
+-- The bytes are a file of the program: besides its records there are sections to skip, before and after them.
 pub record Spells (bytes : List ℕ) (p : Program) : Type 0 where
   pub before : List ℕ
   pub behind : List ℕ

@@ -4,3 +4,4 @@ pub mod Front
 pub mod Record
 pub mod Loaded
 pub mod Written
+pub mod Refusal

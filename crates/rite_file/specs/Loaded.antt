@@ -20,13 +20,14 @@ is_skipped s = if bytes_eq s.id debug_name then true else bytes_eq s.id locals_n
 
 -- the section of the records: the first of its name, and of version `0300`
 unfoldable pub is_irep : List ℕ → Section → Bool
-is_irep bytes s = bytes_eq s.id irep_name && (not (nat_lt s.size 12) && bytes_eq (four_at bytes (s.at + 8)) (codes "0300"))
+is_irep bytes s = bytes_eq s.id irep_name && (not (nat_lt s.size 12) && bytes_eq (four_at bytes (s.at + 8))
+    (codes "0300"))
 
 -- the last section, which is empty
 unfoldable pub is_end : List ℕ → Section → Bool
 is_end bytes s = bytes_eq s.id end_name && (nat_eq s.size 8 && nat_eq (s.at + 8) (length bytes))
 
--- the section of the records, which may have been found before, where each section behind it is one to skip up to
+-- the section of the records, which may have been found before, where each section after it is one to skip up to
 -- the last section
 unfoldable pub irep_in : List ℕ → Option Section → List (Result Section LoadError) → Result Section LoadError
 irep_in bytes found [] = Err (BadSection (length bytes))
@@ -43,7 +44,15 @@ irep_in bytes (Some irep) (Ok s ∷ others) =
 -- ---- the bodies of the records
 
 abbrev pub with_children : Irep → List ℕ → Irep
-with_children b children = record { locals = b.locals; registers = b.registers; code = b.code; catches = b.catches; pool = b.pool; symbols = b.symbols; children = children }
+with_children b children = record {
+  locals = b.locals;
+  registers = b.registers;
+  code = b.code;
+  catches = b.catches;
+  pool = b.pool;
+  symbols = b.symbols;
+  children = children;
+}
 
 -- bodies from a number on, and the roots of the trees that they are
 abbrev pub Forest : Type 0
@@ -62,7 +71,8 @@ numbered at (r ∷ rs) = planted at r (numbered (at + 1) rs)
 unfoldable pub records_in : ℕ → List ℕ → Section → Result (List Record) LoadError
 records_in version bytes s =
     let inside = take (s.at + s.size) bytes in
-    records_at 65536 version [] 1 inside (s.at + 12) >>= λ rs. if nat_eq rs.1 (length inside) then Ok rs.0 else Err (BadRecord rs.1)
+    records_at 65536 version [] 1 inside (s.at + 12) >>= λ rs. if nat_eq rs.1 (length inside) then Ok rs.0 else Err
+    (BadRecord rs.1)
 
 unfoldable pub program_in : ℕ → List ℕ → Section → Result Program LoadError
 program_in version bytes s = records_in version bytes s >>= λ rs. Ok (program version (numbered 0 rs).0)

@@ -1,4 +1,4 @@
--- Reading the records of bodies: from bytes and a place to a value and the place behind it.
+-- Reading the records of bodies: from bytes and a place to a value and the place after it.
 use Rattle.std.specs.Prelude.{ℕ, ℤ, zero, suc, ◌+◌, ◌-◌, Bool, true, false, not, ◌&&◌, ◌||◌, List, [], ◌∷◌, ◌++◌, length, take, drop, Result, Ok, Err, nat_lt, nat_eq, if◌then◌else◌}
 use Rattle.std.specs.Int.{Width, byte_len, from_be_bytes, cast_signed, w8, w16, w32, w64}
 use Rattle.std.specs.Str.{bytes_eq}
@@ -13,7 +13,7 @@ use Rattle.rite_file.specs.declared.counts.Counts.{Counts}
 use Rattle.rite_file.specs.declared.records.Record.{Record}
 use Rattle.rb_base.specs.Result.{◌>>=◌}
 
--- a reader: the value at a place of the bytes and the place behind it, or the place of the field at fault
+-- a reader: the value at a place of the bytes and the place after it, or the place of the field at fault
 abbrev pub Reader : Type 0 → Type 0
 Reader A = List ℕ → ℕ → Result (A × ℕ) LoadError
 
@@ -67,7 +67,8 @@ int_at bytes at = number_at w64 bytes at >>= λ n. Ok (cast_signed w64 n.0, n.1)
 unfoldable pub item_at : Reader PoolItem
 item_at bytes at =
     tested_at w8 (λ n. nat_lt n 2) bytes at >>= λ tag.
-    if nat_eq tag.0 0 then (text_at bytes tag.1 >>= λ x. Ok (Text x.0, x.1)) else (int_at bytes tag.1 >>= λ n. Ok (Int n.0, n.1))
+    if nat_eq tag.0 0 then (text_at bytes tag.1 >>= λ x. Ok (Text x.0, x.1)) else
+    (int_at bytes tag.1 >>= λ n. Ok (Int n.0, n.1))
 
 abbrev pub item_eq : PoolItem → PoolItem → Bool
 item_eq (Int m) (Int n) = int_eq m n
@@ -77,10 +78,11 @@ item_eq (Text x) (Int n) = false
 
 -- ---- lists
 
--- so many values behind those seen before, each refused where it doesn't fit to those
+-- so many values after those seen before, each refused where it doesn't fit to those
 unfoldable pub list_at : {A : Type 0} → (List A → A → Bool) → Reader A → List A → ℕ → Reader (List A)
 list_at fits read seen zero bytes at = Ok (seen, at)
-list_at fits read seen (suc n) bytes at = read bytes at >>= λ x. guarded (fits seen x.0) at x >>= λ y. list_at fits read (seen ++ y.0 ∷ []) n bytes y.1
+list_at fits read seen (suc n) bytes at = read bytes at >>= λ x. guarded (fits seen x.0) at x >>= λ y. list_at fits
+    read (seen ++ y.0 ∷ []) n bytes y.1
 
 abbrev pub any : {A : Type 0} → List A → A → Bool
 any seen x = true
@@ -100,9 +102,20 @@ symbols_at bytes at = number_at w16 bytes at >>= λ n. list_at (is_new bytes_eq)
 -- ---- records
 
 abbrev pub record_with : Counts → List ℕ → List CatchEntry → List PoolItem → List (List ℕ) → Record
-record_with c code catches pool symbols = record { body = record { locals = c.locals; registers = c.registers; code = code; catches = catches; pool = pool; symbols = symbols; children = [] }; children = c.children }
+record_with c code catches pool symbols = record {
+  body = record {
+    locals = c.locals;
+    registers = c.registers;
+    code = code;
+    catches = catches;
+    pool = pool;
+    symbols = symbols;
+    children = [];
+  };
+  children = c.children;
+}
 
--- what stands behind the size of a record
+-- what stands after the size of a record
 unfoldable pub fields_at : ℕ → Reader Record
 fields_at version bytes at =
     counts_at version bytes at >>= λ c.
@@ -119,9 +132,10 @@ record_at version bytes at =
     fields_at version bytes size.1 >>= λ r.
     guarded (nat_eq (at + size.0) r.1) at r
 
--- at most so many records behind those seen before, where so many are awaited: each is one of them, and its children
--- are awaited behind it
+-- at most so many records after those seen before, where so many are awaited: each is one of them, and its children
+-- are awaited after it
 unfoldable pub records_at : ℕ → ℕ → List Record → ℕ → Reader (List Record)
 records_at most version seen zero bytes at = Ok (seen, at)
 records_at zero version seen (suc awaited) bytes at = Err (BadRecord at)
-records_at (suc most) version seen (suc awaited) bytes at = record_at version bytes at >>= λ r. records_at most version (seen ++ r.0 ∷ []) (awaited + r.0.children) bytes r.1
+records_at (suc most) version seen (suc awaited) bytes at = record_at version bytes at >>= λ r. records_at most
+    version (seen ++ r.0 ∷ []) (awaited + r.0.children) bytes r.1

@@ -1,6 +1,7 @@
 ghost use Rattle.std.specs.Prelude.{◌≡◌};
 ghost use Rattle.rite_file.specs.declared.error.LoadError.TheVariants.{NoMemory};
 
+use rb_refusal::Refusal;
 use std::alloc::{AllocError, AllocFailed};
 
 /// Why bytes aren't loaded: the first check that they fail, or that memory ran out. Places are counted in bytes
@@ -19,6 +20,24 @@ pub enum LoadError {
     BadRecord { at: u64 },
     /// Memory ran out.
     NoMemory,
+}
+
+impl LoadError {
+    ghost use Rattle.rite_file.specs.Refusal.{refusal_of};
+
+    /// Why the file is refused. None where memory ran out.
+    pub fn refusal(self) -> Option<Refusal>
+        ensures { result ≡ refusal_of self }
+    {
+        match self {
+            LoadError::NotRite => Some(Refusal::NotRite),
+            LoadError::Foreign { name } => Some(Refusal::Foreign { name }),
+            LoadError::Truncated { at } => Some(Refusal::Truncated { at }),
+            LoadError::BadSection { at } => Some(Refusal::BadSection { at }),
+            LoadError::BadRecord { at } => Some(Refusal::BadRecord { at }),
+            LoadError::NoMemory => None,
+        }
+    }
 }
 
 impl From<AllocError> for LoadError {

@@ -1,6 +1,5 @@
 //! The header of a file and its sections.
-ghost use Rattle.std.specs.Prelude.{◌≡◌, ◌<◌, ◌≤◌, ◌^◌, ◌+◌, ℕ, length, take, drop, slice_get, Result, IsTrue, IfOk};
-ghost use Rattle.std.specs.Prelude as prelude;
+ghost use Rattle.std.specs.Prelude.{◌≡◌, ◌<◌, ◌≤◌, ◌+◌, length, take, drop, Result, IfOk};
 ghost use Rattle.rite_file.specs.Front as specs;
 
 use crate::error::LoadError;

@@ -36,7 +36,7 @@ use std::alloc::{AllocError, Global};
 /// - `NotRite`, `Truncated` at the file's length, `BadSection` at the size that the header has: as [`header`], but that
 ///   `Foreign` comes before a wrong size. `Foreign`: the compiler isn't `RBWN` of version `0001` or `0002`.
 /// - `BadSection`: the first section that doesn't fit as in [`Sections::next`], or that is neither one to skip (`DBG`,
-///   `LVAR`), nor the one `IREP` of at least 12 bytes and version `0300`, nor the empty `END` behind it, at the end of
+///   `LVAR`), nor the one `IREP` of at least 12 bytes and version `0300`, nor the empty `END` after it, at the end of
 ///   the file; or the end of the file, where `END` is missing.
 /// - `BadRecord`: the first field of the records that passes the end of their section or is wrong.
 pub fn load(alloc: Global, bytes: &[u8]) -> Result<Code, LoadError>

@@ -58,7 +58,7 @@ pub fn catches_at(
     Ok((catches, next))
 }
 
-/// A pool entry: a text behind the tag 0, or an integer behind the tag 1.
+/// A pool entry: a text after the tag 0, or an integer after the tag 1.
 #[tactic(auto, unfolding(crate::specs::Record::item_at, crate::specs::Record::tested_at))]
 fn item_at(alloc: Global, bytes: &[u8], at: usize) -> Result<(PoolItem, usize), LoadError>
     requires { at ≤ length bytes.now }

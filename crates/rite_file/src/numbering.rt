@@ -21,7 +21,7 @@ fn take_roots(alloc: Global, roots: &mut Vec<u32>, count: u16) -> Result<List<u3
 }
 
 /// The bodies of the records, depth first, each with the numbers of its children: from the last body to the first,
-/// the children of a body are the nearest roots behind it.
+/// the children of a body are the nearest roots after it.
 #[tactic(auto, using(crate::proofs::Forests::onto_last, crate::proofs::Forests::onto_nothing))]
 pub fn numbered(alloc: Global, records: List<Record>) -> Result<List<Irep>, AllocError>
     requires { length records ≤ 65536 }

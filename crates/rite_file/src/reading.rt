@@ -1,4 +1,4 @@
-//! The fields of a record: from bytes and a place to a value and the place behind it.
+//! The fields of a record: from bytes and a place to a value and the place after it.
 ghost use Rattle.std.specs.Prelude.{◌≡◌, ◌≤◌, ◌+◌, ◌-◌, length, not, nat_lt, IfOk};
 ghost use Rattle.std.specs.Int.{w8, w16, w32};
 ghost use Rattle.rite_file.specs.Gives.{Gives};
@@ -16,7 +16,7 @@ pub fn bad(at: usize) -> LoadError
     LoadError::BadRecord { at: at as u64 }
 }
 
-/// The place behind so many bytes.
+/// The place after so many bytes.
 fn end_of(bytes: &[u8], at: usize, n: usize) -> Result<usize, LoadError>
     requires { at ≤ length bytes.now }
     ensures value { result ≡ specs.guarded (not (nat_lt (length bytes.now - at) n)) at (at + n) }

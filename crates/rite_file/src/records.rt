@@ -1,5 +1,5 @@
 //! The records of bodies.
-ghost use Rattle.std.specs.Prelude.{◌≡◌, ◌≤◌, [], length, IfOk};
+ghost use Rattle.std.specs.Prelude.{◌≤◌, [], length, IfOk};
 ghost use Rattle.rite_file.specs.Gives.{Gives};
 ghost use Rattle.rite_file.specs.Record as specs;
 
@@ -18,7 +18,7 @@ pub struct Record {
     pub children: u16,
 }
 
-/// What stands behind the size of a record.
+/// What stands after the size of a record.
 #[tactic(auto, unfolding(crate::specs::Record::fields_at))]
 fn fields_at(
     alloc: Global,

@@ -54,7 +54,7 @@ fn section_at(bytes: &[u8], at: usize) -> Option<Section>
 }
 
 impl<'a> Sections<'a> {
-    /// The sections behind the header of the bytes.
+    /// The sections after the header of the bytes.
     #[tactic(auto, unfolding(crate::specs::Front::sections_of))]
     pub fn new(bytes: &'a [u8]) -> Sections<'a>
         requires long { 20 ≤ length bytes.now }
@@ -68,7 +68,7 @@ impl<'a> Sections<'a> {
     }
 
     /// The next section, or `BadSection` at its place where it doesn't fit: fewer than eight bytes are left, or its
-    /// size is below 8 or passes the end. Behind such a section there is none.
+    /// size is below 8 or passes the end. After such a section there is none.
     #[tactic(auto, using(crate::proofs::SectionSteps::nothing_left, crate::proofs::SectionSteps::goes_on, crate::proofs::SectionSteps::stops))]
     pub fn next(&mut self) -> Option<Result<Section, LoadError>>
         ensures value { result ≡ slice_get self.old 0 }

@@ -125,7 +125,7 @@ fn put_counts(out: &mut Vec<u8>, body: &Irep) -> Result<(), AllocError>
     Ok(())
 }
 
-/// Puts what stands behind the size of a body's record.
+/// Puts what stands after the size of a body's record.
 fn put_fields(out: &mut Vec<u8>, body: &Irep) -> Result<(), AllocError>
     requires { (version : ℕ) × IsBody version body.now }
     ensures bytes { OnOk result (out.new.items ≡ out.old.items ++ specs.fields body.now) }
@@ -177,7 +177,7 @@ pub fn put_records(
 /// The last section.
 pub const END: [u8; 8] = [b'E', b'N', b'D', 0, 0, 0, 0, 8];
 
-/// Puts a name and the size behind it.
+/// Puts a name and the size after it.
 fn put_head(out: &mut Vec<u8>, name: &[u8], size: u32) -> Result<(), AllocError>
     ensures { OnOk result (out.new.items ≡ out.old.items ++ (name.now ++ to_be_bytes w32 size)) }
 {

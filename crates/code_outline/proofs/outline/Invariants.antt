@@ -8,5 +8,6 @@ abbrev pub invariant-loop-number : goal.invariant-loop-number
 invariant-loop-number l = record {
   layouts : AreLaidOut l.code.version (take l.number l.bodies) l.layouts;
   count : length l.makers.items ≡ length l.bodies;
-  makers : AreMarked (made_from l.code.version 0 (take l.number l.bodies)) (replicate (length l.bodies) None) l.makers.items;
+  makers : AreMarked (made_from l.code.version 0 (take l.number l.bodies)) (replicate (length l.bodies) None)
+      l.makers.items;
 }

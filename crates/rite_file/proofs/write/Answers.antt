@@ -15,22 +15,42 @@ put_records-requires-clause-small c =
 pub overflow_cast-len : goal.overflow_cast-len
 overflow_cast-len c =
     let put = rw c.new-records.ensures.items at c.in_ok-put_records.ensures.bytes in
-    omega (arith, c.len.ensures, ap length put, ap (λ b. length (flat_map record_of b)) c.bodies.ensures.value, length-canonical c.args.code.now, c.requires)
+    omega (
+      arith,
+      c.len.ensures,
+      ap length put,
+      ap (λ b. length (flat_map record_of b)) c.bodies.ensures.value,
+      length-canonical c.args.code.now,
+      c.requires,
+    )
 
 pub put_front-requires-clause-small : goal.put_front-requires-clause-small
 put_front-requires-clause-small c =
     let put = rw c.new-records.ensures.items at c.in_ok-put_records.ensures.bytes in
-    omega (arith, c.len.ensures, ap length put, ap (λ b. length (flat_map record_of b)) c.bodies.ensures.value, length-canonical c.args.code.now, c.requires)
+    omega (
+      arith,
+      c.len.ensures,
+      ap length put,
+      ap (λ b. length (flat_map record_of b)) c.bodies.ensures.value,
+      length-canonical c.args.code.now,
+      c.requires,
+    )
 
 pub returns-clause-value : goal.returns-clause-value
 returns-clause-value c =
-    let put : c.put_records.new.out.items ≡ flat_map record_of c.args.code.now.bodies = (rw c.new-records.ensures.items at c.in_ok-put_records.ensures.bytes) ∙ ap (flat_map record_of) c.bodies.ensures.value in
-    let len : c.len.result ≡ length (flat_map record_of c.args.code.now.bodies) = omega (arith, c.len.ensures, ap length put) in
-    let first : c.put_front.new.out.items ≡ front c.args.code.now.version (length (flat_map record_of c.args.code.now.bodies)) =
-    (rw c.new-out.ensures.items at c.in_ok-put_front.ensures) ∙ ap (λ v. front v c.len.result) c.version-version.ensures.value ∙ ap (front c.args.code.now.version) len in
+    let put : c.put_records.new.out.items ≡ flat_map record_of c.args.code.now.bodies =
+    (rw c.new-records.ensures.items at c.in_ok-put_records.ensures.bytes)
+    ∙ ap (flat_map record_of) c.bodies.ensures.value in
+    let len : c.len.result ≡ length (flat_map record_of c.args.code.now.bodies) =
+    omega (arith, c.len.ensures, ap length put) in
+    let first : c.put_front.new.out.items ≡ front c.args.code.now.version
+    (length (flat_map record_of c.args.code.now.bodies)) =
+    (rw c.new-out.ensures.items at c.in_ok-put_front.ensures)
+    ∙ ap (λ v. front v c.len.result) c.version-version.ensures.value ∙ ap (front c.args.code.now.version) len in
     let records : c.deref.result.now ≡ flat_map record_of c.args.code.now.bodies = c.deref.ensures.value ∙ put in
     c.in_ok-extend_from_slice-2.ensures.items
-    ∙ ap (λ t. t ++ end_section) (c.in_ok-extend_from_slice.ensures.items ∙ ap (λ t. t ++ c.deref.result.now) first ∙ ap (λ t. front c.args.code.now.version (length (flat_map record_of c.args.code.now.bodies)) ++ t) records)
+    ∙ ap (λ t. t ++ end_section) (c.in_ok-extend_from_slice.ensures.items ∙ ap (λ t. t ++ c.deref.result.now) first
+    ∙ ap (λ t. front c.args.code.now.version (length (flat_map record_of c.args.code.now.bodies)) ++ t) records)
     ∙ canonical_parts c.args.code.now
 
 pub returns-clause-spelled : goal.returns-clause-spelled

@@ -4,7 +4,8 @@ use Rattle.code_listing.proofs.informing.check_sections.Goals as goal
 
 pub sections-preserved : goal.sections-preserved
 sections-preserved c = record {
-  same = fits_on c.sections.sections _ c.in_ok-section.field-0 (ap Some (sym c.in_ok-section.was) ∙ c.in-Some.ensures.value) c.next.ensures.rest ∙ c.sections.invariant.same;
+  same = fits_on c.sections.sections _ c.in_ok-section.field-0 (ap Some (sym c.in_ok-section.was)
+      ∙ c.in-Some.ensures.value) c.next.ensures.rest ∙ c.sections.invariant.same;
 }
 
 pub returns-in_err-section : goal.returns-in_err-section
@@ -14,4 +15,5 @@ returns-in_err-section c =
     answer ∙ sym failed ∙ c.sections.invariant.same
 
 pub returns : goal.returns
-returns c = sym (sym c.sections.invariant.same ∙ all_fit c.sections.sections (sym c.in_default.is ∙ c.next.ensures.value))
+returns c = sym (sym c.sections.invariant.same
+    ∙ all_fit c.sections.sections (sym c.in_default.is ∙ c.next.ensures.value))

@@ -10,7 +10,8 @@ forest b e =
     let inner : P b.children = subst P (sym e) none in
     node inner
 
-whole : (version : ℕ) (b : Irep) → (version ≡ 1) ⊎ (version ≡ 2) → IsBody version b → b.children ≡ [] → IsWhole (program version (b ∷ []))
+whole : (version : ℕ) (b : Irep) → (version ≡ 1) ⊎ (version ≡ 2) → IsBody version b → b.children ≡ []
+    → IsWhole (program version (b ∷ []))
 whole version b v x e = record {
   version = v;
   count = omega arith;
@@ -21,4 +22,5 @@ whole version b v x e = record {
 pub new-requires : goal.new-requires
 new-requires c =
     let one : c.push.new.self ≡ c.args.body ∷ [] = search rules in
-    subst (λ bodies. IsWhole (program c.args.version bodies)) (sym one) (whole c.args.version c.args.body c.requires.version c.requires.body c.requires.children)
+    subst (λ bodies. IsWhole (program c.args.version bodies)) (sym one)
+    (whole c.args.version c.args.body c.requires.version c.requires.body c.requires.children)

@@ -18,7 +18,8 @@ loop-standing-preserved c =
     let i = c.loop-standing.standing-index in
     let s = c.standing-item.result in
     rw (made_in-more k b ss i s c.loop-standing-test.true c.standing-item.is)
-    (marks-append (made_in k b (map seen (take i ss))) (made_by k b (seen s)) c.args.makers.now c.loop-standing.makers c.match-made_by.makers c.loop-standing.auto.makers c.loop-standing.invariant
+    (marks-append (made_in k b (map seen (take i ss))) (made_by k b (seen s)) c.args.makers.now c.loop-standing.makers
+    c.match-made_by.makers c.loop-standing.auto.makers c.loop-standing.invariant
     (elim c.match-made_by.branch [
       | in-Some w ↦ rw (w.makers-is, ← w.in-Some.ensures) w.put_maker.ensures
       | in_default w ↦ rw (w.makers-is, ← w.in_default.ensures) (marks-none c.loop-standing.makers)

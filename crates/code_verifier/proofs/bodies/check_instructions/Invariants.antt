@@ -8,5 +8,6 @@ use Rattle.code_verifier.proofs.bodies.check_instructions.Given as goal
 abbrev pub invariant-loop-standing : goal.invariant-loop-standing
 invariant-loop-standing l =
     let list = layout l.fn.code.version l.fn.body.code in
-    answer (first (map (λ s. bad l.fn.number s.at (cause_of l.fn.code l.fn.number l.fn.body list (seen s))) (drop l.standing-index l.standing-items)))
+    answer (first (map (λ s. bad l.fn.number s.at (cause_of l.fn.code l.fn.number l.fn.body list (seen s)))
+    (drop l.standing-index l.standing-items)))
     ≡ answer (first (instructions_bad l.fn.code l.fn.number l.fn.body list list))

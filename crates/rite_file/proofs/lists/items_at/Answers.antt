@@ -9,21 +9,36 @@ use Rattle.rite_file.proofs.lists.items_at.Goals as goal
 pub returns-in_err-item-clause-value : goal.returns-in_err-item-clause-value
 returns-in_err-item-clause-value c =
     let p = err_from_is_err_and c.from_residual.result c.from_residual.ensures.1 in
-    rw (p.1, p.2) (list_fails (is_new item_eq) item_at c.entries.items c.args.count c.entries.counter c.args.bytes.now c.entries.next c.in_err-item.field-0.0 (list_at (is_new item_eq) item_at [] c.args.count c.args.bytes.now c.args.at) c.entries-test.true c.in_err-item.ensures.value c.entries.invariant.same)
+    rw (p.1, p.2) (list_fails (is_new item_eq) item_at c.entries.items c.args.count c.entries.counter c.args.bytes.now
+    c.entries.next c.in_err-item.field-0.0
+    (list_at (is_new item_eq) item_at [] c.args.count c.args.bytes.now c.args.at) c.entries-test.true
+    c.in_err-item.ensures.value c.entries.invariant.same)
 
 pub returns-then-has_item-clause-value : goal.returns-then-has_item-clause-value
 returns-then-has_item-clause-value c =
-    let old : is_new item_eq c.entries.items c.in_ok-item.item ≡ false = ap not (ap (list_any (λ y. item_eq y c.in_ok-item.item)) (sym c.as_slice.ensures) ∙ sym c.has_item.ensures ∙ c.if-has_item.true) in
-    let refused = list_refuses (is_new item_eq) item_at c.entries.items c.args.count c.entries.counter c.args.bytes.now c.entries.next c.in_ok-item.item c.in_ok-item.after (list_at (is_new item_eq) item_at [] c.args.count c.args.bytes.now c.args.at) c.entries-test.true c.in_ok-item.ensures.value old c.entries.invariant.same in
+    let old : is_new item_eq c.entries.items c.in_ok-item.item ≡ false =
+    ap not (ap (list_any (λ y. item_eq y c.in_ok-item.item)) (sym c.as_slice.ensures) ∙ sym c.has_item.ensures
+    ∙ c.if-has_item.true) in
+    let refused = list_refuses (is_new item_eq) item_at c.entries.items c.args.count c.entries.counter
+    c.args.bytes.now c.entries.next c.in_ok-item.item c.in_ok-item.after
+    (list_at (is_new item_eq) item_at [] c.args.count c.args.bytes.now c.args.at) c.entries-test.true
+    c.in_ok-item.ensures.value old c.entries.invariant.same in
     rw c.bad.ensures refused
 
 pub entries-preserved : goal.entries-preserved
 entries-preserved c =
-    let new : is_new item_eq c.entries.items c.in_ok-item.item ≡ true = ap not (ap (list_any (λ y. item_eq y c.in_ok-item.item)) (sym c.as_slice.ensures) ∙ sym c.has_item.ensures ∙ c.if-has_item.false) in
+    let new : is_new item_eq c.entries.items c.in_ok-item.item ≡ true =
+    ap not (ap (list_any (λ y. item_eq y c.in_ok-item.item)) (sym c.as_slice.ensures) ∙ sym c.has_item.ensures
+    ∙ c.if-has_item.false) in
     record {
       within = c.in_ok-item.ensures.within;
-      same = list_goes_on (is_new item_eq) item_at c.entries.items c.push.new.self c.args.count c.entries.counter c.args.bytes.now c.entries.next c.in_ok-item.item c.in_ok-item.after (list_at (is_new item_eq) item_at [] c.args.count c.args.bytes.now c.args.at) c.entries-test.true c.in_ok-item.ensures.value new c.in_ok-push.ensures.ok c.entries.invariant.same;
+      same = list_goes_on (is_new item_eq) item_at c.entries.items c.push.new.self c.args.count c.entries.counter
+          c.args.bytes.now c.entries.next c.in_ok-item.item c.in_ok-item.after
+          (list_at (is_new item_eq) item_at [] c.args.count c.args.bytes.now c.args.at) c.entries-test.true
+          c.in_ok-item.ensures.value new c.in_ok-push.ensures.ok c.entries.invariant.same;
     }
 
 pub returns-clause-value : goal.returns-clause-value
-returns-clause-value c = sym c.entries.invariant.same ∙ list_done (is_new item_eq) item_at c.entries.items c.args.count c.entries.counter c.args.bytes.now c.entries.next c.entries-test.false
+returns-clause-value c = sym c.entries.invariant.same
+    ∙ list_done (is_new item_eq) item_at c.entries.items c.args.count c.entries.counter c.args.bytes.now
+    c.entries.next c.entries-test.false

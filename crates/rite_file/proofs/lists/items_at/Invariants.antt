@@ -5,5 +5,6 @@ use Rattle.rite_file.proofs.lists.items_at.Given as goal
 abbrev pub invariant-entries : goal.invariant-entries
 invariant-entries l = record {
   within : l.next ≤ length l.bytes;
-  same : list_at (is_new item_eq) item_at l.items (l.count - l.counter) l.bytes l.next ≡ list_at (is_new item_eq) item_at [] l.count l.bytes l.at;
+  same : list_at (is_new item_eq) item_at l.items (l.count - l.counter) l.bytes l.next ≡ list_at (is_new item_eq)
+      item_at [] l.count l.bytes l.at;
 }

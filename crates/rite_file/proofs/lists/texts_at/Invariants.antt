@@ -6,5 +6,6 @@ use Rattle.rite_file.proofs.lists.texts_at.Given as goal
 abbrev pub invariant-entries : goal.invariant-entries
 invariant-entries l = record {
   within : l.next ≤ length l.bytes;
-  same : list_at (is_new bytes_eq) text_at l.texts (l.count - l.counter) l.bytes l.next ≡ list_at (is_new bytes_eq) text_at [] l.count l.bytes l.at;
+  same : list_at (is_new bytes_eq) text_at l.texts (l.count - l.counter) l.bytes l.next ≡ list_at (is_new bytes_eq)
+      text_at [] l.count l.bytes l.at;
 }

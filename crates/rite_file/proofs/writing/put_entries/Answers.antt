@@ -11,6 +11,9 @@ no_entry = record { rescue = false; begin = 0; end = 0; target = 0 }
 pub loop-entry-preserved : goal.loop-entry-preserved
 unfolding no_entry
 loop-entry-preserved c = record {
-  bytes = puts_more catch_entry c.args.out.now.items c.loop-entry.out.items c.put_entry.new.out.items c.args.entries.now c.loop-entry.entry-index (get_or c.args.entries.now c.loop-entry.entry-index no_entry) no_entry c.loop-entry-test.true refl c.loop-entry.invariant.bytes c.in_ok-put_entry.ensures.bytes;
-  held = All-more IsHeldEntry c.args.entries.now c.loop-entry.entry-index no_entry c.loop-entry-test.true c.loop-entry.invariant.held c.in_ok-put_entry.ensures.held;
+  bytes = puts_more catch_entry c.args.out.now.items c.loop-entry.out.items c.put_entry.new.out.items
+      c.args.entries.now c.loop-entry.entry-index (get_or c.args.entries.now c.loop-entry.entry-index no_entry)
+      no_entry c.loop-entry-test.true refl c.loop-entry.invariant.bytes c.in_ok-put_entry.ensures.bytes;
+  held = All-more IsHeldEntry c.args.entries.now c.loop-entry.entry-index no_entry c.loop-entry-test.true
+      c.loop-entry.invariant.held c.in_ok-put_entry.ensures.held;
 }

@@ -1,13 +1,12 @@
 //! The texts of refusals.
 ghost use Rattle.std.specs.Prelude.{◌≡◌, ◌++◌, codes, decimal};
-ghost use Rattle.code_listing.specs.RefusalText as texts;
-ghost use Rattle.code_listing.specs.Writing.{Says};
+ghost use Rattle.rb_refusal.specs.RefusalText as texts;
+ghost use Rattle.rb_refusal.specs.Writing.{Says};
 
 use crate::pieces::write_pieces;
 use crate::refusal::Refusal;
 use itoa::Buffer;
 use rb_base::{Failed, Sink};
-use rb_syntax::{Count, Outside};
 use rite_code::Cause;
 
 /// Writes the text of a refusal: the name of its kind, and what it speaks of.
@@ -21,8 +20,12 @@ pub fn refusal_text<O: Sink>(refusal: &Refusal, out: &mut O) -> Result<(), Faile
     match *refusal {
         Refusal::Syntax { at } => write_place(out, b"Syntax", u64::from(at)),
         Refusal::TooDeep => write_pieces(out, &[b"TooDeep"]),
-        Refusal::Outside { what, at } => write_outside(out, what, at),
-        Refusal::TooLarge { what, count } => write_too_large(out, what, count),
+        Refusal::Outside { what, at } => {
+            write_named(out, b"Outside ", what.name(), b" at ", u64::from(at))
+        }
+        Refusal::TooLarge { what, count } => {
+            write_named(out, b"TooLarge ", what.name(), b" ", count)
+        }
         Refusal::NotRite => write_pieces(out, &[b"NotRite"]),
         Refusal::Foreign { name } => write_foreign(out, name),
         Refusal::Truncated { at } => write_place(out, b"Truncated", at),
@@ -42,24 +45,23 @@ fn write_place<O: Sink>(out: &mut O, kind: &[u8], at: u64) -> Result<(), Failed>
     write_pieces(out, &[kind, b" at ", digits.format(at).as_bytes()])
 }
 
-fn write_outside<O: Sink>(out: &mut O, what: Outside, at: u32) -> Result<(), Failed>
-    ensures { Says (texts.refusal_text (Refusal.Outside what at))
+// Writes a kind of refusal, the name of what it speaks of, and a number.
+fn write_named<O: Sink>(
+    out: &mut O,
+    kind: &'static [u8],
+    name: &'static [u8],
+    between: &'static [u8],
+    number: u64,
+) -> Result<(), Failed>
+    ensures { Says (kind.now ++ (name.now ++ (between.now ++ decimal number)))
         (record { taken = O.taken out.old; faults = O.faults out.old })
         (record { taken = O.taken out.new; faults = O.faults out.new }) result }
 {
     let mut digits = Buffer::new();
-    let place = digits.format(at).as_bytes();
-    write_pieces(out, &[b"Outside ", what.name(), b" at ", place])
-}
-
-fn write_too_large<O: Sink>(out: &mut O, what: Count, count: u64) -> Result<(), Failed>
-    ensures { Says (texts.refusal_text (Refusal.TooLarge what count))
-        (record { taken = O.taken out.old; faults = O.faults out.old })
-        (record { taken = O.taken out.new; faults = O.faults out.new }) result }
-{
-    let mut digits = Buffer::new();
-    let number = digits.format(count).as_bytes();
-    write_pieces(out, &[b"TooLarge ", what.name(), b" ", number])
+    write_pieces(
+        out,
+        &[kind, name, between, digits.format(number).as_bytes()],
+    )
 }
 
 fn write_foreign<O: Sink>(out: &mut O, name: [u8; 4]) -> Result<(), Failed>

@@ -1,6 +1,6 @@
 //! Writing a text in pieces.
-ghost use Rattle.std.specs.Prelude.{◌≡◌, flat_map};
-ghost use Rattle.code_listing.specs.Writing.{Says};
+ghost use Rattle.std.specs.Prelude.{flat_map};
+ghost use Rattle.rb_refusal.specs.Writing.{Says};
 
 use rb_base::{Failed, Sink, write_all};
 

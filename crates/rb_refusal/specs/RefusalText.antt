@@ -1,7 +1,7 @@
 -- The text of a refusal: the name of its kind, and what it speaks of.
 use Rattle.std.specs.Prelude.{ℕ, List, ◌++◌, codes, decimal, map, nat_le, ◌&&◌, if◌then◌else◌}
-use Rattle.code_listing.specs.declared.refusal.Refusal.{Refusal}
-use Rattle.code_listing.specs.declared.refusal.Refusal.TheVariants.{Syntax, TooDeep, Outside, TooLarge, NotRite, Foreign, Truncated, BadSection, BadRecord, Bad}
+use Rattle.rb_refusal.specs.declared.refusal.Refusal.{Refusal}
+use Rattle.rb_refusal.specs.declared.refusal.Refusal.TheVariants.{Syntax, TooDeep, Outside, TooLarge, NotRite, Foreign, Truncated, BadSection, BadRecord, Bad}
 use Rattle.rb_syntax.specs.Outside as outsides
 use Rattle.rb_syntax.specs.Count as counts
 use Rattle.rite_code.specs.Cause as causes
@@ -23,4 +23,5 @@ refusal_text (Foreign name) = codes "Foreign " ++ visible_name name
 refusal_text (Truncated at) = codes "Truncated at " ++ decimal at
 refusal_text (BadSection at) = codes "BadSection at " ++ decimal at
 refusal_text (BadRecord at) = codes "BadRecord at " ++ decimal at
-refusal_text (Bad irep at cause) = codes "Bad irep " ++ decimal irep ++ codes " at " ++ decimal at ++ codes " " ++ causes.name_of cause
+refusal_text (Bad irep at cause) = codes "Bad irep " ++ decimal irep ++ codes " at " ++ decimal at ++ codes " "
+    ++ causes.name_of cause
