@@ -12,11 +12,11 @@ use Rattle.rb_syntax.specs.declared.token.TokenKind.TheVariants as kinds
 use Rattle.lexer_depth.specs.declared.effect.Effect.{Effect}
 use Rattle.lexer_depth.specs.declared.effect.Effect.TheVariants.{Nothing, Count, Keep, Comma, Separate, EndLine, When, Do, Open, OpenLoop, OpenIndex, Close}
 
--- a name counts directly behind a name
+-- a name counts directly after a name
 abbrev pub word_effect : Bool → Effect
 word_effect after_word = if after_word then Count else Nothing
 
--- a modifier stays counted behind a comma
+-- a modifier stays counted after a comma
 abbrev pub modifier_effect : Bool → Effect → Effect
 modifier_effect value other = if value then other else Keep
 
@@ -180,7 +180,7 @@ kind_effect kinds.InterpolationEnd value after_word = Close
 kind_effect kinds.LiteralEnd value after_word = Nothing
 kind_effect (kinds.Outside o) value after_word = outside_effect o after_word
 
--- what a token does behind another one
+-- what a token does after another one
 abbrev pub effect : Token → Bool → Effect
 effect t after_word = kind_effect t.kind t.value after_word
 
@@ -258,7 +258,7 @@ is_wide_name outsides.SplatClause = false
 is_wide_name outsides.PatternMatch = false
 is_wide_name outsides.Unbuilt = false
 
--- a name directly behind a name, return, break, next, yield or super counts
+-- a name directly after a name, return, break, next, yield or super counts
 unfoldable pub is_word : TokenKind → Bool
 is_word kinds.Newline = false
 is_word kinds.Semicolon = false

@@ -5,7 +5,15 @@ use Rattle.lexer_depth.specs.declared.stack.Stack.{Stack}
 use Rattle.lexer_depth.specs.Levels.{Measures, Levels, fresh}
 
 abbrev pub measures_of : Level → Measures
-measures_of l = record { count = l.count; kept = l.kept; most = l.most; inner = l.inner; value = l.value; head = l.head; choice = l.choice }
+measures_of l = record {
+  count = l.count;
+  kept = l.kept;
+  most = l.most;
+  inner = l.inner;
+  value = l.value;
+  head = l.head;
+  choice = l.choice;
+}
 
 abbrev pub measures_or_fresh : Option Level → Measures
 measures_or_fresh (Some l) = measures_of l

@@ -6,7 +6,7 @@ use Rattle.lexer_depth.specs.declared.effect.Effect.TheVariants.{Nothing, Count,
 use Rattle.lexer_depth.specs.Effect.{effect, is_word}
 
 pub record Measures : Type 0 where
-  -- what counts since the last separator, and what of it stays counted behind a comma
+  -- what counts since the last separator, and what of it stays counted after a comma
   pub count : ℕ
   pub kept : ℕ
   -- the greatest count since the last separator
@@ -36,7 +36,7 @@ counted l = altered l (l.count + 1) l.kept l.inner
 abbrev pub kept_counted : Measures → Measures
 kept_counted l = altered l (l.count + 1) (l.kept + 1) l.inner
 
--- a comma sets the count to kept, but behind when it counts
+-- a comma sets the count to kept, but after when it counts
 abbrev pub comma : Measures → Measures
 comma l = if l.choice then counted l else record l { count = l.kept }
 
@@ -88,7 +88,7 @@ step OpenLoop s = opened s true
 step OpenIndex s = indexed s
 step Close s = closed s
 
--- the levels behind the tokens; after_word: a name directly there counts
+-- the levels after the tokens; after_word: a name directly there counts
 unfoldable pub fold : Levels → Bool → List Token → Levels
 fold s after_word [] = s
 fold s after_word (t ∷ ts) = fold (step (effect t after_word) s) (is_word t.kind) ts

@@ -10,7 +10,7 @@ pub enum Effect {
     Nothing,
     /// Counts in its level.
     Count,
-    /// Counts, and stays counted behind a comma.
+    /// Counts, and stays counted after a comma.
     Keep,
     Comma,
     /// Ends a part of its level.
@@ -31,7 +31,7 @@ pub enum Effect {
     Close,
 }
 
-/// Counts directly behind a name alone.
+/// Counts directly after a name alone.
 fn word_effect(after_word: bool) -> Effect
     ensures { result ≡ effects.word_effect after_word }
 {
@@ -145,7 +145,7 @@ fn is_wide_name(what: Outside) -> bool
     what == Outside::NonAsciiName
 }
 
-/// Whether a name directly behind the token counts.
+/// Whether a name directly after the token counts.
 #[tactic(auto, unfolding(crate::specs::Effect::is_word))]
 pub fn is_word(token: &Token) -> bool
     ensures { result ≡ effects.is_word token.now.kind }

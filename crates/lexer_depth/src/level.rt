@@ -82,7 +82,7 @@ impl Level {
         self.altered(self.count + 1, self.kept, self.inner)
     }
 
-    /// One more counts and stays counted behind a comma.
+    /// One more counts and stays counted after a comma.
     pub fn kept_counted(self) -> Option<Level>
         ensures { MatchOption result
             (256 < (levels.kept_counted (measures_of self)).value)
@@ -91,7 +91,7 @@ impl Level {
         self.altered(self.count + 1, self.kept + 1, self.inner)
     }
 
-    /// Behind a comma.
+    /// After a comma.
     pub fn comma(self) -> Option<Level>
         ensures { MatchOption result
             (256 < (levels.comma (measures_of self)).value)
@@ -111,7 +111,7 @@ impl Level {
         })
     }
 
-    /// Behind a separator.
+    /// After a separator.
     pub fn separated(self, head: bool, choice: bool) -> Level
         ensures { measures_of result ≡ levels.separated (measures_of self) head choice }
     {
@@ -126,7 +126,7 @@ impl Level {
         }
     }
 
-    /// Behind a level that ended within.
+    /// After a level that ended within.
     pub fn nested(self, ended: Level) -> Option<Level>
         ensures { MatchOption result
             (256 < (levels.nested (measures_of self) (measures_of ended).value).value)

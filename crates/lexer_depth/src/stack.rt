@@ -88,12 +88,13 @@ impl Stack {
         }
     }
 
-    /// One more counts in the innermost level, and stays counted behind a comma.
+    /// One more counts in the innermost level, and stays counted after a comma.
     #[tactic(auto, using(crate::proofs::Growth::above))]
     fn keep(&mut self) -> Option<()>
-        ensures { MatchOption result
-            (256 < levels.value_of (levels.on_top (levels_of self.old) (levels.kept_counted (levels_of self.old).top)))
-            (λ u. levels_of self.new ≡ levels.on_top (levels_of self.old) (levels.kept_counted (levels_of self.old).top)) }
+        ensures { MatchOption result (256 < levels.value_of
+            (levels.on_top (levels_of self.old) (levels.kept_counted (levels_of self.old).top)))
+            (λ u. levels_of self.new ≡ levels.on_top (levels_of self.old)
+            (levels.kept_counted (levels_of self.old).top)) }
     {
         match self.top.kept_counted() {
             Some(top) => {
@@ -122,8 +123,8 @@ impl Stack {
 
     /// A separator.
     fn separate(&mut self, head: bool, choice: bool) -> Option<()>
-        ensures { MatchOption result ⊥
-            (λ u. levels_of self.new ≡ levels.on_top (levels_of self.old) (levels.separated (levels_of self.old).top head choice)) }
+        ensures { MatchOption result ⊥ (λ u. levels_of self.new
+            ≡ levels.on_top (levels_of self.old) (levels.separated (levels_of self.old).top head choice)) }
     {
         self.top = self.top.separated(head, choice);
         Some(())

@@ -7,14 +7,14 @@ use Rattle.rb_syntax.specs.declared.token.TokenKind.TheVariants as kinds
 use Rattle.lexer_tables.specs.declared.context.Context.TheVariants as contexts
 use Rattle.rb_lexer.specs.declared.heads.HeadPlace.{HeadPlace}
 use Rattle.rb_lexer.specs.Heads.{head_at}
-use Rattle.lexer_steps.specs.Scan.{name_end}
+use Rattle.lexer_steps.specs.Scan.{name_end, run_end}
 use Rattle.lexer_laws.specs.Example.{heredoc_text, heredoc_tokens}
 use Rattle.lexer_laws.specs.Gaps.{IsLine, is_line_byte}
 use Rattle.lexer_laws.specs.Literals.{Literal, Double, None_more, One, IsElement, IsPiece}
 use Rattle.lexer_laws.specs.Place.{Place, start, after}
 use Rattle.lexer_laws.specs.Reads.{Reads, Ends, Takes, Holds, Heredoc, EndsBody, PassesBodies, IsEnd, IsToken, value_at, is_newline, bars_after}
 use Rattle.lexer_laws.specs.Within.{IsHeredoc, Whole, Line, Body}
-use Rattle.lexer_laws.proofs.Runs.{class_end, run_ends, run_longest}
+use Rattle.lexer_laws.proofs.Runs.{run_ends, run_longest}
 
 abbrev head : HeadPlace
 head = record { from = 2; to = 3; end = 3; dash = 65; first = 65 }
@@ -23,13 +23,21 @@ abbrev body : Literal
 body = record { delimiters = None; contents = Double; key = None }
 
 line : IsLine heredoc_text 3 5
-unfolding class_end
+unfolding run_end
 line =
     let ends = run_ends is_line_byte heredoc_text 3 (omega arith) in
-    record { last = 4; rest = record { there = ends.run; longest = λ other run. run_longest is_line_byte heredoc_text 3 4 other ends run }; ends = inr (omega arith, refl) }
+    record {
+      last = 4;
+      rest = record {
+        there = ends.run;
+        longest =
+            λ other run. run_longest is_line_byte heredoc_text 3 4 other ends run;
+      };
+      ends = inr (omega arith, refl);
+    }
 
 heredoc : IsHeredoc heredoc_text Whole [] start head 5 7 5 9
-unfolding head_at name_end bodies_at bodies_in body_in is_end_line lines_of are_white
+unfolding head_at name_end run_end bodies_at bodies_in body_in is_end_line lines_of are_white
 heredoc = record {
   outside = tt;
   not_wanted = refl;
@@ -50,14 +58,26 @@ element_b : IsElement body cut 5 (98 ∷ []) 6
 element_b = record {
   no_closer = λ e. e;
   no_opener = λ e. e;
-  element = inl (record { byte = record { within = omega arith; bytes_are = refl; ends = refl }; no_backslash = λ e. absurd (omega (arith, e)) }, λ b. absurd (omega (arith, b.0)));
+  element = inl (
+    record {
+      byte = record { within = omega arith; bytes_are = refl; ends = refl };
+      no_backslash = λ e. absurd (omega (arith, e));
+    },
+    λ b. absurd (omega (arith, b.0)),
+  );
 }
 
 element_newline : IsElement body cut 6 (10 ∷ []) 7
 element_newline = record {
   no_closer = λ e. e;
   no_opener = λ e. e;
-  element = inl (record { byte = record { within = omega arith; bytes_are = refl; ends = refl }; no_backslash = λ e. absurd (omega (arith, e)) }, λ b. absurd (omega (arith, b.0)));
+  element = inl (
+    record {
+      byte = record { within = omega arith; bytes_are = refl; ends = refl };
+      no_backslash = λ e. absurd (omega (arith, e));
+    },
+    λ b. absurd (omega (arith, b.0)),
+  );
 }
 
 no_empty : (next : ℕ) → IsElement body cut 5 [] next → ⊥
@@ -68,7 +88,12 @@ no_empty next x = elim (x.element) [
 
 piece : IsPiece body cut 0 5 (98 ∷ 10 ∷ []) 0 7
 piece = record {
-  begins = record { elements = One 0 5 6 0 7 (98 ∷ []) (10 ∷ []) element_b (One 0 6 7 0 7 (10 ∷ []) [] element_newline (None_more 0 7)); some = λ e. absurd (cc); first = no_empty };
+  begins = record {
+    elements = One 0 5 6 0 7 (98 ∷ []) (10 ∷ []) element_b
+        (One 0 6 7 0 7 (10 ∷ []) [] element_newline (None_more 0 7));
+    some = λ e. absurd (cc);
+    first = no_empty;
+  };
   ends = inr (inr (refl, refl));
 }
 
@@ -82,9 +107,11 @@ no_end (inr e) = absurd (cc)
 pub heredoc_reads : Reads heredoc_text heredoc_tokens
 unfolding IsToken after value_at is_newline bars_after
 heredoc_reads =
-    Heredoc Whole [] start head body 5 7 5 9 _ tt heredoc (λ e. absurd (omega (arith, e))) (refl, refl, inr (λ e. absurd (omega (arith, e)), refl))
+    Heredoc Whole [] start head body 5 7 5 9 _ tt heredoc (λ e. absurd (omega (arith, e)))
+    (refl, refl, inr (λ e. absurd (omega (arith, e)), refl))
     (Holds (Body 7 3 5 9) [] _ body 0 0 7 (98 ∷ 10 ∷ []) _ piece
     (EndsBody [] _ body 0 7 3 5 9 _ refl refl
-    (Takes (Line 5 9) [] [] behind_body kinds.Semicolon 4 _ tt (λ e. absurd (omega (arith, e))) no_end (refl, refl) (inr (inr (λ e. absurd (cc), λ e. absurd (cc), refl)))
+    (Takes (Line 5 9) [] [] behind_body kinds.Semicolon 4 _ tt (λ e. absurd (omega (arith, e))) no_end (refl, refl)
+    (inr (inr (λ e. absurd (cc), λ e. absurd (cc), refl)))
     (PassesBodies [] _ _ 5 9 _ tt refl (inl (refl, refl))
     (Ends [] _ tt (inl refl))))))

@@ -8,7 +8,7 @@ use Rattle.rb_lexer.specs.Code.{code_step, other_step}
 use Rattle.rb_lexer.specs.Strings.{text_step, body_step, double_step, hash_step, end_step}
 use Rattle.rb_heredoc.specs.Bodies.{bodies_at, bodies_in, body_in, is_end_line}
 use Rattle.rb_heredoc.specs.Lines.{lines_of, are_white}
-use Rattle.lexer_steps.specs.Scan.{name_end, line_end}
+use Rattle.lexer_steps.specs.Scan.{name_end, run_end, line_end}
 use Rattle.lexer_steps.specs.Trivia.{newline_step, next_token, passing}
 use Rattle.lexer_steps.specs.Signs.{sign_step, number_step, quote_step}
 use Rattle.lexer_tables.specs.Marks.{operator_name}
@@ -20,5 +20,5 @@ unfolding tokens_of run advance code_reach begins_heredoc code_step other_step t
 string_lexed = refl
 
 pub heredoc_lexed : tokens_of heredoc_text ≡ Ok heredoc_tokens
-unfolding tokens_of run advance code_reach heredoc_step body_at enter_body head_at begins_heredoc name_end line_end bodies_at bodies_in body_in is_end_line lines_of are_white body_step double_step code_step other_step sign_step operator_name newline_step next_token passing
+unfolding tokens_of run advance code_reach heredoc_step body_at enter_body head_at begins_heredoc name_end run_end line_end bodies_at bodies_in body_in is_end_line lines_of are_white body_step double_step code_step other_step sign_step operator_name newline_step next_token passing
 heredoc_lexed = refl

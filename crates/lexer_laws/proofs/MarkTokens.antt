@@ -73,23 +73,29 @@ bars_same marks.CloseBracket b h = refl
 bars_same marks.OpenBrace b h = refl
 bars_same marks.CloseBrace b h = refl
 
-marked_is : (text : List ℕ) (at : ℕ) (m : Mark) (q : Punctuator) (end : ℕ) (s : State) → is_operator q ≡ true → m.punctuator ≡ q → at + m.length ≡ end → marked (Some m) at s ≡ passed (took s at (kinds.Punctuator q)) end
+marked_is : (text : List ℕ) (at : ℕ) (m : Mark) (q : Punctuator) (end : ℕ) (s : State) → is_operator q ≡ true
+    → m.punctuator ≡ q → at + m.length ≡ end → marked (Some m) at s ≡ passed (took s at (kinds.Punctuator q)) end
 unfolding after value_at is_newline bars_after
 marked_is text at m q end s o p e = rw (p, e, bars_same q s.bars o) refl
 
-pub mark_read : (text : List ℕ) (at end : ℕ) (q : Punctuator) (s : State) → LongestOperator text at q end → mark_step text at s ≡ passed (took s at (kinds.Punctuator q)) end
+pub mark_read : (text : List ℕ) (at end : ℕ) (q : Punctuator) (s : State) → LongestOperator text at q end
+    → mark_step text at s ≡ passed (took s at (kinds.Punctuator q)) end
 unfolding mark_step
 mark_read text at end q s l =
     let f = operator_complete text at q end l in
     ap (λ (o : Option Mark). marked o at s) f.1 ∙ marked_is text at (f.0) q end s l.there.operator f.2 f.3
 
-mark_from : (text : List ℕ) (at end : ℕ) (s t : State) (o : Option Mark) → mark_at text at ≡ o → marked o at s ≡ passed t end → (q : Punctuator) × LongestOperator text at q end × (t ≡ took s at (kinds.Punctuator q))
+mark_from : (text : List ℕ) (at end : ℕ) (s t : State) (o : Option Mark) → mark_at text at ≡ o
+    → marked o at s ≡ passed t end → (q : Punctuator) × LongestOperator text at q end
+    × (t ≡ took s at (kinds.Punctuator q))
 mark_from text at end s t None found h = absurd (cc)
 mark_from text at end s t (Some m) found h =
     let l = operator_sound text at m found in
-    let p = both_are t (took s at (kinds.Punctuator m.punctuator)) end (at + m.length) (sym h ∙ marked_is text at m m.punctuator (at + m.length) s l.there.operator refl refl) in
+    let p = both_are t (took s at (kinds.Punctuator m.punctuator)) end (at + m.length) (sym h
+    ∙ marked_is text at m m.punctuator (at + m.length) s l.there.operator refl refl) in
     (m.punctuator, subst (λ (e : ℕ). LongestOperator text at m.punctuator e) (sym p.1) l, p.0)
 
-pub mark_token : (text : List ℕ) (at end : ℕ) (s t : State) → mark_step text at s ≡ passed t end → (q : Punctuator) × LongestOperator text at q end × (t ≡ took s at (kinds.Punctuator q))
+pub mark_token : (text : List ℕ) (at end : ℕ) (s t : State) → mark_step text at s ≡ passed t end
+    → (q : Punctuator) × LongestOperator text at q end × (t ≡ took s at (kinds.Punctuator q))
 unfolding mark_step
 mark_token text at end s t h = mark_from text at end s t (mark_at text at) refl h

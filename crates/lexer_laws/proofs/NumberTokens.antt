@@ -32,7 +32,8 @@ counted end value = Ok (record { end = end; value = value; tail = tails.Nothing 
 
 -- ---- no tail
 
-fraction_none : (text : List ℕ) (end : ℕ) → (get_or text end 0 ≡ 46 → is_digit (get_or text (end + 1) 0) ≡ false) → fraction_end text end ≡ placed end
+fraction_none : (text : List ℕ) (end : ℕ) → (get_or text end 0 ≡ 46 → is_digit (get_or text (end + 1) 0) ≡ false)
+    → fraction_end text end ≡ placed end
 unfolding fraction_end
 fraction_none text end h =
     elim (cases_Bool (eqb (get_or text end 0) 46)) [
@@ -40,7 +41,8 @@ fraction_none text end h =
       | inr other ↦ rw other refl
     ]
 
-exponent_none : (text : List ℕ) (end : ℕ) → ((get_or text end 0 ≡ 101) ⊎ (get_or text end 0 ≡ 69) → is_digit (get_or text (sign_end text (end + 1)) 0) ≡ false) → exponent_end text end ≡ placed end
+exponent_none : (text : List ℕ) (end : ℕ) → ((get_or text end 0 ≡ 101) ⊎ (get_or text end 0 ≡ 69)
+    → is_digit (get_or text (sign_end text (end + 1)) 0) ≡ false) → exponent_end text end ≡ placed end
 unfolding exponent_end
 exponent_none text end h =
     elim (cases_Bool (eqb (get_or text end 0) 101)) [
@@ -55,11 +57,17 @@ parts_none : (text : List ℕ) (at end : ℕ) → NoTail text at end → parts_e
 unfolding parts_end
 parts_none text at end t =
     elim (cases_Bool (is_plain (radix_at text at) at)) [
-      | inl plain ↦ rw (plain, fraction_none text end (t.no_fraction plain), exponent_none text end (t.no_exponent plain)) refl
+      | inl plain ↦ rw (
+        plain,
+        fraction_none text end (t.no_fraction plain),
+        exponent_none text end
+            (t.no_exponent plain),
+      ) refl
       | inr other ↦ rw other refl
     ]
 
-suffix_none : (text : List ℕ) (at end : ℕ) → NoTail text at end → suffix_at text end false tails.Nothing ≡ (end, tails.Nothing)
+suffix_none : (text : List ℕ) (at end : ℕ) → NoTail text at end
+    → suffix_at text end false tails.Nothing ≡ (end, tails.Nothing)
 unfolding suffix_at
 suffix_none text at end t =
     elim (cases_Bool (eqb (get_or text end 0) 105)) [
@@ -80,7 +88,8 @@ suffix_none text at end t =
       ]
     ]
 
-pub numeral_read : (text : List ℕ) (at end n : ℕ) → IsWholeInteger text at end n → NoTail text at end → numeral_at text at ≡ counted end (narrow n)
+pub numeral_read : (text : List ℕ) (at end n : ℕ) → IsWholeInteger text at end n → NoTail text at end
+    → numeral_at text at ≡ counted end (narrow n)
 unfolding numeral_at
 numeral_read text at end n w t =
     let same : eqb end end ≡ true = eq-eqb end end refl in
@@ -92,17 +101,20 @@ narrow_small n h = let t : leb n 9223372036854775808 ≡ true = le-leb n 9223372
 narrow_great : (n : ℕ) → 9223372036854775808 < n → narrow n ≡ None
 narrow_great n h = let t : leb n 9223372036854775808 ≡ false = lt-leb n 9223372036854775808 h in rw t refl
 
-pub integer_read : (text : List ℕ) (at end n : ℕ) (s : State) → IsNarrowInteger text at end n → number_step text at s ≡ passed (took s at (kinds.Integer n)) end
+pub integer_read : (text : List ℕ) (at end n : ℕ) (s : State) → IsNarrowInteger text at end n
+    → number_step text at s ≡ passed (took s at (kinds.Integer n)) end
 unfolding number_step after value_at is_newline bars_after
 integer_read text at end n s i = rw (numeral_read text at end n i.literal i.no_tail, narrow_small n i.small) refl
 
-pub wide_read : (text : List ℕ) (at end : ℕ) (s : State) → IsWideInteger text at end → number_step text at s ≡ passed (took s at (kinds.Outside outsides.WideInteger)) end
+pub wide_read : (text : List ℕ) (at end : ℕ) (s : State) → IsWideInteger text at end
+    → number_step text at s ≡ passed (took s at (kinds.Outside outsides.WideInteger)) end
 unfolding number_step after after_outside value_at is_newline bars_after
 wide_read text at end s i = rw (numeral_read text at end i.value i.literal i.no_tail, narrow_great i.value i.great) refl
 
 -- ---- a number without a tail is such an integer
 
-bind_ok : {A B : Type 0} → (r : Result A Fault) (f : A → Result B Fault) (b : B) → (r >>= f) ≡ Ok b → (x : A) × (r ≡ Ok x) × (f x ≡ Ok b)
+bind_ok : {A B : Type 0} → (r : Result A Fault) (f : A → Result B Fault) (b : B) → (r >>= f) ≡ Ok b
+    → (x : A) × (r ≡ Ok x) × (f x ≡ Ok b)
 bind_ok (Ok x) f b h = (x, refl, h)
 bind_ok (Err e) f b h = absurd (cc)
 
@@ -127,7 +139,8 @@ abbrev is_fraction : List ℕ → ℕ → Bool
 is_fraction text at = eqb (get_or text at 0) 46 && is_digit (get_or text (at + 1) 0)
 
 abbrev is_exponent : List ℕ → ℕ → Bool
-is_exponent text at = (eqb (get_or text at 0) 101 || eqb (get_or text at 0) 69) && is_digit (get_or text (sign_end text (at + 1)) 0)
+is_exponent text at = (eqb (get_or text at 0) 101 || eqb (get_or text at 0) 69) && is_digit
+    (get_or text (sign_end text (at + 1)) 0)
 
 pub record Part (at end : ℕ) (stands : Bool) : Type 0 where
   pub forward : at ≤ end
@@ -151,7 +164,10 @@ exponent_part text at end h =
     elim (cases_Bool (is_exponent text at)) [
       | inl some ↦
           let f = decimal_forward text (sign_end text (at + 1)) end (rw some at h) in
-          record { forward = omega (arith, f, sign_forward text (at + 1)); none = λ e. absurd (omega (arith, f, e, sign_forward text (at + 1))) }
+          record {
+            forward = omega (arith, f, sign_forward text (at + 1));
+            none = λ e. absurd (omega (arith, f, e, sign_forward text (at + 1)));
+          }
       | inr none ↦
           let e = placed_is at end (rw none at h) in
           record { forward = omega (arith, e); none = λ e. none }
@@ -168,7 +184,8 @@ unfolding parts_end
 parts_are text at end p h =
     elim (cases_Bool (is_plain (radix_at text at) at)) [
       | inl plain ↦
-          let b = bind_ok (fraction_end text end) (λ (f : ℕ). exponent_end text f >>= λ (e : ℕ). both f e) p (rw plain at h) in
+          let b = bind_ok (fraction_end text end) (λ (f : ℕ). exponent_end text f >>= λ (e : ℕ). both f e) p
+          (rw plain at h) in
           let c = bind_ok (exponent_end text b.0) (λ (e : ℕ). both b.0 e) p b.2 in
           let pair : (b.0, c.0) ≡ p = cc in
           let f : b.0 ≡ p.0 = ap (λ (q : ℕ × ℕ). q.0) pair in
@@ -181,7 +198,8 @@ parts_are text at end p h =
             no_fraction = λ same plain. fraction.none (omega (arith, f, e, same, fraction.forward, exponent.forward));
             no_exponent = λ same plain.
                 let here : b.0 ≡ end = omega (arith, f, e, same, fraction.forward, exponent.forward) in
-                subst (λ (k : ℕ). is_exponent text k ≡ false) here (exponent.none (omega (arith, f, e, same, fraction.forward, exponent.forward)));
+                subst (λ (k : ℕ). is_exponent text k ≡ false) here
+                (exponent.none (omega (arith, f, e, same, fraction.forward, exponent.forward)));
           }
       | inr other ↦
           let whole : both end end ≡ both p.0 p.1 = rw other at h in
@@ -204,9 +222,10 @@ pub record Suffix (text : List ℕ) (at to : ℕ) (has_exponent : Bool) (tail : 
   pub tail_is : tail ≡ tails.Nothing
   pub no_imaginary : get_or text at 0 ≡ 105 → goes_on (get_or text (at + 1) 0) ≡ true
   pub no_rational : has_exponent ≡ false → get_or text at 0 ≡ 114 → goes_on (get_or text (at + 1) 0) ≡ true
-  pub no_rational_imaginary : has_exponent ≡ false → get_or text at 0 ≡ 114 → get_or text (at + 1) 0 ≡ 105 → goes_on (get_or text (at + 2) 0) ≡ true
+  pub no_rational_imaginary : has_exponent ≡ false → get_or text at 0 ≡ 114 → get_or text (at + 1) 0 ≡ 105
+      → goes_on (get_or text (at + 2) 0) ≡ true
 
--- a letter that no name goes on behind would be a suffix
+-- a letter that no name goes on after would be a suffix
 goes_there : (b v : ℕ) (on : Bool) → (eqb b v && not on) ≡ false → b ≡ v → on ≡ true
 goes_there b v true h e = refl
 goes_there b v false h e = let t : eqb b v ≡ true = eq-eqb b v e in absurd (not_both true refl (rw t at h))
@@ -214,7 +233,8 @@ goes_there b v false h e = let t : eqb b v ≡ true = eq-eqb b v e in absurd (no
 no_suffix : (at to : ℕ) (tail : Tail) → (tails.Nothing ≡ tail → ⊥) → ended at tail ≡ ended to tails.Nothing → ⊥
 no_suffix at to tail other h = other (sym (ap (λ (p : ℕ × Tail). p.1) h))
 
-suffix_is : (text : List ℕ) (at to : ℕ) (has_exponent : Bool) (tail : Tail) → suffix_at text at has_exponent tail ≡ ended to tails.Nothing → Suffix text at to has_exponent tail
+suffix_is : (text : List ℕ) (at to : ℕ) (has_exponent : Bool) (tail : Tail)
+    → suffix_at text at has_exponent tail ≡ ended to tails.Nothing → Suffix text at to has_exponent tail
 unfolding suffix_at
 suffix_is text at to has_exponent tail h =
     elim (cases_Bool (eqb (get_or text at 0) 105 && not (goes_on (get_or text (at + 1) 0)))) [
@@ -222,7 +242,9 @@ suffix_is text at to has_exponent tail h =
       | inr no_i ↦ elim (cases_Bool (has_exponent || not (eqb (get_or text at 0) 114))) [
         | inl none ↦
             let e : ended at tail ≡ ended to tails.Nothing = rw (no_i, none) at h in
-            let no_r : has_exponent ≡ false → get_or text at 0 ≡ 114 → ⊥ = λ x r. let t : eqb (get_or text at 0) 114 ≡ true = eq-eqb (get_or text at 0) 114 r in not_both false (rw (x, t) at none) refl in
+            let no_r : has_exponent ≡ false → get_or text at 0 ≡ 114
+            → ⊥ = λ x r. let t : eqb (get_or text at 0) 114 ≡ true = eq-eqb (get_or text at 0) 114 r in
+            not_both false (rw (x, t) at none) refl in
             record {
               same = ap (λ (p : ℕ × Tail). p.0) e;
               tail_is = ap (λ (p : ℕ × Tail). p.1) e;
@@ -241,7 +263,8 @@ suffix_is text at to has_exponent tail h =
                   tail_is = ap (λ (p : ℕ × Tail). p.1) e;
                   no_imaginary = goes_there (get_or text at 0) 105 (goes_on (get_or text (at + 1) 0)) no_i;
                   no_rational = λ x r. on;
-                  no_rational_imaginary = λ x r. goes_there (get_or text (at + 1) 0) 105 (goes_on (get_or text (at + 2) 0)) none;
+                  no_rational_imaginary = λ x r. goes_there (get_or text (at + 1) 0) 105
+                      (goes_on (get_or text (at + 2) 0)) none;
                 }
           ]
         ]
@@ -277,17 +300,23 @@ same_none a b e = rw (eq-eqb a b e) refl
 abbrev tail_of : ℕ → ℕ → Tail
 tail_of a b = if eqb a b then tails.Nothing else tails.Float
 
-no_tail : (text : List ℕ) (at end to : ℕ) (p : ℕ × ℕ) → Parts text at end p.0 p.1 → Suffix text p.1 to (not (eqb p.0 p.1)) (tail_of p.1 end) → (end ≡ to) × NoTail text at end
+no_tail : (text : List ℕ) (at end to : ℕ) (p : ℕ × ℕ) → Parts text at end p.0 p.1
+    → Suffix text p.1 to (not (eqb p.0 p.1)) (tail_of p.1 end) → (end ≡ to) × NoTail text at end
 no_tail text at end to p parts suffix =
     let e : p.1 ≡ end = float_or_not p.1 end suffix.tail_is in
     let none : not (eqb p.0 p.1) ≡ false = same_none p.0 p.1 (omega (arith, e, parts.first, parts.second)) in
-    let imaginary = subst (λ (k : ℕ). get_or text k 0 ≡ 105 → goes_on (get_or text (k + 1) 0) ≡ true) e suffix.no_imaginary in
-    let rational = subst (λ (k : ℕ). get_or text k 0 ≡ 114 → goes_on (get_or text (k + 1) 0) ≡ true) e (suffix.no_rational none) in
-    let both_letters = subst (λ (k : ℕ). get_or text k 0 ≡ 114 → get_or text (k + 1) 0 ≡ 105 → goes_on (get_or text (k + 2) 0) ≡ true) e (suffix.no_rational_imaginary none) in (
+    let imaginary = subst (λ (k : ℕ). get_or text k 0 ≡ 105
+    → goes_on (get_or text (k + 1) 0) ≡ true) e suffix.no_imaginary in
+    let rational = subst (λ (k : ℕ). get_or text k 0 ≡ 114
+    → goes_on (get_or text (k + 1) 0) ≡ true) e (suffix.no_rational none) in
+    let both_letters = subst (λ (k : ℕ). get_or text k 0 ≡ 114 → get_or text (k + 1) 0 ≡ 105
+    → goes_on (get_or text (k + 2) 0) ≡ true) e (suffix.no_rational_imaginary none) in (
       sym e ∙ suffix.same,
       record {
-        no_fraction = λ plain point. and_none (eqb (get_or text end 0) 46) _ (parts.no_fraction e plain) (eq-eqb (get_or text end 0) 46 point);
-        no_exponent = λ plain letter. and_none (eqb (get_or text end 0) 101 || eqb (get_or text end 0) 69) _ (parts.no_exponent e plain) (is_exponent_letter (get_or text end 0) letter);
+        no_fraction = λ plain point. and_none (eqb (get_or text end 0) 46) _ (parts.no_fraction e plain)
+            (eq-eqb (get_or text end 0) 46 point);
+        no_exponent = λ plain letter. and_none (eqb (get_or text end 0) 101 || eqb (get_or text end 0) 69) _
+            (parts.no_exponent e plain) (is_exponent_letter (get_or text end 0) letter);
         no_imaginary = imaginary;
         no_rational = rational;
         no_rational_imaginary = both_letters;
@@ -300,20 +329,32 @@ number s value = Ok (record { end = s.0; value = value; tail = s.1 })
 abbrev suffix_of : List ℕ → ℕ → ℕ × ℕ → ℕ × Tail
 suffix_of text end p = suffix_at text p.1 (not (eqb p.0 p.1)) (tail_of p.1 end)
 
-pub number_token : (text : List ℕ) (at : ℕ) (m : Number) → numeral_at text at ≡ Ok m → m.tail ≡ tails.Nothing → (n : ℕ) × IsWholeInteger text at m.end n × NoTail text at m.end × (m.value ≡ narrow n)
+pub number_token : (text : List ℕ) (at : ℕ) (m : Number) → numeral_at text at ≡ Ok m → m.tail ≡ tails.Nothing
+    → (n : ℕ) × IsWholeInteger text at m.end n × NoTail text at m.end × (m.value ≡ narrow n)
 unfolding numeral_at number
 number_token text at m h none =
-    let b = bind_ok (integer_at text at) (λ (i : Scanned). parts_end text at i.end >>= λ (p : ℕ × ℕ). number (suffix_of text i.end p) i.value) m h in
+    let b = bind_ok (integer_at text at) (λ (i : Scanned). parts_end text at i.end >>= λ (p : ℕ × ℕ). number
+    (suffix_of text i.end p) i.value) m h in
     let i = b.0 in
     let c = bind_ok (parts_end text at i.end) (λ (p : ℕ × ℕ). number (suffix_of text i.end p) i.value) m b.2 in
     let p = c.0 in
-    let made : Number = record { end = (suffix_of text i.end p).0; value = i.value; tail = (suffix_of text i.end p).1 } in
+    let made : Number = record {
+      end = (suffix_of text i.end p).0;
+      value = i.value;
+      tail = (suffix_of text i.end p).1;
+    } in
     let is : made ≡ m = cc in
     let ends : (suffix_of text i.end p).0 ≡ m.end = ap (λ (k : Number). k.end) is in
     let value : i.value ≡ m.value = ap (λ (k : Number). k.value) is in
     let tail : (suffix_of text i.end p).1 ≡ tails.Nothing = ap (λ (k : Number). k.tail) is ∙ none in
-    let pair : suffix_of text i.end p ≡ ended m.end tails.Nothing = ap (λ (k : ℕ). ended k (suffix_of text i.end p).1) ends ∙ ap (λ (t : Tail). ended m.end t) tail in
+    let pair : suffix_of text i.end p ≡ ended m.end tails.Nothing =
+    ap (λ (k : ℕ). ended k (suffix_of text i.end p).1) ends ∙ ap (λ (t : Tail). ended m.end t) tail in
     let suffix = suffix_is text p.1 m.end (not (eqb p.0 p.1)) (tail_of p.1 i.end) pair in
     let tailless = no_tail text at i.end m.end p (parts_are text at i.end p c.1) suffix in
-    let w = integer_sound text at i b.1 in
-    (w.0, subst (λ (k : ℕ). IsWholeInteger text at k w.0) tailless.0 w.1, subst (λ (k : ℕ). NoTail text at k) tailless.0 tailless.1, sym value ∙ w.2)
+    let w = integer_sound text at i b.1 in (
+      w.0,
+      subst (λ (k : ℕ). IsWholeInteger text at k w.0) tailless.0 w.1,
+      subst (λ (k : ℕ). NoTail text at k) tailless.0
+          tailless.1,
+      sym value ∙ w.2,
+    )

@@ -32,31 +32,69 @@ Found n q o = (m : Mark) × (o ≡ Some m) × Finds n q m
 
 has_Plus : (b c : ℕ) → Found 1 marks.Plus (mark_of 43 b c)
 unfolding mark_of plus_mark
-has_Plus b c = ((plus_mark b), refl, (either 1 marks.Plus _ _ _ (longer 1 2 marks.PlusAssign marks.Plus (omega arith)) (exactly 1 marks.Plus)))
+has_Plus b c = (
+  (plus_mark b),
+  refl,
+  (either 1 marks.Plus _ _ _ (longer 1 2 marks.PlusAssign marks.Plus (omega arith))
+      (exactly 1 marks.Plus)),
+)
 
 has_Minus : (b c : ℕ) → Found 1 marks.Minus (mark_of 45 b c)
 unfolding mark_of minus_mark
-has_Minus b c = ((minus_mark b), refl, (either 1 marks.Minus _ _ _ (longer 1 2 marks.LambdaArrow marks.Minus (omega arith)) (either 1 marks.Minus _ _ _ (longer 1 2 marks.MinusAssign marks.Minus (omega arith)) (exactly 1 marks.Minus))))
+has_Minus b c = (
+  (minus_mark b),
+  refl,
+  (either 1 marks.Minus _ _ _
+      (longer 1 2 marks.LambdaArrow marks.Minus (omega arith))
+      (either 1 marks.Minus _ _ _ (longer 1 2 marks.MinusAssign marks.Minus (omega arith)) (exactly 1 marks.Minus))),
+)
 
 has_Star : (b c : ℕ) → Found 1 marks.Star (mark_of 42 b c)
 unfolding mark_of star_mark
-has_Star b c = ((star_mark b c), refl, (either 1 marks.Star _ _ _ (longer 1 3 marks.StarStarAssign marks.Star (omega arith)) (either 1 marks.Star _ _ _ (longer 1 2 marks.StarStar marks.Star (omega arith)) (either 1 marks.Star _ _ _ (longer 1 2 marks.StarAssign marks.Star (omega arith)) (exactly 1 marks.Star)))))
+has_Star b c = (
+  (star_mark b c),
+  refl,
+  (either 1 marks.Star _ _ _
+      (longer 1 3 marks.StarStarAssign marks.Star (omega arith))
+      (either 1 marks.Star _ _ _ (longer 1 2 marks.StarStar marks.Star (omega arith))
+      (either 1 marks.Star _ _ _ (longer 1 2 marks.StarAssign marks.Star (omega arith)) (exactly 1 marks.Star)))),
+)
 
 has_Slash : (b c : ℕ) → Found 1 marks.Slash (mark_of 47 b c)
 unfolding mark_of slash_mark
-has_Slash b c = ((slash_mark b), refl, (either 1 marks.Slash _ _ _ (longer 1 2 marks.SlashAssign marks.Slash (omega arith)) (exactly 1 marks.Slash)))
+has_Slash b c = (
+  (slash_mark b),
+  refl,
+  (either 1 marks.Slash _ _ _
+      (longer 1 2 marks.SlashAssign marks.Slash (omega arith)) (exactly 1 marks.Slash)),
+)
 
 has_Percent : (b c : ℕ) → Found 1 marks.Percent (mark_of 37 b c)
 unfolding mark_of percent_mark
-has_Percent b c = ((percent_mark b), refl, (either 1 marks.Percent _ _ _ (longer 1 2 marks.PercentAssign marks.Percent (omega arith)) (exactly 1 marks.Percent)))
+has_Percent b c = (
+  (percent_mark b),
+  refl,
+  (either 1 marks.Percent _ _ _
+      (longer 1 2 marks.PercentAssign marks.Percent (omega arith)) (exactly 1 marks.Percent)),
+)
 
 has_StarStar : (c : ℕ) → Found 2 marks.StarStar (mark_of 42 42 c)
 unfolding mark_of star_mark
-has_StarStar c = ((star_mark 42 c), refl, (either 2 marks.StarStar _ _ _ (longer 2 3 marks.StarStarAssign marks.StarStar (omega arith)) (exactly 2 marks.StarStar)))
+has_StarStar c = (
+  (star_mark 42 c),
+  refl,
+  (either 2 marks.StarStar _ _ _
+      (longer 2 3 marks.StarStarAssign marks.StarStar (omega arith)) (exactly 2 marks.StarStar)),
+)
 
 has_Not : (b c : ℕ) → Found 1 marks.Not (mark_of 33 b c)
 unfolding mark_of not_mark
-has_Not b c = ((not_mark b), refl, (either 1 marks.Not _ _ _ (longer 1 2 marks.NotEqual marks.Not (omega arith)) (either 1 marks.Not _ _ _ (longer 1 2 marks.NotMatch marks.Not (omega arith)) (exactly 1 marks.Not))))
+has_Not b c = (
+  (not_mark b),
+  refl,
+  (either 1 marks.Not _ _ _ (longer 1 2 marks.NotEqual marks.Not (omega arith))
+      (either 1 marks.Not _ _ _ (longer 1 2 marks.NotMatch marks.Not (omega arith)) (exactly 1 marks.Not))),
+)
 
 has_Tilde : (b c : ℕ) → Found 1 marks.Tilde (mark_of 126 b c)
 unfolding mark_of single_mark
@@ -64,7 +102,12 @@ has_Tilde b c = ((mark_with marks.Tilde 1), refl, (exactly 1 marks.Tilde))
 
 has_Equal : (c : ℕ) → Found 2 marks.Equal (mark_of 61 61 c)
 unfolding mark_of equal_mark
-has_Equal c = ((equal_mark 61 c), refl, (either 2 marks.Equal _ _ _ (longer 2 3 marks.CaseEqual marks.Equal (omega arith)) (exactly 2 marks.Equal)))
+has_Equal c = (
+  (equal_mark 61 c),
+  refl,
+  (either 2 marks.Equal _ _ _
+      (longer 2 3 marks.CaseEqual marks.Equal (omega arith)) (exactly 2 marks.Equal)),
+)
 
 has_CaseEqual : Found 3 marks.CaseEqual (mark_of 61 61 61)
 unfolding mark_of equal_mark
@@ -84,15 +127,35 @@ has_NotMatch c = ((not_mark 126), refl, (exactly 2 marks.NotMatch))
 
 has_Less : (b c : ℕ) → Found 1 marks.Less (mark_of 60 b c)
 unfolding mark_of less_mark
-has_Less b c = ((less_mark b c), refl, (either 1 marks.Less _ _ _ (longer 1 3 marks.Compare marks.Less (omega arith)) (either 1 marks.Less _ _ _ (longer 1 2 marks.LessEqual marks.Less (omega arith)) (either 1 marks.Less _ _ _ (longer 1 3 marks.ShiftLeftAssign marks.Less (omega arith)) (either 1 marks.Less _ _ _ (longer 1 2 marks.ShiftLeft marks.Less (omega arith)) (exactly 1 marks.Less))))))
+has_Less b c = (
+  (less_mark b c),
+  refl,
+  (either 1 marks.Less _ _ _ (longer 1 3 marks.Compare marks.Less (omega arith))
+      (either 1 marks.Less _ _ _ (longer 1 2 marks.LessEqual marks.Less (omega arith))
+      (either 1 marks.Less _ _ _ (longer 1 3 marks.ShiftLeftAssign marks.Less (omega arith))
+      (either 1 marks.Less _ _ _ (longer 1 2 marks.ShiftLeft marks.Less (omega arith)) (exactly 1 marks.Less))))),
+)
 
 has_LessEqual : (c : ℕ) → Found 2 marks.LessEqual (mark_of 60 61 c)
 unfolding mark_of less_mark
-has_LessEqual c = ((less_mark 61 c), refl, (either 2 marks.LessEqual _ _ _ (longer 2 3 marks.Compare marks.LessEqual (omega arith)) (exactly 2 marks.LessEqual)))
+has_LessEqual c = (
+  (less_mark 61 c),
+  refl,
+  (either 2 marks.LessEqual _ _ _
+      (longer 2 3 marks.Compare marks.LessEqual (omega arith)) (exactly 2 marks.LessEqual)),
+)
 
 has_Greater : (b c : ℕ) → Found 1 marks.Greater (mark_of 62 b c)
 unfolding mark_of greater_mark
-has_Greater b c = ((greater_mark b c), refl, (either 1 marks.Greater _ _ _ (longer 1 2 marks.GreaterEqual marks.Greater (omega arith)) (either 1 marks.Greater _ _ _ (longer 1 3 marks.ShiftRightAssign marks.Greater (omega arith)) (either 1 marks.Greater _ _ _ (longer 1 2 marks.ShiftRight marks.Greater (omega arith)) (exactly 1 marks.Greater)))))
+has_Greater b c = (
+  (greater_mark b c),
+  refl,
+  (either 1 marks.Greater _ _ _
+      (longer 1 2 marks.GreaterEqual marks.Greater (omega arith))
+      (either 1 marks.Greater _ _ _ (longer 1 3 marks.ShiftRightAssign marks.Greater (omega arith))
+      (either 1 marks.Greater _ _ _ (longer 1 2 marks.ShiftRight marks.Greater (omega arith))
+      (exactly 1 marks.Greater)))),
+)
 
 has_GreaterEqual : (c : ℕ) → Found 2 marks.GreaterEqual (mark_of 62 61 c)
 unfolding mark_of greater_mark
@@ -104,35 +167,83 @@ has_Compare = ((less_mark 61 62), refl, (exactly 3 marks.Compare))
 
 has_ShiftLeft : (c : ℕ) → Found 2 marks.ShiftLeft (mark_of 60 60 c)
 unfolding mark_of less_mark
-has_ShiftLeft c = ((less_mark 60 c), refl, (either 2 marks.ShiftLeft _ _ _ (longer 2 3 marks.ShiftLeftAssign marks.ShiftLeft (omega arith)) (exactly 2 marks.ShiftLeft)))
+has_ShiftLeft c = (
+  (less_mark 60 c),
+  refl,
+  (either 2 marks.ShiftLeft _ _ _
+      (longer 2 3 marks.ShiftLeftAssign marks.ShiftLeft (omega arith)) (exactly 2 marks.ShiftLeft)),
+)
 
 has_ShiftRight : (c : ℕ) → Found 2 marks.ShiftRight (mark_of 62 62 c)
 unfolding mark_of greater_mark
-has_ShiftRight c = ((greater_mark 62 c), refl, (either 2 marks.ShiftRight _ _ _ (longer 2 3 marks.ShiftRightAssign marks.ShiftRight (omega arith)) (exactly 2 marks.ShiftRight)))
+has_ShiftRight c = (
+  (greater_mark 62 c),
+  refl,
+  (either 2 marks.ShiftRight _ _ _
+      (longer 2 3 marks.ShiftRightAssign marks.ShiftRight (omega arith)) (exactly 2 marks.ShiftRight)),
+)
 
 has_Ampersand : (b c : ℕ) → Found 1 marks.Ampersand (mark_of 38 b c)
 unfolding mark_of ampersand_mark
-has_Ampersand b c = ((ampersand_mark b c), refl, (either 1 marks.Ampersand _ _ _ (longer 1 3 marks.AndAndAssign marks.Ampersand (omega arith)) (either 1 marks.Ampersand _ _ _ (longer 1 2 marks.AndAnd marks.Ampersand (omega arith)) (either 1 marks.Ampersand _ _ _ (longer 1 2 marks.AmpersandAssign marks.Ampersand (omega arith)) (either 1 marks.Ampersand _ _ _ (longer 1 2 marks.AmpersandDot marks.Ampersand (omega arith)) (exactly 1 marks.Ampersand))))))
+has_Ampersand b c = (
+  (ampersand_mark b c),
+  refl,
+  (either 1 marks.Ampersand _ _ _
+      (longer 1 3 marks.AndAndAssign marks.Ampersand (omega arith))
+      (either 1 marks.Ampersand _ _ _ (longer 1 2 marks.AndAnd marks.Ampersand (omega arith))
+      (either 1 marks.Ampersand _ _ _ (longer 1 2 marks.AmpersandAssign marks.Ampersand (omega arith))
+      (either 1 marks.Ampersand _ _ _ (longer 1 2 marks.AmpersandDot marks.Ampersand (omega arith))
+      (exactly 1 marks.Ampersand))))),
+)
 
 has_Bar : (b c : ℕ) → Found 1 marks.Bar (mark_of 124 b c)
 unfolding mark_of bar_mark
-has_Bar b c = ((bar_mark b c), refl, (either 1 marks.Bar _ _ _ (longer 1 3 marks.OrOrAssign marks.Bar (omega arith)) (either 1 marks.Bar _ _ _ (longer 1 2 marks.OrOr marks.Bar (omega arith)) (either 1 marks.Bar _ _ _ (longer 1 2 marks.BarAssign marks.Bar (omega arith)) (exactly 1 marks.Bar)))))
+has_Bar b c = (
+  (bar_mark b c),
+  refl,
+  (either 1 marks.Bar _ _ _ (longer 1 3 marks.OrOrAssign marks.Bar (omega arith))
+      (either 1 marks.Bar _ _ _ (longer 1 2 marks.OrOr marks.Bar (omega arith))
+      (either 1 marks.Bar _ _ _ (longer 1 2 marks.BarAssign marks.Bar (omega arith)) (exactly 1 marks.Bar)))),
+)
 
 has_Caret : (b c : ℕ) → Found 1 marks.Caret (mark_of 94 b c)
 unfolding mark_of caret_mark
-has_Caret b c = ((caret_mark b), refl, (either 1 marks.Caret _ _ _ (longer 1 2 marks.CaretAssign marks.Caret (omega arith)) (exactly 1 marks.Caret)))
+has_Caret b c = (
+  (caret_mark b),
+  refl,
+  (either 1 marks.Caret _ _ _
+      (longer 1 2 marks.CaretAssign marks.Caret (omega arith)) (exactly 1 marks.Caret)),
+)
 
 has_AndAnd : (c : ℕ) → Found 2 marks.AndAnd (mark_of 38 38 c)
 unfolding mark_of ampersand_mark
-has_AndAnd c = ((ampersand_mark 38 c), refl, (either 2 marks.AndAnd _ _ _ (longer 2 3 marks.AndAndAssign marks.AndAnd (omega arith)) (exactly 2 marks.AndAnd)))
+has_AndAnd c = (
+  (ampersand_mark 38 c),
+  refl,
+  (either 2 marks.AndAnd _ _ _
+      (longer 2 3 marks.AndAndAssign marks.AndAnd (omega arith)) (exactly 2 marks.AndAnd)),
+)
 
 has_OrOr : (c : ℕ) → Found 2 marks.OrOr (mark_of 124 124 c)
 unfolding mark_of bar_mark
-has_OrOr c = ((bar_mark 124 c), refl, (either 2 marks.OrOr _ _ _ (longer 2 3 marks.OrOrAssign marks.OrOr (omega arith)) (exactly 2 marks.OrOr)))
+has_OrOr c = (
+  (bar_mark 124 c),
+  refl,
+  (either 2 marks.OrOr _ _ _ (longer 2 3 marks.OrOrAssign marks.OrOr (omega arith))
+      (exactly 2 marks.OrOr)),
+)
 
 has_Assign : (b c : ℕ) → Found 1 marks.Assign (mark_of 61 b c)
 unfolding mark_of equal_mark
-has_Assign b c = ((equal_mark b c), refl, (either 1 marks.Assign _ _ _ (longer 1 3 marks.CaseEqual marks.Assign (omega arith)) (either 1 marks.Assign _ _ _ (longer 1 2 marks.Equal marks.Assign (omega arith)) (either 1 marks.Assign _ _ _ (longer 1 2 marks.Match marks.Assign (omega arith)) (either 1 marks.Assign _ _ _ (longer 1 2 marks.Arrow marks.Assign (omega arith)) (exactly 1 marks.Assign))))))
+has_Assign b c = (
+  (equal_mark b c),
+  refl,
+  (either 1 marks.Assign _ _ _
+      (longer 1 3 marks.CaseEqual marks.Assign (omega arith))
+      (either 1 marks.Assign _ _ _ (longer 1 2 marks.Equal marks.Assign (omega arith))
+      (either 1 marks.Assign _ _ _ (longer 1 2 marks.Match marks.Assign (omega arith))
+      (either 1 marks.Assign _ _ _ (longer 1 2 marks.Arrow marks.Assign (omega arith)) (exactly 1 marks.Assign))))),
+)
 
 has_PlusAssign : (c : ℕ) → Found 2 marks.PlusAssign (mark_of 43 61 c)
 unfolding mark_of plus_mark
@@ -188,7 +299,12 @@ has_OrOrAssign = ((bar_mark 124 61), refl, (exactly 3 marks.OrOrAssign))
 
 has_DotDot : (c : ℕ) → Found 2 marks.DotDot (mark_of 46 46 c)
 unfolding mark_of dot_mark
-has_DotDot c = ((dot_mark 46 c), refl, (either 2 marks.DotDot _ _ _ (longer 2 3 marks.DotDotDot marks.DotDot (omega arith)) (exactly 2 marks.DotDot)))
+has_DotDot c = (
+  (dot_mark 46 c),
+  refl,
+  (either 2 marks.DotDot _ _ _
+      (longer 2 3 marks.DotDotDot marks.DotDot (omega arith)) (exactly 2 marks.DotDot)),
+)
 
 has_DotDotDot : Found 3 marks.DotDotDot (mark_of 46 46 46)
 unfolding mark_of dot_mark
@@ -200,7 +316,12 @@ has_Question b c = ((mark_with marks.Question 1), refl, (exactly 1 marks.Questio
 
 has_Colon : (b c : ℕ) → Found 1 marks.Colon (mark_of 58 b c)
 unfolding mark_of colon_mark
-has_Colon b c = ((colon_mark b), refl, (either 1 marks.Colon _ _ _ (longer 1 2 marks.ColonColon marks.Colon (omega arith)) (exactly 1 marks.Colon)))
+has_Colon b c = (
+  (colon_mark b),
+  refl,
+  (either 1 marks.Colon _ _ _
+      (longer 1 2 marks.ColonColon marks.Colon (omega arith)) (exactly 1 marks.Colon)),
+)
 
 has_ColonColon : (c : ℕ) → Found 2 marks.ColonColon (mark_of 58 58 c)
 unfolding mark_of colon_mark
@@ -216,7 +337,12 @@ has_LambdaArrow c = ((minus_mark 62), refl, (exactly 2 marks.LambdaArrow))
 
 has_Dot : (b c : ℕ) → Found 1 marks.Dot (mark_of 46 b c)
 unfolding mark_of dot_mark
-has_Dot b c = ((dot_mark b c), refl, (either 1 marks.Dot _ _ _ (longer 1 3 marks.DotDotDot marks.Dot (omega arith)) (either 1 marks.Dot _ _ _ (longer 1 2 marks.DotDot marks.Dot (omega arith)) (exactly 1 marks.Dot))))
+has_Dot b c = (
+  (dot_mark b c),
+  refl,
+  (either 1 marks.Dot _ _ _ (longer 1 3 marks.DotDotDot marks.Dot (omega arith))
+      (either 1 marks.Dot _ _ _ (longer 1 2 marks.DotDot marks.Dot (omega arith)) (exactly 1 marks.Dot))),
+)
 
 has_AmpersandDot : (c : ℕ) → Found 2 marks.AmpersandDot (mark_of 38 46 c)
 unfolding mark_of ampersand_mark
@@ -250,19 +376,23 @@ has_CloseBrace : (b c : ℕ) → Found 1 marks.CloseBrace (mark_of 125 b c)
 unfolding mark_of single_mark
 has_CloseBrace b c = ((mark_with marks.CloseBrace 1), refl, (exactly 1 marks.CloseBrace))
 
-stands_one : (text : List ℕ) (at x : ℕ) (q : Punctuator) → ((b c : ℕ) → Found 1 q (mark_of x b c)) → Stands text at (x ∷ []) → Found 1 q (mark_at text at)
+stands_one : (text : List ℕ) (at x : ℕ) (q : Punctuator) → ((b c : ℕ) → Found 1 q (mark_of x b c))
+    → Stands text at (x ∷ []) → Found 1 q (mark_at text at)
 stands_one text at x q has s = rw (s.1) (has (get_or text (at + 1) 0) (get_or text (at + 2) 0))
 
-stands_two : (text : List ℕ) (at x y : ℕ) (q : Punctuator) → ((c : ℕ) → Found 2 q (mark_of x y c)) → Stands text at (x ∷ y ∷ []) → Found 2 q (mark_at text at)
+stands_two : (text : List ℕ) (at x y : ℕ) (q : Punctuator) → ((c : ℕ) → Found 2 q (mark_of x y c))
+    → Stands text at (x ∷ y ∷ []) → Found 2 q (mark_at text at)
 stands_two text at x y q has s = rw (s.1, s.2.1) (has (get_or text (at + 2) 0))
 
-stands_three : (text : List ℕ) (at x y z : ℕ) (q : Punctuator) → Found 3 q (mark_of x y z) → Stands text at (x ∷ y ∷ z ∷ []) → Found 3 q (mark_at text at)
+stands_three : (text : List ℕ) (at x y z : ℕ) (q : Punctuator) → Found 3 q (mark_of x y z)
+    → Stands text at (x ∷ y ∷ z ∷ []) → Found 3 q (mark_at text at)
 stands_three text at x y z q has s =
     let e : at + 1 + 1 ≡ at + 2 = omega arith in
     let third : get_or text (at + 2) 0 ≡ z = rw (← e) (s.2.2.1) in
     rw (s.1, s.2.1, third) has
 
-pub finds : (text : List ℕ) (at : ℕ) (q : Punctuator) → is_operator q ≡ true → Stands text at (spelling q) → Found (length (spelling q)) q (mark_at text at)
+pub finds : (text : List ℕ) (at : ℕ) (q : Punctuator) → is_operator q ≡ true → Stands text at (spelling q)
+    → Found (length (spelling q)) q (mark_at text at)
 unfolding spelling is_operator
 finds text at marks.Plus o s = stands_one text at 43 marks.Plus has_Plus s
 finds text at marks.Minus o s = stands_one text at 45 marks.Minus has_Minus s
@@ -337,103 +467,192 @@ byte_within (x ∷ xs) (suc k) h = omega (arith, byte_within xs k h)
 pub here : (text : List ℕ) (at x : ℕ) → 0 < x → get_or text at 0 ≡ x → at < length text
 here text at x some e = byte_within text at (omega (arith, some, e))
 
-spelled_one : (text : List ℕ) (at x : ℕ) (q : Punctuator) → 0 < x → get_or text at 0 ≡ x → spelling q ≡ x ∷ [] → is_operator q ≡ true → Spelled text at (mark_with q 1)
-spelled_one text at x q some e spelled operator = record { stands = rw spelled (here text at x some e, e, tt); long = rw spelled refl; operator = operator }
+spelled_one : (text : List ℕ) (at x : ℕ) (q : Punctuator) → 0 < x → get_or text at 0 ≡ x → spelling q ≡ x ∷ []
+    → is_operator q ≡ true → Spelled text at (mark_with q 1)
+spelled_one text at x q some e spelled operator = record {
+  stands = rw spelled (here text at x some e, e, tt);
+  long = rw spelled refl;
+  operator = operator;
+}
 
-spelled_two : (text : List ℕ) (at x y : ℕ) (q : Punctuator) → 0 < x → 0 < y → get_or text at 0 ≡ x → eqb (get_or text (at + 1) 0) y ≡ true → spelling q ≡ x ∷ y ∷ [] → is_operator q ≡ true → Spelled text at (mark_with q 2)
+spelled_two : (text : List ℕ) (at x y : ℕ) (q : Punctuator) → 0 < x → 0 < y → get_or text at 0 ≡ x
+    → eqb (get_or text (at + 1) 0) y ≡ true → spelling q ≡ x ∷ y ∷ [] → is_operator q ≡ true
+    → Spelled text at (mark_with q 2)
 spelled_two text at x y q some more e t spelled operator =
     let f = eqb-true (get_or text (at + 1) 0) y t in
-    record { stands = rw spelled (here text at x some e, e, (here text (at + 1) y more f, f, tt)); long = rw spelled refl; operator = operator }
+    record {
+      stands = rw spelled (here text at x some e, e, (here text (at + 1) y more f, f, tt));
+      long = rw spelled refl;
+      operator = operator;
+    }
 
-spelled_three : (text : List ℕ) (at x y z : ℕ) (q : Punctuator) → 0 < x → 0 < y → 0 < z → get_or text at 0 ≡ x → (eqb (get_or text (at + 1) 0) y && eqb (get_or text (at + 2) 0) z) ≡ true → spelling q ≡ x ∷ y ∷ z ∷ [] → is_operator q ≡ true → Spelled text at (mark_with q 3)
+spelled_three : (text : List ℕ) (at x y z : ℕ) (q : Punctuator) → 0 < x → 0 < y → 0 < z → get_or text at 0 ≡ x
+    → (eqb (get_or text (at + 1) 0) y && eqb (get_or text (at + 2) 0) z) ≡ true → spelling q ≡ x ∷ y ∷ z ∷ []
+    → is_operator q ≡ true → Spelled text at (mark_with q 3)
 spelled_three text at x y z q some more most e t spelled operator =
     let p = and_parts (eqb (get_or text (at + 1) 0) y) (eqb (get_or text (at + 2) 0) z) t in
     let f = eqb-true (get_or text (at + 1) 0) y p.0 in
     let two : at + 1 + 1 ≡ at + 2 = omega arith in
     let g : get_or text (at + 1 + 1) 0 ≡ z = rw two (eqb-true (get_or text (at + 2) 0) z p.1) in
-    record { stands = rw spelled (here text at x some e, e, (here text (at + 1) y more f, f, (here text (at + 1 + 1) z most g, g, tt))); long = rw spelled refl; operator = operator }
+    record {
+      stands = rw spelled (
+        here text at x some e,
+        e,
+        (here text (at + 1) y more f, f, (here text (at + 1 + 1) z most g, g, tt)),
+      );
+      long = rw spelled refl;
+      operator = operator;
+    }
 
-chosen : (text : List ℕ) (at : ℕ) (t : Bool) (x y : Mark) → (t ≡ true → Spelled text at x) → (t ≡ false → Spelled text at y) → Spelled text at (if t then x else y)
+chosen : (text : List ℕ) (at : ℕ) (t : Bool) (x y : Mark) → (t ≡ true → Spelled text at x)
+    → (t ≡ false → Spelled text at y) → Spelled text at (if t then x else y)
 chosen text at true x y a b = a refl
 chosen text at false x y a b = b refl
 
-plus_mark_stands : (text : List ℕ) (at : ℕ) → get_or text at 0 ≡ 43 → Spelled text at (plus_mark (get_or text (at + 1) 0))
+plus_mark_stands : (text : List ℕ) (at : ℕ) → get_or text at 0 ≡ 43
+    → Spelled text at (plus_mark (get_or text (at + 1) 0))
 unfolding plus_mark spelling is_operator
-plus_mark_stands text at e = chosen text at _ _ _ (λ t. spelled_two text at 43 61 marks.PlusAssign (omega arith) (omega arith) e t refl refl) (λ f. spelled_one text at 43 marks.Plus (omega arith) e refl refl)
+plus_mark_stands text at e = chosen text at _ _ _ (λ t. spelled_two text at 43 61 marks.PlusAssign (omega arith)
+    (omega arith) e t refl refl) (λ f. spelled_one text at 43 marks.Plus (omega arith) e refl refl)
 
-minus_mark_stands : (text : List ℕ) (at : ℕ) → get_or text at 0 ≡ 45 → Spelled text at (minus_mark (get_or text (at + 1) 0))
+minus_mark_stands : (text : List ℕ) (at : ℕ) → get_or text at 0 ≡ 45
+    → Spelled text at (minus_mark (get_or text (at + 1) 0))
 unfolding minus_mark spelling is_operator
-minus_mark_stands text at e = chosen text at _ _ _ (λ t. spelled_two text at 45 62 marks.LambdaArrow (omega arith) (omega arith) e t refl refl) (λ f. chosen text at _ _ _ (λ t. spelled_two text at 45 61 marks.MinusAssign (omega arith) (omega arith) e t refl refl) (λ f. spelled_one text at 45 marks.Minus (omega arith) e refl refl))
+minus_mark_stands text at e = chosen text at _ _ _ (λ t. spelled_two text at 45 62 marks.LambdaArrow (omega arith)
+    (omega arith) e t refl refl) (λ f. chosen text at _ _ _
+    (λ t. spelled_two text at 45 61 marks.MinusAssign (omega arith) (omega arith) e t refl refl)
+    (λ f. spelled_one text at 45 marks.Minus (omega arith) e refl refl))
 
-star_mark_stands : (text : List ℕ) (at : ℕ) → get_or text at 0 ≡ 42 → Spelled text at (star_mark (get_or text (at + 1) 0) (get_or text (at + 2) 0))
+star_mark_stands : (text : List ℕ) (at : ℕ) → get_or text at 0 ≡ 42
+    → Spelled text at (star_mark (get_or text (at + 1) 0) (get_or text (at + 2) 0))
 unfolding star_mark spelling is_operator
-star_mark_stands text at e = chosen text at _ _ _ (λ t. spelled_three text at 42 42 61 marks.StarStarAssign (omega arith) (omega arith) (omega arith) e t refl refl) (λ f. chosen text at _ _ _ (λ t. spelled_two text at 42 42 marks.StarStar (omega arith) (omega arith) e t refl refl) (λ f. chosen text at _ _ _ (λ t. spelled_two text at 42 61 marks.StarAssign (omega arith) (omega arith) e t refl refl) (λ f. spelled_one text at 42 marks.Star (omega arith) e refl refl)))
+star_mark_stands text at e = chosen text at _ _ _ (λ t. spelled_three text at 42 42 61 marks.StarStarAssign
+    (omega arith) (omega arith) (omega arith) e t refl refl)
+    (λ f. chosen text at _ _ _ (λ t. spelled_two text at 42 42 marks.StarStar (omega arith) (omega arith) e t refl refl)
+    (λ f. chosen text at _ _ _ (λ t. spelled_two text at 42 61 marks.StarAssign (omega arith) (omega arith) e t refl
+    refl) (λ f. spelled_one text at 42 marks.Star (omega arith) e refl refl)))
 
-slash_mark_stands : (text : List ℕ) (at : ℕ) → get_or text at 0 ≡ 47 → Spelled text at (slash_mark (get_or text (at + 1) 0))
+slash_mark_stands : (text : List ℕ) (at : ℕ) → get_or text at 0 ≡ 47
+    → Spelled text at (slash_mark (get_or text (at + 1) 0))
 unfolding slash_mark spelling is_operator
-slash_mark_stands text at e = chosen text at _ _ _ (λ t. spelled_two text at 47 61 marks.SlashAssign (omega arith) (omega arith) e t refl refl) (λ f. spelled_one text at 47 marks.Slash (omega arith) e refl refl)
+slash_mark_stands text at e = chosen text at _ _ _ (λ t. spelled_two text at 47 61 marks.SlashAssign (omega arith)
+    (omega arith) e t refl refl) (λ f. spelled_one text at 47 marks.Slash (omega arith) e refl refl)
 
-percent_mark_stands : (text : List ℕ) (at : ℕ) → get_or text at 0 ≡ 37 → Spelled text at (percent_mark (get_or text (at + 1) 0))
+percent_mark_stands : (text : List ℕ) (at : ℕ) → get_or text at 0 ≡ 37
+    → Spelled text at (percent_mark (get_or text (at + 1) 0))
 unfolding percent_mark spelling is_operator
-percent_mark_stands text at e = chosen text at _ _ _ (λ t. spelled_two text at 37 61 marks.PercentAssign (omega arith) (omega arith) e t refl refl) (λ f. spelled_one text at 37 marks.Percent (omega arith) e refl refl)
+percent_mark_stands text at e = chosen text at _ _ _ (λ t. spelled_two text at 37 61 marks.PercentAssign (omega arith)
+    (omega arith) e t refl refl) (λ f. spelled_one text at 37 marks.Percent (omega arith) e refl refl)
 
-caret_mark_stands : (text : List ℕ) (at : ℕ) → get_or text at 0 ≡ 94 → Spelled text at (caret_mark (get_or text (at + 1) 0))
+caret_mark_stands : (text : List ℕ) (at : ℕ) → get_or text at 0 ≡ 94
+    → Spelled text at (caret_mark (get_or text (at + 1) 0))
 unfolding caret_mark spelling is_operator
-caret_mark_stands text at e = chosen text at _ _ _ (λ t. spelled_two text at 94 61 marks.CaretAssign (omega arith) (omega arith) e t refl refl) (λ f. spelled_one text at 94 marks.Caret (omega arith) e refl refl)
+caret_mark_stands text at e = chosen text at _ _ _ (λ t. spelled_two text at 94 61 marks.CaretAssign (omega arith)
+    (omega arith) e t refl refl) (λ f. spelled_one text at 94 marks.Caret (omega arith) e refl refl)
 
-equal_mark_stands : (text : List ℕ) (at : ℕ) → get_or text at 0 ≡ 61 → Spelled text at (equal_mark (get_or text (at + 1) 0) (get_or text (at + 2) 0))
+equal_mark_stands : (text : List ℕ) (at : ℕ) → get_or text at 0 ≡ 61
+    → Spelled text at (equal_mark (get_or text (at + 1) 0) (get_or text (at + 2) 0))
 unfolding equal_mark spelling is_operator
-equal_mark_stands text at e = chosen text at _ _ _ (λ t. spelled_three text at 61 61 61 marks.CaseEqual (omega arith) (omega arith) (omega arith) e t refl refl) (λ f. chosen text at _ _ _ (λ t. spelled_two text at 61 61 marks.Equal (omega arith) (omega arith) e t refl refl) (λ f. chosen text at _ _ _ (λ t. spelled_two text at 61 126 marks.Match (omega arith) (omega arith) e t refl refl) (λ f. chosen text at _ _ _ (λ t. spelled_two text at 61 62 marks.Arrow (omega arith) (omega arith) e t refl refl) (λ f. spelled_one text at 61 marks.Assign (omega arith) e refl refl))))
+equal_mark_stands text at e = chosen text at _ _ _ (λ t. spelled_three text at 61 61 61 marks.CaseEqual (omega arith)
+    (omega arith) (omega arith) e t refl refl) (λ f. chosen text at _ _ _
+    (λ t. spelled_two text at 61 61 marks.Equal (omega arith) (omega arith) e t refl refl)
+    (λ f. chosen text at _ _ _ (λ t. spelled_two text at 61 126 marks.Match (omega arith) (omega arith) e t refl refl)
+    (λ f. chosen text at _ _ _ (λ t. spelled_two text at 61 62 marks.Arrow (omega arith) (omega arith) e t refl refl)
+    (λ f. spelled_one text at 61 marks.Assign (omega arith) e refl refl))))
 
 not_mark_stands : (text : List ℕ) (at : ℕ) → get_or text at 0 ≡ 33 → Spelled text at (not_mark (get_or text (at + 1) 0))
 unfolding not_mark spelling is_operator
-not_mark_stands text at e = chosen text at _ _ _ (λ t. spelled_two text at 33 61 marks.NotEqual (omega arith) (omega arith) e t refl refl) (λ f. chosen text at _ _ _ (λ t. spelled_two text at 33 126 marks.NotMatch (omega arith) (omega arith) e t refl refl) (λ f. spelled_one text at 33 marks.Not (omega arith) e refl refl))
+not_mark_stands text at e = chosen text at _ _ _ (λ t. spelled_two text at 33 61 marks.NotEqual (omega arith)
+    (omega arith) e t refl refl) (λ f. chosen text at _ _ _
+    (λ t. spelled_two text at 33 126 marks.NotMatch (omega arith) (omega arith) e t refl refl)
+    (λ f. spelled_one text at 33 marks.Not (omega arith) e refl refl))
 
-less_mark_stands : (text : List ℕ) (at : ℕ) → get_or text at 0 ≡ 60 → Spelled text at (less_mark (get_or text (at + 1) 0) (get_or text (at + 2) 0))
+less_mark_stands : (text : List ℕ) (at : ℕ) → get_or text at 0 ≡ 60
+    → Spelled text at (less_mark (get_or text (at + 1) 0) (get_or text (at + 2) 0))
 unfolding less_mark spelling is_operator
-less_mark_stands text at e = chosen text at _ _ _ (λ t. spelled_three text at 60 61 62 marks.Compare (omega arith) (omega arith) (omega arith) e t refl refl) (λ f. chosen text at _ _ _ (λ t. spelled_two text at 60 61 marks.LessEqual (omega arith) (omega arith) e t refl refl) (λ f. chosen text at _ _ _ (λ t. spelled_three text at 60 60 61 marks.ShiftLeftAssign (omega arith) (omega arith) (omega arith) e t refl refl) (λ f. chosen text at _ _ _ (λ t. spelled_two text at 60 60 marks.ShiftLeft (omega arith) (omega arith) e t refl refl) (λ f. spelled_one text at 60 marks.Less (omega arith) e refl refl))))
+less_mark_stands text at e = chosen text at _ _ _ (λ t. spelled_three text at 60 61 62 marks.Compare (omega arith)
+    (omega arith) (omega arith) e t refl refl) (λ f. chosen text at _ _ _
+    (λ t. spelled_two text at 60 61 marks.LessEqual (omega arith) (omega arith) e t refl refl)
+    (λ f. chosen text at _ _ _ (λ t. spelled_three text at 60 60 61 marks.ShiftLeftAssign (omega arith) (omega arith)
+    (omega arith) e t refl refl) (λ f. chosen text at _ _ _
+    (λ t. spelled_two text at 60 60 marks.ShiftLeft (omega arith) (omega arith) e t refl refl)
+    (λ f. spelled_one text at 60 marks.Less (omega arith) e refl refl))))
 
-greater_mark_stands : (text : List ℕ) (at : ℕ) → get_or text at 0 ≡ 62 → Spelled text at (greater_mark (get_or text (at + 1) 0) (get_or text (at + 2) 0))
+greater_mark_stands : (text : List ℕ) (at : ℕ) → get_or text at 0 ≡ 62
+    → Spelled text at (greater_mark (get_or text (at + 1) 0) (get_or text (at + 2) 0))
 unfolding greater_mark spelling is_operator
-greater_mark_stands text at e = chosen text at _ _ _ (λ t. spelled_two text at 62 61 marks.GreaterEqual (omega arith) (omega arith) e t refl refl) (λ f. chosen text at _ _ _ (λ t. spelled_three text at 62 62 61 marks.ShiftRightAssign (omega arith) (omega arith) (omega arith) e t refl refl) (λ f. chosen text at _ _ _ (λ t. spelled_two text at 62 62 marks.ShiftRight (omega arith) (omega arith) e t refl refl) (λ f. spelled_one text at 62 marks.Greater (omega arith) e refl refl)))
+greater_mark_stands text at e = chosen text at _ _ _ (λ t. spelled_two text at 62 61 marks.GreaterEqual (omega arith)
+    (omega arith) e t refl refl) (λ f. chosen text at _ _ _
+    (λ t. spelled_three text at 62 62 61 marks.ShiftRightAssign (omega arith) (omega arith) (omega arith) e t refl refl)
+    (λ f. chosen text at _ _ _ (λ t. spelled_two text at 62 62 marks.ShiftRight (omega arith) (omega arith) e t refl
+    refl) (λ f. spelled_one text at 62 marks.Greater (omega arith) e refl refl)))
 
-ampersand_mark_stands : (text : List ℕ) (at : ℕ) → get_or text at 0 ≡ 38 → Spelled text at (ampersand_mark (get_or text (at + 1) 0) (get_or text (at + 2) 0))
+ampersand_mark_stands : (text : List ℕ) (at : ℕ) → get_or text at 0 ≡ 38
+    → Spelled text at (ampersand_mark (get_or text (at + 1) 0) (get_or text (at + 2) 0))
 unfolding ampersand_mark spelling is_operator
-ampersand_mark_stands text at e = chosen text at _ _ _ (λ t. spelled_three text at 38 38 61 marks.AndAndAssign (omega arith) (omega arith) (omega arith) e t refl refl) (λ f. chosen text at _ _ _ (λ t. spelled_two text at 38 38 marks.AndAnd (omega arith) (omega arith) e t refl refl) (λ f. chosen text at _ _ _ (λ t. spelled_two text at 38 61 marks.AmpersandAssign (omega arith) (omega arith) e t refl refl) (λ f. chosen text at _ _ _ (λ t. spelled_two text at 38 46 marks.AmpersandDot (omega arith) (omega arith) e t refl refl) (λ f. spelled_one text at 38 marks.Ampersand (omega arith) e refl refl))))
+ampersand_mark_stands text at e = chosen text at _ _ _
+    (λ t. spelled_three text at 38 38 61 marks.AndAndAssign (omega arith) (omega arith) (omega arith) e t refl refl)
+    (λ f. chosen text at _ _ _ (λ t. spelled_two text at 38 38 marks.AndAnd (omega arith) (omega arith) e t refl refl)
+    (λ f. chosen text at _ _ _ (λ t. spelled_two text at 38 61 marks.AmpersandAssign (omega arith) (omega arith) e t
+    refl refl) (λ f. chosen text at _ _ _ (λ t. spelled_two text at 38 46 marks.AmpersandDot (omega arith) (omega arith)
+    e t refl refl) (λ f. spelled_one text at 38 marks.Ampersand (omega arith) e refl refl))))
 
-bar_mark_stands : (text : List ℕ) (at : ℕ) → get_or text at 0 ≡ 124 → Spelled text at (bar_mark (get_or text (at + 1) 0) (get_or text (at + 2) 0))
+bar_mark_stands : (text : List ℕ) (at : ℕ) → get_or text at 0 ≡ 124
+    → Spelled text at (bar_mark (get_or text (at + 1) 0) (get_or text (at + 2) 0))
 unfolding bar_mark spelling is_operator
-bar_mark_stands text at e = chosen text at _ _ _ (λ t. spelled_three text at 124 124 61 marks.OrOrAssign (omega arith) (omega arith) (omega arith) e t refl refl) (λ f. chosen text at _ _ _ (λ t. spelled_two text at 124 124 marks.OrOr (omega arith) (omega arith) e t refl refl) (λ f. chosen text at _ _ _ (λ t. spelled_two text at 124 61 marks.BarAssign (omega arith) (omega arith) e t refl refl) (λ f. spelled_one text at 124 marks.Bar (omega arith) e refl refl)))
+bar_mark_stands text at e = chosen text at _ _ _ (λ t. spelled_three text at 124 124 61 marks.OrOrAssign (omega arith)
+    (omega arith) (omega arith) e t refl refl) (λ f. chosen text at _ _ _
+    (λ t. spelled_two text at 124 124 marks.OrOr (omega arith) (omega arith) e t refl refl)
+    (λ f. chosen text at _ _ _ (λ t. spelled_two text at 124 61 marks.BarAssign (omega arith) (omega arith) e t refl
+    refl) (λ f. spelled_one text at 124 marks.Bar (omega arith) e refl refl)))
 
-dot_mark_stands : (text : List ℕ) (at : ℕ) → get_or text at 0 ≡ 46 → Spelled text at (dot_mark (get_or text (at + 1) 0) (get_or text (at + 2) 0))
+dot_mark_stands : (text : List ℕ) (at : ℕ) → get_or text at 0 ≡ 46
+    → Spelled text at (dot_mark (get_or text (at + 1) 0) (get_or text (at + 2) 0))
 unfolding dot_mark spelling is_operator
-dot_mark_stands text at e = chosen text at _ _ _ (λ t. spelled_three text at 46 46 46 marks.DotDotDot (omega arith) (omega arith) (omega arith) e t refl refl) (λ f. chosen text at _ _ _ (λ t. spelled_two text at 46 46 marks.DotDot (omega arith) (omega arith) e t refl refl) (λ f. spelled_one text at 46 marks.Dot (omega arith) e refl refl))
+dot_mark_stands text at e = chosen text at _ _ _ (λ t. spelled_three text at 46 46 46 marks.DotDotDot (omega arith)
+    (omega arith) (omega arith) e t refl refl) (λ f. chosen text at _ _ _
+    (λ t. spelled_two text at 46 46 marks.DotDot (omega arith) (omega arith) e t refl refl)
+    (λ f. spelled_one text at 46 marks.Dot (omega arith) e refl refl))
 
-colon_mark_stands : (text : List ℕ) (at : ℕ) → get_or text at 0 ≡ 58 → Spelled text at (colon_mark (get_or text (at + 1) 0))
+colon_mark_stands : (text : List ℕ) (at : ℕ) → get_or text at 0 ≡ 58
+    → Spelled text at (colon_mark (get_or text (at + 1) 0))
 unfolding colon_mark spelling is_operator
-colon_mark_stands text at e = chosen text at _ _ _ (λ t. spelled_two text at 58 58 marks.ColonColon (omega arith) (omega arith) e t refl refl) (λ f. spelled_one text at 58 marks.Colon (omega arith) e refl refl)
+colon_mark_stands text at e = chosen text at _ _ _ (λ t. spelled_two text at 58 58 marks.ColonColon (omega arith)
+    (omega arith) e t refl refl) (λ f. spelled_one text at 58 marks.Colon (omega arith) e refl refl)
 
 -- one test of a chain, and the others
-pick : (text : List ℕ) (at : ℕ) (t : Bool) (x : Mark) (rest : Option Mark) (m : Mark) → (if t then Some x else rest) ≡ Some m → (t ≡ true → Spelled text at x) → (rest ≡ Some m → Spelled text at m) → Spelled text at m
+pick : (text : List ℕ) (at : ℕ) (t : Bool) (x : Mark) (rest : Option Mark) (m : Mark)
+    → (if t then Some x else rest) ≡ Some m → (t ≡ true → Spelled text at x) → (rest ≡ Some m → Spelled text at m)
+    → Spelled text at m
 pick text at true x rest m h now other = let e : x ≡ m = cc in subst (Spelled text at) e (now refl)
 pick text at false x rest m h now other = other h
 
 single_stands : (text : List ℕ) (at : ℕ) (m : Mark) → single_mark (get_or text at 0) ≡ Some m → Spelled text at m
 unfolding single_mark spelling is_operator
-single_stands text at m h = pick text at _ _ _ m h (λ t. spelled_one text at 126 marks.Tilde (omega arith) (eqb-true (get_or text at 0) 126 t) refl refl) (λ h.
-    pick text at _ _ _ m h (λ t. spelled_one text at 63 marks.Question (omega arith) (eqb-true (get_or text at 0) 63 t) refl refl) (λ h.
-    pick text at _ _ _ m h (λ t. spelled_one text at 44 marks.Comma (omega arith) (eqb-true (get_or text at 0) 44 t) refl refl) (λ h.
-    pick text at _ _ _ m h (λ t. spelled_one text at 40 marks.OpenParenthesis (omega arith) (eqb-true (get_or text at 0) 40 t) refl refl) (λ h.
-    pick text at _ _ _ m h (λ t. spelled_one text at 41 marks.CloseParenthesis (omega arith) (eqb-true (get_or text at 0) 41 t) refl refl) (λ h.
-    pick text at _ _ _ m h (λ t. spelled_one text at 91 marks.OpenBracket (omega arith) (eqb-true (get_or text at 0) 91 t) refl refl) (λ h.
-    pick text at _ _ _ m h (λ t. spelled_one text at 93 marks.CloseBracket (omega arith) (eqb-true (get_or text at 0) 93 t) refl refl) (λ h.
-    pick text at _ _ _ m h (λ t. spelled_one text at 123 marks.OpenBrace (omega arith) (eqb-true (get_or text at 0) 123 t) refl refl) (λ h.
-    pick text at _ _ _ m h (λ t. spelled_one text at 125 marks.CloseBrace (omega arith) (eqb-true (get_or text at 0) 125 t) refl refl) (λ h.
+single_stands text at m h = pick text at _ _ _ m h (λ t. spelled_one text at 126 marks.Tilde (omega arith)
+    (eqb-true (get_or text at 0) 126 t) refl refl) (λ h.
+    pick text at _ _ _ m h (λ t. spelled_one text at 63 marks.Question (omega arith) (eqb-true (get_or text at 0) 63 t)
+    refl refl) (λ h.
+    pick text at _ _ _ m h (λ t. spelled_one text at 44 marks.Comma (omega arith) (eqb-true (get_or text at 0) 44 t)
+    refl refl) (λ h.
+    pick text at _ _ _ m h (λ t. spelled_one text at 40 marks.OpenParenthesis (omega arith)
+    (eqb-true (get_or text at 0) 40 t) refl refl) (λ h.
+    pick text at _ _ _ m h (λ t. spelled_one text at 41 marks.CloseParenthesis (omega arith)
+    (eqb-true (get_or text at 0) 41 t) refl refl) (λ h.
+    pick text at _ _ _ m h (λ t. spelled_one text at 91 marks.OpenBracket (omega arith)
+    (eqb-true (get_or text at 0) 91 t) refl refl) (λ h.
+    pick text at _ _ _ m h (λ t. spelled_one text at 93 marks.CloseBracket (omega arith)
+    (eqb-true (get_or text at 0) 93 t) refl refl) (λ h.
+    pick text at _ _ _ m h (λ t. spelled_one text at 123 marks.OpenBrace (omega arith)
+    (eqb-true (get_or text at 0) 123 t) refl refl) (λ h.
+    pick text at _ _ _ m h (λ t. spelled_one text at 125 marks.CloseBrace (omega arith)
+    (eqb-true (get_or text at 0) 125 t) refl refl) (λ h.
     absurd (cc))))))))))
 
 pub mark_stands : (text : List ℕ) (at : ℕ) (m : Mark) → mark_at text at ≡ Some m → Spelled text at m
 unfolding mark_of
-mark_stands text at m h = pick text at _ _ _ m h (λ t. plus_mark_stands text at (eqb-true (get_or text at 0) 43 t)) (λ h.
+mark_stands text at m h = pick text at _ _ _ m h (λ t. plus_mark_stands text at (eqb-true (get_or text at 0) 43 t))
+    (λ h.
     pick text at _ _ _ m h (λ t. minus_mark_stands text at (eqb-true (get_or text at 0) 45 t)) (λ h.
     pick text at _ _ _ m h (λ t. star_mark_stands text at (eqb-true (get_or text at 0) 42 t)) (λ h.
     pick text at _ _ _ m h (λ t. slash_mark_stands text at (eqb-true (get_or text at 0) 47 t)) (λ h.
@@ -454,7 +673,8 @@ mark_stands text at m h = pick text at _ _ _ m h (λ t. plus_mark_stands text at
 some_is : (a b : Mark) → Some a ≡ Some b → a ≡ b
 some_is a b e = cc
 
-pub operator_sound : (text : List ℕ) (at : ℕ) (m : Mark) → mark_at text at ≡ Some m → LongestOperator text at m.punctuator (at + m.length)
+pub operator_sound : (text : List ℕ) (at : ℕ) (m : Mark) → mark_at text at ≡ Some m
+    → LongestOperator text at m.punctuator (at + m.length)
 operator_sound text at m h =
     let s = mark_stands text at m h in
     record {
@@ -462,14 +682,17 @@ operator_sound text at m h =
       longest = λ other q is.
           let f = finds text at q is.operator is.stands in
           let same : f.0 ≡ m = some_is f.0 m (sym f.1 ∙ h) in
-          let far : length (spelling q) ≤ m.length = subst (λ (k : Mark). length (spelling q) ≤ k.length) same f.2.far in
+          let far : length (spelling q) ≤ m.length = subst (λ (k : Mark). length (spelling q) ≤ k.length) same
+          f.2.far in
           omega (arith, is.ends, far);
     }
 
-pub operator_complete : (text : List ℕ) (at : ℕ) (q : Punctuator) (end : ℕ) → LongestOperator text at q end → (m : Mark) × (mark_at text at ≡ Some m) × (m.punctuator ≡ q) × (at + m.length ≡ end)
+pub operator_complete : (text : List ℕ) (at : ℕ) (q : Punctuator) (end : ℕ) → LongestOperator text at q end
+    → (m : Mark) × (mark_at text at ≡ Some m) × (m.punctuator ≡ q) × (at + m.length ≡ end)
 operator_complete text at q end l =
     let f = finds text at q l.there.operator l.there.stands in
     let s = mark_stands text at f.0 f.1 in
-    let near = l.longest (at + f.0.length) f.0.punctuator (record { stands = s.stands; ends = ap (λ n. at + n) s.long; operator = s.operator }) in
+    let near = l.longest (at + f.0.length) f.0.punctuator
+    (record { stands = s.stands; ends = ap (λ n. at + n) s.long; operator = s.operator }) in
     let e : f.0.length ≡ length (spelling q) = omega (arith, near, f.2.far, l.there.ends) in
     (f.0, f.1, f.2.same e, omega (arith, e, l.there.ends))

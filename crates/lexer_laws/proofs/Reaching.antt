@@ -26,7 +26,9 @@ no_block text at few other =
     let none : begins_block (drop at text) ≡ false = rw (here, other) refl in
     and_false (begins_line text at) (begins_block (drop at text)) none
 
-pub no_trivia : (text : List ℕ) (at : ℕ) → at < length text → is_white (get_or text at 0) ≡ false → eqb (get_or text at 0) 35 ≡ false → eqb (get_or text at 0) 92 ≡ false → eqb 61 (get_or text at 0) ≡ false → is_trivia text at ≡ false
+pub no_trivia : (text : List ℕ) (at : ℕ) → at < length text → is_white (get_or text at 0) ≡ false
+    → eqb (get_or text at 0) 35 ≡ false → eqb (get_or text at 0) 92 ≡ false → eqb 61 (get_or text at 0) ≡ false
+    → is_trivia text at ≡ false
 no_trivia text at few white hash slash equal =
     let block = no_block text at few equal in
     rw (white, hash, slash) block
@@ -45,16 +47,20 @@ differs' is b v t f =
       | inr other ↦ other
     ]
 
-not_white : (is : ℕ → Bool) (b : ℕ) → is b ≡ true → is 32 ≡ false → is 9 ≡ false → is 13 ≡ false → is 10 ≡ false → is_white b ≡ false
+not_white : (is : ℕ → Bool) (b : ℕ) → is b ≡ true → is 32 ≡ false → is 9 ≡ false → is 13 ≡ false → is 10 ≡ false
+    → is_white b ≡ false
 not_white is b t f g h i = rw (differs is b 32 t f, differs is b 9 t g, differs is b 13 t h, differs is b 10 t i) refl
 
 -- ---- words
 
-pub word_reached : (text : List ℕ) (at : ℕ) (s : State) → is_name_start (get_or text at 0) ≡ true → is_end_marker text at ≡ false → code_step text at s ≡ word_step text at s
+pub word_reached : (text : List ℕ) (at : ℕ) (s : State) → is_name_start (get_or text at 0) ≡ true
+    → is_end_marker text at ≡ false → code_step text at s ≡ word_step text at s
 unfolding code_step
 word_reached text at s begins more =
     let b = get_or text at 0 in
-    let trivia = no_trivia text at (starts_within text at begins) (not_white is_name_start b begins refl refl refl refl) (differs is_name_start b 35 begins refl) (differs is_name_start b 92 begins refl) (differs' is_name_start b 61 begins refl) in
+    let trivia = no_trivia text at (starts_within text at begins) (not_white is_name_start b begins refl refl refl refl)
+    (differs is_name_start b 35 begins refl) (differs is_name_start b 92 begins refl)
+    (differs' is_name_start b 61 begins refl) in
     rw (trivia, begins, more) refl
 
 -- ---- numbers
@@ -77,7 +83,22 @@ digit_no_operator : (b second third : ℕ) → is_digit b ≡ true → operator_
 unfolding operator_name
 digit_no_operator b second third d =
     let n : (v : ℕ) → is_digit v ≡ false → eqb b v ≡ false = λ v f. differs is_digit b v d f in
-    rw (n 43 refl, n 45 refl, n 42 refl, n 33 refl, n 47 refl, n 37 refl, n 126 refl, n 38 refl, n 124 refl, n 94 refl, n 61 refl, n 60 refl, n 62 refl, n 91 refl) refl
+    rw (
+      n 43 refl,
+      n 45 refl,
+      n 42 refl,
+      n 33 refl,
+      n 47 refl,
+      n 37 refl,
+      n 126 refl,
+      n 38 refl,
+      n 124 refl,
+      n 94 refl,
+      n 61 refl,
+      n 60 refl,
+      n 62 refl,
+      n 91 refl,
+    ) refl
 
 no_operator_end : (text : List ℕ) (at : ℕ) → is_digit (get_or text at 0) ≡ true → eqb (operator_end text at) at ≡ true
 no_operator_end text at d =
@@ -85,17 +106,21 @@ no_operator_end text at d =
     let e : at + 0 ≡ at = omega arith in
     rw (none, e) (eq-eqb at at refl)
 
-digit_other : (text : List ℕ) (at : ℕ) (s : State) → is_digit (get_or text at 0) ≡ true → other_step text at s ≡ number_step text at s
+digit_other : (text : List ℕ) (at : ℕ) (s : State) → is_digit (get_or text at 0) ≡ true
+    → other_step text at s ≡ number_step text at s
 unfolding other_step sign_step
 digit_other text at s d =
     let b = get_or text at 0 in
-    let wanted : (wants_name s.context && not (eqb (operator_end text at) at)) ≡ false = rw (no_operator_end text at d) (and_false (wants_name s.context) false refl) in
+    let wanted : (wants_name s.context && not (eqb (operator_end text at) at)) ≡ false =
+    rw (no_operator_end text at d) (and_false (wants_name s.context) false refl) in
     rw (differs is_digit b 64 d refl, differs is_digit b 36 d refl, wanted, d) refl
 
-pub number_reached : (text : List ℕ) (at : ℕ) (s : State) → is_digit (get_or text at 0) ≡ true → code_step text at s ≡ number_step text at s
+pub number_reached : (text : List ℕ) (at : ℕ) (s : State) → is_digit (get_or text at 0) ≡ true
+    → code_step text at s ≡ number_step text at s
 unfolding code_step
 number_reached text at s d =
     let b = get_or text at 0 in
     let within = byte_within text at (omega (arith, (digit_bounds b d).0)) in
-    let trivia = no_trivia text at within (not_white is_digit b d refl refl refl refl) (differs is_digit b 35 d refl) (differs is_digit b 92 d refl) (differs' is_digit b 61 d refl) in
+    let trivia = no_trivia text at within (not_white is_digit b d refl refl refl refl) (differs is_digit b 35 d refl)
+    (differs is_digit b 92 d refl) (differs' is_digit b 61 d refl) in
     rw (trivia, digit_no_name b d, digit_no_wide b d) (digit_other text at s d)

@@ -22,7 +22,13 @@ element : IsElement quoted string_text 1 (97 ∷ []) 2
 element = record {
   no_closer = λ e. absurd (omega (arith, e));
   no_opener = λ o. absurd (omega (arith, o.0));
-  element = inl (record { byte = record { within = omega arith; bytes_are = refl; ends = refl }; no_backslash = λ e. absurd (omega (arith, e)) }, λ b. absurd (omega (arith, b.0)));
+  element = inl (
+    record {
+      byte = record { within = omega arith; bytes_are = refl; ends = refl };
+      no_backslash = λ e. absurd (omega (arith, e));
+    },
+    λ b. absurd (omega (arith, b.0)),
+  );
 }
 
 no_empty : (next : ℕ) → IsElement quoted string_text 1 [] next → ⊥
@@ -33,7 +39,11 @@ no_empty next x = elim (x.element) [
 
 piece : IsPiece quoted string_text 0 1 (97 ∷ []) 0 2
 piece = record {
-  begins = record { elements = One 0 1 2 0 2 (97 ∷ []) [] element (None_more 0 2); some = λ e. absurd (cc); first = no_empty };
+  begins = record {
+    elements = One 0 1 2 0 2 (97 ∷ []) [] element (None_more 0 2);
+    some = λ e. absurd (cc);
+    first = no_empty;
+  };
   ends = inr (inl (refl, inl refl));
 }
 
@@ -67,7 +77,8 @@ string_reads =
     OpensIt Whole [] start kinds.StringBegin quoted 1 _ tt (inl (refl, inl opens))
     (Holds Whole [] _ quoted 0 0 2 (97 ∷ []) _ piece
     (Interpolates Whole [] _ quoted 0 _ refl (omega arith, refl, (omega arith, refl, tt))
-    (Takes Whole (Interpolation ∷ Inside quoted 0 ∷ []) (Interpolation ∷ Inside quoted 0 ∷ []) number_place (kinds.Integer 1) 5 _ tt (λ b. b) no_end number_there (inr (inr (λ e. absurd (cc), λ e. absurd (cc), refl)))
+    (Takes Whole (Interpolation ∷ Inside quoted 0 ∷ []) (Interpolation ∷ Inside quoted 0 ∷ []) number_place
+    (kinds.Integer 1) 5 _ tt (λ b. b) no_end number_there (inr (inr (λ e. absurd (cc), λ e. absurd (cc), refl)))
     (Closes Whole (Inside quoted 0 ∷ []) _ _ refl
     (EndsIt Whole [] _ quoted 0 _ (refl, refl) (λ begin k. absurd (omega (arith, k.1.colon)))
     (Ends [] _ tt (inl refl)))))))

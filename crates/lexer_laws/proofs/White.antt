@@ -9,7 +9,8 @@ use Rattle.lexer_laws.specs.Longest.{IsLongest, IsRun}
 use Rattle.lexer_laws.specs.White.{steps}
 use Rattle.lexer_laws.proofs.Steps.{passed, both_are}
 
-pub blank_step : (text : List ℕ) (at : ℕ) (s : State) → is_blank (get_or text at 0) ≡ true → code_step text at s ≡ passed (spaced s) (at + 1)
+pub blank_step : (text : List ℕ) (at : ℕ) (s : State) → is_blank (get_or text at 0) ≡ true
+    → code_step text at s ≡ passed (spaced s) (at + 1)
 unfolding code_step trivia_step
 blank_step text at s blank =
     elim (or_cases (eqb (get_or text at 0) 32 || eqb (get_or text at 0) 9) (eqb (get_or text at 0) 13) blank) [
@@ -21,7 +22,9 @@ blank_step text at s blank =
     ]
 
 -- some steps over white space
-pub blanks_pass : (n : ℕ) (text : List ℕ) (at : ℕ) (s : State) → ((i : ℕ) → at ≤ i → i < at + suc n → is_blank (get_or text i 0) ≡ true) → steps (suc n) text at s ≡ passed (spaced s) (at + suc n)
+pub blanks_pass : (n : ℕ) (text : List ℕ) (at : ℕ) (s : State)
+    → ((i : ℕ) → at ≤ i → i < at + suc n → is_blank (get_or text i 0) ≡ true)
+    → steps (suc n) text at s ≡ passed (spaced s) (at + suc n)
 unfolding steps
 blanks_pass zero text at s all =
     let e : at + 1 ≡ at + suc zero = omega arith in
@@ -29,16 +32,20 @@ blanks_pass zero text at s all =
 blanks_pass (suc n) text at s all =
     let e : at + 1 + suc n ≡ at + suc (suc n) = omega arith in
     rw (blank_step text at s (all at (omega arith) (omega arith)))
-    (blanks_pass n text (at + 1) (spaced s) (λ i low high. all i (omega (arith, low)) (omega (arith, high))) ∙ ap (passed (spaced s)) e)
+    (blanks_pass n text (at + 1) (spaced s) (λ i low high. all i (omega (arith, low)) (omega (arith, high)))
+    ∙ ap (passed (spaced s)) e)
 
-pub white_complete : (text : List ℕ) (at end : ℕ) (s : State) → IsLongest (IsRun is_blank text at) end → at < end → steps (end - at) text at s ≡ passed (spaced s) end
+pub white_complete : (text : List ℕ) (at end : ℕ) (s : State) → IsLongest (IsRun is_blank text at) end → at < end
+    → steps (end - at) text at s ≡ passed (spaced s) end
 white_complete text at end s l some =
     let n = end - at - 1 in
     let k : end - at ≡ suc (end - at - 1) = omega (arith, some) in
     let e : at + suc (end - at - 1) ≡ end = omega (arith, some) in
-    rw k (blanks_pass (end - at - 1) text at s (λ i low high. l.there.all i low (omega (arith, high, e))) ∙ ap (passed (spaced s)) e)
+    rw k (blanks_pass (end - at - 1) text at s (λ i low high. l.there.all i low (omega (arith, high, e)))
+    ∙ ap (passed (spaced s)) e)
 
-pub white_sound : (text : List ℕ) (at end : ℕ) (s t : State) → code_step text at s ≡ passed t end → (t.tokens ≡ s.tokens → ⊥) → (other : ℕ) → IsRun is_blank text at other → other ≡ at
+pub white_sound : (text : List ℕ) (at end : ℕ) (s t : State) → code_step text at s ≡ passed t end
+    → (t.tokens ≡ s.tokens → ⊥) → (other : ℕ) → IsRun is_blank text at other → other ≡ at
 white_sound text at end s t h token other run =
     elim (cases_lt at other) [
       | inl far ↦

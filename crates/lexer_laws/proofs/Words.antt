@@ -42,33 +42,47 @@ or_true true = refl
 or_true false = refl
 
 is_a_free : (n a : ℕ) → (n ≡ 61 → ⊥) ⊎ ((a ≡ 61) ⊎ (a ≡ 62)) → is_free n a ≡ true
-is_a_free n a (inl other) = elim (cases_Bool (eqb n 61)) [ inl equal ↦ absurd (other (eqb-true n 61 equal)) | inr none ↦ rw none refl ]
+is_a_free n a (inl other) = elim (cases_Bool (eqb n 61)) [
+  | inl equal ↦ absurd (other (eqb-true n 61 equal))
+  | inr none ↦ rw none refl
+]
 is_a_free n a (inr (inl e)) = rw (e, or_true (not (eqb n 61))) refl
 is_a_free n a (inr (inr e)) = rw e (or_true (not (eqb n 61) || false))
 
 pub takes_is : (text : List ℕ) (at : ℕ) → takes text at ≡ true → TakesMark text at
 takes_is text at h =
     let p = and_parts (is_mark (get_or text at 0)) (is_free (get_or text (at + 1) 0) (get_or text (at + 2) 0)) h in
-    record { mark = mark_is (get_or text at 0) p.0; follows = free_is (get_or text (at + 1) 0) (get_or text (at + 2) 0) p.1 }
+    record {
+      mark = mark_is (get_or text at 0) p.0;
+      follows =
+          free_is (get_or text (at + 1) 0) (get_or text (at + 2) 0) p.1;
+    }
 
 pub it_takes : (text : List ℕ) (at : ℕ) → TakesMark text at → takes text at ≡ true
-it_takes text at m = rw (is_a_mark (get_or text at 0) m.mark, is_a_free (get_or text (at + 1) 0) (get_or text (at + 2) 0) m.follows) refl
+it_takes text at m = rw (
+  is_a_mark (get_or text at 0) m.mark,
+  is_a_free (get_or text (at + 1) 0)
+      (get_or text (at + 2) 0) m.follows,
+) refl
 
 mark_no_name : (b : ℕ) → (b ≡ 63) ⊎ (b ≡ 33) → is_name_byte b ≡ false
 mark_no_name b (inl e) = rw e refl
 mark_no_name b (inr e) = rw e refl
 
 -- the mark stands where the longest name ends
-mark_behind : (text : List ℕ) (at end last : ℕ) → IsLongest (IsName text at) end → IsName text at last → TakesMark text last → last ≡ end
+mark_behind : (text : List ℕ) (at end last : ℕ) → IsLongest (IsName text at) end → IsName text at last
+    → TakesMark text last → last ≡ end
 mark_behind text at end last l name m =
     elim (cases_lt last end) [
       | inl before ↦
-          let bad : true ≡ false = sym (l.there.goes_on.all last name.goes_on.forward before) ∙ mark_no_name (get_or text last 0) m.mark in
+          let bad : true ≡ false = sym (l.there.goes_on.all last name.goes_on.forward before)
+          ∙ mark_no_name (get_or text last 0) m.mark in
           absurd (cc)
       | inr behind ↦ omega (arith, behind, l.longest last name)
     ]
 
-pub word_from : (text : List ℕ) (at end : ℕ) → IsLongest (IsName text at) end → IsLongest (IsWord text at) (mark_end text end)
+pub word_from : (text : List ℕ) (at end : ℕ) → IsLongest (IsName text at) end
+    → IsLongest (IsWord text at) (mark_end text end)
 word_from text at end l =
     elim (cases_Bool (takes text end)) [
       | inl mark ↦
@@ -101,8 +115,10 @@ word_begins text at end (inr m) = m.1.begins
 abbrev pub word_end : List ℕ → ℕ → ℕ
 word_end text at = mark_end text (name_end (at + 1) (drop (at + 1) text))
 
-pub word_sound : (text : List ℕ) (at : ℕ) → is_name_start (get_or text at 0) ≡ true → IsLongest (IsWord text at) (word_end text at)
+pub word_sound : (text : List ℕ) (at : ℕ) → is_name_start (get_or text at 0) ≡ true
+    → IsLongest (IsWord text at) (word_end text at)
 word_sound text at begins = word_from text at (name_end (at + 1) (drop (at + 1) text)) (name_sound text at begins)
 
 pub word_complete : (text : List ℕ) (at end : ℕ) → IsLongest (IsWord text at) end → word_end text at ≡ end
-word_complete text at end l = longest_once (IsWord text at) (word_end text at) end (word_sound text at (word_begins text at end l.there)) l
+word_complete text at end l = longest_once (IsWord text at) (word_end text at) end
+    (word_sound text at (word_begins text at end l.there)) l

@@ -19,20 +19,39 @@ abbrev words : Literal
 words = record { delimiters = Some (delimited_by 40); contents = Words; key = None }
 
 opens : OpensLetter words_text start kinds.WordsBegin words 3
-opens = record { percent = inl (refl, refl, refl); letter = inr (inr (inl (refl, refl, refl))); delimiter = refl; delimiters_are = refl; no_key = refl; ends = refl }
+opens = record {
+  percent = inl (refl, refl, refl);
+  letter = inr (inr (inl (refl, refl, refl)));
+  delimiter = refl;
+  delimiters_are = refl;
+  no_key = refl;
+  ends = refl;
+}
 
 element_a : IsElement words words_text 3 (97 ∷ []) 4
 element_a = record {
   no_closer = λ e. absurd (omega (arith, e));
   no_opener = λ o. absurd (omega (arith, o.0));
-  element = (refl, inl (record { byte = record { within = omega arith; bytes_are = refl; ends = refl }; no_backslash = λ e. absurd (omega (arith, e)) }));
+  element = (
+    refl,
+    inl (record {
+      byte = record { within = omega arith; bytes_are = refl; ends = refl };
+      no_backslash = λ e. absurd (omega (arith, e));
+    }),
+  );
 }
 
 element_b : IsElement words words_text 6 (98 ∷ []) 7
 element_b = record {
   no_closer = λ e. absurd (omega (arith, e));
   no_opener = λ o. absurd (omega (arith, o.0));
-  element = (refl, inl (record { byte = record { within = omega arith; bytes_are = refl; ends = refl }; no_backslash = λ e. absurd (omega (arith, e)) }));
+  element = (
+    refl,
+    inl (record {
+      byte = record { within = omega arith; bytes_are = refl; ends = refl };
+      no_backslash = λ e. absurd (omega (arith, e));
+    }),
+  );
 }
 
 no_empty : (next : ℕ) → IsElement words words_text 3 [] next → ⊥
@@ -43,7 +62,11 @@ no_empty next x = elim (x.element.1) [
 
 word_a : IsPiece words words_text 0 3 (97 ∷ []) 0 4
 word_a = record {
-  begins = record { elements = One 0 3 4 0 4 (97 ∷ []) [] element_a (None_more 0 4); some = λ e. absurd (cc); first = no_empty };
+  begins = record {
+    elements = One 0 3 4 0 4 (97 ∷ []) [] element_a (None_more 0 4);
+    some = λ e. absurd (cc);
+    first = no_empty;
+  };
   ends = inr (inl refl);
 }
 
@@ -52,7 +75,12 @@ opener = (refl, λ e. absurd (omega (arith, e)))
 
 word_b : IsPiece words words_text 0 5 (40 ∷ 98 ∷ 41 ∷ []) 0 8
 word_b = record {
-  begins = record { elements = Opener 0 5 0 8 (98 ∷ 41 ∷ []) opener (One 1 6 7 0 8 (98 ∷ []) (41 ∷ []) element_b (Closer 0 7 0 8 [] refl (None_more 0 8))); some = λ e. absurd (cc); first = λ next x. x.no_opener opener };
+  begins = record {
+    elements = Opener 0 5 0 8 (98 ∷ 41 ∷ []) opener
+        (One 1 6 7 0 8 (98 ∷ []) (41 ∷ []) element_b (Closer 0 7 0 8 [] refl (None_more 0 8)));
+    some = λ e. absurd (cc);
+    first = λ next x. x.no_opener opener;
+  };
   ends = inl (refl, refl);
 }
 

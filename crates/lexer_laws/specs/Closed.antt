@@ -19,16 +19,19 @@ pub record IsOrdinary (text : List ℕ) (d : Delimiters) (at : ℕ) : Type 0 whe
   pub no_open : slice_index text at ≡ d.«open» → ⊥
   pub no_close : slice_index text at ≡ d.close → ⊥
 
--- From a place, with so many brackets open within it, a literal goes up to its end behind the delimiter that closes
+-- From a place, with so many brackets open within it, a literal goes up to its end after the delimiter that closes
 -- it. A backslash takes the next byte.
 pub data IsClosed (text : List ℕ) (d : Delimiters) : ℕ → ℕ → ℕ → Type 0 where
   Closes : (at : ℕ) → (slice_index text at ≡ 92 → ⊥) → slice_index text at ≡ d.close → IsClosed text d 0 at (at + 1)
-  Escapes : (depth at end : ℕ) → slice_index text at ≡ 92 → at + 1 < length text → IsClosed text d depth (at + 2) end → IsClosed text d depth at end
-  Opens : (depth at end : ℕ) → (slice_index text at ≡ 92 → ⊥) → slice_index text at ≡ d.«open» → (slice_index text at ≡ d.close → ⊥) → IsClosed text d (suc depth) (at + 1) end → IsClosed text d depth at end
-  Nests : (depth at end : ℕ) → (slice_index text at ≡ 92 → ⊥) → slice_index text at ≡ d.close → IsClosed text d depth (at + 1) end → IsClosed text d (suc depth) at end
+  Escapes : (depth at end : ℕ) → slice_index text at ≡ 92 → at + 1 < length text → IsClosed text d depth (at + 2) end
+      → IsClosed text d depth at end
+  Opens : (depth at end : ℕ) → (slice_index text at ≡ 92 → ⊥) → slice_index text at ≡ d.«open»
+      → (slice_index text at ≡ d.close → ⊥) → IsClosed text d (suc depth) (at + 1) end → IsClosed text d depth at end
+  Nests : (depth at end : ℕ) → (slice_index text at ≡ 92 → ⊥) → slice_index text at ≡ d.close
+      → IsClosed text d depth (at + 1) end → IsClosed text d (suc depth) at end
   Other : (depth at end : ℕ) → IsOrdinary text d at → IsClosed text d depth (at + 1) end → IsClosed text d depth at end
 
--- small letters behind what a / closes are its options
+-- small letters after what a / closes are its options
 abbrev pub TakesOptions : List ℕ → ℕ → ℕ → ℕ → Type 0
 TakesOptions text opener at end =
     ((opener ≡ 47) × IsLongest (IsRun (between 97 122) text at) end) ⊎ ((opener ≡ 47 → ⊥) × (end ≡ at))
@@ -52,10 +55,11 @@ pub record IsBackquote (text : List ℕ) (p : Place) (end : ℕ) : Type 0 where
   pub value : expects_value p.context ≡ true
   pub literal : IsDelimited text 96 (p.at + 1) end
 
--- behind % stands a letter and a punctuation mark, or such a mark alone, that the language gives no literal
+-- after % stands a letter and a punctuation mark, or such a mark alone, that the language gives no literal
 abbrev pub IsOtherPercent : List ℕ → ℕ → ℕ → Type 0
 IsOtherPercent text at end =
-    ((is_letter (slice_index text at) ≡ true) × (is_punctuation (slice_index text (at + 1)) ≡ true) × IsDelimited text (slice_index text (at + 1)) (at + 2) end)
+    ((is_letter (slice_index text at) ≡ true) × (is_punctuation (slice_index text (at + 1)) ≡ true)
+    × IsDelimited text (slice_index text (at + 1)) (at + 2) end)
     ⊎ ((is_punctuation (slice_index text at) ≡ true) × IsDelimited text (slice_index text at) (at + 1) end)
 
 -- % where a value is expected, before what the language gives no literal

@@ -2,7 +2,7 @@
 use Rattle.std.specs.Prelude.{◌≡◌, ℕ, ◌+◌, ◌-◌, ◌<◌, ◌≤◌, ◌⊎◌, Bool, true, false, not, ◌==◌, List, codes, length, slice_index}
 use Rattle.lexer_tables.specs.ByteClass.{is_blank, is_name_start}
 use Rattle.lexer_tables.specs.Following.{can_end}
-use Rattle.lexer_steps.specs.Scan.{ends_comment}
+use Rattle.lexer_steps.specs.Scan.{is_comment_byte}
 use Rattle.lexer_laws.specs.Longest.{IsLongest, IsRun, Stands}
 use Rattle.lexer_laws.specs.Place.{Place, spaced_to, lined_to}
 
@@ -10,9 +10,6 @@ use Rattle.lexer_laws.specs.Place.{Place, spaced_to, lined_to}
 pub record IsBlanks (text : List ℕ) (at end : ℕ) : Type 0 where
   pub some : at < end
   pub run : IsLongest (IsRun is_blank text at) end
-
-abbrev pub is_comment_byte : ℕ → Bool
-is_comment_byte b = not (ends_comment b)
 
 -- # and what follows on its line; a zero byte is no part of it
 pub record IsComment (text : List ℕ) (at end : ℕ) : Type 0 where
@@ -22,7 +19,7 @@ pub record IsComment (text : List ℕ) (at end : ℕ) : Type 0 where
 abbrev pub is_line_byte : ℕ → Bool
 is_line_byte b = not (b == 10)
 
--- the rest of a line ends behind its newline, or at the text's end
+-- the rest of a line ends after its newline, or at the text's end
 pub record IsLine (text : List ℕ) (at end : ℕ) : Type 0 where
   pub last : ℕ
   pub rest : IsLongest (IsRun is_line_byte text at) last
@@ -31,7 +28,7 @@ pub record IsLine (text : List ℕ) (at end : ℕ) : Type 0 where
 abbrev pub BeginsLine : List ℕ → ℕ → Type 0
 BeginsLine text at = (at ≡ 0) ⊎ (slice_index text (at - 1) ≡ 10)
 
--- a line behind a place begins =end
+-- a line after a place begins =end
 pub record EndsBlock (text : List ℕ) (at line : ℕ) : Type 0 where
   pub behind : at < line
   pub begins : BeginsLine text line
@@ -49,7 +46,8 @@ pub record IsBlock (text : List ℕ) (at end : ℕ) : Type 0 where
 -- one of these, or a newline
 abbrev pub IsPart : List ℕ → ℕ → ℕ → Type 0
 IsPart text at end =
-    IsBlanks text at end ⊎ (IsComment text at end ⊎ (IsBlock text at end ⊎ ((slice_index text at ≡ 10) × (end ≡ at + 1))))
+    IsBlanks text at end ⊎ (IsComment text at end ⊎ (IsBlock text at end
+    ⊎ ((slice_index text at ≡ 10) × (end ≡ at + 1))))
 
 pub data IsBetween (text : List ℕ) : ℕ → ℕ → Type 0 where
   Here : (at : ℕ) → IsBetween text at at
@@ -64,7 +62,8 @@ pub record LeadsDot (text : List ℕ) (at dot : ℕ) : Type 0 where
 -- a newline is dropped where the token before can't end a statement, and up to a dot that leads a line
 pub record DropsNewline (text : List ℕ) (p q : Place) : Type 0 where
   pub newline : slice_index text p.at ≡ 10
-  pub dropped : ((can_end p.context ≡ false) × (q ≡ lined_to p (p.at + 1))) ⊎ ((can_end p.context ≡ true) × (LeadsDot text (p.at + 1) q.at × (q ≡ lined_to p q.at)))
+  pub dropped : ((can_end p.context ≡ false) × (q ≡ lined_to p (p.at + 1)))
+      ⊎ ((can_end p.context ≡ true) × (LeadsDot text (p.at + 1) q.at × (q ≡ lined_to p q.at)))
 
 -- a newline is a token elsewhere
 pub record IsNewline (text : List ℕ) (p : Place) (end : ℕ) : Type 0 where

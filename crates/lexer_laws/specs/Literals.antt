@@ -21,7 +21,7 @@ pub data Contents : Type 0 where
   Double : Contents
   Words : Contents
 
--- A literal: its delimiters, which the body of a heredoc lacks; its contents; and where it begins, if a colon behind
+-- A literal: its delimiters, which the body of a heredoc lacks; its contents; and where it begins, if a colon after
 -- its end makes it a key.
 pub record Literal : Type 0 where
   pub delimiters : Option Delimiters
@@ -33,7 +33,8 @@ abbrev pub BeginsInterpolation : List ℕ → ℕ → Type 0
 BeginsInterpolation text at =
     (slice_index text at ≡ 35)
     × ((slice_index text (at + 1) ≡ 123)
-    ⊎ (((slice_index text (at + 1) ≡ 64) ⊎ (slice_index text (at + 1) ≡ 36)) × (is_name_start (slice_index text (at + 2)) ≡ true)))
+    ⊎ (((slice_index text (at + 1) ≡ 64) ⊎ (slice_index text (at + 1) ≡ 36))
+    × (is_name_start (slice_index text (at + 2)) ≡ true)))
 
 -- the byte that closes a literal, and the one that nests in it, which differs
 abbrev pub IsCloser : Option Delimiters → ℕ → Type 0
@@ -55,7 +56,7 @@ pub record IsUnescaped (text : List ℕ) (at : ℕ) (bytes : List ℕ) (end : �
   pub byte : IsByte text at bytes end
   pub no_backslash : slice_index text at ≡ 92 → ⊥
 
--- a backslash, with what the escape behind it stands for
+-- a backslash, with what the escape after it stands for
 pub record IsEscape (text : List ℕ) (escape : Escape) (at : ℕ) (bytes : List ℕ) (end : ℕ) : Type 0 where
   pub backslash : slice_index text at ≡ 92
   pub bytes_are : bytes ≡ bytes_of escape.stands_for
@@ -85,9 +86,14 @@ pub record IsElement (l : Literal) (text : List ℕ) (at : ℕ) (bytes : List �
 -- other. Delimiters that nest stand for themselves.
 pub data AreElements (l : Literal) (text : List ℕ) : ℕ → ℕ → List ℕ → ℕ → ℕ → Type 0 where
   None_more : (depth at : ℕ) → AreElements l text depth at [] depth at
-  One : (depth at next last end : ℕ) (bytes more : List ℕ) → IsElement l text at bytes next → AreElements l text depth next more last end → AreElements l text depth at (bytes ++ more) last end
-  Opener : (depth at last end : ℕ) (more : List ℕ) → IsOpener l.delimiters (slice_index text at) → AreElements l text (suc depth) (at + 1) more last end → AreElements l text depth at (slice_index text at ∷ more) last end
-  Closer : (depth at last end : ℕ) (more : List ℕ) → IsCloser l.delimiters (slice_index text at) → AreElements l text depth (at + 1) more last end → AreElements l text (suc depth) at (slice_index text at ∷ more) last end
+  One : (depth at next last end : ℕ) (bytes more : List ℕ) → IsElement l text at bytes next
+      → AreElements l text depth next more last end → AreElements l text depth at (bytes ++ more) last end
+  Opener : (depth at last end : ℕ) (more : List ℕ) → IsOpener l.delimiters (slice_index text at)
+      → AreElements l text (suc depth) (at + 1) more last end
+      → AreElements l text depth at (slice_index text at ∷ more) last end
+  Closer : (depth at last end : ℕ) (more : List ℕ) → IsCloser l.delimiters (slice_index text at)
+      → AreElements l text depth (at + 1) more last end → AreElements l text (suc depth) at (slice_index text at ∷ more)
+      last end
 
 -- the closing delimiter, with no bracket open within
 abbrev pub IsClosing : Literal → List ℕ → ℕ → ℕ → Type 0
@@ -116,15 +122,16 @@ pub record IsPiece (l : Literal) (text : List ℕ) (depth at : ℕ) (bytes : Lis
   pub begins : BeginsPiece l text depth at bytes last end
   pub ends : EndsPiece l text last end
 
--- one that goes on behind the bodies of the heredocs on its line, which ends at stop
-pub record IsLongPiece (l : Literal) (text : List ℕ) (stop next depth at : ℕ) (bytes : List ℕ) (last end : ℕ) : Type 0 where
-  pub inner : ℕ
-  pub before : List ℕ
-  pub behind : List ℕ
-  pub begins : BeginsPiece l (take stop text) depth at before inner stop
-  pub rest : AreElements l text inner next behind last end
-  pub bytes_are : bytes ≡ before ++ behind
-  pub ends : EndsPiece l text last end
+-- one that goes on after the bodies of the heredocs on its line, which ends at stop
+pub record IsLongPiece (l : Literal) (text : List ℕ) (stop next depth at : ℕ) (bytes : List ℕ) (last end : ℕ) : Type 0
+  where
+    pub inner : ℕ
+    pub before : List ℕ
+    pub behind : List ℕ
+    pub begins : BeginsPiece l (take stop text) depth at before inner stop
+    pub rest : AreElements l text inner next behind last end
+    pub bytes_are : bytes ≡ before ++ behind
+    pub ends : EndsPiece l text last end
 
 -- the token of such bytes
 abbrev pub piece_kind : Contents → List ℕ → TokenKind
@@ -137,7 +144,7 @@ piece_kind Words bytes = kinds.Word bytes
 abbrev pub IsQuote : ℕ → Contents → Type 0
 IsQuote quote contents = ((quote ≡ 39) × (contents ≡ Single)) ⊎ ((quote ≡ 34) × (contents ≡ Double))
 
--- behind the ? of a conditional a string is no key
+-- after the ? of a conditional a string is no key
 abbrev pub IsKey : Place → Option ℕ → Type 0
 IsKey p key = ((is_question p.context ≡ true) × (key ≡ None)) ⊎ ((is_question p.context ≡ false) × (key ≡ Some p.at))
 
@@ -148,7 +155,7 @@ pub record OpensString (text : List ℕ) (p : Place) (l : Literal) (end : ℕ) :
   pub key_is : IsKey p l.key
   pub ends : end ≡ p.at + 1
 
--- a colon where a symbol may begin, and a quote directly behind it
+-- a colon where a symbol may begin, and a quote directly after it
 pub record OpensSymbol (text : List ℕ) (p : Place) (l : Literal) (end : ℕ) : Type 0 where
   pub begins : BeginsSymbol text p
   pub quote : IsQuote (slice_index text (p.at + 1)) l.contents
@@ -161,7 +168,7 @@ abbrev pub ValuePercent : List ℕ → Place → Type 0
 ValuePercent text p =
     (slice_index text p.at ≡ 37) × (expects_value p.context ≡ true) × (wants_name p.context ≡ false)
 
--- or behind an identifier and white space, if it is no assignment
+-- or after an identifier and white space, if it is no assignment
 abbrev pub NamePercent : List ℕ → Place → Type 0
 NamePercent text p =
     (slice_index text p.at ≡ 37) × (expects_value p.context ≡ false) × (wants_name p.context ≡ false) × IsSpaced text p

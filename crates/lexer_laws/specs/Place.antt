@@ -21,11 +21,11 @@ pub record Place : Type 0 where
 abbrev pub start : Place
 start = record { at = 0; context = contexts.Start; space = false; line_start = true; bars = false }
 
--- behind white space or a comment
+-- after white space or a comment
 abbrev pub spaced_to : Place → ℕ → Place
 spaced_to p end = record p { at = end; space = true }
 
--- behind the end of a line
+-- after the end of a line
 abbrev pub lined_to : Place → ℕ → Place
 lined_to p end = record p { at = end; space = true; line_start = true }
 

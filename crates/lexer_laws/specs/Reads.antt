@@ -43,7 +43,8 @@ pub record IsClassVariable (text : List ℕ) (at end : ℕ) : Type 0 where
 -- $ and digits, or one punctuation mark
 pub record IsSpecialGlobal (text : List ℕ) (at end : ℕ) : Type 0 where
   pub dollar : slice_index text at ≡ 36
-  pub rest : ((at + 1 < end) × IsLongest (IsRun is_digit text (at + 1)) end) ⊎ ((is_punctuation (slice_index text (at + 1)) ≡ true) × (end ≡ at + 2))
+  pub rest : ((at + 1 < end) × IsLongest (IsRun is_digit text (at + 1)) end)
+      ⊎ ((is_punctuation (slice_index text (at + 1)) ≡ true) × (end ≡ at + 2))
 
 -- The tokens outside the language that stand by themselves. A QuotedLabel ends a string and a SquigglyHeredoc takes
 -- its body along; the others are no tokens of a text.
@@ -85,7 +86,8 @@ IsToken text p kinds.Newline end = IsNewline text p end
 IsToken text p kinds.Semicolon end = (slice_index text p.at ≡ 59) × (end ≡ p.at + 1)
 IsToken text p (kinds.Identifier bytes) end = IsIdentifier text p.at p.context bytes end
 IsToken text p (kinds.Constant bytes) end = IsConstant text p.at p.context bytes end
-IsToken text p (kinds.MethodName bytes) end = IsMethodWord text p.at p.context bytes end ⊎ IsMethodOperator text p bytes end
+IsToken text p (kinds.MethodName bytes) end = IsMethodWord text p.at p.context bytes end
+    ⊎ IsMethodOperator text p bytes end
 IsToken text p (kinds.InstanceVariable bytes) end = IsVariableToken 64 text p.at bytes end
 IsToken text p (kinds.GlobalVariable bytes) end = IsVariableToken 36 text p.at bytes end
 IsToken text p (kinds.Label bytes) end = IsLabel text p.at bytes end
@@ -156,7 +158,7 @@ is_newline kinds.InterpolationEnd = false
 is_newline kinds.LiteralEnd = false
 is_newline (kinds.Outside o) = false
 
--- whether the parameters of a block are open behind a mark
+-- whether the parameters of a block are open after a mark
 unfoldable pub bars_behind : Bool → Punctuator → Bool
 bars_behind bars marks.Plus = bars
 bars_behind bars marks.Minus = bars
@@ -241,9 +243,15 @@ bars_after bars kinds.InterpolationEnd = bars
 bars_after bars kinds.LiteralEnd = bars
 bars_after bars (kinds.Outside o) = bars
 
--- behind a token that ends at a place
+-- after a token that ends at a place
 abbrev pub behind : Place → TokenKind → ℕ → Place
-behind p kind end = record { at = end; context = after p.context kind; space = is_newline kind; line_start = is_newline kind; bars = bars_after p.bars kind }
+behind p kind end = record {
+  at = end;
+  context = after p.context kind;
+  space = is_newline kind;
+  line_start = is_newline kind;
+  bars = bars_after p.bars kind;
+}
 
 -- a token with what is so of its place
 abbrev pub token_at : Place → TokenKind → Token
@@ -257,14 +265,14 @@ IsEnd text p = (p.at ≡ length text) ⊎ ((p.at < length text) × (is_end_marke
 abbrev pub moved : Place → ℕ → Place
 moved p at = record p { at = at }
 
--- @name or $name behind the # of an interpolation
+-- @name or $name after the # of an interpolation
 abbrev pub IsInterpolated : List ℕ → ℕ → TokenKind → ℕ → Type 0
 IsInterpolated text at kind end =
     (bytes : List ℕ)
     × (((kind ≡ kinds.InstanceVariable bytes) × IsVariableToken 64 text at bytes end)
     ⊎ ((kind ≡ kinds.GlobalVariable bytes) × IsVariableToken 36 text at bytes end))
 
--- a colon behind the end of a string makes it a key
+-- a colon after the end of a string makes it a key
 abbrev pub EndsKey : List ℕ → Literal → ℕ → ℕ → Type 0
 EndsKey text l begin at = (l.key ≡ Some begin) × IsColon text (at + 1)
 
@@ -273,41 +281,91 @@ pub data ReadsFrom (text : List ℕ) : Stretch → List Open → Place → List 
   -- nothing but braces is open where the text ends
   Ends : (around : List Open) (p : Place) → AreBraces around → IsEnd text p → ReadsFrom text Whole around p []
   -- between tokens
-  Passes : (s : Stretch) (around : List Open) (p q : Place) (tokens : List Token) → InCode around → (BeforeBodies s p.at → ⊥) → IsGap (shown text s) p q → ReadsFrom text s around q tokens → ReadsFrom text s around p tokens
+  Passes : (s : Stretch) (around : List Open) (p q : Place) (tokens : List Token) → InCode around
+      → (BeforeBodies s p.at → ⊥) → IsGap (shown text s) p q → ReadsFrom text s around q tokens
+      → ReadsFrom text s around p tokens
   -- a token that is no part of a literal; the line that ends the text is no word
-  Takes : (s : Stretch) (around next_open : List Open) (p : Place) (kind : TokenKind) (end : ℕ) (tokens : List Token) → InCode around → (BeforeBodies s p.at → ⊥) → (IsEnd (shown text s) p → ⊥) → IsToken (shown text s) p kind end → Nests around kind next_open → ReadsFrom text s next_open (behind p kind end) tokens → ReadsFrom text s around p (token_at p kind ∷ tokens)
+  Takes : (s : Stretch) (around next_open : List Open) (p : Place) (kind : TokenKind) (end : ℕ) (tokens : List Token)
+      → InCode around → (BeforeBodies s p.at → ⊥) → (IsEnd (shown text s) p → ⊥) → IsToken (shown text s) p kind end
+      → Nests around kind next_open → ReadsFrom text s next_open (behind p kind end) tokens
+      → ReadsFrom text s around p (token_at p kind ∷ tokens)
   -- the opening of a literal
-  OpensIt : (s : Stretch) (around : List Open) (p : Place) (kind : TokenKind) (l : Literal) (end : ℕ) (tokens : List Token) → InCode around → OpensLiteral (shown text s) p kind l end → ReadsFrom text s (Inside l 0 ∷ around) (behind p kind end) tokens → ReadsFrom text s around p (token_at p kind ∷ tokens)
+  OpensIt : (s : Stretch) (around : List Open) (p : Place) (kind : TokenKind) (l : Literal) (end : ℕ)
+      (tokens : List Token) → InCode around → OpensLiteral (shown text s) p kind l end
+      → ReadsFrom text s (Inside l 0 ∷ around) (behind p kind end) tokens
+      → ReadsFrom text s around p (token_at p kind ∷ tokens)
   -- bytes of a literal
-  Holds : (s : Stretch) (around : List Open) (p : Place) (l : Literal) (depth last end : ℕ) (bytes : List ℕ) (tokens : List Token) → IsPiece l (shown text s) depth p.at bytes last end → ReadsFrom text s (Inside l last ∷ around) (behind p (piece_kind l.contents bytes) end) tokens → ReadsFrom text s (Inside l depth ∷ around) p (token_at p (piece_kind l.contents bytes) ∷ tokens)
+  Holds : (s : Stretch) (around : List Open) (p : Place) (l : Literal) (depth last end : ℕ) (bytes : List ℕ)
+      (tokens : List Token) → IsPiece l (shown text s) depth p.at bytes last end
+      → ReadsFrom text s (Inside l last ∷ around) (behind p (piece_kind l.contents bytes) end) tokens
+      → ReadsFrom text s (Inside l depth ∷ around) p (token_at p (piece_kind l.contents bytes) ∷ tokens)
   -- or of one that goes over the end of a line with heads of heredocs
-  HoldsOver : (around : List Open) (p : Place) (l : Literal) (stop next depth last end : ℕ) (bytes : List ℕ) (tokens : List Token) → IsLongPiece l text stop next depth p.at bytes last end → ReadsFrom text Whole (Inside l last ∷ around) (behind p (piece_kind l.contents bytes) end) tokens → ReadsFrom text (Line stop next) (Inside l depth ∷ around) p (token_at p (piece_kind l.contents bytes) ∷ tokens)
+  HoldsOver : (around : List Open) (p : Place) (l : Literal) (stop next depth last end : ℕ) (bytes : List ℕ)
+      (tokens : List Token) → IsLongPiece l text stop next depth p.at bytes last end
+      → ReadsFrom text Whole (Inside l last ∷ around) (behind p (piece_kind l.contents bytes) end) tokens
+      → ReadsFrom text (Line stop next) (Inside l depth ∷ around) p (token_at p (piece_kind l.contents bytes) ∷ tokens)
   -- an escape that stands for nothing, where no piece has begun
-  Skips : (s : Stretch) (around : List Open) (p : Place) (l : Literal) (depth end : ℕ) (tokens : List Token) → IsElement l (shown text s) p.at [] end → ReadsFrom text s (Inside l depth ∷ around) (moved p end) tokens → ReadsFrom text s (Inside l depth ∷ around) p tokens
+  Skips : (s : Stretch) (around : List Open) (p : Place) (l : Literal) (depth end : ℕ) (tokens : List Token)
+      → IsElement l (shown text s) p.at [] end → ReadsFrom text s (Inside l depth ∷ around) (moved p end) tokens
+      → ReadsFrom text s (Inside l depth ∷ around) p tokens
   -- white space between words
-  Separates : (s : Stretch) (around : List Open) (p : Place) (l : Literal) (depth : ℕ) (tokens : List Token) → l.contents ≡ Words → is_white (slice_index (shown text s) p.at) ≡ true → ReadsFrom text s (Inside l depth ∷ around) (moved p (p.at + 1)) tokens → ReadsFrom text s (Inside l depth ∷ around) p tokens
+  Separates : (s : Stretch) (around : List Open) (p : Place) (l : Literal) (depth : ℕ) (tokens : List Token)
+      → l.contents ≡ Words → is_white (slice_index (shown text s) p.at) ≡ true
+      → ReadsFrom text s (Inside l depth ∷ around) (moved p (p.at + 1)) tokens
+      → ReadsFrom text s (Inside l depth ∷ around) p tokens
   -- #{
-  Interpolates : (s : Stretch) (around : List Open) (p : Place) (l : Literal) (depth : ℕ) (tokens : List Token) → l.contents ≡ Double → Stands (shown text s) p.at (codes "#{") → ReadsFrom text s (Interpolation ∷ Inside l depth ∷ around) (behind p kinds.InterpolationBegin (p.at + 2)) tokens → ReadsFrom text s (Inside l depth ∷ around) p (token_at p kinds.InterpolationBegin ∷ tokens)
+  Interpolates : (s : Stretch) (around : List Open) (p : Place) (l : Literal) (depth : ℕ) (tokens : List Token)
+      → l.contents ≡ Double → Stands (shown text s) p.at (codes "#{")
+      → ReadsFrom text s (Interpolation ∷ Inside l depth ∷ around) (behind p kinds.InterpolationBegin (p.at + 2)) tokens
+      → ReadsFrom text s (Inside l depth ∷ around) p (token_at p kinds.InterpolationBegin ∷ tokens)
   -- the } of #{
-  Closes : (s : Stretch) (around : List Open) (p : Place) (tokens : List Token) → slice_index (shown text s) p.at ≡ 125 → ReadsFrom text s around (behind p kinds.InterpolationEnd (p.at + 1)) tokens → ReadsFrom text s (Interpolation ∷ around) p (token_at p kinds.InterpolationEnd ∷ tokens)
+  Closes : (s : Stretch) (around : List Open) (p : Place) (tokens : List Token) → slice_index (shown text s) p.at ≡ 125
+      → ReadsFrom text s around (behind p kinds.InterpolationEnd (p.at + 1)) tokens
+      → ReadsFrom text s (Interpolation ∷ around) p (token_at p kinds.InterpolationEnd ∷ tokens)
   -- #@name or #$name
-  Inserts : (s : Stretch) (around : List Open) (p : Place) (l : Literal) (depth : ℕ) (kind : TokenKind) (end : ℕ) (tokens : List Token) → l.contents ≡ Double → slice_index (shown text s) p.at ≡ 35 → IsInterpolated (shown text s) (p.at + 1) kind end → ReadsFrom text s (Inside l depth ∷ around) (behind p kind end) tokens → ReadsFrom text s (Inside l depth ∷ around) p (token_at (moved p (p.at + 1)) kind ∷ tokens)
+  Inserts : (s : Stretch) (around : List Open) (p : Place) (l : Literal) (depth : ℕ) (kind : TokenKind) (end : ℕ)
+      (tokens : List Token) → l.contents ≡ Double → slice_index (shown text s) p.at ≡ 35
+      → IsInterpolated (shown text s) (p.at + 1) kind end → ReadsFrom text s (Inside l depth ∷ around)
+      (behind p kind end) tokens → ReadsFrom text s (Inside l depth ∷ around) p
+      (token_at (moved p (p.at + 1)) kind ∷ tokens)
   -- the end of a literal
-  EndsIt : (s : Stretch) (around : List Open) (p : Place) (l : Literal) (depth : ℕ) (tokens : List Token) → IsClosing l (shown text s) depth p.at → ((begin : ℕ) → EndsKey (shown text s) l begin p.at → ⊥) → ReadsFrom text s around (behind p kinds.LiteralEnd (p.at + 1)) tokens → ReadsFrom text s (Inside l depth ∷ around) p (token_at p kinds.LiteralEnd ∷ tokens)
+  EndsIt : (s : Stretch) (around : List Open) (p : Place) (l : Literal) (depth : ℕ) (tokens : List Token)
+      → IsClosing l (shown text s) depth p.at → ((begin : ℕ) → EndsKey (shown text s) l begin p.at → ⊥)
+      → ReadsFrom text s around (behind p kinds.LiteralEnd (p.at + 1)) tokens
+      → ReadsFrom text s (Inside l depth ∷ around) p (token_at p kinds.LiteralEnd ∷ tokens)
   -- the end of a string that is a key has the place of its opening, and takes the colon
-  EndsLabel : (s : Stretch) (around : List Open) (p : Place) (l : Literal) (depth begin : ℕ) (tokens : List Token) → IsClosing l (shown text s) depth p.at → EndsKey (shown text s) l begin p.at → ReadsFrom text s around (behind p (kinds.Outside outsides.QuotedLabel) (p.at + 2)) tokens → ReadsFrom text s (Inside l depth ∷ around) p (token_at (moved p begin) (kinds.Outside outsides.QuotedLabel) ∷ tokens)
-  -- the head of a heredoc, behind which its body is read
-  Heredoc : (s : Stretch) (around : List Open) (p : Place) (h : HeadPlace) (l : Literal) (from stop line next : ℕ) (tokens : List Token) → InCode around → IsHeredoc text s around p h from stop line next → (h.dash ≡ 126 → ⊥) → IsBody h l → ReadsFrom text (Body stop h.end line next) (Inside l 0 ∷ around) (behind p kinds.StringBegin from) tokens → ReadsFrom text s around p (token_at p kinds.StringBegin ∷ tokens)
-  -- the end of the body, behind which the rest of the head's line is read
-  EndsBody : (around : List Open) (p : Place) (l : Literal) (depth stop back line next : ℕ) (tokens : List Token) → l.delimiters ≡ None → p.at ≡ stop → ReadsFrom text (Line line next) around (behind p kinds.LiteralEnd back) tokens → ReadsFrom text (Body stop back line next) (Inside l depth ∷ around) p (token_at p kinds.LiteralEnd ∷ tokens)
+  EndsLabel : (s : Stretch) (around : List Open) (p : Place) (l : Literal) (depth begin : ℕ) (tokens : List Token)
+      → IsClosing l (shown text s) depth p.at → EndsKey (shown text s) l begin p.at
+      → ReadsFrom text s around (behind p (kinds.Outside outsides.QuotedLabel) (p.at + 2)) tokens
+      → ReadsFrom text s (Inside l depth ∷ around) p (token_at (moved p begin)
+      (kinds.Outside outsides.QuotedLabel) ∷ tokens)
+  -- the head of a heredoc, after which its body is read
+  Heredoc : (s : Stretch) (around : List Open) (p : Place) (h : HeadPlace) (l : Literal) (from stop line next : ℕ)
+      (tokens : List Token) → InCode around → IsHeredoc text s around p h from stop line next → (h.dash ≡ 126 → ⊥)
+      → IsBody h l → ReadsFrom text (Body stop h.end line next) (Inside l 0 ∷ around) (behind p kinds.StringBegin from)
+      tokens → ReadsFrom text s around p (token_at p kinds.StringBegin ∷ tokens)
+  -- the end of the body, after which the rest of the head's line is read
+  EndsBody : (around : List Open) (p : Place) (l : Literal) (depth stop back line next : ℕ) (tokens : List Token)
+      → l.delimiters ≡ None → p.at ≡ stop → ReadsFrom text (Line line next) around (behind p kinds.LiteralEnd back)
+      tokens → ReadsFrom text (Body stop back line next) (Inside l depth ∷ around) p
+      (token_at p kinds.LiteralEnd ∷ tokens)
   -- <<~ and its identifier, whose body is left out
-  Squiggly : (s : Stretch) (around : List Open) (p : Place) (h : HeadPlace) (from stop line next : ℕ) (tokens : List Token) → InCode around → IsHeredoc text s around p h from stop line next → h.dash ≡ 126 → ReadsFrom text (Line line next) around (behind p (kinds.Outside outsides.SquigglyHeredoc) h.end) tokens → ReadsFrom text s around p (token_at p (kinds.Outside outsides.SquigglyHeredoc) ∷ tokens)
-  -- the newline of a line with heads, behind which the bodies stand, is dropped
-  PassesBodies : (around : List Open) (p q : Place) (stop next : ℕ) (tokens : List Token) → InCode around → p.at + 1 ≡ stop → DropsBefore text p next q → ReadsFrom text Whole around q tokens → ReadsFrom text (Line stop next) around p tokens
+  Squiggly : (s : Stretch) (around : List Open) (p : Place) (h : HeadPlace) (from stop line next : ℕ)
+      (tokens : List Token) → InCode around → IsHeredoc text s around p h from stop line next → h.dash ≡ 126
+      → ReadsFrom text (Line line next) around (behind p (kinds.Outside outsides.SquigglyHeredoc) h.end) tokens
+      → ReadsFrom text s around p (token_at p (kinds.Outside outsides.SquigglyHeredoc) ∷ tokens)
+  -- the newline of a line with heads, after which the bodies stand, is dropped
+  PassesBodies : (around : List Open) (p q : Place) (stop next : ℕ) (tokens : List Token) → InCode around
+      → p.at + 1 ≡ stop → DropsBefore text p next q → ReadsFrom text Whole around q tokens
+      → ReadsFrom text (Line stop next) around p tokens
   -- or a token
-  TakesNewline : (around : List Open) (p : Place) (stop next : ℕ) (tokens : List Token) → InCode around → p.at + 1 ≡ stop → can_end p.context ≡ true → ((dot : ℕ) → LeadsDot text next dot → ⊥) → ReadsFrom text Whole around (behind p kinds.Newline next) tokens → ReadsFrom text (Line stop next) around p (token_at p kinds.Newline ∷ tokens)
-  -- what was passed over or taken with that newline leads behind the bodies
-  EndsLine : (around : List Open) (p : Place) (stop next : ℕ) (tokens : List Token) → p.at ≡ stop → ReadsFrom text Whole around (moved p next) tokens → ReadsFrom text (Line stop next) around p tokens
+  TakesNewline : (around : List Open) (p : Place) (stop next : ℕ) (tokens : List Token) → InCode around
+      → p.at + 1 ≡ stop → can_end p.context ≡ true → ((dot : ℕ) → LeadsDot text next dot → ⊥)
+      → ReadsFrom text Whole around (behind p kinds.Newline next) tokens
+      → ReadsFrom text (Line stop next) around p (token_at p kinds.Newline ∷ tokens)
+  -- what was passed over or taken with that newline leads after the bodies
+  EndsLine : (around : List Open) (p : Place) (stop next : ℕ) (tokens : List Token) → p.at ≡ stop
+      → ReadsFrom text Whole around (moved p next) tokens → ReadsFrom text (Line stop next) around p tokens
 
 abbrev pub Reads : List ℕ → List Token → Type 0
 Reads text tokens = ReadsFrom text Whole [] start tokens

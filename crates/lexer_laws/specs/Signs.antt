@@ -17,8 +17,9 @@ use Rattle.lexer_laws.specs.Place.{Place}
 -- the operators that name methods
 abbrev pub operator_names : List (List ℕ)
 operator_names =
-    codes "+" ∷ codes "-" ∷ codes "*" ∷ codes "/" ∷ codes "%" ∷ codes "**" ∷ codes "!" ∷ codes "~" ∷ codes "+@" ∷ codes "-@"
-    ∷ codes "==" ∷ codes "!=" ∷ codes "===" ∷ codes "<" ∷ codes "<=" ∷ codes ">" ∷ codes ">=" ∷ codes "<=>" ∷ codes "<<" ∷ codes ">>"
+    codes "+" ∷ codes "-" ∷ codes "*" ∷ codes "/" ∷ codes "%" ∷ codes "**" ∷ codes "!" ∷ codes "~"
+    ∷ codes "+@" ∷ codes "-@" ∷ codes "==" ∷ codes "!=" ∷ codes "===" ∷ codes "<" ∷ codes "<="
+    ∷ codes ">" ∷ codes ">=" ∷ codes "<=>" ∷ codes "<<" ∷ codes ">>"
     ∷ codes "&" ∷ codes "|" ∷ codes "^" ∷ codes "[]" ∷ codes "[]=" ∷ []
 
 -- one of some words stands from a place to its end
@@ -55,7 +56,8 @@ pub record IsSymbol (text : List ℕ) (p : Place) (bytes : List ℕ) (end : ℕ)
 
 -- a symbol in quotes or without
 abbrev pub SymbolFollows : List ℕ → ℕ → Type 0
-SymbolFollows text at = ((slice_index text at ≡ 34) ⊎ (slice_index text at ≡ 39)) ⊎ ((end : ℕ) × IsSymbolName text at end)
+SymbolFollows text at = ((slice_index text at ≡ 34) ⊎ (slice_index text at ≡ 39))
+    ⊎ ((end : ℕ) × IsSymbolName text at end)
 
 -- ?c where a value is expected
 pub record IsCharacter (text : List ℕ) (p : Place) (byte end : ℕ) : Type 0 where
@@ -65,13 +67,13 @@ pub record IsCharacter (text : List ℕ) (p : Place) (byte end : ℕ) : Type 0 w
   pub byte_is : byte ≡ slice_index text (p.at + 1)
   pub ends : end ≡ p.at + 2
 
--- behind an identifier and white space, with none behind the mark
+-- after an identifier and white space, with none after the mark
 pub record IsSpaced (text : List ℕ) (p : Place) : Type 0 where
   pub name : is_name p.context ≡ true
   pub space : p.space ≡ true
   pub no_space : is_white (slice_index text (p.at + 1)) ≡ false
 
--- behind % where a value is expected: a delimiter, a letter of the language and a delimiter, or what is outside it
+-- after % where a value is expected: a delimiter, a letter of the language and a delimiter, or what is outside it
 abbrev pub PercentFollows : List ℕ → ℕ → Type 0
 PercentFollows text at =
     (is_percent_letter (slice_index text at) (slice_index text (at + 1)) ≡ true)
@@ -84,9 +86,10 @@ IsAmbiguous text p =
     IsSpaced text p ×
     ((slice_index text p.at ≡ 63)
     ⊎ (((slice_index text p.at ≡ 47) × (slice_index text (p.at + 1) ≡ 61 → ⊥))
-    ⊎ ((slice_index text p.at ≡ 37) × (slice_index text (p.at + 1) ≡ 61 → ⊥) × (is_percent_letter (slice_index text (p.at + 1)) (slice_index text (p.at + 2)) ≡ false))))
+    ⊎ ((slice_index text p.at ≡ 37) × (slice_index text (p.at + 1) ≡ 61 → ⊥)
+    × (is_percent_letter (slice_index text (p.at + 1)) (slice_index text (p.at + 2)) ≡ false))))
 
--- << and the head of a heredoc where a value is expected, or behind an identifier and white space
+-- << and the head of a heredoc where a value is expected, or after an identifier and white space
 abbrev pub IsHeredocHead : List ℕ → Place → HeadPlace → Type 0
 IsHeredocHead text p h =
     Stands text p.at (codes "<<") × (head_at text p.at ≡ Some h)
@@ -108,7 +111,7 @@ pub record IsBareSign (text : List ℕ) (p : Place) : Type 0 where
   pub no_bars : slice_index text p.at ≡ 124 → (is_block p.context ≡ false) × (p.bars ≡ false)
   pub clear : IsAmbiguous text p → ⊥
 
--- a bar directly behind { or do opens the parameters of a block
+-- a bar directly after { or do opens the parameters of a block
 pub record IsOpenBar (text : List ℕ) (p : Place) (end : ℕ) : Type 0 where
   pub bar : slice_index text p.at ≡ 124
   pub behind_block : is_block p.context ≡ true

@@ -8,7 +8,7 @@ use Rattle.lexer_laws.specs.Reads.{token_at, is_newline, bars_after}
 abbrev pub place_of : State → ℕ → Place
 place_of s at = record { at = at; context = s.context; space = s.space; line_start = s.fresh; bars = s.bars }
 
--- the state behind a token that is read at a place
+-- the state after a token that is read at a place
 abbrev pub took : State → ℕ → TokenKind → State
 took s at kind = record s {
   tokens = s.tokens ++ token_at (place_of s at) kind ∷ [];

@@ -39,16 +39,17 @@ ClosesBrace (Brace ∷ around) after = after ≡ around
 ClosesBrace (Interpolation ∷ around) after = ⊥
 ClosesBrace (Inside l depth ∷ around) after = ⊥
 
--- what is open behind a token that is no part of a literal
+-- what is open after a token that is no part of a literal
 abbrev pub Nests : List Open → TokenKind → List Open → Type 0
 Nests around kind after =
     ((kind ≡ kinds.Punctuator marks.OpenBrace) × (after ≡ Brace ∷ around))
     ⊎ (((kind ≡ kinds.Punctuator marks.CloseBrace) × ClosesBrace around after)
-    ⊎ ((kind ≡ kinds.Punctuator marks.OpenBrace → ⊥) × (kind ≡ kinds.Punctuator marks.CloseBrace → ⊥) × (after ≡ around)))
+    ⊎ ((kind ≡ kinds.Punctuator marks.OpenBrace → ⊥) × (kind ≡ kinds.Punctuator marks.CloseBrace → ⊥)
+    × (after ≡ around)))
 
--- The whole text; what follows the head of a heredoc on its line, up to stop, with the place next behind the bodies
--- of that line; or the body of a heredoc up to stop, with the place back behind its head, the end of the head's line
--- and the place next behind the line that ends the body.
+-- The whole text; what follows the head of a heredoc on its line, up to stop, with the place next after the bodies
+-- of that line; or the body of a heredoc up to stop, with the place back after its head, the end of the head's line
+-- and the place next after the line that ends the body.
 pub data Stretch : Type 0 where
   Whole : Stretch
   Line : (stop next : ℕ) → Stretch
@@ -60,7 +61,7 @@ shown text Whole = text
 shown text (Line stop next) = take stop text
 shown text (Body stop back line next) = take stop text
 
--- the newline that ends a line with heads of heredocs: the next line is the one behind the bodies
+-- the newline that ends a line with heads of heredocs: the next line is the one after the bodies
 abbrev pub BeforeBodies : Stretch → ℕ → Type 0
 BeforeBodies Whole at = ⊥
 BeforeBodies (Line stop next) at = at + 1 ≡ stop
@@ -72,15 +73,16 @@ DropsBefore text p next q =
     ((can_end p.context ≡ false) × (q ≡ lined_to p next))
     ⊎ ((can_end p.context ≡ true) × (LeadsDot text next q.at × (q ≡ lined_to p q.at)))
 
--- the first body begins behind the line of its head, and another one behind the body before
+-- the first body begins after the line of its head, and another one after the body before
 abbrev pub BodyBegins : Stretch → List ℕ → ℕ → ℕ → ℕ → Type 0
 BodyBegins Whole text head_end from line = IsLine text head_end line × (from ≡ line)
 BodyBegins (Line stop next) text head_end from line = (from ≡ next) × (line ≡ stop)
 BodyBegins (Body stop back line next) text head_end from end = ⊥
 
 -- A heredoc, which no interpolation may hold: its head, and its body from a place to its stop; the head's line ends
--- at line, and next is behind the line that ends the body.
-pub record IsHeredoc (text : List ℕ) (s : Stretch) (around : List Open) (p : Place) (h : HeadPlace) (from stop line next : ℕ) : Type 0 where
+-- at line, and next is after the line that ends the body.
+pub record IsHeredoc (text : List ℕ) (s : Stretch) (around : List Open) (p : Place) (h : HeadPlace)
+    (from stop line next : ℕ) : Type 0 where
   pub outside : AreBraces around
   pub not_wanted : wants_name p.context ≡ false
   pub head : IsHeredocHead (shown text s) p h
@@ -92,7 +94,7 @@ pub record IsHeredoc (text : List ℕ) (s : Stretch) (around : List Open) (p : P
   pub stops : stop ≡ from + length body
   pub next_is : next ≡ bodies.next
 
--- a body has neither escapes nor interpolation behind a head in single quotes, and all of them behind another
+-- a body has neither escapes nor interpolation after a head in single quotes, and all of them after another
 abbrev pub IsBody : HeadPlace → Literal → Type 0
 IsBody h l =
     (l.delimiters ≡ None) × (l.key ≡ None)

@@ -21,12 +21,13 @@ pub record IsColon (text : List ℕ) (at : ℕ) : Type 0 where
   pub colon : slice_index text at ≡ 58
   pub alone : slice_index text (at + 1) ≡ 58 → ⊥
 
--- behind def the name before it takes a = where a parenthesis follows, or a space and a name
+-- after def the name before it takes a = where a parenthesis follows, or a space and a name
 pub record TakesEqual (text : List ℕ) (at : ℕ) : Type 0 where
   pub equal : slice_index text at ≡ 61
-  pub follows : (slice_index text (at + 1) ≡ 40) ⊎ ((slice_index text (at + 1) ≡ 32) × (is_name_start (slice_index text (at + 2)) ≡ true))
+  pub follows : (slice_index text (at + 1) ≡ 40) ⊎ ((slice_index text (at + 1) ≡ 32)
+      × (is_name_start (slice_index text (at + 2)) ≡ true))
 
--- a word with a colon directly behind it
+-- a word with a colon directly after it
 pub record IsLabel (text : List ℕ) (at : ℕ) (bytes : List ℕ) (end : ℕ) : Type 0 where
   pub name : ℕ
   pub word : ℕ
@@ -59,7 +60,7 @@ pub record IsConstant (text : List ℕ) (at : ℕ) (context : Context) (bytes : 
   pub name : IsPlainName text at context bytes end
   pub capital : is_capital (slice_index text at) ≡ true
 
--- where a name is wanted it ends behind its mark, or behind the = that it takes there
+-- where a name is wanted it ends after its mark, or after the = that it takes there
 abbrev pub EndsWanted : List ℕ → Context → ℕ → ℕ → Type 0
 EndsWanted text context word end =
     ((is_def context ≡ true) × TakesEqual text word × (end ≡ word + 1))
@@ -69,7 +70,8 @@ EndsWanted text context word end =
 abbrev pub IsOnlyMethod : List ℕ → ℕ → Context → ℕ → ℕ → ℕ → Type 0
 IsOnlyMethod text at context name word end =
     ((wants_name context ≡ false) × (end ≡ word) × (word ≡ name → ⊥) × (keyword_of (spelled text at word) ≡ None))
-    ⊎ ((wants_name context ≡ true) × EndsWanted text context word end × ((end ≡ name → ⊥) ⊎ ((k : Keyword) × (keyword_of (spelled text at end) ≡ Some k))))
+    ⊎ ((wants_name context ≡ true) × EndsWanted text context word end
+    × ((end ≡ name → ⊥) ⊎ ((k : Keyword) × (keyword_of (spelled text at end) ≡ Some k))))
 
 pub record IsMethodWord (text : List ℕ) (at : ℕ) (context : Context) (bytes : List ℕ) (end : ℕ) : Type 0 where
   pub name : ℕ
@@ -79,7 +81,7 @@ pub record IsMethodWord (text : List ℕ) (at : ℕ) (context : Context) (bytes 
   pub only : IsOnlyMethod text at context name word end
   pub bytes_are : bytes ≡ spelled text at end
 
--- A name with a byte past ASCII: behind the longest name, or at its place, stands such a byte, and it goes on as far as
+-- A name with a byte past ASCII: after the longest name, or at its place, stands such a byte, and it goes on as far as
 -- name bytes and bytes past ASCII do.
 pub record IsWideName (text : List ℕ) (at end : ℕ) : Type 0 where
   pub from : ℕ

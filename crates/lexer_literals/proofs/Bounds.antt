@@ -9,7 +9,10 @@ drop_here : (xs : List ℕ) (i : ℕ) → i < length xs → drop i xs ≡ get_or
 drop_here xs i h = rw (add-one, drop-cons xs i 0) refl
 
 -- one digit more
-pub up_to_here : (text : List ℕ) (base most value at : ℕ) → at < length text → up_to base most value at (drop at text) ≡ cond (eqb most 0) (value, at) (cond (leb base (digit_value (get_or text at 0))) (value, at) (up_to base (most - 1) (value * base + digit_value (get_or text at 0)) (at + 1) (drop (at + 1) text)))
+pub up_to_here : (text : List ℕ) (base most value at : ℕ) → at < length text
+    → up_to base most value at (drop at text) ≡ cond (eqb most 0) (value, at)
+    (cond (leb base (digit_value (get_or text at 0))) (value, at)
+    (up_to base (most - 1) (value * base + digit_value (get_or text at 0)) (at + 1) (drop (at + 1) text)))
 unfolding up_to
 up_to_here text base most value at here = rw (drop_here text at here) refl
 
@@ -28,10 +31,12 @@ bound_six count few = pow-le-pow_right {n = 16} (omega arith) {i = count} {j = 5
 pub bound_most : (most left value : ℕ) → value < bound (most - left) → value < 16 ^ most
 unfolding bound
 bound_most most left value small =
-    let most_is : 16 ^ (most - left) ≤ 16 ^ most = pow-le-pow_right {n = 16} (omega arith) {i = most - left} {j = most} (omega arith) in
+    let most_is : 16 ^ (most - left) ≤ 16 ^ most = pow-le-pow_right {n = 16} (omega arith) {i = most - left} {j = most}
+    (omega arith) in
     omega (arith, most_is, small)
 
-pub bound_step : (base value digit most left : ℕ) → 0 < left → left ≤ most → base ≤ 16 → digit < base → value < bound (most - left) → value * base + digit < bound (most - (left - 1))
+pub bound_step : (base value digit most left : ℕ) → 0 < left → left ≤ most → base ≤ 16 → digit < base
+    → value < bound (most - left) → value * base + digit < bound (most - (left - 1))
 unfolding bound
 bound_step base value digit most left some few small is_digit fits =
     let e : most - (left - 1) ≡ suc (most - left) = omega arith in

@@ -23,7 +23,7 @@ letter b =
     else (if b == 98 then 8 else (if b == 101 then 27 else (if b == 102 then 12 else (if b == 118 then 11
     else (if b == 115 then 32 else b))))))))
 
--- at most so many digits of a base, behind digits of that value: the value of them all, and the place behind them
+-- at most so many digits of a base, after digits of that value: the value of them all, and the place after them
 unfoldable pub up_to : ℕ → ℕ → ℕ → ℕ → List ℕ → ℕ × ℕ
 up_to base most value at [] = (value, at)
 up_to base most value at (x ∷ xs) =
@@ -60,7 +60,7 @@ braced_at text at =
     let n = up_to 16 6 0 at (drop at text) in
     if (n.1 == at) || not (slice_index text n.1 == 125) then fault_at at else character n.0 at (n.1 + 1)
 
--- the escape behind a backslash of a literal with interpolation
+-- the escape after a backslash of a literal with interpolation
 unfoldable pub full_escape_at : List ℕ → ℕ → Result Escape Fault
 full_escape_at text at =
     let first = slice_index text at in

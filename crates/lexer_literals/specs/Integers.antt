@@ -8,8 +8,8 @@ use Rattle.rb_base.specs.Result.{◌>>=◌}
 abbrev pub fault_at : {A : Type 0} → ℕ → Result A Fault
 fault_at at = Err (record { at = at })
 
--- Digits of a base with single _ between them, behind digits of that value: the value of them all, and the
--- place behind them. A decimal digit that the base lacks may not follow. wanted: a digit has to come.
+-- Digits of a base with single _ between them, after digits of that value: the value of them all, and the
+-- place after them. A decimal digit that the base lacks may not follow. wanted: a digit has to come.
 unfoldable pub digits : ℕ → Bool → ℕ → ℕ → List ℕ → Result (ℕ × ℕ) Fault
 digits base true value at [] = fault_at at
 digits base false value at [] = Ok (value, at)

@@ -15,7 +15,7 @@ is_mark b delimiters = (b == delimiters.open) || (b == delimiters.close) || (b =
 abbrev pub byte_escape : ℕ → ℕ → Escape
 byte_escape end byte = record { end = end; stands_for = Byte byte }
 
--- Behind a backslash a delimiter and a backslash stand for themselves; before anything else the backslash does,
+-- After a backslash a delimiter and a backslash stand for themselves; before anything else the backslash does,
 -- and what follows is none of the escape.
 unfoldable pub plain_escape_at : List ℕ → ℕ → Delimiters → Escape
 plain_escape_at text at delimiters =
@@ -26,4 +26,5 @@ plain_escape_at text at delimiters =
 unfoldable pub word_escape_at : List ℕ → ℕ → Delimiters → Escape
 word_escape_at text at delimiters =
     let byte = slice_index text at in
-    if nat_lt at (length text) && is_word_space byte then byte_escape (at + 1) byte else plain_escape_at text at delimiters
+    if nat_lt at (length text) && is_word_space byte then byte_escape (at + 1) byte
+    else plain_escape_at text at delimiters

@@ -12,7 +12,7 @@ pub enum Escaped {
     Character(char),
 }
 
-/// The place behind an escape, and what it stands for.
+/// The place after an escape, and what it stands for.
 #[derive(Clone, Copy, Debug, PartialEq, Eq)]
 pub struct Escape {
     pub end: usize,

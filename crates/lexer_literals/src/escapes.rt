@@ -6,7 +6,7 @@ use crate::bytes::{byte_at, digit_value};
 use crate::escaped::{Escape, Escaped};
 use crate::fault::Fault;
 
-/// The escape of a literal as `".."` behind the backslash before `at`, a byte offset: `n t r a b e f v s` are
+/// The escape of a literal as `".."` after the backslash before `at`, a byte offset: `n t r a b e f v s` are
 /// control characters and the space; one to three octal digits are a byte, of a value above 255 the lowest
 /// eight bits; `x` with one or two hexadecimal digits is a byte; `u` with four hexadecimal digits, or with one
 /// to six in braces, is a character; a newline is nothing; any other byte stands for itself.
@@ -45,7 +45,7 @@ pub fn full_escape(text: &[u8], at: usize) -> Result<Escape, Fault>
     }
 }
 
-/// The byte that a letter stands for behind a backslash.
+/// The byte that a letter stands for after a backslash.
 fn letter(byte: u8) -> u8
     ensures { result ≡ letter byte }
 {
@@ -63,7 +63,7 @@ fn letter(byte: u8) -> u8
     }
 }
 
-/// The value of the digits that begin at a place, of which there are at most so many, and the place behind
+/// The value of the digits that begin at a place, of which there are at most so many, and the place after
 /// them.
 #[tactic(auto, using(crate::proofs::Bounds::bound_zero, crate::proofs::Bounds::bound_six, crate::proofs::Bounds::bound_most), unfolding(crate::specs::Escaping::up_to))]
 fn up_to(base: u8, most: usize, text: &[u8], start: usize) -> (u32, usize)

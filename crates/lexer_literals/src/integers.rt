@@ -8,7 +8,7 @@ use crate::fault::Fault;
 /// The greatest value of an integer token, 2^63.
 const GREATEST: u64 = 1 << 63;
 
-/// The place behind an integer literal, and its value where that is at most 2^63.
+/// The place after an integer literal, and its value where that is at most 2^63.
 #[derive(Clone, Copy, Debug, PartialEq, Eq)]
 pub struct Scanned {
     pub end: usize,
@@ -18,7 +18,7 @@ pub struct Scanned {
 /// The integer literal that begins at `at`, a byte offset: decimal digits, or `0b`, `0o`, `0`, `0d`, `0x` with
 /// their digits, the letters small or capital. Single `_` may stand between digits.
 ///
-/// A fault where a digit is wanted and doesn't come (at the start, behind a prefix, behind `_`), or where a
+/// A fault where a digit is wanted and doesn't come (at the start, after a prefix, after `_`), or where a
 /// decimal digit follows that the base lacks.
 pub fn integer(text: &[u8], at: usize) -> Result<Scanned, Fault>
     requires { at ≤ length text.now }
@@ -54,7 +54,7 @@ pub(crate) fn radix(text: &[u8], at: usize) -> (u8, usize)
     }
 }
 
-/// One more digit behind a value, where the new value is at most 2^63.
+/// One more digit after a value, where the new value is at most 2^63.
 fn with_digit(value: Option<u64>, base: u8, digit: u8) -> Option<u64>
     requires { 0 < base }
     ensures { (n : ℕ) → SomeIff value (n ≤ 9223372036854775808) n
@@ -75,9 +75,8 @@ fn with_digit(value: Option<u64>, base: u8, digit: u8) -> Option<u64>
 pub(crate) fn digits(base: u8, text: &[u8], start: usize) -> Result<Scanned, Fault>
     requires base { 0 < base }
     requires place { start ≤ length text.now }
-    ensures value { MatchResult result
-        (λ s. (n : ℕ) × (digits base true 0 start (drop start text.now) ≡ Ok (n, s.end)) × SomeIff s.value (n ≤ 9223372036854775808) n)
-        (λ f. digits base true 0 start (drop start text.now) ≡ Err f) }
+    ensures value { MatchResult result (λ s. (n : ℕ) × (digits base true 0 start (drop start text.now) ≡ Ok (n, s.end))
+        × SomeIff s.value (n ≤ 9223372036854775808) n) (λ f. digits base true 0 start (drop start text.now) ≡ Err f) }
     ensures forward { IfOk result (λ s. start < s.end) }
     ensures within { IfOk result (λ s. s.end ≤ length text.now) }
     ensures fault { IfErr result (λ f. f.at ≤ length text.now) }

@@ -1,4 +1,4 @@
-//! Numeric literals: integers and what may stand behind them.
+//! Numeric literals: integers and what may stand after them.
 ghost use Rattle.std.specs.Prelude.{◌≡◌, ◌≤◌, ◌<◌, length, IfOk, IfErr};
 ghost use Rattle.lexer_literals.specs.Numbers.{decimal_end, fraction_end, sign_end, exponent_end, parts_end, suffix_at, numeral_at};
 
@@ -6,7 +6,7 @@ use crate::bytes::{byte_at, goes_on, is_digit};
 use crate::fault::Fault;
 use crate::integers::{digits, integer, radix};
 
-/// What stands behind the integer of a numeric literal: nothing; a fraction or an exponent; at the end `r`; at
+/// What stands after the integer of a numeric literal: nothing; a fraction or an exponent; at the end `r`; at
 /// the end `i` or `ri`.
 #[derive(Clone, Copy, Debug, PartialEq, Eq)]
 pub enum Tail {
@@ -16,7 +16,7 @@ pub enum Tail {
     Imaginary,
 }
 
-/// The place behind a numeric literal, the value of its integer where that is at most 2^63, and its tail.
+/// The place after a numeric literal, the value of its integer where that is at most 2^63, and its tail.
 #[derive(Clone, Copy, Debug, PartialEq, Eq)]
 pub struct Number {
     pub end: usize,
@@ -26,7 +26,7 @@ pub struct Number {
 
 /// The numeric literal that begins at `at`, a byte offset: an integer, without prefix maybe a fraction (a point
 /// and digits) and an exponent (`e` or `E`, maybe a sign, and digits), then maybe a suffix `r`, `i` or `ri`,
-/// behind an exponent `i` alone. A letter behind which a name goes on is no suffix, as in `1if`.
+/// after an exponent `i` alone. A letter after which a name goes on is no suffix, as in `1if`.
 ///
 /// A fault where the digits of a part are malformed, as [`integer`] says.
 #[tactic(auto, unfolding(crate::specs::Numbers::numeral_at))]
@@ -113,7 +113,7 @@ fn exponent_end(text: &[u8], at: usize) -> Result<usize, Fault>
     }
 }
 
-/// The places behind the fraction and behind the exponent of a literal whose integer ends at `end`.
+/// The places after the fraction and after the exponent of a literal whose integer ends at `end`.
 #[tactic(auto, unfolding(crate::specs::Numbers::parts_end))]
 fn parts_end(text: &[u8], at: usize, end: usize) -> Result<(usize, usize), Fault>
     requires at { at ≤ length text.now }
@@ -132,7 +132,7 @@ fn parts_end(text: &[u8], at: usize, end: usize) -> Result<(usize, usize), Fault
     Ok((fraction, exponent))
 }
 
-/// The place behind a suffix, where one stands, and the tail that it makes of the tail before.
+/// The place after a suffix, where one stands, and the tail that it makes of the tail before.
 #[tactic(auto, unfolding(crate::specs::Numbers::suffix_at))]
 fn suffix(text: &[u8], at: usize, has_exponent: bool, tail: Tail) -> (usize, Tail)
     requires { at ≤ length text.now }

@@ -11,7 +11,7 @@ pub struct Delimiters {
     pub close: u8,
 }
 
-/// The escape of a literal as `'..'` or `%q(..)` behind the backslash before `at`, a byte offset: a delimiter
+/// The escape of a literal as `'..'` or `%q(..)` after the backslash before `at`, a byte offset: a delimiter
 /// and a backslash stand for themselves. Before any other byte, and at the text's end, the backslash stands for
 /// itself, and the byte is none of the escape.
 #[tactic(auto, unfolding(crate::specs::PlainEscapes::plain_escape_at))]

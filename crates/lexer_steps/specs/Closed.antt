@@ -10,21 +10,26 @@ use Rattle.lexer_steps.specs.State.{State, pushed}
 abbrev pub closing : ℕ → ℕ
 closing b = if b == 40 then 41 else if b == 91 then 93 else if b == 123 then 125 else if b == 60 then 62 else b
 
--- Behind the delimiter that closes a literal; depth: how many opener ones wait for theirs; escaped: a backslash
+-- After the delimiter that closes a literal; depth: how many opener ones wait for theirs; escaped: a backslash
 -- stands before.
 unfoldable pub closed_end : ℕ → ℕ → Bool → ℕ → ℕ → List ℕ → Option ℕ
 closed_end opener closer escaped depth at [] = None
 closed_end opener closer escaped depth at (x ∷ xs) =
     if escaped then closed_end opener closer false depth (at + 1) xs
     else if x == 92 then closed_end opener closer true depth (at + 1) xs
-    else if x == closer then (if depth == 0 then Some (at + 1) else closed_end opener closer false (depth - 1) (at + 1) xs)
+    else if x == closer then
+    (if depth == 0 then Some (at + 1) else closed_end opener closer false (depth - 1) (at + 1) xs)
     else if x == opener then closed_end opener closer false (depth + 1) (at + 1) xs
     else closed_end opener closer false depth (at + 1) xs
 
 abbrev pub closed_at : Option ℕ → List ℕ → ℕ → ℕ → Outside → State → Result (State × ℕ) ℕ
 closed_at None text at opener what s = Err at
-closed_at (Some end) text at opener what s = Ok (pushed s at (kinds.Outside what) contexts.Operand, if opener == 47 then option_end end (drop end text) else end)
+closed_at (Some end) text at opener what s = Ok (
+  pushed s at (kinds.Outside what) contexts.Operand,
+  if opener == 47 then option_end end (drop end text) else end,
+)
 
--- a literal whose contents begin at from behind the delimiter opener; letters behind a regular expression belong to it
+-- a literal whose contents begin at from after the delimiter opener; letters after a regular expression belong to it
 unfoldable pub outside_step : List ℕ → ℕ → ℕ → ℕ → Outside → State → Result (State × ℕ) ℕ
-outside_step text at from opener what s = closed_at (closed_end opener (closing opener) false 0 from (drop from text)) text at opener what s
+outside_step text at from opener what s =
+    closed_at (closed_end opener (closing opener) false 0 from (drop from text)) text at opener what s

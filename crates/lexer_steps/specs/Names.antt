@@ -1,4 +1,4 @@
--- Names: identifiers, constants, keywords, labels, variables and symbols. Each step gives the state behind the
+-- Names: identifiers, constants, keywords, labels, variables and symbols. Each step gives the state after the
 -- token and the place there.
 use Rattle.std.specs.Prelude.{ℕ, ◌+◌, ◌-◌, List, drop, take, length, codes, ◌==◌, nat_eq, nat_le, not, Bool, true, false, ◌||◌, ◌&&◌, if◌then◌else◌, Option, Some, None, Result, Ok, Err, slice_index}
 use Rattle.std.specs.List.{starts_with}
@@ -39,7 +39,7 @@ abbrev pub is_some : Option Keyword → Bool
 is_some (Some k) = true
 is_some None = false
 
--- where keywords are names; with its mark the name ends at marked, and behind def a = may follow
+-- where keywords are names; with its mark the name ends at marked, and after def a = may follow
 unfoldable pub wanted_name : List ℕ → ℕ → ℕ → ℕ → State → Result (State × ℕ) ℕ
 wanted_name text at end marked s =
     let last = if is_def s.context then def_end text marked else marked in
@@ -47,12 +47,15 @@ wanted_name text at end marked s =
 
 -- a name with a byte past ASCII at from
 abbrev pub wide_name : List ℕ → ℕ → ℕ → State → Result (State × ℕ) ℕ
-wide_name text at from s = Ok (pushed s at (kinds.Outside NonAsciiName) (after_name s.context), wide_end (from + 1) (drop (from + 1) text))
+wide_name text at from s = Ok (
+  pushed s at (kinds.Outside NonAsciiName) (after_name s.context),
+  wide_end (from + 1) (drop (from + 1) text),
+)
 
 abbrev pub label : List ℕ → ℕ → ℕ → State → Result (State × ℕ) ℕ
 label text at end s = Ok (pushed s at (kinds.Label (spelled text at end)) contexts.Value, end + 1)
 
--- a colon, and no other behind it
+-- a colon, and no other after it
 abbrev pub is_colon : List ℕ → ℕ → Bool
 is_colon text at = (slice_index text at == 58) && not (slice_index text (at + 1) == 58)
 
@@ -79,7 +82,11 @@ unfoldable pub variable_of : List ℕ → ℕ → State → Result (State × ℕ
 variable_of text at s =
     let end = name_end (at + 2) (drop (at + 2) text) in
     let name = spelled text at end in
-    Ok (pushed s at (if slice_index text at == 64 then kinds.InstanceVariable name else kinds.GlobalVariable name) contexts.Operand, end)
+    Ok (
+      pushed s at (if slice_index text at == 64 then kinds.InstanceVariable name else kinds.GlobalVariable name)
+          contexts.Operand,
+      end,
+    )
 
 -- @@name
 unfoldable pub class_variable : List ℕ → ℕ → State → Result (State × ℕ) ℕ
@@ -92,7 +99,10 @@ class_variable text at s =
 unfoldable pub special_global : List ℕ → ℕ → State → Result (State × ℕ) ℕ
 special_global text at s =
     let next = slice_index text (at + 1) in
-    if is_digit next then Ok (pushed s at (kinds.Outside SpecialGlobal) contexts.Operand, digit_end (at + 2) (drop (at + 2) text))
+    if is_digit next then Ok (
+      pushed s at (kinds.Outside SpecialGlobal) contexts.Operand,
+      digit_end (at + 2) (drop (at + 2) text),
+    )
     else if is_punctuation next then Ok (pushed s at (kinds.Outside SpecialGlobal) contexts.Operand, at + 2)
     else Err at
 
@@ -112,5 +122,6 @@ unfoldable pub symbol_name_end : List ℕ → ℕ → ℕ
 symbol_name_end text at =
     let first = slice_index text at in
     if is_name_start first then symbol_end text (name_end (at + 1) (drop (at + 1) text))
-    else if ((first == 64) || (first == 36)) && is_name_start (slice_index text (at + 1)) then name_end (at + 2) (drop (at + 2) text)
+    else if ((first == 64) || (first == 36)) && is_name_start (slice_index text (at + 1))
+    then name_end (at + 2) (drop (at + 2) text)
     else operator_end text at

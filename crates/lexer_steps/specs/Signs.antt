@@ -1,4 +1,4 @@
--- Marks, numbers and the openings of literals. Each step gives the state behind the token and the place there.
+-- Marks, numbers and the openings of literals. Each step gives the state after the token and the place there.
 use Rattle.std.specs.Prelude.{ℕ, ◌+◌, ◌==◌, nat_lt, not, Bool, true, false, ◌||◌, ◌&&◌, if◌then◌else◌, List, Option, Some, None, Result, Ok, Err, slice_index}
 use Rattle.lexer_literals.specs.declared.fault.Fault.{Fault}
 use Rattle.lexer_literals.specs.declared.numbers.Number.{Number}
@@ -24,16 +24,23 @@ use Rattle.lexer_steps.specs.State.{State, pushed, entered, left, top, interpola
 
 abbrev pub marked : Option Mark → ℕ → State → Result (State × ℕ) ℕ
 marked None at s = Err at
-marked (Some m) at s = Ok (pushed s at (kinds.Punctuator m.punctuator) (after_mark s.context m.punctuator), at + m.length)
+marked (Some m) at s = Ok (
+  pushed s at (kinds.Punctuator m.punctuator) (after_mark s.context m.punctuator),
+  at + m.length,
+)
 
 -- the longest mark at a place
 unfoldable pub mark_step : List ℕ → ℕ → State → Result (State × ℕ) ℕ
-mark_step text at s = marked (mark_of (slice_index text at) (slice_index text (at + 1)) (slice_index text (at + 2))) at s
+mark_step text at s =
+    marked (mark_of (slice_index text at) (slice_index text (at + 1)) (slice_index text (at + 2))) at s
 
--- a | opens the parameters of a block directly behind { or do, and the next | closes them
+-- a | opens the parameters of a block directly after { or do, and the next | closes them
 abbrev pub bar_step : ℕ → State → Result (State × ℕ) ℕ
 bar_step at s =
-    if is_block s.context then Ok (record (pushed s at (kinds.Punctuator marks.OpenBar) contexts.Start) { bars = true }, at + 1)
+    if is_block s.context then Ok (
+      record (pushed s at (kinds.Punctuator marks.OpenBar) contexts.Start) { bars = true },
+      at + 1,
+    )
     else Ok (record (pushed s at (kinds.Punctuator marks.CloseBar) contexts.Value) { bars = false }, at + 1)
 
 abbrev pub open_brace_step : ℕ → State → Result (State × ℕ) ℕ
@@ -63,7 +70,7 @@ between_marks opener closer = record { «open» = opener; close = closer }
 abbrev pub quoted : ℕ → Bool → Option ℕ → Literal
 quoted quote double key = record { delimiters = between_marks quote quote; depth = 0; double = double; key = key }
 
--- a string in quotes; a colon behind it makes it a key unless it stands behind the ? of a conditional
+-- a string in quotes; a colon after it makes it a key unless it stands after the ? of a conditional
 unfoldable pub quote_step : List ℕ → ℕ → State → Result (State × ℕ) ℕ
 quote_step text at s =
     let quote = slice_index text at in
@@ -80,7 +87,8 @@ unfoldable pub colon_step : List ℕ → ℕ → State → Result (State × ℕ)
 colon_step text at s =
     let next = slice_index text (at + 1) in
     if not (expects_value s.context) && not s.space then mark_step text at s
-    else if (next == 34) || (next == 39) then open_literal at 2 kinds.SymbolBegin (Text (quoted next (next == 34) None)) s
+    else if (next == 34) || (next == 39)
+    then open_literal at 2 kinds.SymbolBegin (Text (quoted next (next == 34) None)) s
     else symbol_or_mark text at (symbol_name_end text (at + 1)) s
 
 abbrev pub number_kind : Option ℕ → Tail → TokenKind
@@ -97,7 +105,7 @@ numbered (Err f) at s = Err f.at
 unfoldable pub number_step : List ℕ → ℕ → State → Result (State × ℕ) ℕ
 number_step text at s = numbered (numeral_at text at) at s
 
--- a mark behind an identifier and white space, with none behind it
+-- a mark after an identifier and white space, with none after it
 abbrev pub is_spaced : List ℕ → ℕ → State → Bool
 is_spaced text at s = is_name s.context && s.space && not (is_white (slice_index text (at + 1)))
 
@@ -112,9 +120,10 @@ slash_step text at s =
     else mark_step text at s
 
 unfoldable pub backquote_step : List ℕ → ℕ → State → Result (State × ℕ) ℕ
-backquote_step text at s = if expects_value s.context then outside_step text at (at + 1) 96 outsides.Backquote s else Err at
+backquote_step text at s =
+    if expects_value s.context then outside_step text at (at + 1) 96 outsides.Backquote s else Err at
 
--- a byte behind ? is a string where it prints and is no backslash, and no name goes on behind it
+-- a byte after ? is a string where it prints and is no backslash, and no name goes on after it
 abbrev pub is_character : List ℕ → ℕ → Bool
 is_character text at =
     let b = slice_index text (at + 1) in
@@ -122,7 +131,8 @@ is_character text at =
 
 unfoldable pub question_step : List ℕ → ℕ → State → Result (State × ℕ) ℕ
 question_step text at s =
-    if expects_value s.context && is_character text at then Ok (pushed s at (kinds.Character (slice_index text (at + 1))) contexts.Operand, at + 2)
+    if expects_value s.context && is_character text at
+    then Ok (pushed s at (kinds.Character (slice_index text (at + 1))) contexts.Operand, at + 2)
     else if is_spaced text at s then ambiguous_step at s
     else mark_step text at s
 
@@ -132,10 +142,16 @@ is_delimiter b = (b == 40) || (b == 91) || (b == 123) || (b == 60) || (b == 124)
 
 -- the letters q Q w i with a delimiter
 abbrev pub is_percent_letter : ℕ → ℕ → Bool
-is_percent_letter letter delimiter = ((letter == 113) || (letter == 81) || (letter == 119) || (letter == 105)) && is_delimiter delimiter
+is_percent_letter letter delimiter =
+    ((letter == 113) || (letter == 81) || (letter == 119) || (letter == 105)) && is_delimiter delimiter
 
 abbrev pub percent_literal : ℕ → Bool → Literal
-percent_literal opener double = record { delimiters = between_marks opener (closing opener); depth = 0; double = double; key = None }
+percent_literal opener double = record {
+  delimiters = between_marks opener (closing opener);
+  depth = 0;
+  double = double;
+  key = None;
+}
 
 unfoldable pub letter_step : ℕ → ℕ → ℕ → State → Result (State × ℕ) ℕ
 letter_step at letter delimiter s =
@@ -155,7 +171,7 @@ percent_value_step text at s =
     else if is_punctuation next then outside_step text at (at + 2) next outsides.PercentLiteral s
     else mark_step text at s
 
--- elsewhere % begins a literal behind an identifier and white space alone
+-- elsewhere % begins a literal after an identifier and white space alone
 unfoldable pub percent_step : List ℕ → ℕ → State → Result (State × ℕ) ℕ
 percent_step text at s =
     let next = slice_index text (at + 1) in

@@ -29,13 +29,44 @@ pub record State : Type 0 where
   pub piece_at : ℕ
 
 abbrev pub state_of : Lexer → State
-state_of l = record { tokens = l.tokens.items; modes = l.modes.items; context = l.context; space = l.space; fresh = l.fresh; bars = l.bars; inside = l.inside; piece = l.piece.items; piece_at = l.piece_at }
+state_of l = record {
+  tokens = l.tokens.items;
+  modes = l.modes.items;
+  context = l.context;
+  space = l.space;
+  fresh = l.fresh;
+  bars = l.bars;
+  inside = l.inside;
+  piece = l.piece.items;
+  piece_at = l.piece_at;
+}
 
 abbrev pub opening : State
-opening = record { tokens = []; modes = []; context = contexts.Start; space = false; fresh = true; bars = false; inside = 0; piece = []; piece_at = 0 }
+opening = record {
+  tokens = [];
+  modes = [];
+  context = contexts.Start;
+  space = false;
+  fresh = true;
+  bars = false;
+  inside = 0;
+  piece = [];
+  piece_at = 0;
+}
 
 abbrev pub pushed_as : State → ℕ → TokenKind → Bool → Context → State
-pushed_as s at kind value next = record s { tokens = s.tokens ++ record { kind = kind; at = at; space = s.space; line_start = s.fresh; value = value } ∷ []; context = next; space = false; fresh = false }
+pushed_as s at kind value next = record s {
+  tokens = s.tokens ++ record {
+    kind = kind;
+    at = at;
+    space = s.space;
+    line_start = s.fresh;
+    value = value;
+  } ∷ [];
+  context = next;
+  space = false;
+  fresh = false;
+}
 
 -- one token more
 abbrev pub pushed : State → ℕ → TokenKind → Context → State
@@ -67,16 +98,27 @@ interpolated s = record (left s) { inside = s.inside - 1 }
 
 -- one byte more of the literal, which stands at a place
 abbrev pub appended : State → ℕ → ℕ → State
-appended s at byte = record s { piece = s.piece ++ byte ∷ []; piece_at = if length s.piece == 0 then at else s.piece_at }
+appended s at byte = record s {
+  piece = s.piece ++ byte ∷ [];
+  piece_at = if length s.piece == 0 then at else s.piece_at;
+}
 
 -- some bytes more
 abbrev pub extended : State → ℕ → List ℕ → State
 extended s at bytes = record s { piece = s.piece ++ bytes; piece_at = if length s.piece == 0 then at else s.piece_at }
 
+-- no bytes of a literal are left
+abbrev pub emptied : State → State
+emptied s = record s { piece = [] }
+
 -- the bytes of the literal so far are a token
 abbrev pub flushed : State → State
-flushed s = if length s.piece == 0 then s else record (pushed s s.piece_at (kinds.Piece s.piece) contexts.Operand) { piece = [] }
+flushed s =
+    if length s.piece == 0 then s
+    else emptied (pushed s s.piece_at (kinds.Piece s.piece) contexts.Operand)
 
 -- the bytes of a list's element so far are a token
 abbrev pub flushed_word : State → State
-flushed_word s = if length s.piece == 0 then s else record (pushed s s.piece_at (kinds.Word s.piece) contexts.Operand) { piece = [] }
+flushed_word s =
+    if length s.piece == 0 then s
+    else emptied (pushed s s.piece_at (kinds.Word s.piece) contexts.Operand)

@@ -1,5 +1,5 @@
-//! What a lexer keeps while it reads, and the reading of white space, comments and the ends of lines, of words, marks and
-//! numbers, and of the openings of literals.
+//! What a lexer keeps while it reads, and the reading of white space, comments and the ends of lines, of words, marks
+//! and numbers, and of the openings of literals.
 //!
 //! Types: [`LexError`], [`Lexer`], [`Mode`], [`Literal`]. Calls: the methods of [`Lexer`], those of [`scan`], of
 //! [`trivia`], of [`names`] and of [`signs`].

@@ -10,7 +10,7 @@ pub struct Literal {
     pub depth: usize,
     /// Whether it has the escapes of double quotes and interpolation.
     pub double: bool,
-    /// Where its opening stands, if a colon behind its end makes it a key.
+    /// Where its opening stands, if a colon after its end makes it a key.
     pub key: Option<u32>,
 }
 

@@ -8,10 +8,10 @@ use crate::error::LexError;
 use crate::scan::{byte_at, def_end, digit_end, mark_end, name_end, symbol_end, wide_end};
 use crate::state::Lexer;
 use crate::trivia::begins_line;
-use rb_base::Bytes;
-use rb_syntax::{Outside, TokenKind};
 use lexer_tables::bytes::{is_capital, is_digit, is_name_start, is_punctuation, is_wide};
 use lexer_tables::{Context, keyword_of, operator_name};
+use rb_base::Bytes;
+use rb_syntax::{Outside, TokenKind};
 use std::alloc::Global;
 
 /// Whether a line ends at a place.
@@ -46,7 +46,8 @@ fn push_name(
     requires within { end ≤ length text.now }
     requires small { length text.now < 4294967296 }
     ensures place { IfOk result (λ e. e ≡ end) }
-    ensures value { Gives (λ e. (state_of lexer.new, e)) result (names.name_of text.now at end is_method (state_of lexer.old)) }
+    ensures value { Gives (λ e. (state_of lexer.new, e)) result
+        (names.name_of text.now at end is_method (state_of lexer.old)) }
     ensures fault { IfErr result (λ e. IsWithin (length text.now) e) }
 {
     let name = Bytes::from_slice(alloc, &text[at..end])?;
@@ -76,7 +77,8 @@ fn push_wanted(
     requires within { marked ≤ length text.now }
     requires small { length text.now < 4294967296 }
     ensures place { IfOk result (λ e. (at < e) × (e ≤ length text.now)) }
-    ensures value { Gives (λ e. (state_of lexer.new, e)) result (names.wanted_name text.now at end marked (state_of lexer.old)) }
+    ensures value { Gives (λ e. (state_of lexer.new, e)) result
+        (names.wanted_name text.now at end marked (state_of lexer.old)) }
     ensures fault { IfErr result (λ e. IsWithin (length text.now) e) }
 {
     let last = if lexer.context.is_def() {
@@ -94,7 +96,8 @@ pub fn push_wide(lexer: &mut Lexer, text: &[u8], at: usize, from: usize) -> Resu
     requires within { from < length text.now }
     requires small { length text.now < 4294967296 }
     ensures place { IfOk result (λ e. (at < e) × (e ≤ length text.now)) }
-    ensures value { Gives (λ e. (state_of lexer.new, e)) result (names.wide_name text.now at from (state_of lexer.old)) }
+    ensures value { Gives (λ e. (state_of lexer.new, e)) result
+        (names.wide_name text.now at from (state_of lexer.old)) }
     ensures fault { IfErr result (λ e. IsWithin (length text.now) e) }
 {
     let end = wide_end(text, from + 1);
@@ -123,7 +126,7 @@ fn push_label(
     Ok(end + 1)
 }
 
-/// Whether a colon stands at a place and no other behind it.
+/// Whether a colon stands at a place and no other after it.
 pub fn is_colon(text: &[u8], at: usize) -> bool
     ensures value { result ≡ names.is_colon text.now at }
 {
@@ -195,7 +198,8 @@ fn class_variable(lexer: &mut Lexer, text: &[u8], at: usize) -> Result<usize, Le
     requires place { at < length text.now }
     requires small { length text.now < 4294967296 }
     ensures within { IfOk result (λ e. (at < e) × (e ≤ length text.now)) }
-    ensures value { Gives (λ e. (state_of lexer.new, e)) result (names.class_variable text.now at (state_of lexer.old)) }
+    ensures value { Gives (λ e. (state_of lexer.new, e)) result
+        (names.class_variable text.now at (state_of lexer.old)) }
     ensures fault { IfErr result (λ e. IsWithin (length text.now) e) }
 {
     if byte_at(text, at + 1) != b'@' || !is_name_start(byte_at(text, at + 2)) {
@@ -216,7 +220,8 @@ fn special_global(lexer: &mut Lexer, text: &[u8], at: usize) -> Result<usize, Le
     requires place { at < length text.now }
     requires small { length text.now < 4294967296 }
     ensures within { IfOk result (λ e. (at < e) × (e ≤ length text.now)) }
-    ensures value { Gives (λ e. (state_of lexer.new, e)) result (names.special_global text.now at (state_of lexer.old)) }
+    ensures value { Gives (λ e. (state_of lexer.new, e)) result
+        (names.special_global text.now at (state_of lexer.old)) }
     ensures fault { IfErr result (λ e. IsWithin (length text.now) e) }
 {
     let next = byte_at(text, at + 1);
@@ -284,7 +289,8 @@ pub fn push_operator(
     requires within { end ≤ length text.now }
     requires small { length text.now < 4294967296 }
     ensures place { IfOk result (λ e. (at < e) × (e ≤ length text.now)) }
-    ensures value { Gives (λ e. (state_of lexer.new, e)) result (names.name_of text.now at end true (state_of lexer.old)) }
+    ensures value { Gives (λ e. (state_of lexer.new, e)) result
+        (names.name_of text.now at end true (state_of lexer.old)) }
     ensures fault { IfErr result (λ e. IsWithin (length text.now) e) }
 {
     push_name(alloc, lexer, text, at, end, true)

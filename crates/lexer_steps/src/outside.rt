@@ -4,14 +4,14 @@ ghost use Rattle.lexer_steps.specs.LexError.{Gives, IsWithin};
 ghost use Rattle.lexer_steps.specs.State.{state_of};
 ghost use Rattle.lexer_steps.specs.Closed as closed;
 
-use crate::signs::closing;
 use crate::error::LexError;
 use crate::scan::option_end;
+use crate::signs::closing;
 use crate::state::Lexer;
-use rb_syntax::{Outside, TokenKind};
 use lexer_tables::Context;
+use rb_syntax::{Outside, TokenKind};
 
-/// The place behind the delimiter that closes what `open` opened before `from`; a backslash takes the next byte.
+/// The place after the delimiter that closes what `open` opened before `from`; a backslash takes the next byte.
 #[tactic(auto, unfolding(crate::specs::Closed::closed_end))]
 fn closed_end(text: &[u8], from: usize, opener: u8, closer: u8) -> Option<usize>
     requires { from ≤ length text.now }
@@ -41,7 +41,7 @@ fn closed_end(text: &[u8], from: usize, opener: u8, closer: u8) -> Option<usize>
     None
 }
 
-/// A literal outside the language whose contents begin at `from` behind the delimiter `open`. Letters behind a
+/// A literal outside the language whose contents begin at `from` after the delimiter `open`. Letters after a
 /// regular expression belong to it.
 #[tactic(auto, unfolding(crate::specs::Closed::outside_step))]
 pub fn outside_step(
@@ -56,7 +56,8 @@ pub fn outside_step(
     requires within { from ≤ length text.now }
     requires small { length text.now < 4294967296 }
     ensures within { IfOk result (λ e. (at < e) × (e ≤ length text.now)) }
-    ensures value { Gives (λ e. (state_of lexer.new, e)) result (closed.outside_step text.now at from opener what (state_of lexer.old)) }
+    ensures value { Gives (λ e. (state_of lexer.new, e)) result (closed.outside_step text.now at from opener what
+        (state_of lexer.old)) }
     ensures fault { IfErr result (λ e. IsWithin (length text.now) e) }
 {
     let Some(end) = closed_end(text, from, opener, closing(opener)) else {

@@ -15,6 +15,61 @@ pub fn byte_at(text: &[u8], at: usize) -> u8
     }
 }
 
+/// The bytes of a run.
+#[derive(Clone, Copy, Debug, PartialEq, Eq)]
+pub enum Run {
+    /// Letters, digits and `_`.
+    Name,
+    /// Those and bytes past ASCII.
+    WideName,
+    /// Decimal digits.
+    Digits,
+    /// Small letters.
+    Options,
+    /// All but a newline and a zero byte.
+    Comment,
+}
+
+fn is_wide_name_byte(byte: u8) -> bool
+    ensures { result ≡ scan.is_wide_name_byte byte }
+{
+    is_name_byte(byte) || is_wide(byte)
+}
+
+fn ends_comment(byte: u8) -> bool
+    ensures { result ≡ scan.ends_comment byte }
+{
+    byte == b'\n' || byte == 0
+}
+
+/// Whether a byte belongs to a run.
+fn belongs(run: Run, byte: u8) -> bool
+    ensures { result ≡ scan.belongs run byte }
+{
+    match run {
+        Run::Name => is_name_byte(byte),
+        Run::WideName => is_wide_name_byte(byte),
+        Run::Digits => is_digit(byte),
+        Run::Options => byte.is_ascii_lowercase(),
+        Run::Comment => !ends_comment(byte),
+    }
+}
+
+/// Where a run ends.
+#[tactic(auto, unfolding(crate::specs::Scan::run_end))]
+fn run_end(run: Run, text: &[u8], from: usize) -> usize
+    requires { from ≤ length text.now }
+    ensures forward { from ≤ result }
+    ensures within { result ≤ length text.now }
+    ensures value { result ≡ scan.run_end (scan.belongs run) from (drop from text.now) }
+{
+    let mut at = from;
+    'bytes: while at < text.len() && belongs(run, text[at]) {
+        at += 1;
+    }
+    at
+}
+
 /// Where letters, digits and `_` end.
 #[tactic(auto, unfolding(crate::specs::Scan::name_end))]
 pub fn name_end(text: &[u8], from: usize) -> usize
@@ -23,11 +78,7 @@ pub fn name_end(text: &[u8], from: usize) -> usize
     ensures within { result ≤ length text.now }
     ensures value { result ≡ scan.name_end from (drop from text.now) }
 {
-    let mut at = from;
-    'bytes: while at < text.len() && is_name_byte(text[at]) {
-        at += 1;
-    }
-    at
+    run_end(Run::Name, text, from)
 }
 
 /// Where letters, digits, `_` and bytes past ASCII end.
@@ -38,17 +89,7 @@ pub fn wide_end(text: &[u8], from: usize) -> usize
     ensures within { result ≤ length text.now }
     ensures value { result ≡ scan.wide_end from (drop from text.now) }
 {
-    let mut at = from;
-    'bytes: while at < text.len() && is_wide_name_byte(text[at]) {
-        at += 1;
-    }
-    at
-}
-
-fn is_wide_name_byte(byte: u8) -> bool
-    ensures { result ≡ scan.is_wide_name_byte byte }
-{
-    is_name_byte(byte) || is_wide(byte)
+    run_end(Run::WideName, text, from)
 }
 
 /// Where decimal digits end.
@@ -59,11 +100,7 @@ pub fn digit_end(text: &[u8], from: usize) -> usize
     ensures within { result ≤ length text.now }
     ensures value { result ≡ scan.digit_end from (drop from text.now) }
 {
-    let mut at = from;
-    'bytes: while at < text.len() && is_digit(text[at]) {
-        at += 1;
-    }
-    at
+    run_end(Run::Digits, text, from)
 }
 
 /// Where small letters end.
@@ -74,11 +111,7 @@ pub fn option_end(text: &[u8], from: usize) -> usize
     ensures within { result ≤ length text.now }
     ensures value { result ≡ scan.option_end from (drop from text.now) }
 {
-    let mut at = from;
-    'bytes: while at < text.len() && text[at].is_ascii_lowercase() {
-        at += 1;
-    }
-    at
+    run_end(Run::Options, text, from)
 }
 
 /// Where a comment ends: at a newline or a zero byte.
@@ -89,20 +122,10 @@ pub fn comment_end(text: &[u8], from: usize) -> usize
     ensures within { result ≤ length text.now }
     ensures value { result ≡ scan.comment_end from (drop from text.now) }
 {
-    let mut at = from;
-    'bytes: while at < text.len() && !ends_comment(text[at]) {
-        at += 1;
-    }
-    at
+    run_end(Run::Comment, text, from)
 }
 
-fn ends_comment(byte: u8) -> bool
-    ensures { result ≡ scan.ends_comment byte }
-{
-    byte == b'\n' || byte == 0
-}
-
-/// Where the line ends: behind its newline, or at the text's end.
+/// Where the line ends: after its newline, or at the text's end.
 #[tactic(auto, unfolding(crate::specs::Scan::line_end))]
 pub fn line_end(text: &[u8], from: usize) -> usize
     requires { from ≤ length text.now }
@@ -140,7 +163,7 @@ pub fn mark_end(text: &[u8], at: usize) -> usize
     }
 }
 
-/// Where a name behind `def` ends, with its `=`.
+/// Where a name after `def` ends, with its `=`.
 #[tactic(auto, unfolding(crate::specs::Scan::def_end))]
 pub fn def_end(text: &[u8], at: usize) -> usize
     requires { at ≤ length text.now }

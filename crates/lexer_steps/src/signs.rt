@@ -6,17 +6,17 @@ ghost use Rattle.lexer_steps.specs.State.{state_of};
 ghost use Rattle.lexer_steps.specs.Closed as closed;
 ghost use Rattle.lexer_steps.specs.Signs as signs;
 
-use crate::names::symbol_name_end;
-use crate::outside::outside_step;
 use crate::error::LexError;
 use crate::mode::{Literal, Mode};
+use crate::names::symbol_name_end;
+use crate::outside::outside_step;
 use crate::scan::byte_at;
 use crate::state::Lexer;
-use rb_base::Bytes;
 use lexer_literals::{Delimiters, Tail, numeral};
-use rb_syntax::{Outside, Punctuator, TokenKind};
 use lexer_tables::bytes::{is_letter, is_name_byte, is_punctuation, is_white};
 use lexer_tables::{Context, mark_of};
+use rb_base::Bytes;
+use rb_syntax::{Outside, Punctuator, TokenKind};
 use std::alloc::Global;
 
 /// The longest mark that begins at a place.
@@ -117,7 +117,8 @@ fn open_literal(
     requires place { at < 4294967296 }
     requires short { length < 4 }
     ensures place { IfOk result (λ e. e ≡ at + length) }
-    ensures value { Gives (λ e. (state_of lexer.new, e)) result (signs.open_literal at length kind mode (state_of lexer.old)) }
+    ensures value { Gives (λ e. (state_of lexer.new, e)) result
+        (signs.open_literal at length kind mode (state_of lexer.old)) }
     ensures fault { IfErr result (λ e. e ≡ NoMemory) }
 {
     lexer.push(at, kind, Context::Operand)?;
@@ -220,7 +221,7 @@ fn number_step(lexer: &mut Lexer, text: &[u8], at: usize) -> Result<usize, LexEr
     }
 }
 
-/// Whether a mark stands behind an identifier and white space, with none behind it.
+/// Whether a mark stands after an identifier and white space, with none after it.
 fn is_spaced(lexer: &Lexer, text: &[u8], at: usize) -> bool
     requires { at < length text.now }
     ensures value { result ≡ signs.is_spaced text.now at (state_of lexer.now) }
@@ -263,7 +264,8 @@ fn backquote_step(lexer: &mut Lexer, text: &[u8], at: usize) -> Result<usize, Le
     requires place { at < length text.now }
     requires small { length text.now < 4294967296 }
     ensures within { IfOk result (λ e. (at < e) × (e ≤ length text.now)) }
-    ensures value { Gives (λ e. (state_of lexer.new, e)) result (signs.backquote_step text.now at (state_of lexer.old)) }
+    ensures value { Gives (λ e. (state_of lexer.new, e)) result
+        (signs.backquote_step text.now at (state_of lexer.old)) }
     ensures fault { IfErr result (λ e. IsWithin (length text.now) e) }
 {
     if lexer.context.expects_value() {
@@ -273,7 +275,7 @@ fn backquote_step(lexer: &mut Lexer, text: &[u8], at: usize) -> Result<usize, Le
     }
 }
 
-/// Whether `?` and a byte at a place are a string: the byte prints and is no backslash, and no name goes on behind it.
+/// Whether `?` and a byte at a place are a string: the byte prints and is no backslash, and no name goes on after it.
 fn is_character(text: &[u8], at: usize) -> bool
     requires { at < length text.now }
     ensures value { result ≡ signs.is_character text.now at }
@@ -326,7 +328,7 @@ fn is_delimiter(byte: u8) -> bool
     }
 }
 
-/// Whether a letter and a delimiter behind `%` begin a literal of the language.
+/// Whether a letter and a delimiter after `%` begin a literal of the language.
 fn is_percent_letter(letter: u8, delimiter: u8) -> bool
     ensures { result ≡ signs.is_percent_letter letter delimiter }
 {
@@ -354,7 +356,8 @@ fn percent_literal(opener: u8, double: bool) -> Literal
 fn letter_step(lexer: &mut Lexer, at: usize, letter: u8, delimiter: u8) -> Result<usize, LexError>
     requires { at < 4294967296 }
     ensures place { IfOk result (λ e. e ≡ at + 3) }
-    ensures value { Gives (λ e. (state_of lexer.new, e)) result (signs.letter_step at letter delimiter (state_of lexer.old)) }
+    ensures value { Gives (λ e. (state_of lexer.new, e)) result
+        (signs.letter_step at letter delimiter (state_of lexer.old)) }
     ensures fault { IfErr result (λ e. e ≡ NoMemory) }
 {
     let literal = percent_literal(delimiter, letter == b'Q');
@@ -371,7 +374,8 @@ fn percent_value_step(lexer: &mut Lexer, text: &[u8], at: usize) -> Result<usize
     requires place { at < length text.now }
     requires small { length text.now < 4294967296 }
     ensures within { IfOk result (λ e. (at < e) × (e ≤ length text.now)) }
-    ensures value { Gives (λ e. (state_of lexer.new, e)) result (signs.percent_value_step text.now at (state_of lexer.old)) }
+    ensures value { Gives (λ e. (state_of lexer.new, e)) result
+        (signs.percent_value_step text.now at (state_of lexer.old)) }
     ensures fault { IfErr result (λ e. IsWithin (length text.now) e) }
 {
     let next = byte_at(text, at + 1);

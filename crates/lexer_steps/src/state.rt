@@ -1,10 +1,10 @@
 //! What was read so far.
 use crate::error::LexError;
 use crate::mode::Mode;
-use rb_base::Bytes;
 use lexer_literals::Escaped;
-use rb_syntax::{Keyword, Token, TokenKind};
 use lexer_tables::{Context, after_keyword};
+use rb_base::Bytes;
+use rb_syntax::{Keyword, Token, TokenKind};
 use std::alloc::Global;
 use std::mem;
 
@@ -187,6 +187,14 @@ impl Lexer {
         Ok(())
     }
 
+    /// The bytes of the literal so far, of which none are left.
+    fn take_piece(&mut self, alloc: Global) -> Bytes
+        ensures bytes { result ≡ self.old.piece.items }
+        ensures rest { state_of self.new ≡ state.emptied (state_of self.old) }
+    {
+        Bytes::from_vec(mem::replace(&mut self.piece, Vec::new(alloc)))
+    }
+
     /// The bytes of the literal so far are a token.
     pub fn flush(&mut self, alloc: Global) -> Result<(), LexError>
         ensures ok { OnOk result (state_of self.new ≡ state.flushed (state_of self.old)) }
@@ -195,13 +203,9 @@ impl Lexer {
         if self.piece.is_empty() {
             return Ok(());
         }
-        let bytes = mem::replace(&mut self.piece, Vec::new(alloc));
         let at = self.piece_at as usize;
-        self.push(
-            at,
-            TokenKind::Piece(Bytes::from_vec(bytes)),
-            Context::Operand,
-        )
+        let kind = TokenKind::Piece(self.take_piece(alloc));
+        self.push(at, kind, Context::Operand)
     }
 
     /// The bytes of a list's element so far are a token.
@@ -212,12 +216,8 @@ impl Lexer {
         if self.piece.is_empty() {
             return Ok(());
         }
-        let bytes = mem::replace(&mut self.piece, Vec::new(alloc));
         let at = self.piece_at as usize;
-        self.push(
-            at,
-            TokenKind::Word(Bytes::from_vec(bytes)),
-            Context::Operand,
-        )
+        let kind = TokenKind::Word(self.take_piece(alloc));
+        self.push(at, kind, Context::Operand)
     }
 }

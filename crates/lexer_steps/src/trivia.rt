@@ -7,16 +7,16 @@ ghost use Rattle.lexer_steps.specs.Trivia as trivia;
 use crate::error::LexError;
 use crate::scan::{byte_at, comment_end, line_end};
 use crate::state::Lexer;
-use rb_syntax::TokenKind;
 use lexer_tables::Context;
 use lexer_tables::bytes::{is_blank, is_name_start, is_white};
+use rb_syntax::TokenKind;
 
 /// Where a place without tokens lies.
 #[derive(Clone, Copy, Debug, PartialEq, Eq)]
 pub enum Between {
     /// At the beginning of a line.
     Fresh,
-    /// Behind white space of a line.
+    /// After white space of a line.
     Inside,
     /// In a comment.
     Comment,
@@ -151,7 +151,7 @@ fn passing_line(byte: u8) -> Between
     }
 }
 
-/// Where the next token begins behind white space and comments, from the beginning of a line.
+/// Where the next token begins after white space and comments, from the beginning of a line.
 #[tactic(auto, unfolding(crate::specs::Trivia::next_token))]
 fn next_token(text: &[u8], from: usize) -> usize
     requires { from ≤ length text.now }
@@ -178,7 +178,7 @@ fn is_dot(text: &[u8], at: usize) -> bool
     byte_at(text, at) == b'.' && is_name_start(byte_at(text, at + 1))
 }
 
-/// The end of a line, behind which the next line begins at `next`.
+/// The end of a line, after which the next line begins at `next`.
 #[tactic(auto, unfolding(crate::specs::Trivia::newline_step))]
 pub fn newline_step(
     lexer: &mut Lexer,
@@ -189,7 +189,8 @@ pub fn newline_step(
     requires next { next ≤ length text.now }
     requires small { at < 4294967296 }
     ensures within { IfOk result (λ end. (next ≤ end) × (end ≤ length text.now)) }
-    ensures value { Gives (λ end. (state_of lexer.new, end)) result (trivia.newline_step text.now at next (state_of lexer.old)) }
+    ensures value { Gives (λ end. (state_of lexer.new, end)) result
+        (trivia.newline_step text.now at next (state_of lexer.old)) }
     ensures fault { IfErr result (λ e. IsWithin (length text.now) e) }
 {
     let mut end = next;
@@ -220,7 +221,8 @@ pub fn trivia_step(lexer: &mut Lexer, text: &[u8], at: usize) -> Result<usize, L
     requires place { at < length text.now }
     requires small { length text.now < 4294967296 }
     ensures within { IfOk result (λ end. (at < end) × (end ≤ length text.now)) }
-    ensures value { Gives (λ end. (state_of lexer.new, end)) result (trivia.trivia_step text.now at (state_of lexer.old)) }
+    ensures value { Gives (λ end. (state_of lexer.new, end)) result
+        (trivia.trivia_step text.now at (state_of lexer.old)) }
     ensures fault { IfErr result (λ e. IsWithin (length text.now) e) }
 {
     match text[at] {

@@ -11,7 +11,8 @@ pick : (t : Bool) (x y : Mark) (Q : Mark → Type 0) → (t ≡ true → Q x) �
 pick true x y Q one other = one refl
 pick false x y Q one other = other refl
 
-pick_some : (t : Bool) (x y : Option Mark) (Q : Option Mark → Type 0) → (t ≡ true → Q x) → (t ≡ false → Q y) → Q (cond t x y)
+pick_some : (t : Bool) (x y : Option Mark) (Q : Option Mark → Type 0) → (t ≡ true → Q x) → (t ≡ false → Q y)
+    → Q (cond t x y)
 pick_some true x y Q one other = one refl
 pick_some false x y Q one other = other refl
 
@@ -81,7 +82,8 @@ some_bytes marks.CloseBrace = lit≤ tt
 plus_mark-so : (second third : ℕ) → IsSpelled 43 second third (plus_mark second)
 unfolding plus_mark
 plus_mark-so second third =
-    pick _ _ _ (λ (m : Mark). IsSpelled 43 second third m) (λ e. let b : second ≡ 61 = eqb-true second 61 e in rw b (refl, refl)) (λ other.
+    pick _ _ _ (λ (m : Mark). IsSpelled 43 second third m) (λ e. let b : second ≡ 61 = eqb-true second 61 e in
+    rw b (refl, refl)) (λ other.
     (refl, refl))
 
 plus_mark-some : (second third : ℕ) → 1 ≤ (plus_mark second).length
@@ -92,8 +94,10 @@ plus_mark-some second third =
 minus_mark-so : (second third : ℕ) → IsSpelled 45 second third (minus_mark second)
 unfolding minus_mark
 minus_mark-so second third =
-    pick _ _ _ (λ (m : Mark). IsSpelled 45 second third m) (λ e. let b : second ≡ 62 = eqb-true second 62 e in rw b (refl, refl)) (λ other.
-    pick _ _ _ (λ (m : Mark). IsSpelled 45 second third m) (λ e. let b : second ≡ 61 = eqb-true second 61 e in rw b (refl, refl)) (λ other.
+    pick _ _ _ (λ (m : Mark). IsSpelled 45 second third m) (λ e. let b : second ≡ 62 = eqb-true second 62 e in
+    rw b (refl, refl)) (λ other.
+    pick _ _ _ (λ (m : Mark). IsSpelled 45 second third m) (λ e. let b : second ≡ 61 = eqb-true second 61 e in
+    rw b (refl, refl)) (λ other.
     (refl, refl)))
 
 minus_mark-some : (second third : ℕ) → 1 ≤ (minus_mark second).length
@@ -104,9 +108,13 @@ minus_mark-some second third =
 star_mark-so : (second third : ℕ) → IsSpelled 42 second third (star_mark second third)
 unfolding star_mark
 star_mark-so second third =
-    pick _ _ _ (λ (m : Mark). IsSpelled 42 second third m) (λ e. let parts : (eqb second 42 ≡ true) × (eqb third 61 ≡ true) = and_parts _ _ e in let b : second ≡ 42 = eqb-true second 42 parts.0 in let c : third ≡ 61 = eqb-true third 61 parts.1 in rw (b, c) (refl, refl)) (λ other.
-    pick _ _ _ (λ (m : Mark). IsSpelled 42 second third m) (λ e. let b : second ≡ 42 = eqb-true second 42 e in rw b (refl, refl)) (λ other.
-    pick _ _ _ (λ (m : Mark). IsSpelled 42 second third m) (λ e. let b : second ≡ 61 = eqb-true second 61 e in rw b (refl, refl)) (λ other.
+    pick _ _ _ (λ (m : Mark). IsSpelled 42 second third m) (λ e. let parts : (eqb second 42 ≡ true)
+    × (eqb third 61 ≡ true) = and_parts _ _ e in let b : second ≡ 42 = eqb-true second 42 parts.0 in
+    let c : third ≡ 61 = eqb-true third 61 parts.1 in rw (b, c) (refl, refl)) (λ other.
+    pick _ _ _ (λ (m : Mark). IsSpelled 42 second third m) (λ e. let b : second ≡ 42 = eqb-true second 42 e in
+    rw b (refl, refl)) (λ other.
+    pick _ _ _ (λ (m : Mark). IsSpelled 42 second third m) (λ e. let b : second ≡ 61 = eqb-true second 61 e in
+    rw b (refl, refl)) (λ other.
     (refl, refl))))
 
 star_mark-some : (second third : ℕ) → 1 ≤ (star_mark second third).length
@@ -117,7 +125,8 @@ star_mark-some second third =
 slash_mark-so : (second third : ℕ) → IsSpelled 47 second third (slash_mark second)
 unfolding slash_mark
 slash_mark-so second third =
-    pick _ _ _ (λ (m : Mark). IsSpelled 47 second third m) (λ e. let b : second ≡ 61 = eqb-true second 61 e in rw b (refl, refl)) (λ other.
+    pick _ _ _ (λ (m : Mark). IsSpelled 47 second third m) (λ e. let b : second ≡ 61 = eqb-true second 61 e in
+    rw b (refl, refl)) (λ other.
     (refl, refl))
 
 slash_mark-some : (second third : ℕ) → 1 ≤ (slash_mark second).length
@@ -128,7 +137,8 @@ slash_mark-some second third =
 percent_mark-so : (second third : ℕ) → IsSpelled 37 second third (percent_mark second)
 unfolding percent_mark
 percent_mark-so second third =
-    pick _ _ _ (λ (m : Mark). IsSpelled 37 second third m) (λ e. let b : second ≡ 61 = eqb-true second 61 e in rw b (refl, refl)) (λ other.
+    pick _ _ _ (λ (m : Mark). IsSpelled 37 second third m) (λ e. let b : second ≡ 61 = eqb-true second 61 e in
+    rw b (refl, refl)) (λ other.
     (refl, refl))
 
 percent_mark-some : (second third : ℕ) → 1 ≤ (percent_mark second).length
@@ -139,7 +149,8 @@ percent_mark-some second third =
 caret_mark-so : (second third : ℕ) → IsSpelled 94 second third (caret_mark second)
 unfolding caret_mark
 caret_mark-so second third =
-    pick _ _ _ (λ (m : Mark). IsSpelled 94 second third m) (λ e. let b : second ≡ 61 = eqb-true second 61 e in rw b (refl, refl)) (λ other.
+    pick _ _ _ (λ (m : Mark). IsSpelled 94 second third m) (λ e. let b : second ≡ 61 = eqb-true second 61 e in
+    rw b (refl, refl)) (λ other.
     (refl, refl))
 
 caret_mark-some : (second third : ℕ) → 1 ≤ (caret_mark second).length
@@ -150,10 +161,15 @@ caret_mark-some second third =
 equal_mark-so : (second third : ℕ) → IsSpelled 61 second third (equal_mark second third)
 unfolding equal_mark
 equal_mark-so second third =
-    pick _ _ _ (λ (m : Mark). IsSpelled 61 second third m) (λ e. let parts : (eqb second 61 ≡ true) × (eqb third 61 ≡ true) = and_parts _ _ e in let b : second ≡ 61 = eqb-true second 61 parts.0 in let c : third ≡ 61 = eqb-true third 61 parts.1 in rw (b, c) (refl, refl)) (λ other.
-    pick _ _ _ (λ (m : Mark). IsSpelled 61 second third m) (λ e. let b : second ≡ 61 = eqb-true second 61 e in rw b (refl, refl)) (λ other.
-    pick _ _ _ (λ (m : Mark). IsSpelled 61 second third m) (λ e. let b : second ≡ 126 = eqb-true second 126 e in rw b (refl, refl)) (λ other.
-    pick _ _ _ (λ (m : Mark). IsSpelled 61 second third m) (λ e. let b : second ≡ 62 = eqb-true second 62 e in rw b (refl, refl)) (λ other.
+    pick _ _ _ (λ (m : Mark). IsSpelled 61 second third m) (λ e. let parts : (eqb second 61 ≡ true)
+    × (eqb third 61 ≡ true) = and_parts _ _ e in let b : second ≡ 61 = eqb-true second 61 parts.0 in
+    let c : third ≡ 61 = eqb-true third 61 parts.1 in rw (b, c) (refl, refl)) (λ other.
+    pick _ _ _ (λ (m : Mark). IsSpelled 61 second third m) (λ e. let b : second ≡ 61 = eqb-true second 61 e in
+    rw b (refl, refl)) (λ other.
+    pick _ _ _ (λ (m : Mark). IsSpelled 61 second third m) (λ e. let b : second ≡ 126 = eqb-true second 126 e in
+    rw b (refl, refl)) (λ other.
+    pick _ _ _ (λ (m : Mark). IsSpelled 61 second third m) (λ e. let b : second ≡ 62 = eqb-true second 62 e in
+    rw b (refl, refl)) (λ other.
     (refl, refl)))))
 
 equal_mark-some : (second third : ℕ) → 1 ≤ (equal_mark second third).length
@@ -164,8 +180,10 @@ equal_mark-some second third =
 not_mark-so : (second third : ℕ) → IsSpelled 33 second third (not_mark second)
 unfolding not_mark
 not_mark-so second third =
-    pick _ _ _ (λ (m : Mark). IsSpelled 33 second third m) (λ e. let b : second ≡ 61 = eqb-true second 61 e in rw b (refl, refl)) (λ other.
-    pick _ _ _ (λ (m : Mark). IsSpelled 33 second third m) (λ e. let b : second ≡ 126 = eqb-true second 126 e in rw b (refl, refl)) (λ other.
+    pick _ _ _ (λ (m : Mark). IsSpelled 33 second third m) (λ e. let b : second ≡ 61 = eqb-true second 61 e in
+    rw b (refl, refl)) (λ other.
+    pick _ _ _ (λ (m : Mark). IsSpelled 33 second third m) (λ e. let b : second ≡ 126 = eqb-true second 126 e in
+    rw b (refl, refl)) (λ other.
     (refl, refl)))
 
 not_mark-some : (second third : ℕ) → 1 ≤ (not_mark second).length
@@ -176,10 +194,16 @@ not_mark-some second third =
 less_mark-so : (second third : ℕ) → IsSpelled 60 second third (less_mark second third)
 unfolding less_mark
 less_mark-so second third =
-    pick _ _ _ (λ (m : Mark). IsSpelled 60 second third m) (λ e. let parts : (eqb second 61 ≡ true) × (eqb third 62 ≡ true) = and_parts _ _ e in let b : second ≡ 61 = eqb-true second 61 parts.0 in let c : third ≡ 62 = eqb-true third 62 parts.1 in rw (b, c) (refl, refl)) (λ other.
-    pick _ _ _ (λ (m : Mark). IsSpelled 60 second third m) (λ e. let b : second ≡ 61 = eqb-true second 61 e in rw b (refl, refl)) (λ other.
-    pick _ _ _ (λ (m : Mark). IsSpelled 60 second third m) (λ e. let parts : (eqb second 60 ≡ true) × (eqb third 61 ≡ true) = and_parts _ _ e in let b : second ≡ 60 = eqb-true second 60 parts.0 in let c : third ≡ 61 = eqb-true third 61 parts.1 in rw (b, c) (refl, refl)) (λ other.
-    pick _ _ _ (λ (m : Mark). IsSpelled 60 second third m) (λ e. let b : second ≡ 60 = eqb-true second 60 e in rw b (refl, refl)) (λ other.
+    pick _ _ _ (λ (m : Mark). IsSpelled 60 second third m) (λ e. let parts : (eqb second 61 ≡ true)
+    × (eqb third 62 ≡ true) = and_parts _ _ e in let b : second ≡ 61 = eqb-true second 61 parts.0 in
+    let c : third ≡ 62 = eqb-true third 62 parts.1 in rw (b, c) (refl, refl)) (λ other.
+    pick _ _ _ (λ (m : Mark). IsSpelled 60 second third m) (λ e. let b : second ≡ 61 = eqb-true second 61 e in
+    rw b (refl, refl)) (λ other.
+    pick _ _ _ (λ (m : Mark). IsSpelled 60 second third m) (λ e. let parts : (eqb second 60 ≡ true)
+    × (eqb third 61 ≡ true) = and_parts _ _ e in let b : second ≡ 60 = eqb-true second 60 parts.0 in
+    let c : third ≡ 61 = eqb-true third 61 parts.1 in rw (b, c) (refl, refl)) (λ other.
+    pick _ _ _ (λ (m : Mark). IsSpelled 60 second third m) (λ e. let b : second ≡ 60 = eqb-true second 60 e in
+    rw b (refl, refl)) (λ other.
     (refl, refl)))))
 
 less_mark-some : (second third : ℕ) → 1 ≤ (less_mark second third).length
@@ -190,9 +214,13 @@ less_mark-some second third =
 greater_mark-so : (second third : ℕ) → IsSpelled 62 second third (greater_mark second third)
 unfolding greater_mark
 greater_mark-so second third =
-    pick _ _ _ (λ (m : Mark). IsSpelled 62 second third m) (λ e. let b : second ≡ 61 = eqb-true second 61 e in rw b (refl, refl)) (λ other.
-    pick _ _ _ (λ (m : Mark). IsSpelled 62 second third m) (λ e. let parts : (eqb second 62 ≡ true) × (eqb third 61 ≡ true) = and_parts _ _ e in let b : second ≡ 62 = eqb-true second 62 parts.0 in let c : third ≡ 61 = eqb-true third 61 parts.1 in rw (b, c) (refl, refl)) (λ other.
-    pick _ _ _ (λ (m : Mark). IsSpelled 62 second third m) (λ e. let b : second ≡ 62 = eqb-true second 62 e in rw b (refl, refl)) (λ other.
+    pick _ _ _ (λ (m : Mark). IsSpelled 62 second third m) (λ e. let b : second ≡ 61 = eqb-true second 61 e in
+    rw b (refl, refl)) (λ other.
+    pick _ _ _ (λ (m : Mark). IsSpelled 62 second third m) (λ e. let parts : (eqb second 62 ≡ true)
+    × (eqb third 61 ≡ true) = and_parts _ _ e in let b : second ≡ 62 = eqb-true second 62 parts.0 in
+    let c : third ≡ 61 = eqb-true third 61 parts.1 in rw (b, c) (refl, refl)) (λ other.
+    pick _ _ _ (λ (m : Mark). IsSpelled 62 second third m) (λ e. let b : second ≡ 62 = eqb-true second 62 e in
+    rw b (refl, refl)) (λ other.
     (refl, refl))))
 
 greater_mark-some : (second third : ℕ) → 1 ≤ (greater_mark second third).length
@@ -203,10 +231,15 @@ greater_mark-some second third =
 ampersand_mark-so : (second third : ℕ) → IsSpelled 38 second third (ampersand_mark second third)
 unfolding ampersand_mark
 ampersand_mark-so second third =
-    pick _ _ _ (λ (m : Mark). IsSpelled 38 second third m) (λ e. let parts : (eqb second 38 ≡ true) × (eqb third 61 ≡ true) = and_parts _ _ e in let b : second ≡ 38 = eqb-true second 38 parts.0 in let c : third ≡ 61 = eqb-true third 61 parts.1 in rw (b, c) (refl, refl)) (λ other.
-    pick _ _ _ (λ (m : Mark). IsSpelled 38 second third m) (λ e. let b : second ≡ 38 = eqb-true second 38 e in rw b (refl, refl)) (λ other.
-    pick _ _ _ (λ (m : Mark). IsSpelled 38 second third m) (λ e. let b : second ≡ 61 = eqb-true second 61 e in rw b (refl, refl)) (λ other.
-    pick _ _ _ (λ (m : Mark). IsSpelled 38 second third m) (λ e. let b : second ≡ 46 = eqb-true second 46 e in rw b (refl, refl)) (λ other.
+    pick _ _ _ (λ (m : Mark). IsSpelled 38 second third m) (λ e. let parts : (eqb second 38 ≡ true)
+    × (eqb third 61 ≡ true) = and_parts _ _ e in let b : second ≡ 38 = eqb-true second 38 parts.0 in
+    let c : third ≡ 61 = eqb-true third 61 parts.1 in rw (b, c) (refl, refl)) (λ other.
+    pick _ _ _ (λ (m : Mark). IsSpelled 38 second third m) (λ e. let b : second ≡ 38 = eqb-true second 38 e in
+    rw b (refl, refl)) (λ other.
+    pick _ _ _ (λ (m : Mark). IsSpelled 38 second third m) (λ e. let b : second ≡ 61 = eqb-true second 61 e in
+    rw b (refl, refl)) (λ other.
+    pick _ _ _ (λ (m : Mark). IsSpelled 38 second third m) (λ e. let b : second ≡ 46 = eqb-true second 46 e in
+    rw b (refl, refl)) (λ other.
     (refl, refl)))))
 
 ampersand_mark-some : (second third : ℕ) → 1 ≤ (ampersand_mark second third).length
@@ -217,9 +250,13 @@ ampersand_mark-some second third =
 bar_mark-so : (second third : ℕ) → IsSpelled 124 second third (bar_mark second third)
 unfolding bar_mark
 bar_mark-so second third =
-    pick _ _ _ (λ (m : Mark). IsSpelled 124 second third m) (λ e. let parts : (eqb second 124 ≡ true) × (eqb third 61 ≡ true) = and_parts _ _ e in let b : second ≡ 124 = eqb-true second 124 parts.0 in let c : third ≡ 61 = eqb-true third 61 parts.1 in rw (b, c) (refl, refl)) (λ other.
-    pick _ _ _ (λ (m : Mark). IsSpelled 124 second third m) (λ e. let b : second ≡ 124 = eqb-true second 124 e in rw b (refl, refl)) (λ other.
-    pick _ _ _ (λ (m : Mark). IsSpelled 124 second third m) (λ e. let b : second ≡ 61 = eqb-true second 61 e in rw b (refl, refl)) (λ other.
+    pick _ _ _ (λ (m : Mark). IsSpelled 124 second third m) (λ e. let parts : (eqb second 124 ≡ true)
+    × (eqb third 61 ≡ true) = and_parts _ _ e in let b : second ≡ 124 = eqb-true second 124 parts.0 in
+    let c : third ≡ 61 = eqb-true third 61 parts.1 in rw (b, c) (refl, refl)) (λ other.
+    pick _ _ _ (λ (m : Mark). IsSpelled 124 second third m) (λ e. let b : second ≡ 124 = eqb-true second 124 e in
+    rw b (refl, refl)) (λ other.
+    pick _ _ _ (λ (m : Mark). IsSpelled 124 second third m) (λ e. let b : second ≡ 61 = eqb-true second 61 e in
+    rw b (refl, refl)) (λ other.
     (refl, refl))))
 
 bar_mark-some : (second third : ℕ) → 1 ≤ (bar_mark second third).length
@@ -230,8 +267,11 @@ bar_mark-some second third =
 dot_mark-so : (second third : ℕ) → IsSpelled 46 second third (dot_mark second third)
 unfolding dot_mark
 dot_mark-so second third =
-    pick _ _ _ (λ (m : Mark). IsSpelled 46 second third m) (λ e. let parts : (eqb second 46 ≡ true) × (eqb third 46 ≡ true) = and_parts _ _ e in let b : second ≡ 46 = eqb-true second 46 parts.0 in let c : third ≡ 46 = eqb-true third 46 parts.1 in rw (b, c) (refl, refl)) (λ other.
-    pick _ _ _ (λ (m : Mark). IsSpelled 46 second third m) (λ e. let b : second ≡ 46 = eqb-true second 46 e in rw b (refl, refl)) (λ other.
+    pick _ _ _ (λ (m : Mark). IsSpelled 46 second third m) (λ e. let parts : (eqb second 46 ≡ true)
+    × (eqb third 46 ≡ true) = and_parts _ _ e in let b : second ≡ 46 = eqb-true second 46 parts.0 in
+    let c : third ≡ 46 = eqb-true third 46 parts.1 in rw (b, c) (refl, refl)) (λ other.
+    pick _ _ _ (λ (m : Mark). IsSpelled 46 second third m) (λ e. let b : second ≡ 46 = eqb-true second 46 e in
+    rw b (refl, refl)) (λ other.
     (refl, refl)))
 
 dot_mark-some : (second third : ℕ) → 1 ≤ (dot_mark second third).length
@@ -242,7 +282,8 @@ dot_mark-some second third =
 colon_mark-so : (second third : ℕ) → IsSpelled 58 second third (colon_mark second)
 unfolding colon_mark
 colon_mark-so second third =
-    pick _ _ _ (λ (m : Mark). IsSpelled 58 second third m) (λ e. let b : second ≡ 58 = eqb-true second 58 e in rw b (refl, refl)) (λ other.
+    pick _ _ _ (λ (m : Mark). IsSpelled 58 second third m) (λ e. let b : second ≡ 58 = eqb-true second 58 e in
+    rw b (refl, refl)) (λ other.
     (refl, refl))
 
 colon_mark-some : (second third : ℕ) → 1 ≤ (colon_mark second).length
@@ -253,39 +294,64 @@ colon_mark-some second third =
 single-so : (first second third : ℕ) → MatchOption (single_mark first) (Unit {0}) (λ m. IsSpelled first second third m)
 unfolding single_mark
 single-so first second third =
-    pick_some _ _ _ (λ (o : Option Mark). MatchOption o (Unit {0}) (λ m. IsSpelled first second third m)) (λ e. let a : first ≡ 126 = eqb-true first 126 e in rw a (refl, refl)) (λ other.
-    pick_some _ _ _ (λ (o : Option Mark). MatchOption o (Unit {0}) (λ m. IsSpelled first second third m)) (λ e. let a : first ≡ 63 = eqb-true first 63 e in rw a (refl, refl)) (λ other.
-    pick_some _ _ _ (λ (o : Option Mark). MatchOption o (Unit {0}) (λ m. IsSpelled first second third m)) (λ e. let a : first ≡ 44 = eqb-true first 44 e in rw a (refl, refl)) (λ other.
-    pick_some _ _ _ (λ (o : Option Mark). MatchOption o (Unit {0}) (λ m. IsSpelled first second third m)) (λ e. let a : first ≡ 40 = eqb-true first 40 e in rw a (refl, refl)) (λ other.
-    pick_some _ _ _ (λ (o : Option Mark). MatchOption o (Unit {0}) (λ m. IsSpelled first second third m)) (λ e. let a : first ≡ 41 = eqb-true first 41 e in rw a (refl, refl)) (λ other.
-    pick_some _ _ _ (λ (o : Option Mark). MatchOption o (Unit {0}) (λ m. IsSpelled first second third m)) (λ e. let a : first ≡ 91 = eqb-true first 91 e in rw a (refl, refl)) (λ other.
-    pick_some _ _ _ (λ (o : Option Mark). MatchOption o (Unit {0}) (λ m. IsSpelled first second third m)) (λ e. let a : first ≡ 93 = eqb-true first 93 e in rw a (refl, refl)) (λ other.
-    pick_some _ _ _ (λ (o : Option Mark). MatchOption o (Unit {0}) (λ m. IsSpelled first second third m)) (λ e. let a : first ≡ 123 = eqb-true first 123 e in rw a (refl, refl)) (λ other.
-    pick_some _ _ _ (λ (o : Option Mark). MatchOption o (Unit {0}) (λ m. IsSpelled first second third m)) (λ e. let a : first ≡ 125 = eqb-true first 125 e in rw a (refl, refl)) (λ other.
+    pick_some _ _ _ (λ (o : Option Mark). MatchOption o (Unit {0}) (λ m. IsSpelled first second third m))
+    (λ e. let a : first ≡ 126 = eqb-true first 126 e in rw a (refl, refl)) (λ other.
+    pick_some _ _ _ (λ (o : Option Mark). MatchOption o (Unit {0}) (λ m. IsSpelled first second third m))
+    (λ e. let a : first ≡ 63 = eqb-true first 63 e in rw a (refl, refl)) (λ other.
+    pick_some _ _ _ (λ (o : Option Mark). MatchOption o (Unit {0}) (λ m. IsSpelled first second third m))
+    (λ e. let a : first ≡ 44 = eqb-true first 44 e in rw a (refl, refl)) (λ other.
+    pick_some _ _ _ (λ (o : Option Mark). MatchOption o (Unit {0}) (λ m. IsSpelled first second third m))
+    (λ e. let a : first ≡ 40 = eqb-true first 40 e in rw a (refl, refl)) (λ other.
+    pick_some _ _ _ (λ (o : Option Mark). MatchOption o (Unit {0}) (λ m. IsSpelled first second third m))
+    (λ e. let a : first ≡ 41 = eqb-true first 41 e in rw a (refl, refl)) (λ other.
+    pick_some _ _ _ (λ (o : Option Mark). MatchOption o (Unit {0}) (λ m. IsSpelled first second third m))
+    (λ e. let a : first ≡ 91 = eqb-true first 91 e in rw a (refl, refl)) (λ other.
+    pick_some _ _ _ (λ (o : Option Mark). MatchOption o (Unit {0}) (λ m. IsSpelled first second third m))
+    (λ e. let a : first ≡ 93 = eqb-true first 93 e in rw a (refl, refl)) (λ other.
+    pick_some _ _ _ (λ (o : Option Mark). MatchOption o (Unit {0}) (λ m. IsSpelled first second third m))
+    (λ e. let a : first ≡ 123 = eqb-true first 123 e in rw a (refl, refl)) (λ other.
+    pick_some _ _ _ (λ (o : Option Mark). MatchOption o (Unit {0}) (λ m. IsSpelled first second third m))
+    (λ e. let a : first ≡ 125 = eqb-true first 125 e in rw a (refl, refl)) (λ other.
     tt)))))))))
 
--- the mark that is found is spelled at the front of the bytes
-so : (first second third : ℕ) → MatchOption (mark_of first second third) (Unit {0}) (λ m. IsSpelled first second third m)
+-- the mark that is found is spelled at the start of the bytes
+so : (first second third : ℕ) → MatchOption (mark_of first second third) (Unit {0})
+    (λ m. IsSpelled first second third m)
 unfolding mark_of
 so first second third =
-    pick_some _ _ _ (λ (o : Option Mark). MatchOption o (Unit {0}) (λ m. IsSpelled first second third m)) (λ e. let a : first ≡ 43 = eqb-true first 43 e in rw a (plus_mark-so second third)) (λ other.
-    pick_some _ _ _ (λ (o : Option Mark). MatchOption o (Unit {0}) (λ m. IsSpelled first second third m)) (λ e. let a : first ≡ 45 = eqb-true first 45 e in rw a (minus_mark-so second third)) (λ other.
-    pick_some _ _ _ (λ (o : Option Mark). MatchOption o (Unit {0}) (λ m. IsSpelled first second third m)) (λ e. let a : first ≡ 42 = eqb-true first 42 e in rw a (star_mark-so second third)) (λ other.
-    pick_some _ _ _ (λ (o : Option Mark). MatchOption o (Unit {0}) (λ m. IsSpelled first second third m)) (λ e. let a : first ≡ 47 = eqb-true first 47 e in rw a (slash_mark-so second third)) (λ other.
-    pick_some _ _ _ (λ (o : Option Mark). MatchOption o (Unit {0}) (λ m. IsSpelled first second third m)) (λ e. let a : first ≡ 37 = eqb-true first 37 e in rw a (percent_mark-so second third)) (λ other.
-    pick_some _ _ _ (λ (o : Option Mark). MatchOption o (Unit {0}) (λ m. IsSpelled first second third m)) (λ e. let a : first ≡ 94 = eqb-true first 94 e in rw a (caret_mark-so second third)) (λ other.
-    pick_some _ _ _ (λ (o : Option Mark). MatchOption o (Unit {0}) (λ m. IsSpelled first second third m)) (λ e. let a : first ≡ 61 = eqb-true first 61 e in rw a (equal_mark-so second third)) (λ other.
-    pick_some _ _ _ (λ (o : Option Mark). MatchOption o (Unit {0}) (λ m. IsSpelled first second third m)) (λ e. let a : first ≡ 33 = eqb-true first 33 e in rw a (not_mark-so second third)) (λ other.
-    pick_some _ _ _ (λ (o : Option Mark). MatchOption o (Unit {0}) (λ m. IsSpelled first second third m)) (λ e. let a : first ≡ 60 = eqb-true first 60 e in rw a (less_mark-so second third)) (λ other.
-    pick_some _ _ _ (λ (o : Option Mark). MatchOption o (Unit {0}) (λ m. IsSpelled first second third m)) (λ e. let a : first ≡ 62 = eqb-true first 62 e in rw a (greater_mark-so second third)) (λ other.
-    pick_some _ _ _ (λ (o : Option Mark). MatchOption o (Unit {0}) (λ m. IsSpelled first second third m)) (λ e. let a : first ≡ 38 = eqb-true first 38 e in rw a (ampersand_mark-so second third)) (λ other.
-    pick_some _ _ _ (λ (o : Option Mark). MatchOption o (Unit {0}) (λ m. IsSpelled first second third m)) (λ e. let a : first ≡ 124 = eqb-true first 124 e in rw a (bar_mark-so second third)) (λ other.
-    pick_some _ _ _ (λ (o : Option Mark). MatchOption o (Unit {0}) (λ m. IsSpelled first second third m)) (λ e. let a : first ≡ 46 = eqb-true first 46 e in rw a (dot_mark-so second third)) (λ other.
-    pick_some _ _ _ (λ (o : Option Mark). MatchOption o (Unit {0}) (λ m. IsSpelled first second third m)) (λ e. let a : first ≡ 58 = eqb-true first 58 e in rw a (colon_mark-so second third)) (λ other.
+    pick_some _ _ _ (λ (o : Option Mark). MatchOption o (Unit {0}) (λ m. IsSpelled first second third m))
+    (λ e. let a : first ≡ 43 = eqb-true first 43 e in rw a (plus_mark-so second third)) (λ other.
+    pick_some _ _ _ (λ (o : Option Mark). MatchOption o (Unit {0}) (λ m. IsSpelled first second third m))
+    (λ e. let a : first ≡ 45 = eqb-true first 45 e in rw a (minus_mark-so second third)) (λ other.
+    pick_some _ _ _ (λ (o : Option Mark). MatchOption o (Unit {0}) (λ m. IsSpelled first second third m))
+    (λ e. let a : first ≡ 42 = eqb-true first 42 e in rw a (star_mark-so second third)) (λ other.
+    pick_some _ _ _ (λ (o : Option Mark). MatchOption o (Unit {0}) (λ m. IsSpelled first second third m))
+    (λ e. let a : first ≡ 47 = eqb-true first 47 e in rw a (slash_mark-so second third)) (λ other.
+    pick_some _ _ _ (λ (o : Option Mark). MatchOption o (Unit {0}) (λ m. IsSpelled first second third m))
+    (λ e. let a : first ≡ 37 = eqb-true first 37 e in rw a (percent_mark-so second third)) (λ other.
+    pick_some _ _ _ (λ (o : Option Mark). MatchOption o (Unit {0}) (λ m. IsSpelled first second third m))
+    (λ e. let a : first ≡ 94 = eqb-true first 94 e in rw a (caret_mark-so second third)) (λ other.
+    pick_some _ _ _ (λ (o : Option Mark). MatchOption o (Unit {0}) (λ m. IsSpelled first second third m))
+    (λ e. let a : first ≡ 61 = eqb-true first 61 e in rw a (equal_mark-so second third)) (λ other.
+    pick_some _ _ _ (λ (o : Option Mark). MatchOption o (Unit {0}) (λ m. IsSpelled first second third m))
+    (λ e. let a : first ≡ 33 = eqb-true first 33 e in rw a (not_mark-so second third)) (λ other.
+    pick_some _ _ _ (λ (o : Option Mark). MatchOption o (Unit {0}) (λ m. IsSpelled first second third m))
+    (λ e. let a : first ≡ 60 = eqb-true first 60 e in rw a (less_mark-so second third)) (λ other.
+    pick_some _ _ _ (λ (o : Option Mark). MatchOption o (Unit {0}) (λ m. IsSpelled first second third m))
+    (λ e. let a : first ≡ 62 = eqb-true first 62 e in rw a (greater_mark-so second third)) (λ other.
+    pick_some _ _ _ (λ (o : Option Mark). MatchOption o (Unit {0}) (λ m. IsSpelled first second third m))
+    (λ e. let a : first ≡ 38 = eqb-true first 38 e in rw a (ampersand_mark-so second third)) (λ other.
+    pick_some _ _ _ (λ (o : Option Mark). MatchOption o (Unit {0}) (λ m. IsSpelled first second third m))
+    (λ e. let a : first ≡ 124 = eqb-true first 124 e in rw a (bar_mark-so second third)) (λ other.
+    pick_some _ _ _ (λ (o : Option Mark). MatchOption o (Unit {0}) (λ m. IsSpelled first second third m))
+    (λ e. let a : first ≡ 46 = eqb-true first 46 e in rw a (dot_mark-so second third)) (λ other.
+    pick_some _ _ _ (λ (o : Option Mark). MatchOption o (Unit {0}) (λ m. IsSpelled first second third m))
+    (λ e. let a : first ≡ 58 = eqb-true first 58 e in rw a (colon_mark-so second third)) (λ other.
     single-so first second third))))))))))))))
 
 -- it is as long as each mark that is spelled there
-longest : (p : Punctuator) (first second third : ℕ) → Begins p first second third → Reaches p (mark_of first second third)
+longest : (p : Punctuator) (first second third : ℕ) → Begins p first second third
+    → Reaches p (mark_of first second third)
 unfolding mark_of single_mark plus_mark minus_mark star_mark slash_mark percent_mark caret_mark equal_mark not_mark less_mark greater_mark ampersand_mark bar_mark dot_mark colon_mark
 longest marks.Plus first second third h =
     let same : first ∷ [] ≡ 43 ∷ [] = h in
@@ -311,7 +377,8 @@ longest marks.StarStar first second third h =
     let same : first ∷ second ∷ [] ≡ 42 ∷ 42 ∷ [] = h in
     let f-is : first ≡ 42 = cc in
     let s-is : second ≡ 42 = cc in
-    rw (f-is, s-is) (long (eqb third 61) (mark_with marks.StarStarAssign 3) (mark_with marks.StarStar 2) 2 (lit≤ tt) (lit≤ tt))
+    rw (f-is, s-is) (long (eqb third 61) (mark_with marks.StarStarAssign 3) (mark_with marks.StarStar 2) 2 (lit≤ tt)
+    (lit≤ tt))
 longest marks.Not first second third h =
     let same : first ∷ [] ≡ 33 ∷ [] = h in
     let f-is : first ≡ 33 = cc in
@@ -354,7 +421,8 @@ longest marks.LessEqual first second third h =
     let same : first ∷ second ∷ [] ≡ 60 ∷ 61 ∷ [] = h in
     let f-is : first ≡ 60 = cc in
     let s-is : second ≡ 61 = cc in
-    rw (f-is, s-is) (long (eqb third 62) (mark_with marks.Compare 3) (mark_with marks.LessEqual 2) 2 (lit≤ tt) (lit≤ tt))
+    rw (f-is, s-is) (long (eqb third 62) (mark_with marks.Compare 3) (mark_with marks.LessEqual 2) 2 (lit≤ tt)
+    (lit≤ tt))
 longest marks.Greater first second third h =
     let same : first ∷ [] ≡ 62 ∷ [] = h in
     let f-is : first ≡ 62 = cc in
@@ -374,12 +442,14 @@ longest marks.ShiftLeft first second third h =
     let same : first ∷ second ∷ [] ≡ 60 ∷ 60 ∷ [] = h in
     let f-is : first ≡ 60 = cc in
     let s-is : second ≡ 60 = cc in
-    rw (f-is, s-is) (long (eqb third 61) (mark_with marks.ShiftLeftAssign 3) (mark_with marks.ShiftLeft 2) 2 (lit≤ tt) (lit≤ tt))
+    rw (f-is, s-is) (long (eqb third 61) (mark_with marks.ShiftLeftAssign 3) (mark_with marks.ShiftLeft 2) 2 (lit≤ tt)
+    (lit≤ tt))
 longest marks.ShiftRight first second third h =
     let same : first ∷ second ∷ [] ≡ 62 ∷ 62 ∷ [] = h in
     let f-is : first ≡ 62 = cc in
     let s-is : second ≡ 62 = cc in
-    rw (f-is, s-is) (long (eqb third 61) (mark_with marks.ShiftRightAssign 3) (mark_with marks.ShiftRight 2) 2 (lit≤ tt) (lit≤ tt))
+    rw (f-is, s-is) (long (eqb third 61) (mark_with marks.ShiftRightAssign 3) (mark_with marks.ShiftRight 2) 2 (lit≤ tt)
+    (lit≤ tt))
 longest marks.Ampersand first second third h =
     let same : first ∷ [] ≡ 38 ∷ [] = h in
     let f-is : first ≡ 38 = cc in
@@ -404,7 +474,8 @@ longest marks.AndAnd first second third h =
     let same : first ∷ second ∷ [] ≡ 38 ∷ 38 ∷ [] = h in
     let f-is : first ≡ 38 = cc in
     let s-is : second ≡ 38 = cc in
-    rw (f-is, s-is) (long (eqb third 61) (mark_with marks.AndAndAssign 3) (mark_with marks.AndAnd 2) 2 (lit≤ tt) (lit≤ tt))
+    rw (f-is, s-is) (long (eqb third 61) (mark_with marks.AndAndAssign 3) (mark_with marks.AndAnd 2) 2 (lit≤ tt)
+    (lit≤ tt))
 longest marks.OrOr first second third h =
     let same : first ∷ second ∷ [] ≡ 124 ∷ 124 ∷ [] = h in
     let f-is : first ≡ 124 = cc in
@@ -556,12 +627,16 @@ longest marks.CloseBrace first second third h =
     let f-is : first ≡ 125 = cc in
     rw (f-is) (lit≤ tt)
 
-pub longest_found : (o : Option Mark) (first second third : ℕ) → o ≡ mark_of first second third → (p : Punctuator) → Begins p first second third → Reaches p o
-longest_found o first second third same p begins = subst (λ (x : Option Mark). Reaches p x) (sym same) (longest p first second third begins)
+pub longest_found : (o : Option Mark) (first second third : ℕ) → o ≡ mark_of first second third → (p : Punctuator)
+    → Begins p first second third → Reaches p o
+longest_found o first second third same p begins = subst (λ (x : Option Mark). Reaches p x) (sym same)
+    (longest p first second third begins)
 
 if_some : (o : Option Mark) (P : Mark → Type 0) → MatchOption o (Unit {0}) P → IfSome o P
 if_some None P holds = tt
 if_some (Some m) P holds = holds
 
-pub found_so : (o : Option Mark) (first second third : ℕ) → o ≡ mark_of first second third → IfSome o (λ m. IsSpelled first second third m)
-found_so o first second third same = subst (λ (x : Option Mark). IfSome x (λ m. IsSpelled first second third m)) (sym same) (if_some (mark_of first second third) (λ m. IsSpelled first second third m) (so first second third))
+pub found_so : (o : Option Mark) (first second third : ℕ) → o ≡ mark_of first second third
+    → IfSome o (λ m. IsSpelled first second third m)
+found_so o first second third same = subst (λ (x : Option Mark). IfSome x (λ m. IsSpelled first second third m))
+    (sym same) (if_some (mark_of first second third) (λ m. IsSpelled first second third m) (so first second third))

@@ -52,15 +52,18 @@ found keys.When = refl
 found keys.While = refl
 found keys.Yield = refl
 
-pub found_by : (word : List ℕ) (o : Option Keyword) → o ≡ keyword_of word → (k : Keyword) → word ≡ keyword_spelling k → o ≡ Some k
+pub found_by : (word : List ℕ) (o : Option Keyword) → o ≡ keyword_of word → (k : Keyword) → word ≡ keyword_spelling k
+    → o ≡ Some k
 found_by word o same k is = same ∙ ap keyword_of is ∙ found k
 
 -- what holds of the one where a test is true and of the other where it is false
-either : (b : Bool) (x y : Option Keyword) (j : Keyword) (Q : Type 0) → cond b x y ≡ Some j → (x ≡ Some j → Q) → (y ≡ Some j → Q) → Q
+either : (b : Bool) (x y : Option Keyword) (j : Keyword) (Q : Type 0) → cond b x y ≡ Some j → (x ≡ Some j → Q)
+    → (y ≡ Some j → Q) → Q
 either true x y j Q is first other = first is
 either false x y j Q is first other = other is
 
-one_case : (b : Bool) (word spelling : List ℕ) (k j : Keyword) (rest : Option Keyword) → bytes_eq word spelling ≡ b → spelling ≡ keyword_spelling k
+one_case : (b : Bool) (word spelling : List ℕ) (k j : Keyword) (rest : Option Keyword) → bytes_eq word spelling ≡ b
+    → spelling ≡ keyword_spelling k
     → cond b (Some k) rest ≡ Some j → (rest ≡ Some j → word ≡ keyword_spelling j) → word ≡ keyword_spelling j
 one_case true word spelling k j rest same spelled is other =
     let k-is : k ≡ j = cc in
@@ -68,9 +71,11 @@ one_case true word spelling k j rest same spelled is other =
     subst (λ (x : Keyword). word ≡ keyword_spelling x) k-is (word-is ∙ spelled)
 one_case false word spelling k j rest same spelled is other = other is
 
-one : (word spelling : List ℕ) (k j : Keyword) (rest : Option Keyword) → spelling ≡ keyword_spelling k → cond (bytes_eq word spelling) (Some k) rest ≡ Some j
+one : (word spelling : List ℕ) (k j : Keyword) (rest : Option Keyword) → spelling ≡ keyword_spelling k
+    → cond (bytes_eq word spelling) (Some k) rest ≡ Some j
     → (rest ≡ Some j → word ≡ keyword_spelling j) → word ≡ keyword_spelling j
-one word spelling k j rest spelled is other = one_case (bytes_eq word spelling) word spelling k j rest refl spelled is other
+one word spelling k j rest spelled is other = one_case (bytes_eq word spelling) word spelling k j rest refl spelled is
+    other
 
 of_two_bytes-spelled : (word : List ℕ) (j : Keyword) → of_two_bytes word ≡ Some j → word ≡ keyword_spelling j
 unfolding of_two_bytes
@@ -106,7 +111,8 @@ of_four_bytes-spelled word j is =
     one word (codes "when") keys.When j _ refl h7 (λ h8.
     absurd cc))))))))
 
-of_five_bytes_to_class-spelled : (word : List ℕ) (j : Keyword) → of_five_bytes_to_class word ≡ Some j → word ≡ keyword_spelling j
+of_five_bytes_to_class-spelled : (word : List ℕ) (j : Keyword) → of_five_bytes_to_class word ≡ Some j
+    → word ≡ keyword_spelling j
 unfolding of_five_bytes_to_class
 of_five_bytes_to_class-spelled word j is =
     one word (codes "BEGIN") keys.BeginBlock j _ refl is (λ h1.
@@ -116,7 +122,8 @@ of_five_bytes_to_class-spelled word j is =
     one word (codes "class") keys.Class j _ refl h4 (λ h5.
     absurd cc)))))
 
-of_five_bytes_from_elsif-spelled : (word : List ℕ) (j : Keyword) → of_five_bytes_from_elsif word ≡ Some j → word ≡ keyword_spelling j
+of_five_bytes_from_elsif-spelled : (word : List ℕ) (j : Keyword) → of_five_bytes_from_elsif word ≡ Some j
+    → word ≡ keyword_spelling j
 unfolding of_five_bytes_from_elsif
 of_five_bytes_from_elsif-spelled word j is =
     one word (codes "elsif") keys.Elsif j _ refl is (λ h1.
@@ -148,13 +155,16 @@ of_more_bytes-spelled word j is =
     one word (codes "defined?") keys.Defined j _ refl h3 (λ h4.
     absurd cc))))
 
-five_case : (first second : Option Keyword) (word : List ℕ) (j : Keyword) → or_else first second ≡ Some j → (first ≡ Some j → word ≡ keyword_spelling j) → (second ≡ Some j → word ≡ keyword_spelling j) → word ≡ keyword_spelling j
+five_case : (first second : Option Keyword) (word : List ℕ) (j : Keyword) → or_else first second ≡ Some j
+    → (first ≡ Some j → word ≡ keyword_spelling j) → (second ≡ Some j → word ≡ keyword_spelling j)
+    → word ≡ keyword_spelling j
 five_case (Some k) second word j is one other = one is
 five_case None second word j is one other = other is
 
 of_five_bytes-spelled : (word : List ℕ) (j : Keyword) → of_five_bytes word ≡ Some j → word ≡ keyword_spelling j
 unfolding of_five_bytes
-of_five_bytes-spelled word j is = five_case (of_five_bytes_to_class word) (of_five_bytes_from_elsif word) word j is (of_five_bytes_to_class-spelled word j) (of_five_bytes_from_elsif-spelled word j)
+of_five_bytes-spelled word j is = five_case (of_five_bytes_to_class word) (of_five_bytes_from_elsif word) word j is
+    (of_five_bytes_to_class-spelled word j) (of_five_bytes_from_elsif-spelled word j)
 
 -- what is found is spelled so
 spelled_so : (word : List ℕ) (j : Keyword) → keyword_of word ≡ Some j → word ≡ keyword_spelling j

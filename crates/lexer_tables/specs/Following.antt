@@ -7,7 +7,7 @@ use Rattle.rb_syntax.specs.declared.punctuator.Punctuator.TheVariants as marks
 use Rattle.lexer_tables.specs.declared.context.Context.{Context}
 use Rattle.lexer_tables.specs.declared.context.Context.TheVariants as contexts
 
--- a value is expected at the start, behind what can't end a statement, behind a label and its kin, and behind a jump
+-- a value is expected at the start, after what can't end a statement, after a label and its kin, and after a jump
 abbrev pub expects_value : Context → Bool
 expects_value contexts.Start = true
 expects_value contexts.Question = true
@@ -43,7 +43,7 @@ can_end contexts.AliasName = true
 can_end contexts.Undef = false
 can_end contexts.UndefName = true
 
--- keywords and operators are names behind def, a dot, alias and undef
+-- keywords and operators are names after def, a dot, alias and undef
 abbrev pub wants_name : Context → Bool
 wants_name contexts.Start = false
 wants_name contexts.Question = false
@@ -133,7 +133,7 @@ is_jump contexts.AliasName = false
 is_jump contexts.Undef = false
 is_jump contexts.UndefName = false
 
--- behind a name
+-- after a name
 abbrev pub after_name : Context → Context
 after_name contexts.Start = contexts.Name
 after_name contexts.Question = contexts.Name
@@ -151,7 +151,7 @@ after_name contexts.AliasName = contexts.Name
 after_name contexts.Undef = contexts.UndefName
 after_name contexts.UndefName = contexts.Name
 
--- behind a constant
+-- after a constant
 abbrev pub after_constant : Context → Context
 after_constant contexts.Start = contexts.Operand
 after_constant contexts.Question = contexts.Operand
@@ -169,7 +169,7 @@ after_constant contexts.AliasName = contexts.Operand
 after_constant contexts.Undef = contexts.UndefName
 after_constant contexts.UndefName = contexts.Operand
 
--- behind a dot
+-- after a dot
 abbrev pub after_dot : Context → Context
 after_dot contexts.Start = contexts.Dot
 after_dot contexts.Question = contexts.Dot
@@ -187,7 +187,7 @@ after_dot contexts.AliasName = contexts.Dot
 after_dot contexts.Undef = contexts.Dot
 after_dot contexts.UndefName = contexts.Dot
 
--- behind a comma
+-- after a comma
 abbrev pub after_comma : Context → Context
 after_comma contexts.Start = contexts.Start
 after_comma contexts.Question = contexts.Start
@@ -205,7 +205,7 @@ after_comma contexts.AliasName = contexts.Start
 after_comma contexts.Undef = contexts.Start
 after_comma contexts.UndefName = contexts.Undef
 
--- behind a mark
+-- after a mark
 unfoldable pub after_mark : Context → Punctuator → Context
 after_mark c marks.Plus = contexts.Start
 after_mark c marks.Minus = contexts.Start
@@ -309,7 +309,7 @@ can_modify keys.When = false
 can_modify keys.While = true
 can_modify keys.Yield = false
 
--- behind a keyword
+-- after a keyword
 unfoldable pub after_keyword : Keyword → Context
 after_keyword keys.EncodingName = contexts.Operand
 after_keyword keys.FileName = contexts.Operand
@@ -353,7 +353,7 @@ after_keyword keys.When = contexts.Start
 after_keyword keys.While = contexts.Start
 after_keyword keys.Yield = contexts.Jump
 
--- what can be a modifier is one behind return, break, next and yield
+-- what can be a modifier is one after return, break, next and yield
 abbrev pub is_cut_off : Context → Keyword → Bool
 is_cut_off c k = is_jump c && can_modify k
 

@@ -1,4 +1,4 @@
--- Marks by longest match: each function has the bytes behind the first one.
+-- Marks by longest match: each function has the bytes after the first one.
 use Rattle.std.specs.Prelude.{ℕ, ◌==◌, ◌||◌, ◌&&◌, if◌then◌else◌, Option, Some, None, Bool}
 use Rattle.rb_syntax.specs.declared.punctuator.Punctuator.{Punctuator}
 use Rattle.rb_syntax.specs.declared.punctuator.Punctuator.TheVariants as marks

@@ -108,13 +108,14 @@ mark_spelling marks.CloseBracket = codes "]"
 mark_spelling marks.OpenBrace = codes "{"
 mark_spelling marks.CloseBrace = codes "}"
 
--- the mark is spelled at the front of these bytes
+-- the mark is spelled at the start of these bytes
 abbrev pub Begins : Punctuator → ℕ → ℕ → ℕ → Type 0
 Begins p first second third = take (length (mark_spelling p)) (first ∷ second ∷ third ∷ []) ≡ mark_spelling p
 
 -- a mark with its length
 abbrev pub IsSpelled : ℕ → ℕ → ℕ → Mark → Type 0
-IsSpelled first second third m = (m.length ≡ length (mark_spelling m.punctuator)) × Begins m.punctuator first second third
+IsSpelled first second third m = (m.length ≡ length (mark_spelling m.punctuator))
+    × Begins m.punctuator first second third
 
 -- a mark is found, and it is no shorter than that one
 abbrev pub Reaches : Punctuator → Option Mark → Type 0

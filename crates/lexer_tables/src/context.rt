@@ -20,19 +20,19 @@ pub enum Context {
     Operand,
     /// `def`.
     Def,
-    /// The first name behind `def`.
+    /// The first name after `def`.
     DefName,
-    /// The dot behind that name.
+    /// The dot after that name.
     DefDot,
     /// `.`, `&.` or `::`.
     Dot,
     /// `alias`.
     Alias,
-    /// The first name behind `alias`.
+    /// The first name after `alias`.
     AliasName,
     /// `undef`, or a comma among its names.
     Undef,
-    /// A name behind `undef`.
+    /// A name after `undef`.
     UndefName,
 }
 
@@ -137,7 +137,7 @@ impl Context {
         self == Context::Question
     }
 
-    /// What stands behind a name here.
+    /// What stands after a name here.
     pub fn after_name(self) -> Context
         ensures { result ≡ following.after_name self }
     {
@@ -160,7 +160,7 @@ impl Context {
         }
     }
 
-    /// What stands behind a constant here.
+    /// What stands after a constant here.
     pub fn after_constant(self) -> Context
         ensures { result ≡ following.after_constant self }
     {
@@ -170,7 +170,7 @@ impl Context {
         }
     }
 
-    /// What stands behind a mark here.
+    /// What stands after a mark here.
     #[tactic(auto, unfolding(crate::specs::Following::after_mark))]
     pub fn after_mark(self, mark: Punctuator) -> Context
         ensures { result ≡ following.after_mark self mark }
@@ -208,7 +208,7 @@ impl Context {
         self == Context::Jump && can_modify(keyword)
     }
 
-    /// Whether a value is expected at this keyword: behind `return` and its kin one that can be a modifier is one.
+    /// Whether a value is expected at this keyword: after `return` and its kin one that can be a modifier is one.
     pub fn expects_value_at(self, keyword: Keyword) -> bool
         ensures { result ≡ following.expects_value_at self keyword }
     {
@@ -230,7 +230,7 @@ pub fn can_modify(keyword: Keyword) -> bool
     )
 }
 
-/// What stands behind a keyword.
+/// What stands after a keyword.
 #[tactic(auto, unfolding(crate::specs::Following::after_keyword))]
 pub fn after_keyword(keyword: Keyword) -> Context
     ensures { result ≡ following.after_keyword keyword }

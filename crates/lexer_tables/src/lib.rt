@@ -1,5 +1,5 @@
 //! The tables of the front: classes of bytes, keywords by their spelling, marks by longest match, and what a
-//! token says of the one behind it.
+//! token says of the one after it.
 //!
 //! Types: [`Mark`], [`Context`]. Calls: those of [`bytes`], [`keyword_of`], [`mark_of`], [`operator_name`], and
 //! the methods of [`Context`].

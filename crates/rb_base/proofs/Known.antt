@@ -6,6 +6,7 @@ use Rattle.std.proofs.KnownBytes.{Appends-trans}
 use Rattle.std.proofs.Math.Seq.{take-add}
 
 -- one more piece went out
-pub appended_further : (a b c : Option (List ℕ)) (at n : ℕ) (bytes : List ℕ) → Appends a b (take at bytes) → Appends b c (take n (drop at bytes)) → Appends a c (take (at + n) bytes)
+pub appended_further : (a b c : Option (List ℕ)) (at n : ℕ) (bytes : List ℕ) → Appends a b (take at bytes)
+    → Appends b c (take n (drop at bytes)) → Appends a c (take (at + n) bytes)
 appended_further a b c at n bytes first second =
     subst (Appends a c) (sym (take-add at n bytes)) (Appends-trans a b c _ _ first second)

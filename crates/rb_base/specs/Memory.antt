@@ -31,7 +31,8 @@ pub record SourceState : Type 0 where
 abbrev pub new_source : List ℕ → List ℕ → SourceState
 new_source bytes fails = record { rest = bytes; calls = no_calls fails; faults = 0 }
 
--- a sink: what it took, the most that a call takes, its calls, how many of them failed, and how many growths memory refused
+-- a sink: what it took, the most that a call takes, its calls, how many of them failed, and how many growths memory
+-- refused
 pub record SinkState : Type 0 where
   pub bytes : List ℕ
   pub most : ℕ

@@ -5,7 +5,7 @@ use Rattle.std.specs.Prelude.{◌≡◌, ◌⊎◌, ℕ, ◌<◌, ◌≤◌, Lis
 abbrev pub Rose : ℕ → ℕ → Type 0
 Rose old new = (old < new) ⊎ ((old ≤ new) × (18446744073709551615 ≤ new))
 
--- what was told, with more bytes behind it
+-- what was told, with more bytes after it
 abbrev pub with_more : Option (List ℕ) → List ℕ → Option (List ℕ)
 with_more None bytes = None
 with_more (Some told) bytes = Some (told ++ bytes)
@@ -22,7 +22,7 @@ abbrev pub Reads : ℕ → List ℕ → List ℕ → Option (List ℕ) → Optio
 Reads n old new None told = (n ≤ length old) × (told ≡ None)
 Reads n old new (Some bytes) told = (rest : List ℕ) × (told ≡ Some rest) × Placed n old new bytes rest
 
--- the bytes are the front of the file, up to the limit
+-- the bytes are the prefix of the file up to the limit
 abbrev pub IsLoaded : Option (List ℕ) → ℕ → List ℕ → Type 0
 IsLoaded held limit bytes = (all : List ℕ) × (held ≡ Some all) × (bytes ≡ take limit all)
 
@@ -32,6 +32,6 @@ SameCounts old new = (name : List ℕ) → new name ≡ old name
 abbrev pub NoCountFell : (List ℕ → ℕ) → (List ℕ → ℕ) → Type 0
 NoCountFell old new = (name : List ℕ) → old name ≤ new name
 
--- what was told, with some front of the bytes behind it
+-- what was told, with some prefix of the bytes after it
 abbrev pub TookFront : Option (List ℕ) → Option (List ℕ) → List ℕ → Type 0
 TookFront old new bytes = (k : ℕ) × (new ≡ with_more old (take k bytes))

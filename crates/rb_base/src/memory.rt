@@ -89,7 +89,13 @@ impl Model for MemorySink {
 
     ghost Value = { SinkState };
 
-    ghost view = { λ s. record { bytes = s.bytes.items; most = s.most; calls = s.calls; faults = s.faults; refused = s.refused } };
+    ghost view = { λ s. record {
+      bytes = s.bytes.items;
+      most = s.most;
+      calls = s.calls;
+      faults = s.faults;
+      refused = s.refused;
+    } };
 
     ghost invariant = { λ s. 0 < s.most };
 }

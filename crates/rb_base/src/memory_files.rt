@@ -73,7 +73,13 @@ impl Model for MemoryFiles {
 
     ghost Value = { FilesState };
 
-    ghost view = { λ f. record { entries = f.entries.items; calls = f.calls; load_faults = f.load_faults; store_faults = f.store_faults; refused = f.refused } };
+    ghost view = { λ f. record {
+      entries = f.entries.items;
+      calls = f.calls;
+      load_faults = f.load_faults;
+      store_faults = f.store_faults;
+      refused = f.refused;
+    } };
 }
 
 impl MemoryFiles {
@@ -159,14 +165,17 @@ impl Files for MemoryFiles {
     ghost file = { λ f name. file_in f.entries name };
 
     fn load(&mut self, alloc: Global, name: &str, limit: usize) -> Result<Vec<u8>, FileError>
-        ensures loaded { IfOk result (λ bytes. IsTrue true → IsLoaded (file_in self.old.entries name.now) limit bytes.items) }
+        ensures loaded { IfOk result (λ bytes. IsTrue true
+            → IsLoaded (file_in self.old.entries name.now) limit bytes.items) }
         ensures failed { IsErrOf result FileError.Failed → Rose self.old.load_faults self.new.load_faults }
-        ensures never_falls { (self.old.load_faults ≤ self.new.load_faults) × (self.old.store_faults ≤ self.new.store_faults) }
+        ensures never_falls { (self.old.load_faults ≤ self.new.load_faults)
+            × (self.old.store_faults ≤ self.new.store_faults) }
         ensures counted { result ≢ Err FileError.Failed → self.new.load_faults ≡ self.old.load_faults }
         ensures kept { self.new.entries ≡ self.old.entries }
 
         // A call fails exactly where it was told to, or where there is no file of the name.
-        ensures told { IsErrOf result FileError.Failed ↔ (NextFails self.old.calls ⊎ (file_in self.old.entries name.now ≡ None)) }
+        ensures told { IsErrOf result FileError.Failed
+            ↔ (NextFails self.old.calls ⊎ (file_in self.old.entries name.now ≡ None)) }
         ensures call { self.new.calls ≡ after_call self.old.calls }
         ensures fault { IsErrOf result FileError.Failed → self.new.load_faults ≡ one_more self.old.load_faults }
         ensures stores { self.new.store_faults ≡ self.old.store_faults }
@@ -184,9 +193,11 @@ impl Files for MemoryFiles {
     fn store(&mut self, name: &str, bytes: &[u8]) -> Result<(), Failed>
         ensures stored { OnOk result (IsTrue true → file_in self.new.entries name.now ≡ Some bytes.now) }
         ensures failed { OnErr result (Rose self.old.store_faults self.new.store_faults) }
-        ensures never_falls { (self.old.load_faults ≤ self.new.load_faults) × (self.old.store_faults ≤ self.new.store_faults) }
+        ensures never_falls { (self.old.load_faults ≤ self.new.load_faults)
+            × (self.old.store_faults ≤ self.new.store_faults) }
         ensures counted { OnOk result (self.new.store_faults ≡ self.old.store_faults) }
-        ensures kept { (other : List ℕ) → other ≢ name.now → file_in self.new.entries other ≡ file_in self.old.entries other }
+        ensures kept { (other : List ℕ) → other ≢ name.now
+            → file_in self.new.entries other ≡ file_in self.old.entries other }
 
         // A call fails exactly where it was told to, or where memory refused to grow. All files are then as before.
         ensures told { NextFails self.old.calls → IsErr result × (self.new.refused ≡ self.old.refused) }

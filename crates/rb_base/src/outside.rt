@@ -87,10 +87,14 @@ pub trait Files {
 
     /// The first `limit` bytes of the file, or all where it is shorter. A missing file is `Failed`.
     fn load(&mut self, alloc: Global, name: &str, limit: usize) -> Result<Vec<u8>, FileError>
-        ensures loaded { IfOk result (λ bytes. IsTrue (tells self.old) → IsLoaded (file self.old name.now) limit bytes.items) }
-        ensures failed { IsErrOf result FileError.Failed → Rose (load_faults self.old name.now) (load_faults self.new name.now) }
-        ensures never_falls { NoCountFell (load_faults self.old) (load_faults self.new) × NoCountFell (store_faults self.old) (store_faults self.new) }
-        ensures counted { result ≢ Err FileError.Failed → SameCounts (load_faults self.old) (load_faults self.new) × SameCounts (store_faults self.old) (store_faults self.new) }
+        ensures loaded { IfOk result (λ bytes. IsTrue (tells self.old)
+            → IsLoaded (file self.old name.now) limit bytes.items) }
+        ensures failed { IsErrOf result FileError.Failed
+            → Rose (load_faults self.old name.now) (load_faults self.new name.now) }
+        ensures never_falls { NoCountFell (load_faults self.old) (load_faults self.new)
+            × NoCountFell (store_faults self.old) (store_faults self.new) }
+        ensures counted { result ≢ Err FileError.Failed → SameCounts (load_faults self.old) (load_faults self.new)
+            × SameCounts (store_faults self.old) (store_faults self.new) }
         ensures tells { tells self.new ≡ tells self.old }
         ensures kept { (other : List ℕ) → file self.new other ≡ file self.old other };
 
@@ -98,8 +102,10 @@ pub trait Files {
     fn store(&mut self, name: &str, bytes: &[u8]) -> Result<(), Failed>
         ensures stored { OnOk result (IsTrue (tells self.old) → file self.new name.now ≡ Some bytes.now) }
         ensures failed { OnErr result (Rose (store_faults self.old name.now) (store_faults self.new name.now)) }
-        ensures never_falls { NoCountFell (load_faults self.old) (load_faults self.new) × NoCountFell (store_faults self.old) (store_faults self.new) }
-        ensures counted { OnOk result (SameCounts (load_faults self.old) (load_faults self.new) × SameCounts (store_faults self.old) (store_faults self.new)) }
+        ensures never_falls { NoCountFell (load_faults self.old) (load_faults self.new)
+            × NoCountFell (store_faults self.old) (store_faults self.new) }
+        ensures counted { OnOk result (SameCounts (load_faults self.old) (load_faults self.new)
+            × SameCounts (store_faults self.old) (store_faults self.new)) }
         ensures tells { tells self.new ≡ tells self.old }
         ensures kept { (other : List ℕ) → other ≢ name.now → file self.new other ≡ file self.old other };
 }

@@ -52,7 +52,8 @@ impl<R: Read + Drop> Source for StdSource<R> {
         ensures failed { OnErr result (Rose self.old.faults self.new.faults) }
 
         // The bytes come from the reader. Once the input has ended no call gives a byte.
-        ensures bytes { IfOk result (λ n. Consumes (R.remaining self.old.reader) (R.remaining self.new.reader) (take n buf.new)) }
+        ensures bytes { IfOk result (λ n. Consumes (R.remaining self.old.reader) (R.remaining self.new.reader)
+            (take n buf.new)) }
         ensures ends { result ≡ Ok 0 → IsTrue self.new.ended }
         ensures ended { IsTrue self.old.ended → (result ≡ Ok 0) × (self.new ≡ self.old) }
         ensures fault { OnErr result (self.new.faults ≡ one_more self.old.faults) }
@@ -76,7 +77,8 @@ impl<R: Read + Drop> Source for StdSource<R> {
 /// One read, tried again where a signal interrupts it. `None` where it failed.
 pub(crate) fn read_once<R: Read>(reader: &mut R, buf: &mut [u8]) -> Option<usize>
     ensures bound { IfSome result (λ count. count ≤ length buf.new) }
-    ensures bytes { IfSome result (λ count. Consumes (R.remaining reader.old) (R.remaining reader.new) (take count buf.new)) }
+    ensures bytes { IfSome result (λ count. Consumes (R.remaining reader.old) (R.remaining reader.new)
+        (take count buf.new)) }
     ensures end { IfSome result (λ count. count ≡ 0 → 0 < length buf.old → IsAtEnd (R.remaining reader.new)) }
 {
     'tries: for _ in 0..u64::MAX {
@@ -126,7 +128,8 @@ impl<W: Write + Drop> Sink for StdSink<W> {
         ensures failed { OnErr result (Rose self.old.faults self.new.faults) }
 
         // The bytes go to the writer.
-        ensures bytes { IfOk result (λ n. Appends (W.contents self.old.writer) (W.contents self.new.writer) (take n piece.now)) }
+        ensures bytes { IfOk result (λ n. Appends (W.contents self.old.writer) (W.contents self.new.writer)
+            (take n piece.now)) }
         ensures fault { OnErr result (self.new.faults ≡ one_more self.old.faults) }
     {
         match write_once(&mut self.writer, piece) {
@@ -143,7 +146,8 @@ impl<W: Write + Drop> Sink for StdSink<W> {
 /// nothing.
 pub(crate) fn write_once<W: Write>(writer: &mut W, piece: &[u8]) -> Option<usize>
     ensures some { IfSome result (λ count. (0 < count) × (count ≤ length piece.now)) }
-    ensures bytes { IfSome result (λ count. Appends (W.contents writer.old) (W.contents writer.new) (take count piece.now)) }
+    ensures bytes { IfSome result (λ count. Appends (W.contents writer.old) (W.contents writer.new)
+        (take count piece.now)) }
 {
     'tries: for _ in 0..u64::MAX {
         match writer.write(piece) {

@@ -6,7 +6,7 @@ use crate::outside::{Failed, Sink};
 
 /// Writes all of `bytes`, by as many calls as the sink needs, and none where there is no byte.
 ///
-/// `Failed` where a call failed: then a front of the bytes went out.
+/// `Failed` where a call failed: then a prefix of the bytes went out.
 pub fn write_all<O: Sink>(out: &mut O, bytes: &[u8]) -> Result<(), Failed>
     ensures took { OnOk result (O.taken out.new ≡ with_more (O.taken out.old) bytes.now) }
     ensures counted { OnOk result (O.faults out.new ≡ O.faults out.old) }

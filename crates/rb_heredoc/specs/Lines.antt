@@ -12,7 +12,7 @@ unfoldable pub lines_of : List ℕ → List (List ℕ)
 lines_of [] = []
 lines_of (x ∷ xs) = if x == 10 then (x ∷ []) ∷ lines_of xs else with_byte x (lines_of xs)
 
--- the place behind the first line, from a place and the bytes there
+-- the place after the first line, from a place and the bytes there
 unfoldable pub line_end : ℕ → List ℕ → ℕ
 line_end at [] = at
 line_end at (x ∷ xs) = if x == 10 then at + 1 else line_end (at + 1) xs

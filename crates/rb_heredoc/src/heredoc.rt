@@ -12,7 +12,7 @@ pub struct Head {
 }
 
 /// The bodies of the heads of one line, in the order of the heads, each with the newline of its last line; and
-/// the place behind the line that ends the last of them.
+/// the place after the line that ends the last of them.
 #[derive(Debug, Drop)]
 pub struct Bodies {
     pub pieces: List<Bytes>,

@@ -3,7 +3,7 @@ ghost use Rattle.std.specs.Prelude.{◌≡◌, ◌≤◌, ◌<◌, length, drop}
 ghost use Rattle.std.specs.Io.BufRead.{strip_last};
 ghost use Rattle.rb_heredoc.specs.Lines.{line_end, is_white, are_white, content};
 
-/// The place behind the line that a place begins: behind its newline, or the text's end.
+/// The place after the line that a place begins: after its newline, or the text's end.
 #[tactic(auto, unfolding(crate::specs::Lines::line_end))]
 pub(crate) fn line_end(text: &[u8], from: usize) -> usize
     requires { from < length text.now }

@@ -35,14 +35,14 @@ pub fn bodies(
     Ok(Some(Bodies { pieces, next }))
 }
 
-/// The place where the body of a head ends, and the place behind its end line.
+/// The place where the body of a head ends, and the place after its end line.
 fn body_end(head: &Head, text: &[u8], from: usize) -> Option<(usize, usize)>
     requires { from ≤ length text.now }
     ensures forward { IfSome result (λ r. (from ≤ r.0) × (r.0 ≤ r.1)) }
     ensures within { IfSome result (λ r. r.1 ≤ length text.now) }
-    ensures found { MatchOption result
-        (body_in head.now (lines_of (drop from text.now)) ≡ None)
-        (λ r. body_in head.now (lines_of (drop from text.now)) ≡ Some (take (r.0 - from) (drop from text.now), lines_of (drop r.1 text.now))) }
+    ensures found { MatchOption result (body_in head.now (lines_of (drop from text.now)) ≡ None)
+        (λ r. body_in head.now (lines_of (drop from text.now))
+        ≡ Some (take (r.0 - from) (drop from text.now), lines_of (drop r.1 text.now))) }
 {
     let mut at = from;
     'lines: while at < text.len() {

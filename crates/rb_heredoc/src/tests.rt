@@ -12,7 +12,7 @@ fn head(alloc: Global, id: &str, indented: bool) -> Result<Head, AllocError> {
     })
 }
 
-/// The text has this one body, behind which the place `next` stands.
+/// The text has this one body, after which the place `next` stands.
 fn has_body(
     rt: &impl Abort,
     alloc: Global,

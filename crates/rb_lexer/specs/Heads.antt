@@ -23,7 +23,13 @@ is_indented dash = (dash == 45) || (dash == 126)
 
 abbrev pub quoted_head : List ℕ → ℕ → ℕ → ℕ → ℕ → Option HeadPlace
 quoted_head text start dash first to =
-    if slice_index text to == first then Some (record { from = start + 1; to = to; end = to + 1; dash = dash; first = first }) else None
+    if slice_index text to == first then Some (record {
+      from = start + 1;
+      to = to;
+      end = to + 1;
+      dash = dash;
+      first = first;
+    }) else None
 
 abbrev pub named_head : ℕ → ℕ → ℕ → ℕ → Option HeadPlace
 named_head start dash first to = Some (record { from = start; to = to; end = to; dash = dash; first = first })
@@ -34,14 +40,14 @@ head_from text start dash first =
     else if is_name_start first then named_head start dash first (name_end (start + 1) (drop (start + 1) text))
     else None
 
--- behind << and maybe - or ~ stands an identifier: a name, or any bytes in quotes
+-- after << and maybe - or ~ stands an identifier: a name, or any bytes in quotes
 unfoldable pub head_at : List ℕ → ℕ → Option HeadPlace
 head_at text at =
     let dash = slice_index text (at + 2) in
     let start = if is_indented dash then at + 3 else at + 2 in
     head_from text start dash (slice_index text start)
 
--- behind an identifier the head has a quote, a capital letter or ~
+-- after an identifier the head has a quote, a capital letter or ~
 abbrev pub is_plain_head : HeadPlace → Bool
 is_plain_head h = is_quote h.first || is_capital h.first || (h.dash == 126)
 
@@ -52,7 +58,7 @@ heredoc_here (Some h) s =
     else if is_name s.context && s.space && is_plain_head h then Some h
     else None
 
--- a heredoc begins where a value is expected, or behind an identifier and white space
+-- a heredoc begins where a value is expected, or after an identifier and white space
 unfoldable pub begins_heredoc : List ℕ → ℕ → State → Option HeadPlace
 begins_heredoc text at s =
     if not (slice_index text at == 60) || not (slice_index text (at + 1) == 60) || wants_name s.context then None

@@ -21,7 +21,7 @@ use Rattle.lexer_steps.specs.Scan.{line_end}
 use Rattle.lexer_steps.specs.State.{State, opening, pushed, entered, left, top, flushed}
 use Rattle.lexer_steps.specs.Trivia.{newline_step}
 
--- a stretch lies in a text of n bytes, and so does what is read behind it
+-- a stretch lies in a text of n bytes, and so does what is read after it
 abbrev pub RegionFits : ℕ → ℕ → Region → Type 0
 RegionFits n stop Plain = stop ≡ n
 RegionFits n stop (Line next) = next ≤ n
@@ -50,7 +50,7 @@ abbrev pub extent : ℕ → Option Bodies → Option (ℕ × ℕ)
 extent from None = None
 extent from (Some b) = Some (from + first_length b.pieces, b.next)
 
--- where the body of a heredoc ends that begins at a place, and the place behind its end line
+-- where the body of a heredoc ends that begins at a place, and the place after its end line
 unfoldable pub body_at : List ℕ → ℕ → HeadPlace → Option (ℕ × ℕ)
 body_at text from h = extent from (bodies_at text from (head_of text h ∷ []))
 
@@ -66,8 +66,22 @@ bodies_from text r at = bodies_in r.region text r.stop at
 -- a heredoc whose body stands from one place to another
 unfoldable pub enter_body : ℕ → HeadPlace → ℕ → ℕ → ℕ → ℕ → State → Result (State × Reach) ℕ
 enter_body at h from end line next s =
-    if h.dash == 126 then Ok (pushed s at (kinds.Outside SquigglyHeredoc) contexts.Operand, record { at = h.end; stop = line; region = Line next })
-    else Ok (entered (pushed s at kinds.StringBegin contexts.Operand) (modes.Body (not (h.first == 39))), record { at = from; stop = end; region = Body h.end line next })
+    if h.dash == 126 then Ok (
+      pushed s at (kinds.Outside SquigglyHeredoc) contexts.Operand,
+      record {
+        at = h.end;
+        stop = line;
+        region = Line next;
+      },
+    )
+    else Ok (
+      entered (pushed s at kinds.StringBegin contexts.Operand) (modes.Body (not (h.first == 39))),
+      record {
+        at = from;
+        stop = end;
+        region = Body h.end line next;
+      },
+    )
 
 -- within an interpolation there are no heredocs
 abbrev pub body_or_fault : Option (ℕ × ℕ) → ℕ → HeadPlace → ℕ → ℕ → State → Result (State × Reach) ℕ
@@ -102,10 +116,13 @@ is_literal (Some (modes.Body double)) = true
 
 abbrev pub body_end : ℕ → ℕ → ℕ → ℕ → State → Result (State × Option Reach) ℕ
 body_end at back line next s =
-    if is_body (top s) then Ok (left (pushed (flushed s) at kinds.LiteralEnd contexts.Operand), Some (record { at = back; stop = line; region = Line next }))
+    if is_body (top s) then Ok (
+      left (pushed (flushed s) at kinds.LiteralEnd contexts.Operand),
+      Some (record { at = back; stop = line; region = Line next }),
+    )
     else Err at
 
--- behind a line with heads stand the bodies; behind a body, the rest of that line
+-- after a line with heads stand the bodies; after a body, the rest of that line
 abbrev pub region_end : Region → List ℕ → ℕ → State → Result (State × Option Reach) ℕ
 region_end Plain text at s = Ok (s, None)
 region_end (Line next) text at s = Ok (s, Some (record { at = next; stop = length text; region = Plain }))
@@ -123,16 +140,18 @@ abbrev pub behind_bodies : Reach → Option ℕ
 behind_bodies r = behind_last r.region r.at r.stop
 
 abbrev pub step_reach : List ℕ → Reach → State → Result (State × Reach) ℕ
-step_reach text r s = step_in (top s) (take r.stop text) r.at s >>= λ a. Ok (a.0, record { at = a.1; stop = r.stop; region = r.region })
+step_reach text r s = step_in (top s) (take r.stop text) r.at s >>= λ a.
+    Ok (a.0, record { at = a.1; stop = r.stop; region = r.region })
 
 abbrev pub head_or_step : Option HeadPlace → List ℕ → Reach → State → Result (State × Reach) ℕ
 head_or_step None text r s = step_reach text r s
 head_or_step (Some h) text r s = heredoc_step text r h s
 
--- behind the last newline of a line with heads the next line is the one behind the bodies
+-- after the last newline of a line with heads the next line is the one after the bodies
 abbrev pub newline_or_other : Option ℕ → List ℕ → Reach → State → Result (State × Reach) ℕ
 newline_or_other None text r s = head_or_step (begins_heredoc (take r.stop text) r.at s) text r s
-newline_or_other (Some next) text r s = newline_step text r.at next s >>= λ a. Ok (a.0, record { at = a.1; stop = length text; region = Plain })
+newline_or_other (Some next) text r s = newline_step text r.at next s >>= λ a.
+    Ok (a.0, record { at = a.1; stop = length text; region = Plain })
 
 unfoldable pub code_reach : List ℕ → Reach → State → Result (State × Reach) ℕ
 code_reach text r s = newline_or_other (behind_bodies r) text r s
@@ -140,7 +159,7 @@ code_reach text r s = newline_or_other (behind_bodies r) text r s
 abbrev pub going_on : State × Reach → Result (State × Option Reach) ℕ
 going_on a = Ok (a.0, Some a.1)
 
--- one step; none is the place behind it at the text's end
+-- one step; none is the place after it at the text's end
 unfoldable pub advance : List ℕ → State → Reach → Result (State × Option Reach) ℕ
 advance text s r =
     if not (nat_lt r.at r.stop) then stretch_end text r s

@@ -1,4 +1,4 @@
--- The insides of literals. Each step gives the state behind it and the place there.
+-- The insides of literals. Each step gives the state after it and the place there.
 use Rattle.std.specs.Prelude.{ℕ, ◌+◌, ◌-◌, ◌==◌, Bool, ◌||◌, ◌&&◌, if◌then◌else◌, List, Option, Some, None, Result, Ok, Err, slice_index}
 use Rattle.lexer_literals.specs.declared.fault.Fault.{Fault}
 use Rattle.lexer_literals.specs.declared.escaped.Escape.{Escape}
@@ -15,12 +15,16 @@ use Rattle.lexer_steps.specs.declared.mode.Mode.TheVariants.{Text, Words}
 use Rattle.lexer_steps.specs.Names.{is_colon, variable_of}
 use Rattle.lexer_steps.specs.State.{State, pushed, entered, left, appended, extended, flushed, flushed_word, interpolating}
 
--- a byte that stands for itself, or the one behind a backslash
+-- a byte that stands for itself, or the one after a backslash
 abbrev pub byte_step : ℕ → ℕ → ℕ → State → Result (State × ℕ) ℕ
 byte_step at byte end s = Ok (appended s at byte, end)
 
+-- what an escape stands for
+abbrev pub add_escape : Escape → ℕ → State → Result (State × ℕ) ℕ
+add_escape e at s = Ok (extended s at (bytes_of e.stands_for), e.end)
+
 abbrev pub escaped : Result Escape Fault → ℕ → State → Result (State × ℕ) ℕ
-escaped (Ok e) at s = Ok (extended s at (bytes_of e.stands_for), e.end)
+escaped (Ok e) at s = add_escape e at s
 escaped (Err f) at s = Err f.at
 
 -- a backslash and what it begins
@@ -35,7 +39,8 @@ unfoldable pub hash_step : List ℕ → ℕ → State → Result (State × ℕ) 
 hash_step text at s =
     let next = slice_index text (at + 1) in
     if next == 123 then open_interpolation at s
-    else if ((next == 64) || (next == 36)) && is_name_start (slice_index text (at + 2)) then variable_of text (at + 1) (flushed s)
+    else if ((next == 64) || (next == 36)) && is_name_start (slice_index text (at + 2))
+    then variable_of text (at + 1) (flushed s)
     else byte_step at (slice_index text at) (at + 1) s
 
 -- a byte of a literal with escapes and interpolation that is no delimiter
@@ -46,19 +51,16 @@ double_step text at s =
     else if b == 35 then hash_step text at s
     else byte_step at b (at + 1) s
 
-abbrev pub plainly_escaped : Escape → ℕ → State → Result (State × ℕ) ℕ
-plainly_escaped e at s = Ok (extended s at (bytes_of e.stands_for), e.end)
-
 -- a byte of a literal without interpolation that is no delimiter
 unfoldable pub single_step : Delimiters → List ℕ → ℕ → State → Result (State × ℕ) ℕ
 single_step d text at s =
-    if slice_index text at == 92 then plainly_escaped (plain_escape_at text (at + 1) d) at s
+    if slice_index text at == 92 then add_escape (plain_escape_at text (at + 1) d) at s
     else byte_step at (slice_index text at) (at + 1) s
 
 -- a byte of a list of words that is no white space and no delimiter
 unfoldable pub word_byte_step : Delimiters → List ℕ → ℕ → State → Result (State × ℕ) ℕ
 word_byte_step d text at s =
-    if slice_index text at == 92 then plainly_escaped (word_escape_at text (at + 1) d) at s
+    if slice_index text at == 92 then add_escape (word_escape_at text (at + 1) d) at s
     else byte_step at (slice_index text at) (at + 1) s
 
 abbrev pub end_literal : ℕ → State → Result (State × ℕ) ℕ
@@ -67,10 +69,13 @@ end_literal at s = Ok (left (pushed s at kinds.LiteralEnd contexts.Operand), at 
 abbrev pub end_key : Option ℕ → List ℕ → ℕ → State → Result (State × ℕ) ℕ
 end_key None text at s = end_literal at s
 end_key (Some begin) text at s =
-    if is_colon text (at + 1) then Ok (left (pushed s begin (kinds.Outside outsides.QuotedLabel) contexts.Value), at + 2)
+    if is_colon text (at + 1) then Ok (
+      left (pushed s begin (kinds.Outside outsides.QuotedLabel) contexts.Value),
+      at + 2,
+    )
     else end_literal at s
 
--- the end of a string; a colon behind it makes it a key
+-- the end of a string; a colon after it makes it a key
 unfoldable pub end_step : Option ℕ → List ℕ → ℕ → State → Result (State × ℕ) ℕ
 end_step key text at s = end_key key text at (flushed s)
 
@@ -88,7 +93,8 @@ deeper d = Ok (with_depth d (d.depth + 1))
 unfoldable pub text_step : Literal → List ℕ → ℕ → State → Result (State × ℕ) ℕ
 text_step d text at s =
     let b = slice_index text at in
-    if b == d.delimiters.close then (if d.depth == 0 then end_step d.key text at s else nest_step (Text (with_depth d (d.depth - 1))) at b s)
+    if b == d.delimiters.close then (if d.depth == 0 then end_step d.key text at s else nest_step
+    (Text (with_depth d (d.depth - 1))) at b s)
     else if b == d.delimiters.open then nest_step (Text (with_depth d (d.depth + 1))) at b s
     else if d.double then double_step text at s
     else single_step d.delimiters text at s
@@ -101,7 +107,8 @@ unfoldable pub words_step : Literal → List ℕ → ℕ → State → Result (S
 words_step d text at s =
     let b = slice_index text at in
     if is_white b then Ok (flushed_word s, at + 1)
-    else if b == d.delimiters.close then (if d.depth == 0 then words_end_step at s else nest_step (Words (with_depth d (d.depth - 1))) at b s)
+    else if b == d.delimiters.close then (if d.depth == 0 then words_end_step at s else nest_step
+    (Words (with_depth d (d.depth - 1))) at b s)
     else if b == d.delimiters.open then nest_step (Words (with_depth d (d.depth + 1))) at b s
     else word_byte_step d.delimiters text at s
 

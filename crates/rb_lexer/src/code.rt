@@ -7,12 +7,12 @@ ghost use Rattle.rb_lexer.specs.Code as code;
 use crate::strings::{body_step, text_step, words_step};
 use lexer_steps::error::LexError;
 use lexer_steps::mode::Mode;
-use lexer_steps::state::Lexer;
-use lexer_steps::trivia::{is_trivia, trivia_step};
 use lexer_steps::names::{
     is_end_marker, operator_end, push_operator, push_wide, variable_step, word_step,
 };
 use lexer_steps::signs::sign_step;
+use lexer_steps::state::Lexer;
+use lexer_steps::trivia::{is_trivia, trivia_step};
 use lexer_tables::bytes::{is_name_start, is_wide};
 use std::alloc::Global;
 
@@ -26,7 +26,8 @@ fn word_or_end_step(
     requires place { at < length text.now }
     requires small { length text.now < 4294967296 }
     ensures within { IfOk result (λ e. (at < e) × (e ≤ length text.now)) }
-    ensures value { Gives (λ e. (state_of lexer.new, e)) result (code.word_or_end_step text.now at (state_of lexer.old)) }
+    ensures value { Gives (λ e. (state_of lexer.new, e)) result
+        (code.word_or_end_step text.now at (state_of lexer.old)) }
     ensures fault { IfErr result (λ e. IsWithin (length text.now) e) }
 {
     if is_end_marker(text, at) {
@@ -85,7 +86,8 @@ pub fn step(alloc: Global, lexer: &mut Lexer, text: &[u8], at: usize) -> Result<
     requires place { at < length text.now }
     requires small { length text.now < 4294967296 }
     ensures within { IfOk result (λ e. (at < e) × (e ≤ length text.now)) }
-    ensures value { Gives (λ e. (state_of lexer.new, e)) result (code.step_in (top (state_of lexer.old)) text.now at (state_of lexer.old)) }
+    ensures value { Gives (λ e. (state_of lexer.new, e)) result (code.step_in (top (state_of lexer.old)) text.now at
+        (state_of lexer.old)) }
     ensures fault { IfErr result (λ e. IsWithin (length text.now) e) }
 {
     match lexer.top() {

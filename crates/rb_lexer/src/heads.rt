@@ -13,9 +13,9 @@ pub struct HeadPlace {
     /// Where its identifier begins and ends.
     pub from: usize,
     pub to: usize,
-    /// The place behind the head.
+    /// The place after the head.
     pub end: usize,
-    /// The byte behind `<<`.
+    /// The byte after `<<`.
     pub dash: u8,
     /// The quote before the identifier, or the first byte of one without quotes.
     pub first: u8,
@@ -48,7 +48,7 @@ fn is_quote(byte: u8) -> bool
     byte == b'"' || byte == b'\''
 }
 
-/// Whether white space may stand before the identifier in the line that ends the body, by the byte behind `<<`.
+/// Whether white space may stand before the identifier in the line that ends the body, by the byte after `<<`.
 pub fn is_indented(dash: u8) -> bool
     ensures { result ≡ heads.is_indented dash }
 {
@@ -92,7 +92,7 @@ fn head_at(text: &[u8], at: usize) -> Option<HeadPlace>
     }
 }
 
-/// Whether a head begins a heredoc behind an identifier and white space.
+/// Whether a head begins a heredoc after an identifier and white space.
 fn is_plain_head(head: HeadPlace) -> bool
     ensures { result ≡ heads.is_plain_head head }
 {

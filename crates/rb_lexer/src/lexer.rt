@@ -13,10 +13,10 @@ use lexer_steps::mode::Mode;
 use lexer_steps::scan::line_end;
 use lexer_steps::state::Lexer;
 use lexer_steps::trivia::newline_step;
+use lexer_tables::Context;
 use rb_base::Bytes;
 use rb_heredoc::{Head, bodies};
 use rb_syntax::{Outside, Token, TokenKind};
-use lexer_tables::Context;
 use std::alloc::Global;
 
 fn first_length(pieces: &[Bytes]) -> usize
@@ -28,7 +28,7 @@ fn first_length(pieces: &[Bytes]) -> usize
     }
 }
 
-/// Where the body of a heredoc ends that begins at `from`, and the place behind its end line.
+/// Where the body of a heredoc ends that begins at `from`, and the place after its end line.
 #[tactic(auto, using(crate::proofs::Bodies::body_fits), unfolding(crate::specs::Lexing::body_at))]
 fn body_at(
     alloc: Global,
@@ -57,13 +57,14 @@ fn body_at(
     }
 }
 
-/// Where the bodies begin behind the heads so far of the line, and where that line ends; None within a body.
+/// Where the bodies begin after the heads so far of the line, and where that line ends; None within a body.
 fn bodies_from(text: &[u8], reach: Reach, at: usize) -> Option<(usize, usize)>
     requires fits { lexing.Fits (length text.now) reach }
     requires within { at ≤ reach.stop }
     ensures value { result ≡ lexing.bodies_from text.now reach at }
     ensures order { IfSome result (λ p. (at ≤ p.1) × (p.0 ≤ length text.now) × (p.1 ≤ length text.now)) }
-    ensures room { reach.at + 2 < at → IfSome result (λ p. (length text.now - p.0) + 2 + (p.1 - at) < lexing.unread (length text.now) reach) }
+    ensures room { reach.at + 2 < at → IfSome result (λ p.
+        (length text.now - p.0) + 2 + (p.1 - at) < lexing.unread (length text.now) reach) }
 {
     match reach.region {
         Region::Plain => {
@@ -91,9 +92,11 @@ fn enter_body(
     next: usize,
 ) -> Result<Reach, LexError>
     requires { at < 4294967296 }
-    ensures value { Gives (λ r. (state_of lexer.new, r)) result (lexing.enter_body at head from end line next (state_of lexer.old)) }
+    ensures value { Gives (λ r. (state_of lexer.new, r)) result
+        (lexing.enter_body at head from end line next (state_of lexer.old)) }
     ensures fault { IfErr result (λ e. e ≡ errors.NoMemory) }
-    ensures fits { IfOk result (λ r. (n : ℕ) → head.end ≤ line → line ≤ n → from ≤ end → end ≤ n → next ≤ n → lexing.Fits n r) }
+    ensures fits { IfOk result (λ r. (n : ℕ) → head.end ≤ line → line ≤ n → from ≤ end → end ≤ n → next ≤ n
+        → lexing.Fits n r) }
     ensures room { IfOk result (λ r. (n : ℕ) → lexing.unread n r ≤ (end - from) + 2 + (line - head.end) + (n - next)) }
 {
     if head.dash == b'~' {
@@ -133,7 +136,8 @@ fn heredoc_step(
     requires end { head.to ≤ head.end }
     requires forward { reach.at + 2 < head.end }
     requires within { head.end ≤ reach.stop }
-    ensures value { Gives (λ r. (state_of lexer.new, r)) result (lexing.heredoc_step text.now reach head (state_of lexer.old)) }
+    ensures value { Gives (λ r. (state_of lexer.new, r)) result
+        (lexing.heredoc_step text.now reach head (state_of lexer.old)) }
     ensures fault { IfErr result (λ e. IsWithin (length text.now) e) }
     ensures fits { IfOk result (λ r. lexing.Fits (length text.now) r) }
     ensures smaller { IfOk result (λ r. lexing.unread (length text.now) r < lexing.unread (length text.now) reach) }
@@ -162,10 +166,12 @@ fn stretch_end(
     requires small { length text.now < 4294967296 }
     requires fits { lexing.Fits (length text.now) reach }
     requires end { reach.stop ≤ reach.at }
-    ensures value { Gives (λ r. (state_of lexer.new, r)) result (lexing.stretch_end text.now reach (state_of lexer.old)) }
+    ensures value { Gives (λ r. (state_of lexer.new, r)) result
+        (lexing.stretch_end text.now reach (state_of lexer.old)) }
     ensures fault { IfErr result (λ e. IsWithin (length text.now) e) }
     ensures fits { IfOk result (λ next. IfSome next (λ r. lexing.Fits (length text.now) r)) }
-    ensures smaller { IfOk result (λ next. IfSome next (λ r. lexing.unread (length text.now) r < lexing.unread (length text.now) reach)) }
+    ensures smaller { IfOk result (λ next. IfSome next (λ r.
+        lexing.unread (length text.now) r < lexing.unread (length text.now) reach)) }
 {
     match reach.region {
         Region::Plain => Ok(None),
@@ -211,7 +217,7 @@ fn is_literal(mode: Option<Mode>) -> bool
     }
 }
 
-/// The place behind the bodies of the line's heredocs, where the place is the line's last.
+/// The place after the bodies of the line's heredocs, where the place is the line's last.
 fn behind_bodies(reach: Reach) -> Option<usize>
     requires { reach.at < reach.stop }
     ensures { result ≡ lexing.behind_bodies reach }
@@ -239,7 +245,8 @@ fn code_reach(
     requires small { length text.now < 4294967296 }
     requires fits { lexing.Fits (length text.now) reach }
     requires before { reach.at < reach.stop }
-    ensures value { Gives (λ r. (state_of lexer.new, r)) result (lexing.code_reach text.now reach (state_of lexer.old)) }
+    ensures value { Gives (λ r. (state_of lexer.new, r)) result
+        (lexing.code_reach text.now reach (state_of lexer.old)) }
     ensures fault { IfErr result (λ e. IsWithin (length text.now) e) }
     ensures fits { IfOk result (λ r. lexing.Fits (length text.now) r) }
     ensures smaller { IfOk result (λ r. lexing.unread (length text.now) r < lexing.unread (length text.now) reach) }
@@ -268,7 +275,8 @@ fn step_reach(
     requires small { length text.now < 4294967296 }
     requires fits { lexing.Fits (length text.now) reach }
     requires before { reach.at < reach.stop }
-    ensures value { Gives (λ r. (state_of lexer.new, r)) result (lexing.step_reach text.now reach (state_of lexer.old)) }
+    ensures value { Gives (λ r. (state_of lexer.new, r)) result
+        (lexing.step_reach text.now reach (state_of lexer.old)) }
     ensures fault { IfErr result (λ e. IsWithin (length text.now) e) }
     ensures fits { IfOk result (λ r. lexing.Fits (length text.now) r) }
     ensures smaller { IfOk result (λ r. lexing.unread (length text.now) r < lexing.unread (length text.now) reach) }
@@ -294,7 +302,8 @@ fn advance(
     ensures value { Gives (λ r. (state_of lexer.new, r)) result (lexing.advance text.now (state_of lexer.old) reach) }
     ensures fault { IfErr result (λ e. IsWithin (length text.now) e) }
     ensures fits { IfOk result (λ next. IfSome next (λ r. lexing.Fits (length text.now) r)) }
-    ensures smaller { IfOk result (λ next. IfSome next (λ r. lexing.unread (length text.now) r < lexing.unread (length text.now) reach)) }
+    ensures smaller { IfOk result (λ next. IfSome next (λ r.
+        lexing.unread (length text.now) r < lexing.unread (length text.now) reach)) }
 {
     if reach.at >= reach.stop {
         return stretch_end(alloc, lexer, text, reach);

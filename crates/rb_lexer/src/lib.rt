@@ -9,9 +9,9 @@ pub mod lexer;
 pub mod reach;
 pub mod strings;
 
-pub use lexer_steps::LexError;
 pub use lexer::lex;
 pub use lexer_depth::depth;
+pub use lexer_steps::LexError;
 
 #[cfg(test)]
 mod tests;

@@ -5,18 +5,18 @@ ghost use Rattle.lexer_steps.specs.LexError.{Gives, IsWithin};
 ghost use Rattle.lexer_steps.specs.State.{state_of};
 ghost use Rattle.rb_lexer.specs.Strings as strings;
 
+use lexer_literals::{Escape, full_escape, plain_escape, word_escape};
 use lexer_steps::error::LexError;
 use lexer_steps::mode::{Literal, Mode};
+use lexer_steps::names::{is_colon, push_variable};
 use lexer_steps::scan::byte_at;
 use lexer_steps::state::Lexer;
-use lexer_steps::names::{is_colon, push_variable};
-use lexer_literals::{Delimiters, full_escape, plain_escape, word_escape};
-use rb_syntax::{Outside, TokenKind};
 use lexer_tables::Context;
 use lexer_tables::bytes::{is_name_start, is_white};
+use rb_syntax::{Outside, TokenKind};
 use std::alloc::Global;
 
-/// A byte that stands for itself, or the one behind a backslash.
+/// A byte that stands for itself, or the one after a backslash.
 fn byte_step(lexer: &mut Lexer, at: usize, byte: u8, end: usize) -> Result<usize, LexError>
     requires { at < 4294967296 }
     ensures place { IfOk result (λ e. e ≡ end) }
@@ -27,7 +27,18 @@ fn byte_step(lexer: &mut Lexer, at: usize, byte: u8, end: usize) -> Result<usize
     Ok(end)
 }
 
-/// An escape behind the backslash at a place.
+/// What the escape at a place stands for.
+fn add_escape(lexer: &mut Lexer, at: usize, escape: Escape) -> Result<usize, LexError>
+    requires { at < 4294967296 }
+    ensures place { IfOk result (λ e. e ≡ escape.end) }
+    ensures value { Gives (λ e. (state_of lexer.new, e)) result (strings.add_escape escape at (state_of lexer.old)) }
+    ensures fault { IfErr result (λ e. e ≡ NoMemory) }
+{
+    lexer.add_escaped(at, escape.stands_for)?;
+    Ok(escape.end)
+}
+
+/// An escape after the backslash at a place.
 #[tactic(auto, unfolding(crate::specs::Strings::escape_step))]
 fn escape_step(lexer: &mut Lexer, text: &[u8], at: usize) -> Result<usize, LexError>
     requires place { at < length text.now }
@@ -37,10 +48,7 @@ fn escape_step(lexer: &mut Lexer, text: &[u8], at: usize) -> Result<usize, LexEr
     ensures fault { IfErr result (λ e. IsWithin (length text.now) e) }
 {
     match full_escape(text, at + 1) {
-        Ok(escape) => {
-            lexer.add_escaped(at, escape.stands_for)?;
-            Ok(escape.end)
-        }
+        Ok(escape) => add_escape(lexer, at, escape),
         Err(fault) => Err(LexError::Syntax {
             at: fault.at as u32,
         }),
@@ -96,51 +104,7 @@ fn double_step(alloc: Global, lexer: &mut Lexer, text: &[u8], at: usize) -> Resu
     }
 }
 
-/// A byte of a literal without interpolation that is no delimiter.
-#[tactic(auto, unfolding(crate::specs::Strings::single_step))]
-fn single_step(
-    lexer: &mut Lexer,
-    delimiters: Delimiters,
-    text: &[u8],
-    at: usize,
-) -> Result<usize, LexError>
-    requires place { at < length text.now }
-    requires small { length text.now < 4294967296 }
-    ensures within { IfOk result (λ e. (at < e) × (e ≤ length text.now)) }
-    ensures value { Gives (λ e. (state_of lexer.new, e)) result (strings.single_step delimiters text.now at (state_of lexer.old)) }
-    ensures fault { IfErr result (λ e. IsWithin (length text.now) e) }
-{
-    if text[at] != b'\\' {
-        return byte_step(lexer, at, text[at], at + 1);
-    }
-    let escape = plain_escape(text, at + 1, delimiters);
-    lexer.add_escaped(at, escape.stands_for)?;
-    Ok(escape.end)
-}
-
-/// A byte of a list of words that is no white space and no delimiter.
-#[tactic(auto, unfolding(crate::specs::Strings::word_byte_step))]
-fn word_byte_step(
-    lexer: &mut Lexer,
-    delimiters: Delimiters,
-    text: &[u8],
-    at: usize,
-) -> Result<usize, LexError>
-    requires place { at < length text.now }
-    requires small { length text.now < 4294967296 }
-    ensures within { IfOk result (λ e. (at < e) × (e ≤ length text.now)) }
-    ensures value { Gives (λ e. (state_of lexer.new, e)) result (strings.word_byte_step delimiters text.now at (state_of lexer.old)) }
-    ensures fault { IfErr result (λ e. IsWithin (length text.now) e) }
-{
-    if text[at] != b'\\' {
-        return byte_step(lexer, at, text[at], at + 1);
-    }
-    let escape = word_escape(text, at + 1, delimiters);
-    lexer.add_escaped(at, escape.stands_for)?;
-    Ok(escape.end)
-}
-
-/// The end of a string at a place; a colon behind it makes it a key.
+/// The end of a string at a place; a colon after it makes it a key.
 #[tactic(auto, unfolding(crate::specs::Strings::end_step))]
 fn end_step(
     alloc: Global,
@@ -152,7 +116,8 @@ fn end_step(
     requires place { at < length text.now }
     requires small { length text.now < 4294967296 }
     ensures within { IfOk result (λ e. (at < e) × (e ≤ length text.now)) }
-    ensures value { Gives (λ e. (state_of lexer.new, e)) result (strings.end_step key text.now at (state_of lexer.old)) }
+    ensures value { Gives (λ e. (state_of lexer.new, e)) result
+        (strings.end_step key text.now at (state_of lexer.old)) }
     ensures fault { IfErr result (λ e. IsWithin (length text.now) e) }
 {
     lexer.flush(alloc)?;
@@ -193,7 +158,7 @@ fn nest_step(lexer: &mut Lexer, mode: Mode, at: usize, byte: u8) -> Result<usize
     byte_step(lexer, at, byte, at + 1)
 }
 
-/// One opener delimiter more; a number of them that doesn't fit is want of memory.
+/// One open delimiter more; memory runs out where their number does not fit.
 fn deeper(literal: Literal) -> Result<Literal, LexError>
     ensures value { Gives (λ d. d) result (strings.deeper literal) }
     ensures fault { IfErr result (λ e. e ≡ NoMemory) }
@@ -205,7 +170,7 @@ fn deeper(literal: Literal) -> Result<Literal, LexError>
 }
 
 /// A step in a string.
-#[tactic(auto, unfolding(crate::specs::Strings::text_step))]
+#[tactic(auto, unfolding(crate::specs::Strings::text_step, crate::specs::Strings::single_step))]
 pub fn text_step(
     alloc: Global,
     lexer: &mut Lexer,
@@ -216,7 +181,8 @@ pub fn text_step(
     requires place { at < length text.now }
     requires small { length text.now < 4294967296 }
     ensures within { IfOk result (λ e. (at < e) × (e ≤ length text.now)) }
-    ensures value { Gives (λ e. (state_of lexer.new, e)) result (strings.text_step literal text.now at (state_of lexer.old)) }
+    ensures value { Gives (λ e. (state_of lexer.new, e)) result
+        (strings.text_step literal text.now at (state_of lexer.old)) }
     ensures fault { IfErr result (λ e. IsWithin (length text.now) e) }
 {
     let byte = text[at];
@@ -233,13 +199,16 @@ pub fn text_step(
     }
     if literal.double {
         double_step(alloc, lexer, text, at)
+    } else if byte == b'\\' {
+        let escape = plain_escape(text, at + 1, literal.delimiters);
+        add_escape(lexer, at, escape)
     } else {
-        single_step(lexer, literal.delimiters, text, at)
+        byte_step(lexer, at, byte, at + 1)
     }
 }
 
 /// A step in a list of words.
-#[tactic(auto, unfolding(crate::specs::Strings::words_step))]
+#[tactic(auto, unfolding(crate::specs::Strings::words_step, crate::specs::Strings::word_byte_step))]
 pub fn words_step(
     alloc: Global,
     lexer: &mut Lexer,
@@ -250,7 +219,8 @@ pub fn words_step(
     requires place { at < length text.now }
     requires small { length text.now < 4294967296 }
     ensures within { IfOk result (λ e. (at < e) × (e ≤ length text.now)) }
-    ensures value { Gives (λ e. (state_of lexer.new, e)) result (strings.words_step literal text.now at (state_of lexer.old)) }
+    ensures value { Gives (λ e. (state_of lexer.new, e)) result
+        (strings.words_step literal text.now at (state_of lexer.old)) }
     ensures fault { IfErr result (λ e. IsWithin (length text.now) e) }
 {
     let byte = text[at];
@@ -269,7 +239,11 @@ pub fn words_step(
         let mode = Mode::Words(deeper(literal)?);
         return nest_step(lexer, mode, at, byte);
     }
-    word_byte_step(lexer, literal.delimiters, text, at)
+    if byte != b'\\' {
+        return byte_step(lexer, at, byte, at + 1);
+    }
+    let escape = word_escape(text, at + 1, literal.delimiters);
+    add_escape(lexer, at, escape)
 }
 
 /// The end of a list of words.
@@ -297,7 +271,8 @@ pub fn body_step(
     requires place { at < length text.now }
     requires small { length text.now < 4294967296 }
     ensures within { IfOk result (λ e. (at < e) × (e ≤ length text.now)) }
-    ensures value { Gives (λ e. (state_of lexer.new, e)) result (strings.body_step double text.now at (state_of lexer.old)) }
+    ensures value { Gives (λ e. (state_of lexer.new, e)) result
+        (strings.body_step double text.now at (state_of lexer.old)) }
     ensures fault { IfErr result (λ e. IsWithin (length text.now) e) }
 {
     if double {

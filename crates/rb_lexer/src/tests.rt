@@ -40,7 +40,7 @@ fn spell(alloc: Global, line: &mut Vec<u8>, kind: &TokenKind) -> Result<(), Allo
     }
 }
 
-/// The tokens' names in one line, each with a blank behind it; a refusal is `Syntax` and its place.
+/// The tokens' names in one line, each with a blank after it; a refusal is `Syntax` and its place.
 fn line_of(rt: &impl Abort, alloc: Global, text: &[u8]) -> Result<Vec<u8>, Fail> {
     assert!(rt; text.len() < 4294967296);
     let mut line = Vec::new(alloc);

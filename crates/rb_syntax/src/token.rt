@@ -11,9 +11,9 @@ pub enum TokenKind {
     /// The end of a line that ends a statement.
     Newline,
     Semicolon,
-    /// A name that begins with a small letter or `_` and has no mark behind it.
+    /// A name that begins with a small letter or `_` and has no mark after it.
     Identifier(Bytes),
-    /// A name that begins with a capital letter and has no mark behind it.
+    /// A name that begins with a capital letter and has no mark after it.
     Constant(Bytes),
     /// A name that only a method has: with `?`, `!` or `=`, or a keyword or an operator where a name is wanted.
     MethodName(Bytes),
@@ -21,7 +21,7 @@ pub enum TokenKind {
     InstanceVariable(Bytes),
     /// With its `$`.
     GlobalVariable(Bytes),
-    /// A name with a colon directly behind it; the bytes are those of the name.
+    /// A name with a colon directly after it; the bytes are those of the name.
     Label(Bytes),
     Keyword(Keyword),
     Punctuator(Punctuator),
@@ -29,7 +29,7 @@ pub enum TokenKind {
     Integer(u64),
     /// `?c`, a string of one byte.
     Character(u8),
-    /// A symbol without quotes; the bytes are those behind the colon.
+    /// A symbol without quotes; the bytes are those after the colon.
     Symbol(Bytes),
     /// The opening of a string of any spelling: quotes, `%`, `%q`, `%Q` or a heredoc's head.
     StringBegin,

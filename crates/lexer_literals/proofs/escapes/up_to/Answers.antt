@@ -12,4 +12,8 @@ bytes-preserved c = record {
 }
 
 pub returns-then-left-eq0-clause-value : goal.returns-then-left-eq0-clause-value
-returns-then-left-eq0-clause-value c = grind (arith, up_to_here c.args.text.now c.args.base c.bytes.left c.bytes.value c.bytes.at)
+returns-then-left-eq0-clause-value c = grind (
+  arith,
+  up_to_here c.args.text.now c.args.base c.bytes.left c.bytes.value
+      c.bytes.at,
+)

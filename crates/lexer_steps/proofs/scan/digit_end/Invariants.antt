@@ -1,9 +1,0 @@
-use Rattle.std.proofs.Common.{length, ◌≡◌, ◌-◌, ◌≤◌, drop}
-use Rattle.lexer_steps.specs.Scan.{digit_end}
-use Rattle.lexer_steps.proofs.scan.digit_end.Given as goal
-
-abbrev pub invariant-bytes : goal.invariant-bytes
-invariant-bytes l = record { forward : l.fn.from ≤ l.at; within : l.at ≤ length l.text; same : digit_end l.at (drop l.at l.text) ≡ digit_end l.fn.from (drop l.fn.from l.text) }
-
-abbrev pub decreases-bytes : goal.decreases-bytes
-decreases-bytes l = length l.text - l.at
