@@ -68,7 +68,7 @@ fn first_of_bodies(alloc: Global, bodies: &[Body]) -> Result<Option<Excess>, All
 }
 
 /// The first count that exceeds its limit: bodies depth first, in each body in the order of `Count`, the file
-/// last. A sum past 2^64 - 1, which no memory can hold the forms of, is answered as want of memory.
+/// last. A sum past 2^64 - 1, which no memory can hold the forms of, is answered as if memory ran out.
 pub fn first_past_limit(alloc: Global, program: &Core) -> Result<Option<Excess>, AllocError>
     ensures { IfOk result (λ excess. excess ≡ limits.first_excess (need (core_view program.now))) }
 {

@@ -187,7 +187,7 @@ fn of_begin<'a>(clauses: &[Clause<Core>]) -> Found<'a>
     })
 }
 
-/// What the core adds. A count past 2^64 - 1 is answered as want of memory.
+/// What the core adds. A count past 2^64 - 1 is answered as if memory ran out.
 #[tactic(auto, using(ir_core::proofs::ViewsBy::views))]
 pub fn facts_of<'a>(core: &'a Term) -> Found<'a>
     ensures { IfOk result (λ f. view f ≡ tables.added (term_view core.now)) }

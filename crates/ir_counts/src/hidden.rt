@@ -1,4 +1,4 @@
-//! Names that lowering makes. They begin with a percent sign, which no name of a source does; a number behind it
+//! Names that lowering makes. They begin with a percent sign, which no name of a source does; a number after it
 //! makes a hidden local.
 ghost use Rattle.std.specs.Prelude.{◌≡◌, ◌≤◌};
 ghost use Rattle.ir_counts.specs.Tables.{hidden_by, hidden_number, is_made, number};

@@ -12,7 +12,7 @@ greatest_of n (w ∷ ws) = greatest_of (max n w) ws
 abbrev pub greatest : List ℕ → ℕ
 greatest ws = greatest_of 0 ws
 
--- Each part stands behind those before it, from place j on, and three registers behind the last: the greatest
+-- Each part stands after those before it, from place j on, and three registers after the last: the greatest
 -- end of these and of those before.
 abbrev pub behind : ℕ → ℕ → List ℕ → ℕ
 behind most j [] = max most (j + 3)
@@ -79,9 +79,9 @@ abbrev mutual
   width (form.or_form f g) = in_order (width f ∷ width g ∷ [])
   width (form.while_form first f g) = in_turn (width f ∷ width g ∷ [])
   width (form.call r x is b) = of_call (has_splat is) ((width r ∷ widths is) ++ widths b)
-  -- behind the Proc that is called
+  -- after the Proc that is called
   width (form.yield_form is) = of_call (has_splat is) (3 ∷ widths is)
-  -- behind self
+  -- after self
   width (form.super_form is b) = of_call (has_splat is) ((3 ∷ widths is) ++ widths b)
   -- the form of a function stands in a body of its own
   width (form.function p l b) = 3

@@ -1,4 +1,4 @@
-//! Sums of counts, and widths of lists of parts. A sum that passes 2^64 - 1 is answered as want of memory: no
+//! Sums of counts, and widths of lists of parts. A sum that passes 2^64 - 1 is answered as if memory ran out: no
 //! memory can hold what is counted there.
 ghost use Rattle.std.specs.Prelude.{◌≡◌, ◌+◌, ◌*◌, IfOk};
 ghost use Rattle.ir_walk.specs.Width as widths;

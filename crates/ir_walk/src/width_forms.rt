@@ -21,7 +21,7 @@ pub fn one<T: Measured>(alloc: Global, core: &Box<T>) -> Measure
     in_order(&[width])
 }
 
-/// One part and a function behind it.
+/// One part and a function after it.
 pub fn one_and_leaf<T: Measured>(alloc: Global, core: &Box<T>) -> Measure
     ensures { IfOk result (λ w. w ≡ widths.in_order (widths.width (by.core_by T.form core.now) ∷ 3 ∷ [])) }
 {
@@ -29,7 +29,7 @@ pub fn one_and_leaf<T: Measured>(alloc: Global, core: &Box<T>) -> Measure
     in_order(&[width, 3])
 }
 
-/// Two parts, one behind the other.
+/// Two parts, one after the other.
 pub fn two<T: Measured>(alloc: Global, left: &Box<T>, right: &Box<T>) -> Measure
     ensures { IfOk result (λ w. w ≡ widths.in_order (widths.width (by.core_by T.form left.now) ∷ widths.width (by.core_by T.form right.now) ∷ [])) }
 {
@@ -109,7 +109,7 @@ pub fn call_width<T: Measured>(
     of_call(splat, &all)
 }
 
-/// A yield, behind the Proc that is called.
+/// A yield, after the Proc that is called.
 pub fn yield_width<T: Measured>(alloc: Global, splat: bool, items: &Vec<Item<Box<T>>>) -> Measure
     ensures { IfOk result (λ w. w ≡ widths.of_call splat (3 ∷ widths.widths (by.items_by T.form items.now.items))) }
 {
@@ -119,7 +119,7 @@ pub fn yield_width<T: Measured>(alloc: Global, splat: bool, items: &Vec<Item<Box
     of_call(splat, &all)
 }
 
-/// A super, behind self.
+/// A super, after self.
 pub fn super_width<T: Measured>(
     alloc: Global,
     splat: bool,

@@ -1,4 +1,4 @@
-//! The widths of the parts of a core. Each function that is called `add` puts some behind others.
+//! The widths of the parts of a core. Each function that is called `add` puts some after others.
 ghost use Rattle.std.specs.Prelude.{◌≡◌, ◌++◌, ◌∷◌, [], OnOk, IfOk};
 ghost use Rattle.ir_core.specs.PartsBy as by;
 ghost use Rattle.ir_walk.specs.Width as widths;
@@ -12,7 +12,7 @@ use std::cmp::max;
 /// The width of a core or of a part.
 pub type Measure = Result<u64, AllocError>;
 
-/// Nothing, where there was memory for what was put behind others.
+/// Nothing, where there was memory for what was put after others.
 pub type Added = Result<(), AllocError>;
 
 pub fn receiver_width<T: Measured>(alloc: Global, receiver: &Receiver<Box<T>>) -> Measure
@@ -92,7 +92,7 @@ fn clause_width<T: Measured>(alloc: Global, clause: &Clause<Box<T>>) -> Measure
     Ok(max(most, body))
 }
 
-/// Puts one behind others.
+/// Puts one after others.
 fn put(all: &mut Vec<u64>, width: u64) -> Added
     ensures { OnOk result (all.new.items ≡ all.old.items ++ width ∷ []) }
 {

@@ -22,7 +22,8 @@ alone b none none (more e es) h = absurd (false≢true h)
 alone b none (more o os) e h = absurd (false≢true h)
 alone b (more c cs) o e h = absurd (false≢true h)
 
-pub joined : (b : CoreForm) (cs o e : CoreForms) → is_alone cs o e ≡ false → begin_of b cs o e ≡ form.begin_form b cs o e
+pub joined : (b : CoreForm) (cs o e : CoreForms) → is_alone cs o e ≡ false
+    → begin_of b cs o e ≡ form.begin_form b cs o e
 joined b none none none h = absurd (true≢false h)
 joined b none none (more e es) h = refl
 joined b none (more o os) e h = refl

@@ -15,9 +15,12 @@ pub core_all-of : {A B : Type 0} (f : A → CoreForm) (v : B → Node) (p : Pass
 core_all-of f v p d xs ys e = ap forms e ∙ sym (core_all-nodes p d (map v ys))
 
 -- the same at the end of a loop over the parts
-pub core_all-end : {A B : Type 0} (f : A → CoreForm) (v : B → Node) (p : Passed) (d : ℕ) (xs : List A) (ys zs : List B) (n : ℕ)
-    → map f xs ≡ map (core p d) (map v (take n ys)) → zs ≡ ys → length zs ≤ n → forms (map f xs) ≡ core_all p d (nodes (map v ys))
+pub core_all-end : {A B : Type 0} (f : A → CoreForm) (v : B → Node) (p : Passed) (d : ℕ) (xs : List A)
+    (ys zs : List B) (n : ℕ)
+    → map f xs ≡ map (core p d) (map v (take n ys)) → zs ≡ ys → length zs ≤ n
+    → forms (map f xs) ≡ core_all p d (nodes (map v ys))
 core_all-end f v p d xs ys zs n e same end =
-    core_all-of f v p d xs ys (e ∙ ap (λ ts. map (core p d) (map v ts)) (take_all n ys (subst (λ ts. length ts ≤ n) same end)))
+    core_all-of f v p d xs ys
+    (e ∙ ap (λ ts. map (core p d) (map v ts)) (take_all n ys (subst (λ ts. length ts ≤ n) same end)))
 
 pub ruleset loops = core_all-end

@@ -10,12 +10,15 @@ use Rattle.lower_table.specs.Pieces.{literal_step, joined_step, piece_core}
 
 literal-lost : (ns : List Node) → fold literal_step false ns ≡ false
 literal-lost [] = refl
-literal-lost (n ∷ ns) = elim (is_tree n) as (λ b. fold literal_step (if b then false else false) ns ≡ false) [ true ↦ literal-lost ns | false ↦ literal-lost ns ]
+literal-lost (n ∷ ns) =
+    elim (is_tree n) as (λ b. fold literal_step (if b then false else false) ns
+    ≡ false) [ true ↦ literal-lost ns | false ↦ literal-lost ns ]
 
 is_literal-fold : (ns : List Node) → is_literal (nodes ns) ≡ fold literal_step true ns
 is_literal-fold [] = refl
 is_literal-fold (n ∷ ns) =
-    elim (is_tree n) as (λ b. (if b then false else is_literal (nodes ns)) ≡ fold literal_step (if b then false else true) ns)
+    elim (is_tree n) as (λ b. (if b then false else is_literal (nodes ns)) ≡ fold literal_step
+    (if b then false else true) ns)
     [ true ↦ sym (literal-lost ns) | false ↦ is_literal-fold ns ]
 
 joined-from : (bytes : List ℕ) (ns : List Node) → fold joined_step bytes ns ≡ bytes ++ joined (nodes ns)
@@ -34,13 +37,17 @@ pub pieces-of : {A : Type 0} (v : A → Node) (p : Passed) (d : ℕ) (cs : List 
 pieces-of v p d cs xs e = ap forms e ∙ sym (pieces-nodes p d (map v xs))
 
 -- at the end of a loop over the pieces
-pub literal-end : {A : Type 0} (v : A → Node) (xs : List A) (b : Bool) (n : ℕ) → b ≡ fold literal_step true (map v (take n xs)) → length xs ≤ n
+pub literal-end : {A : Type 0} (v : A → Node) (xs : List A) (b : Bool) (n : ℕ)
+    → b ≡ fold literal_step true (map v (take n xs)) → length xs ≤ n
     → b ≡ is_literal (nodes (map v xs))
-literal-end v xs b n e end = e ∙ (ap (λ ys. fold literal_step true (map v ys)) (take_all n xs end) ∙ sym (is_literal-fold (map v xs)))
+literal-end v xs b n e end =
+    e ∙ (ap (λ ys. fold literal_step true (map v ys)) (take_all n xs end) ∙ sym (is_literal-fold (map v xs)))
 
-pub joined-end : {A : Type 0} (v : A → Node) (xs : List A) (bytes : List ℕ) (n : ℕ) → bytes ≡ fold joined_step [] (map v (take n xs)) → length xs ≤ n
+pub joined-end : {A : Type 0} (v : A → Node) (xs : List A) (bytes : List ℕ) (n : ℕ)
+    → bytes ≡ fold joined_step [] (map v (take n xs)) → length xs ≤ n
     → bytes ≡ joined (nodes (map v xs))
-joined-end v xs bytes n e end = e ∙ (ap (λ ys. fold joined_step [] (map v ys)) (take_all n xs end) ∙ sym (joined-fold (map v xs)))
+joined-end v xs bytes n e end =
+    e ∙ (ap (λ ys. fold joined_step [] (map v ys)) (take_all n xs end) ∙ sym (joined-fold (map v xs)))
 
 pub ruleset texts = literal-end
 

@@ -15,23 +15,33 @@ use Rattle.lower_table.specs.Lowering.{Passed, core}
 use Rattle.parser_tree.specs.PartsBy as by
 use Rattle.parser_tree.proofs.ViewsBy.{view-Call, view-Define, view-Class}
 
-pub shown-by : {E : Type 0} (r : Result Core E) (g : Node → CoreForm) (t s : TreeForm) (n : Node) → t ≡ s → form_view s ≡ n
+pub shown-by : {E : Type 0} (r : Result Core E) (g : Node → CoreForm) (t s : TreeForm) (n : Node) → t ≡ s
+    → form_view s ≡ n
     → IfOk r (λ c. core_view c ≡ g n) → IfOk r (λ c. core_view c ≡ g (form_view t))
 shown-by r g t s n is law h = subst (λ m. IfOk r (λ c. core_view c ≡ g m)) (sym (ap form_view is ∙ law)) h
 
-pub lowered-by : {E : Type 0} (r : Result Core E) (p : Passed) (d : ℕ) (t s : TreeForm) (n : Node) → t ≡ s → form_view s ≡ n
+pub lowered-by : {E : Type 0} (r : Result Core E) (p : Passed) (d : ℕ) (t s : TreeForm) (n : Node) → t ≡ s
+    → form_view s ≡ n
     → IfOk r (λ c. core_view c ≡ core p d n) → IfOk r (λ c. core_view c ≡ core p d (form_view t))
 lowered-by r p d t s n is law h = shown-by r (core p d) t s n is law h
 
 -- with the name as it was passed
-pub call-by : (r : Option Tree) (x : Bytes) (y : List ℕ) (a : Option (Arguments Tree)) (b : Option (Definition Tree)) → y ≡ x
-    → form_view (form.Call r x a b) ≡ node.call (by.boxed_by form_view r) y (by.arguments_by form_view a) (by.block_by form_view b)
-call-by r x y a b same = view-Call r x a b ∙ ap (λ z. node.call (by.boxed_by form_view r) z (by.arguments_by form_view a) (by.block_by form_view b)) (sym same)
+pub call-by : (r : Option Tree) (x : Bytes) (y : List ℕ) (a : Option (Arguments Tree)) (b : Option (Definition Tree))
+    → y ≡ x
+    → form_view (form.Call r x a b)
+    ≡ node.call (by.boxed_by form_view r) y (by.arguments_by form_view a) (by.block_by form_view b)
+call-by r x y a b same =
+    view-Call r x a b ∙ ap (λ z. node.call (by.boxed_by form_view r) z (by.arguments_by form_view a)
+    (by.block_by form_view b)) (sym same)
 
 pub define-by : (s : Option Tree) (x : Bytes) (y : List ℕ) (d : Definition Tree) → y ≡ x
     → form_view (form.Define s x d) ≡ node.define (by.boxed_by form_view s) y (by.definition_by form_view d)
-define-by s x y d same = view-Define s x d ∙ ap (λ z. node.define (by.boxed_by form_view s) z (by.definition_by form_view d)) (sym same)
+define-by s x y d same =
+    view-Define s x d ∙ ap (λ z. node.define (by.boxed_by form_view s) z (by.definition_by form_view d)) (sym same)
 
 pub class-by : (s : Scope Tree) (x : Bytes) (y : List ℕ) (p : Option Tree) (b : Tree) → y ≡ x
-    → form_view (form.Class s x p b) ≡ node.class_node (by.scope_by form_view s) y (by.boxed_by form_view p) (by.tree_by form_view b)
-class-by s x y p b same = view-Class s x p b ∙ ap (λ z. node.class_node (by.scope_by form_view s) z (by.boxed_by form_view p) (by.tree_by form_view b)) (sym same)
+    → form_view (form.Class s x p b)
+    ≡ node.class_node (by.scope_by form_view s) y (by.boxed_by form_view p) (by.tree_by form_view b)
+class-by s x y p b same =
+    view-Class s x p b ∙ ap (λ z. node.class_node (by.scope_by form_view s) z (by.boxed_by form_view p)
+    (by.tree_by form_view b)) (sym same)

@@ -11,7 +11,8 @@ use Rattle.lower_table.specs.Lowering.{Passed, store}
 use Rattle.lower_table.specs.Numbered.{patterned}
 use Rattle.lower_table.proofs.Numbers.{count-map}
 
-pub pattern-pushed : (p : Passed) (k : ℕ) (n : Node) (old new : List Core) (c : Core) → is_tree n ≡ true → new ≡ old ++ c ∷ []
+pub pattern-pushed : (p : Passed) (k : ℕ) (n : Node) (old new : List Core) (c : Core) → is_tree n ≡ true
+    → new ≡ old ++ c ∷ []
     → core_view c ≡ store p 0 n (form.local (pattern_name k)) → map core_view new ≡ map core_view old ++ patterned p k n
 pattern-pushed p k n old new c whole pushed is =
     let shown : patterned p k n ≡ core_view c ∷ [] =

@@ -6,3 +6,4 @@ pub mod Pieces
 pub mod Numbered
 pub mod Sources
 pub mod Clauses
+pub mod Targets

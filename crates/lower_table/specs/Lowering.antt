@@ -88,12 +88,14 @@ index_set d a is fs v = form.seq (more (keep d a) (append (keeps (d + 1) is fs) 
 abbrev pub index_operated : ℕ → CoreForm → Nodes → CoreForms → AssignmentOperator → CoreForm → CoreForm
 index_operated d a is fs o v =
     let read = index_call d is in
-    form.seq (more (keep d a) (append (keeps (d + 1) is fs) (one (operated o read read (λ f. form.seq (index_store d is f)) v))))
+    form.seq (more (keep d a) (append (keeps (d + 1) is fs)
+    (one (operated o read read (λ f. form.seq (index_store d is f)) v))))
 
 abbrev pub scoped_operated : ℕ → CoreForm → Name → AssignmentOperator → CoreForm → CoreForm
 scoped_operated d m x o v =
     let read = form.in_constant (local_number d) x in
-    form.seq (two (keep d m) (operated o read (guarded (form.defined kind.Constant x (one (local_number d))) read) (λ f. form.set_in_constant (local_number d) x f) v))
+    form.seq (two (keep d m) (operated o read (guarded (form.defined kind.Constant x (one (local_number d))) read)
+    (λ f. form.set_in_constant (local_number d) x f) v))
 
 -- the scope of the constant of a class or module
 abbrev pub scope_forms : Node → CoreForm → CoreForms
@@ -168,7 +170,8 @@ define_of s x n f = defined_on s x (parameters_of n) (locals_of n) f
 abbrev pub each_of : CoreForm → Nodes → CoreForms → CoreForm → CoreForm
 each_of e ts stores body =
     form.call e (codes "each") none (one (form.function
-    (record { required = target_names 0 ts; optional = []; rest = None; post = []; block = None }) [] (after stores body)))
+    (record { required = target_names 0 ts; optional = []; rest = None; post = []; block = None }) []
+    (after stores body)))
 
 -- a list of statements is asked about as its only one
 abbrev pub asks_only : CoreForms → CoreForm
@@ -198,7 +201,8 @@ abbrev mutual
   core p d (node.integer n) = form.int n
   core p d (node.text ps) = if is_literal ps then form.str (joined ps) else form.text (pieces p d ps)
   core p d (node.symbol x) = form.sym x
-  core p d (node.symbol_text ps) = if is_literal ps then form.sym (joined ps) else form.intern (form.text (pieces p d ps))
+  core p d (node.symbol_text ps) =
+      if is_literal ps then form.sym (joined ps) else form.intern (form.text (pieces p d ps))
   core p d (node.words xs) = form.array (forms (map form.str xs))
   core p d (node.symbols xs) = form.array (forms (map form.sym xs))
   core p d (node.local x) = form.local x
@@ -217,15 +221,22 @@ abbrev mutual
   core p d (node.or_node a b) = form.or_form (core p d a) (core p d b)
   core p d (node.range a b x at) = form.range (core p d a) (core p d b) x
   core p d (node.if_node bs o) = form.cond (core_all p d bs) (first_or form.nil (core_all p d o))
-  core p d (node.unless_node t b o) = form.cond (one (form.branch (core p d t) (first_or form.nil (core_all p d o)))) (core p d b)
+  core p d (node.unless_node t b o) =
+      form.cond (one (form.branch (core p d t) (first_or form.nil (core_all p d o)))) (core p d b)
   core p d (node.while_node until f t b) = form.while_form f (loop_test until (core p d t)) (core p d b)
-  core p d (node.for_node ts e b) = each_of (core p d e) ts (stores p 0 (λ k. form.local (pattern_name k)) 0 ts) (core p 0 b)
-  core p d (node.case_node s cs o) = case_of d (core_all p (d + case_width s) s) (whens p (d + case_width s) (case_tests d s) cs) (first_or form.nil (core_all p (d + case_width s) o))
+  core p d (node.for_node ts e b) =
+      each_of (core p d e) ts (stores p 0 (λ k. form.local (pattern_name k)) 0 ts) (core p 0 b)
+  core p d (node.case_node s cs o) =
+      case_of d (core_all p (d + case_width s) s) (whens p (d + case_width s) (case_tests d s) cs)
+      (first_or form.nil (core_all p (d + case_width s) o))
   core p d (node.begin_node b cs o e) = begin_of (core p d b) (core_all p d cs) (core_all p d o) (core_all p d e)
   core p d (node.rescue_modifier a b) = rescued (core p d a) (core p d b)
-  core p d (node.call r x a b) = if is_block_given x r a b then has_block else call_form (core_all p d r) x a b (carried_items (core_all p d a)) (block_of b (core_all p 0 b) (core_all p d a))
+  core p d (node.call r x a b) =
+      if is_block_given x r a b then has_block else
+      call_form (core_all p d r) x a b (carried_items (core_all p d a)) (block_of b (core_all p 0 b) (core_all p d a))
   core p d (node.index e is) = send_form (core p d e) (codes "[]") (core_all p d is)
-  core p d (node.super_node a b) = form.super_form (super_of p a (core_all p d a)) (block_of b (core_all p 0 b) (core_all p d a))
+  core p d (node.super_node a b) =
+      form.super_form (super_of p a (core_all p d a)) (block_of b (core_all p 0 b) (core_all p d a))
   core p d (node.yield_node is) = form.yield_form (core_all p d is)
   core p d (node.defined e) = defined p d e
   core p d (node.lambda n) = form.lambda (parameters_of n) (locals_of n) (core p 0 n)
@@ -249,9 +260,11 @@ abbrev mutual
   core p d (node.piece s) = form.str s
   core p d (node.branch t b) = form.branch (core p d t) (core p d b)
   core p d (node.when_clause ts b) = form.branch (any_of (core_all p d ts)) (core p d b)
-  core p d (node.rescue_clause cs t b) = form.clause (core_all p d cs) (stores p d (λ k. form.local exception_name) 0 t) (core p d b)
+  core p d (node.rescue_clause cs t b) =
+      form.clause (core_all p d cs) (stores p d (λ k. form.local exception_name) 0 t) (core p d b)
   core p d (node.arguments is b) = form.super_form (core_all p d is) (core_all p d b)
-  core p d (node.definition r o rest q b x ls e) = after (append (core_all p 0 o) (append (patterns p 0 r) (patterns p (count r) q))) (core p 0 e)
+  core p d (node.definition r o rest q b x ls e) =
+      after (append (core_all p 0 o) (append (patterns p 0 r) (patterns p (count r) q))) (core p 0 e)
   core p d (node.name_parameter x) = form.nil
   core p d (node.optional_parameter x e) = form.set_local x (core p d e)
   core p d node.innermost = form.nil
@@ -297,7 +310,8 @@ abbrev mutual
   store p d (node.index e is) v = index_set d (core p (d + (count is + 2)) e) is (core_all p (d + (count is + 2)) is) v
   store p d (node.targets b s r a) v =
       form.seq (more (keep d v) (append (stores p (d + 1) (element d) 0 b)
-      (append (stores p (d + 1) (λ k. elements_between d (count b) (count a)) 0 r) (append (stores p (d + 1) (element_behind d (count a)) 0 a) (one (local_number d))))))
+      (append (stores p (d + 1) (λ k. elements_between d (count b) (count a)) 0 r)
+      (append (stores p (d + 1) (element_behind d (count a)) 0 a) (one (local_number d))))))
   store p d n v = v
 
   -- an abbreviated assignment
@@ -305,10 +319,12 @@ abbrev mutual
   operate p d (node.local x) o v = operated o (form.local x) (form.local x) (form.set_local x) v
   operate p d (node.instance_variable x) o v = operated o (form.ivar x) (form.ivar x) (form.set_ivar x) v
   operate p d (node.global_variable x) o v = operated o (form.gvar x) (form.gvar x) (form.set_gvar x) v
-  operate p d (node.constant x) o v = operated o (form.constant x) (guarded (asks_form kind.Constant x) (form.constant x)) (form.set_constant x) v
+  operate p d (node.constant x) o v =
+      operated o (form.constant x) (guarded (asks_form kind.Constant x) (form.constant x)) (form.set_constant x) v
   operate p d (node.scoped_constant e x) o v = scoped_operated d (core p (d + 1) e) x o v
   operate p d (node.call r x a b) o v = attribute_operated d x (core_all p (d + 2) r) o v
-  operate p d (node.index e is) o v = index_operated d (core p (d + (count is + 2)) e) is (core_all p (d + (count is + 2)) is) o v
+  operate p d (node.index e is) o v =
+      index_operated d (core p (d + (count is + 2)) e) is (core_all p (d + (count is + 2)) is) o v
   operate p d n o v = v
 
   -- what `defined?` asks (the receiver of a call or a constant is evaluated)

@@ -9,7 +9,7 @@ use Rattle.ir_builder.specs.Forms.{keep, local_number}
 use Rattle.lower_table.specs.Parts.{is_tree, count, parameter_name}
 use Rattle.lower_table.specs.Lowering.{Passed, core, core_all, keeps, patterns, store}
 
--- one node more, and the place behind it
+-- one node more, and the place after it
 abbrev pub numbered_step : {A : Type 0} → (ℕ → Node → List A) → List A × ℕ → Node → List A × ℕ
 numbered_step g s n = (s.0 ++ g s.1 n, s.1 + 1)
 

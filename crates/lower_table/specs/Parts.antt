@@ -11,59 +11,6 @@ use Rattle.ir_builder.specs.Names.{pattern_name, rest_name}
 
 -- whether it is the node of a tree, and no part of one
 abbrev pub is_tree : Node → Bool
-is_tree node.nil = true
-is_tree node.truth = true
-is_tree node.falsehood = true
-is_tree node.self_reference = true
-is_tree (node.integer a) = true
-is_tree (node.text a) = true
-is_tree (node.symbol a) = true
-is_tree (node.symbol_text a) = true
-is_tree (node.words a) = true
-is_tree (node.symbols a) = true
-is_tree (node.local a) = true
-is_tree (node.instance_variable a) = true
-is_tree (node.global_variable a) = true
-is_tree (node.constant a) = true
-is_tree (node.top_constant a) = true
-is_tree (node.scoped_constant a b) = true
-is_tree (node.array a) = true
-is_tree (node.hash a) = true
-is_tree (node.statements a) = true
-is_tree (node.not_node a) = true
-is_tree (node.unary a b) = true
-is_tree (node.operation a b c) = true
-is_tree (node.and_node a b) = true
-is_tree (node.or_node a b) = true
-is_tree (node.range a b c d) = true
-is_tree (node.if_node a b) = true
-is_tree (node.unless_node a b c) = true
-is_tree (node.while_node a b c d) = true
-is_tree (node.for_node a b c) = true
-is_tree (node.case_node a b c) = true
-is_tree (node.begin_node a b c d) = true
-is_tree (node.rescue_modifier a b) = true
-is_tree (node.call a b c d) = true
-is_tree (node.index a b) = true
-is_tree (node.super_node a b) = true
-is_tree (node.yield_node a) = true
-is_tree (node.defined a) = true
-is_tree (node.lambda a) = true
-is_tree (node.return_node a) = true
-is_tree (node.break_node a) = true
-is_tree (node.next_node a) = true
-is_tree node.retry = true
-is_tree (node.assign a b) = true
-is_tree (node.operator_assign a b c) = true
-is_tree (node.multiple_assign a b) = true
-is_tree (node.targets a b c d) = true
-is_tree (node.define a b c) = true
-is_tree (node.class_node a b c d) = true
-is_tree (node.singleton_class a b) = true
-is_tree (node.module_node a b c) = true
-is_tree (node.alias_node a b) = true
-is_tree (node.undef_node a) = true
-is_tree (node.outside a b c) = true
 is_tree (node.splat a) = false
 is_tree (node.pair a b) = false
 is_tree (node.piece a) = false
@@ -76,6 +23,7 @@ is_tree (node.name_parameter a) = false
 is_tree (node.optional_parameter a b) = false
 is_tree node.innermost = false
 is_tree node.top = false
+is_tree n = true
 
 abbrev pub count : Nodes → ℕ
 count none = 0
@@ -136,7 +84,7 @@ rest_of rests.Absent = None
 rest_of rests.Unnamed = Some rest_name
 rest_of (rests.Named x) = Some x
 
--- the parameters of a definition; those behind the rest are numbered after the required ones
+-- the parameters of a definition; those after the rest are numbered after the required ones
 abbrev pub parameters : Nodes → Nodes → RestParameter → Nodes → Option Name → Parameters
 parameters r o rest p b = record {
   required = parameter_names 0 r;

@@ -20,8 +20,9 @@ source_form source.Parameters k = form.local (pattern_name k)
 source_form source.Exception k = form.local exception_name
 
 -- the assignments to the targets of a group from the value in hidden local d: those before the star, its target, and
--- those behind it
+-- those after it
 abbrev pub group_stores : Passed → ℕ → Nodes → Nodes → Nodes → CoreForms
 group_stores p d b r a =
-    append (append (stores p (d + 1) (source_form (source.Front d)) 0 b) (stores p (d + 1) (source_form (source.Between d (count b) (count a))) 0 r))
+    append (append (stores p (d + 1) (source_form (source.Front d)) 0 b)
+    (stores p (d + 1) (source_form (source.Between d (count b) (count a))) 0 r))
     (stores p (d + 1) (source_form (source.Back d (count a))) 0 a)

@@ -8,8 +8,8 @@ ghost use Rattle.parser_tree.specs.PartsBy.{boxed_by, tree_by, trees_by};
 
 use crate::lower::Lower;
 use ir_builder::calls::{asks, asks_of};
-use rb_base::Bytes;
 use ir_core::Core;
+use rb_base::Bytes;
 use rb_syntax::{DefinedKind, Item};
 use std::alloc::{AllocError, Global};
 
@@ -21,7 +21,8 @@ pub fn ask_method<T: Lower>(
     receiver: &Box<T>,
     name: &[u8],
 ) -> Result<Core, AllocError>
-    ensures { IfOk result (λ c. core_view c ≡ asks_of_form kind.Method name.now (table.core passed.now depth (tree_by T.node receiver.now))) }
+    ensures { IfOk result (λ c. core_view c ≡
+        asks_of_form kind.Method name.now (table.core passed.now depth (tree_by T.node receiver.now))) }
 {
     let receiver = receiver.lower(alloc, passed, depth)?;
     asks_of(alloc, DefinedKind::Method, name, receiver)
@@ -35,7 +36,8 @@ pub fn ask_call<T: Lower>(
     receiver: &Option<Box<T>>,
     name: &[u8],
 ) -> Result<Core, AllocError>
-    ensures { IfOk result (λ c. core_view c ≡ table.defined_call name.now (table.core_all passed.now depth (boxed_by T.node receiver.now))) }
+    ensures { IfOk result (λ c. core_view c ≡
+        table.defined_call name.now (table.core_all passed.now depth (boxed_by T.node receiver.now))) }
 {
     match receiver {
         None => asks(alloc, DefinedKind::Method, name),
@@ -51,7 +53,8 @@ pub fn ask_scoped<T: Lower>(
     scope: &Box<T>,
     name: &[u8],
 ) -> Result<Core, AllocError>
-    ensures { IfOk result (λ c. core_view c ≡ asks_of_form kind.Constant name.now (table.core passed.now depth (tree_by T.node scope.now))) }
+    ensures { IfOk result (λ c. core_view c ≡
+        asks_of_form kind.Constant name.now (table.core passed.now depth (tree_by T.node scope.now))) }
 {
     let scope = scope.lower(alloc, passed, depth)?;
     asks_of(alloc, DefinedKind::Constant, name, scope)
@@ -64,7 +67,8 @@ pub fn ask_statements<T: Lower>(
     depth: usize,
     trees: &Vec<Box<T>>,
 ) -> Result<Core, AllocError>
-    ensures { IfOk result (λ c. core_view c ≡ table.asks_only (table.defined_all passed.now depth (trees_by T.node trees.now.items))) }
+    ensures { IfOk result (λ c. core_view c ≡
+        table.asks_only (table.defined_all passed.now depth (trees_by T.node trees.now.items))) }
 {
     match trees.as_slice() {
         [] => asks(alloc, DefinedKind::Expression, b""),

@@ -12,10 +12,10 @@ use crate::lower::{Lower, deeper};
 use ir_builder::calls::send_one;
 use ir_builder::control::{any_of, choice, cond, repetition, seq};
 use ir_builder::hidden::{keep, local_number};
-use rb_base::Bytes;
 use ir_core::Core;
-use rb_syntax::{Branch, Item};
 use parser_tree::WhenClause;
+use rb_base::Bytes;
+use rb_syntax::{Branch, Item};
 use std::alloc::{AllocError, Global};
 
 fn lower_branch<T: Lower>(
@@ -38,7 +38,8 @@ fn lower_branches<T: Lower>(
     depth: usize,
     branches: &Vec<Branch<Box<T>>>,
 ) -> Result<Vec<Branch<Core>>, AllocError>
-    ensures { IfOk result (λ v. part.branches v.items ≡ table.core_all passed.now depth (branches_by T.node branches.now.items)) }
+    ensures { IfOk result (λ v. part.branches v.items ≡
+        table.core_all passed.now depth (branches_by T.node branches.now.items)) }
 {
     let mut all = Vec::new(alloc);
     for branch in branches {
@@ -56,7 +57,9 @@ pub fn lower_if<T: Lower>(
     branches: &Vec<Branch<Box<T>>>,
     otherwise: &Option<Box<T>>,
 ) -> Result<Core, AllocError>
-    ensures { IfOk result (λ c. core_view c ≡ table.core passed.now depth (node.if_node (branches_by T.node branches.now.items) (boxed_by T.node otherwise.now))) }
+    ensures { IfOk result (λ c. core_view c ≡
+        table.core passed.now depth (node.if_node (branches_by T.node branches.now.items)
+        (boxed_by T.node otherwise.now))) }
 {
     let branches = lower_branches(alloc, passed, depth, branches)?;
     let otherwise = lower_or_nil(alloc, passed, depth, otherwise)?;
@@ -72,7 +75,9 @@ pub fn lower_unless<T: Lower>(
     body: &Box<T>,
     otherwise: &Option<Box<T>>,
 ) -> Result<Core, AllocError>
-    ensures { IfOk result (λ c. core_view c ≡ table.core passed.now depth (node.unless_node (tree_by T.node test.now) (tree_by T.node body.now) (boxed_by T.node otherwise.now))) }
+    ensures { IfOk result (λ c. core_view c ≡
+        table.core passed.now depth (node.unless_node (tree_by T.node test.now) (tree_by T.node body.now)
+        (boxed_by T.node otherwise.now))) }
 {
     let test = test.lower(alloc, passed, depth)?;
     let body = body.lower(alloc, passed, depth)?;
@@ -90,7 +95,9 @@ pub fn lower_while<T: Lower>(
     test: &Box<T>,
     body: &Box<T>,
 ) -> Result<Core, AllocError>
-    ensures { IfOk result (λ c. core_view c ≡ table.core passed.now depth (node.while_node until body_first (tree_by T.node test.now) (tree_by T.node body.now))) }
+    ensures { IfOk result (λ c. core_view c ≡
+        table.core passed.now depth (node.while_node until body_first (tree_by T.node test.now)
+        (tree_by T.node body.now))) }
 {
     let test = test.lower(alloc, passed, depth)?;
     let body = body.lower(alloc, passed, depth)?;
@@ -131,7 +138,8 @@ fn lower_when<T: Lower>(
     subject: Option<usize>,
     clause: &WhenClause<Box<T>>,
 ) -> Result<Branch<Core>, AllocError>
-    ensures { IfOk result (λ b. part.branch_form b ≡ table.when passed.now depth (asked_by subject) (when_by T.node clause.now)) }
+    ensures { IfOk result (λ b. part.branch_form b ≡
+        table.when passed.now depth (asked_by subject) (when_by T.node clause.now)) }
 {
     let tests = lower_all(alloc, passed, depth, &clause.tests)?;
     let tests = ask_subject(alloc, subject, tests)?;
@@ -147,7 +155,8 @@ fn lower_whens<T: Lower>(
     subject: Option<usize>,
     clauses: &Vec<WhenClause<Box<T>>>,
 ) -> Result<Vec<Branch<Core>>, AllocError>
-    ensures { IfOk result (λ v. part.branches v.items ≡ table.whens passed.now depth (asked_by subject) (whens_by T.node clauses.now.items)) }
+    ensures { IfOk result (λ v. part.branches v.items ≡
+        table.whens passed.now depth (asked_by subject) (whens_by T.node clauses.now.items)) }
 {
     let mut all = Vec::new(alloc);
     for clause in clauses {
@@ -165,7 +174,9 @@ fn lower_tests<T: Lower>(
     clauses: &Vec<WhenClause<Box<T>>>,
     otherwise: &Option<Box<T>>,
 ) -> Result<Core, AllocError>
-    ensures { IfOk result (λ c. core_view c ≡ tests_of passed.now depth (asked_by subject) (whens_by T.node clauses.now.items) (boxed_by T.node otherwise.now)) }
+    ensures { IfOk result (λ c. core_view c ≡
+        tests_of passed.now depth (asked_by subject) (whens_by T.node clauses.now.items)
+        (boxed_by T.node otherwise.now)) }
 {
     let branches = lower_whens(alloc, passed, depth, subject, clauses)?;
     let otherwise = lower_or_nil(alloc, passed, depth, otherwise)?;
@@ -181,7 +192,9 @@ pub fn lower_case<T: Lower>(
     clauses: &Vec<WhenClause<Box<T>>>,
     otherwise: &Option<Box<T>>,
 ) -> Result<Core, AllocError>
-    ensures { IfOk result (λ c. core_view c ≡ table.core passed.now depth (node.case_node (boxed_by T.node subject.now) (whens_by T.node clauses.now.items) (boxed_by T.node otherwise.now))) }
+    ensures { IfOk result (λ c. core_view c ≡
+        table.core passed.now depth (node.case_node (boxed_by T.node subject.now)
+        (whens_by T.node clauses.now.items) (boxed_by T.node otherwise.now))) }
 {
     match subject {
         None => lower_tests(alloc, passed, depth, None, clauses, otherwise),

@@ -12,10 +12,10 @@ use crate::functions::lower_function;
 use crate::lists::{lower_items, lower_maybe};
 use crate::lower::Lower;
 use ir_builder::calls::{call, has_block, passed_items, super_call};
-use rb_base::Bytes;
 use ir_core::{Core, Receiver};
-use rb_syntax::Item;
 use parser_tree::{Arguments, Definition};
+use rb_base::Bytes;
+use rb_syntax::Item;
 use std::alloc::{AllocError, Global};
 
 fn lower_arguments<T: Lower>(
@@ -24,7 +24,8 @@ fn lower_arguments<T: Lower>(
     depth: usize,
     arguments: &Option<Arguments<Box<T>>>,
 ) -> Result<Vec<Item<Core>>, AllocError>
-    ensures { IfOk result (λ v. part.items v.items ≡ table.carried_items (table.core_all passed.now depth (arguments_by T.node arguments.now))) }
+    ensures { IfOk result (λ v. part.items v.items ≡
+        table.carried_items (table.core_all passed.now depth (arguments_by T.node arguments.now))) }
 {
     match arguments {
         None => Ok(Vec::new(alloc)),
@@ -42,7 +43,8 @@ fn lower_passed_block<T: Lower>(
     depth: usize,
     arguments: &Option<Arguments<Box<T>>>,
 ) -> Result<Option<Core>, AllocError>
-    ensures { IfOk result (λ o. part.boxed o ≡ table.block_of node.none form.none (table.core_all passed.now depth (arguments_by T.node arguments.now))) }
+    ensures { IfOk result (λ o. part.boxed o ≡
+        table.block_of node.none form.none (table.core_all passed.now depth (arguments_by T.node arguments.now))) }
 {
     match arguments {
         None => Ok(None),
@@ -61,7 +63,9 @@ fn lower_block<T: Lower>(
     arguments: &Option<Arguments<Box<T>>>,
     block: &Option<Definition<Box<T>>>,
 ) -> Result<Option<Core>, AllocError>
-    ensures { IfOk result (λ o. part.boxed o ≡ table.block_of (block_by T.node block.now) (table.core_all passed.now 0 (block_by T.node block.now)) (table.core_all passed.now depth (arguments_by T.node arguments.now))) }
+    ensures { IfOk result (λ o. part.boxed o ≡
+        table.block_of (block_by T.node block.now) (table.core_all passed.now 0 (block_by T.node block.now))
+        (table.core_all passed.now depth (arguments_by T.node arguments.now))) }
 {
     match block {
         Some(definition) => {
@@ -80,7 +84,8 @@ fn receiver_alone<T: Lower>(
     arguments: &Option<Arguments<Box<T>>>,
     block: &Option<Definition<Box<T>>>,
 ) -> Receiver<Core>
-    ensures { part.receiver_form result ≡ table.receiver_of form.none (arguments_by T.node arguments.now) (block_by T.node block.now) }
+    ensures { part.receiver_form result ≡
+        table.receiver_of form.none (arguments_by T.node arguments.now) (block_by T.node block.now) }
 {
     match arguments {
         Some(_) => Receiver::Absent,
@@ -99,7 +104,9 @@ fn lower_receiver<T: Lower>(
     arguments: &Option<Arguments<Box<T>>>,
     block: &Option<Definition<Box<T>>>,
 ) -> Result<Receiver<Core>, AllocError>
-    ensures { IfOk result (λ r. part.receiver_form r ≡ table.receiver_of (table.core_all passed.now depth (boxed_by T.node receiver.now)) (arguments_by T.node arguments.now) (block_by T.node block.now)) }
+    ensures { IfOk result (λ r. part.receiver_form r ≡
+        table.receiver_of (table.core_all passed.now depth (boxed_by T.node receiver.now))
+        (arguments_by T.node arguments.now) (block_by T.node block.now)) }
 {
     match receiver {
         Some(receiver) => {
@@ -113,7 +120,9 @@ fn lower_receiver<T: Lower>(
 /// Whether arguments have no items and nothing follows `&`.
 #[tactic(auto, using(crate::proofs::Empty::empties))]
 fn passes_nothing<T: Lower>(arguments: &Option<Arguments<Box<T>>>) -> bool
-    ensures { result ≡ (read.is_none (read.items_of (arguments_by T.node arguments.now)) && read.is_none (read.passed_block (arguments_by T.node arguments.now))) }
+    ensures { result ≡
+        (read.is_none (read.items_of (arguments_by T.node arguments.now)) && read.is_none (read.passed_block
+        (arguments_by T.node arguments.now))) }
 {
     match arguments {
         None => true,
@@ -136,7 +145,9 @@ fn is_block_given<T: Lower>(
     arguments: &Option<Arguments<Box<T>>>,
     block: &Option<Definition<Box<T>>>,
 ) -> bool
-    ensures { result ≡ table.is_block_given name.now (boxed_by T.node receiver.now) (arguments_by T.node arguments.now) (block_by T.node block.now) }
+    ensures { result ≡
+        table.is_block_given name.now (boxed_by T.node receiver.now) (arguments_by T.node arguments.now)
+        (block_by T.node block.now) }
 {
     if name != b"block_given?".as_slice() {
         return false;
@@ -160,7 +171,9 @@ pub fn lower_call<T: Lower>(
     arguments: &Option<Arguments<Box<T>>>,
     block: &Option<Definition<Box<T>>>,
 ) -> Result<Core, AllocError>
-    ensures { IfOk result (λ c. core_view c ≡ table.core passed.now depth (node.call (boxed_by T.node receiver.now) name.now (arguments_by T.node arguments.now) (block_by T.node block.now))) }
+    ensures { IfOk result (λ c. core_view c ≡
+        table.core passed.now depth (node.call (boxed_by T.node receiver.now) name.now
+        (arguments_by T.node arguments.now) (block_by T.node block.now))) }
 {
     if is_block_given(name, receiver, arguments, block) {
         return has_block(alloc);
@@ -178,7 +191,9 @@ fn super_items<T: Lower>(
     depth: usize,
     arguments: &Option<Arguments<Box<T>>>,
 ) -> Result<Vec<Item<Core>>, AllocError>
-    ensures { IfOk result (λ v. part.items v.items ≡ table.super_of passed.now (arguments_by T.node arguments.now) (table.core_all passed.now depth (arguments_by T.node arguments.now))) }
+    ensures { IfOk result (λ v. part.items v.items ≡
+        table.super_of passed.now (arguments_by T.node arguments.now) (table.core_all passed.now depth
+        (arguments_by T.node arguments.now))) }
 {
     match arguments {
         None => passed_items(alloc, passed),
@@ -197,7 +212,9 @@ pub fn lower_super<T: Lower>(
     arguments: &Option<Arguments<Box<T>>>,
     block: &Option<Definition<Box<T>>>,
 ) -> Result<Core, AllocError>
-    ensures { IfOk result (λ c. core_view c ≡ table.core passed.now depth (node.super_node (arguments_by T.node arguments.now) (block_by T.node block.now))) }
+    ensures { IfOk result (λ c. core_view c ≡
+        table.core passed.now depth (node.super_node (arguments_by T.node arguments.now)
+        (block_by T.node block.now))) }
 {
     let items = super_items(alloc, passed, depth, arguments)?;
     let block = lower_block(alloc, passed, depth, arguments, block)?;

@@ -14,10 +14,10 @@ use crate::stores::{Source, store_all, store_maybe};
 use ir_builder::calls::call;
 use ir_builder::control::{after, begin};
 use ir_builder::names::pattern_parameter;
-use rb_base::{Bytes, List};
 use ir_core::{BeginForm, Clause, Core, Function, Receiver, Term};
-use rb_syntax::{Item, Parameters};
 use parser_tree::{RescueBody, RescueClause};
+use rb_base::{Bytes, List};
+use rb_syntax::{Item, Parameters};
 use std::alloc::{AllocError, Global};
 
 fn lower_clause<T: Lower>(
@@ -45,7 +45,8 @@ fn lower_clauses<T: Lower>(
     depth: usize,
     clauses: &Vec<RescueClause<Box<T>>>,
 ) -> Result<Vec<Clause<Core>>, AllocError>
-    ensures { IfOk result (λ v. part.clauses v.items ≡ table.core_all passed.now depth (rescues_by T.node clauses.now.items)) }
+    ensures { IfOk result (λ v. part.clauses v.items ≡
+        table.core_all passed.now depth (rescues_by T.node clauses.now.items)) }
 {
     let mut all = Vec::new(alloc);
     for clause in clauses {
@@ -58,7 +59,8 @@ fn lower_clauses<T: Lower>(
 /// Whether there is nothing but a body.
 #[tactic(auto, using(crate::proofs::Begins::empties))]
 fn is_body_alone(form: &BeginForm<Core>) -> bool
-    ensures { result ≡ is_alone (part.clauses form.now.clauses.items) (part.boxed form.now.otherwise) (part.boxed form.now.ensure) }
+    ensures { result ≡
+        is_alone (part.clauses form.now.clauses.items) (part.boxed form.now.otherwise) (part.boxed form.now.ensure) }
 {
     if !form.clauses.is_empty() {
         return false;
@@ -75,7 +77,9 @@ fn is_body_alone(form: &BeginForm<Core>) -> bool
 /// A form with clauses, or its body where it has nothing else.
 #[tactic(auto, using(crate::proofs::Begins::begins))]
 fn begin_of(alloc: Global, form: BeginForm<Core>) -> Result<Core, AllocError>
-    ensures { IfOk result (λ c. core_view c ≡ table.begin_of (core_view form.body) (part.clauses form.clauses.items) (part.boxed form.otherwise) (part.boxed form.ensure)) }
+    ensures { IfOk result (λ c. core_view c ≡
+        table.begin_of (core_view form.body) (part.clauses form.clauses.items) (part.boxed form.otherwise)
+        (part.boxed form.ensure)) }
 {
     if is_body_alone(&form) {
         return Ok(form.body);
@@ -128,7 +132,8 @@ fn walk_function<T: Lower>(
     targets: &Vec<Box<T>>,
     body: &Box<T>,
 ) -> Result<Core, AllocError>
-    ensures { IfOk result (λ c. core_view c ≡ walk_form passed.now (trees_by T.node targets.now.items) (tree_by T.node body.now)) }
+    ensures { IfOk result (λ c. core_view c ≡
+        walk_form passed.now (trees_by T.node targets.now.items) (tree_by T.node body.now)) }
 {
     let required = target_parameters(alloc, targets)?;
     let parameters = Parameters {
@@ -158,7 +163,9 @@ pub fn lower_for<T: Lower>(
     items: &Box<T>,
     body: &Box<T>,
 ) -> Result<Core, AllocError>
-    ensures { IfOk result (λ c. core_view c ≡ table.core passed.now depth (node.for_node (trees_by T.node targets.now.items) (tree_by T.node items.now) (tree_by T.node body.now))) }
+    ensures { IfOk result (λ c. core_view c ≡
+        table.core passed.now depth (node.for_node (trees_by T.node targets.now.items) (tree_by T.node items.now)
+        (tree_by T.node body.now))) }
 {
     let items = items.lower(alloc, passed, depth)?;
     let function = walk_function(alloc, passed, targets, body)?;

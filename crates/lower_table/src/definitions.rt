@@ -10,10 +10,10 @@ ghost use Rattle.parser_tree.specs.PartsBy.{boxed_by, scope_by, tree_by};
 use crate::lists::lower_maybe;
 use crate::lower::Lower;
 use ir_builder::leaf::object;
-use rb_base::Bytes;
 use ir_core::{Core, Term};
-use rb_syntax::Item;
 use parser_tree::Scope;
+use rb_base::Bytes;
+use rb_syntax::Item;
 use std::alloc::{AllocError, Global};
 
 /// Where the constant of a class or module stands.
@@ -24,7 +24,8 @@ fn lower_scope<T: Lower>(
     depth: usize,
     scope: &Scope<Box<T>>,
 ) -> Result<Option<Core>, AllocError>
-    ensures { IfOk result (λ o. part.boxed o ≡ table.scope_forms (scope_by T.node scope.now) (table.core passed.now depth (scope_by T.node scope.now))) }
+    ensures { IfOk result (λ o. part.boxed o ≡
+        table.scope_forms (scope_by T.node scope.now) (table.core passed.now depth (scope_by T.node scope.now))) }
 {
     match scope {
         Scope::Innermost => Ok(None),
@@ -61,7 +62,9 @@ pub fn lower_class<T: Lower>(
     parent: &Option<Box<T>>,
     body: &Box<T>,
 ) -> Result<Core, AllocError>
-    ensures { IfOk result (λ c. core_view c ≡ table.core passed.now depth (node.class_node (scope_by T.node scope.now) name.now (boxed_by T.node parent.now) (tree_by T.node body.now))) }
+    ensures { IfOk result (λ c. core_view c ≡
+        table.core passed.now depth (node.class_node (scope_by T.node scope.now) name.now
+        (boxed_by T.node parent.now) (tree_by T.node body.now))) }
 {
     let scope = lower_scope(alloc, passed, depth, scope)?;
     let name = Bytes::from_slice(alloc, name)?;
@@ -78,7 +81,8 @@ pub fn lower_singleton_class<T: Lower>(
     object: &Box<T>,
     body: &Box<T>,
 ) -> Result<Core, AllocError>
-    ensures { IfOk result (λ c. core_view c ≡ table.core passed.now depth (node.singleton_class (tree_by T.node object.now) (tree_by T.node body.now))) }
+    ensures { IfOk result (λ c. core_view c ≡
+        table.core passed.now depth (node.singleton_class (tree_by T.node object.now) (tree_by T.node body.now))) }
 {
     let object = object.lower(alloc, passed, depth)?;
     let body = body.lower(alloc, &[], 0)?;
@@ -101,7 +105,9 @@ pub fn lower_module<T: Lower>(
     name: &[u8],
     body: &Box<T>,
 ) -> Result<Core, AllocError>
-    ensures { IfOk result (λ c. core_view c ≡ table.core passed.now depth (node.module_node (scope_by T.node scope.now) name.now (tree_by T.node body.now))) }
+    ensures { IfOk result (λ c. core_view c ≡
+        table.core passed.now depth (node.module_node (scope_by T.node scope.now) name.now
+        (tree_by T.node body.now))) }
 {
     let scope = lower_scope(alloc, passed, depth, scope)?;
     let name = Bytes::from_slice(alloc, name)?;

@@ -31,11 +31,51 @@ use ir_builder::leaf::{
     set_global_variable, set_instance_variable, set_local, symbol, symbol_array, top_constant,
     undef, word_array,
 };
-use rb_base::Bytes;
 use ir_core::{Core, Term};
-use rb_syntax::{DefinedKind, Item};
 use parser_tree::{AssignmentOperator, Tree, TreeForm};
+use rb_base::Bytes;
+use rb_syntax::{DefinedKind, Item};
 use std::alloc::{AllocError, Global};
+
+/// The forms that no assignment and no `defined?` tells from one another.
+macro_rules! plain_form {
+    () => {
+        TreeForm::Nil
+            | TreeForm::True
+            | TreeForm::False
+            | TreeForm::Integer(_)
+            | TreeForm::Text(_)
+            | TreeForm::Symbol(_)
+            | TreeForm::SymbolText(_)
+            | TreeForm::Words(_)
+            | TreeForm::Symbols(_)
+            | TreeForm::Array(_)
+            | TreeForm::Hash(_)
+            | TreeForm::And(_, _)
+            | TreeForm::Or(_, _)
+            | TreeForm::Range { .. }
+            | TreeForm::If { .. }
+            | TreeForm::Unless { .. }
+            | TreeForm::While { .. }
+            | TreeForm::For { .. }
+            | TreeForm::Case { .. }
+            | TreeForm::Begin(_)
+            | TreeForm::RescueModifier(_, _)
+            | TreeForm::Defined(_)
+            | TreeForm::Lambda(_)
+            | TreeForm::Return { .. }
+            | TreeForm::Break { .. }
+            | TreeForm::Next { .. }
+            | TreeForm::Retry { .. }
+            | TreeForm::Define { .. }
+            | TreeForm::Class { .. }
+            | TreeForm::SingletonClass(_, _)
+            | TreeForm::Module { .. }
+            | TreeForm::Alias(_, _)
+            | TreeForm::Undef(_)
+            | TreeForm::Outside { .. }
+    };
+}
 
 /// The hidden locals of an index.
 #[tactic(auto, using(crate::proofs::Numbers::counted))]
@@ -58,56 +98,23 @@ impl Whole for TreeForm {
                 Ok(past)
             }
             TreeForm::Targets(_) => deeper(depth, 1),
-            TreeForm::Nil
-            | TreeForm::True
-            | TreeForm::False
+            plain_form!()
             | TreeForm::SelfReference
-            | TreeForm::Integer(_)
-            | TreeForm::Text(_)
-            | TreeForm::Symbol(_)
-            | TreeForm::SymbolText(_)
-            | TreeForm::Words(_)
-            | TreeForm::Symbols(_)
             | TreeForm::Local(_)
             | TreeForm::InstanceVariable(_)
             | TreeForm::GlobalVariable(_)
             | TreeForm::Constant(_)
             | TreeForm::TopConstant(_)
             | TreeForm::ScopedConstant(_, _)
-            | TreeForm::Array(_)
-            | TreeForm::Hash(_)
             | TreeForm::Statements(_)
             | TreeForm::Not(_)
             | TreeForm::Unary(_, _)
             | TreeForm::Operation(_, _, _)
-            | TreeForm::And(_, _)
-            | TreeForm::Or(_, _)
-            | TreeForm::Range { .. }
-            | TreeForm::If { .. }
-            | TreeForm::Unless { .. }
-            | TreeForm::While { .. }
-            | TreeForm::For { .. }
-            | TreeForm::Case { .. }
-            | TreeForm::Begin(_)
-            | TreeForm::RescueModifier(_, _)
             | TreeForm::Super { .. }
             | TreeForm::Yield { .. }
-            | TreeForm::Defined(_)
-            | TreeForm::Lambda(_)
-            | TreeForm::Return { .. }
-            | TreeForm::Break { .. }
-            | TreeForm::Next { .. }
-            | TreeForm::Retry { .. }
             | TreeForm::Assign(_, _)
             | TreeForm::OperatorAssign(_, _, _)
-            | TreeForm::MultipleAssign(_, _)
-            | TreeForm::Define { .. }
-            | TreeForm::Class { .. }
-            | TreeForm::SingletonClass(_, _)
-            | TreeForm::Module { .. }
-            | TreeForm::Alias(_, _)
-            | TreeForm::Undef(_)
-            | TreeForm::Outside { .. } => Ok(depth),
+            | TreeForm::MultipleAssign(_, _) => Ok(depth),
         }
     }
 
@@ -268,51 +275,18 @@ impl Lower for TreeForm {
             }
             TreeForm::Index(e, items) => store_index(alloc, passed, depth, e, items, value),
             TreeForm::Targets(targets) => store_targets(alloc, passed, depth, targets, value),
-            TreeForm::Nil
-            | TreeForm::True
-            | TreeForm::False
+            plain_form!()
             | TreeForm::SelfReference
-            | TreeForm::Integer(_)
-            | TreeForm::Text(_)
-            | TreeForm::Symbol(_)
-            | TreeForm::SymbolText(_)
-            | TreeForm::Words(_)
-            | TreeForm::Symbols(_)
             | TreeForm::TopConstant(_)
-            | TreeForm::Array(_)
-            | TreeForm::Hash(_)
             | TreeForm::Statements(_)
             | TreeForm::Not(_)
             | TreeForm::Unary(_, _)
             | TreeForm::Operation(_, _, _)
-            | TreeForm::And(_, _)
-            | TreeForm::Or(_, _)
-            | TreeForm::Range { .. }
-            | TreeForm::If { .. }
-            | TreeForm::Unless { .. }
-            | TreeForm::While { .. }
-            | TreeForm::For { .. }
-            | TreeForm::Case { .. }
-            | TreeForm::Begin(_)
-            | TreeForm::RescueModifier(_, _)
             | TreeForm::Super { .. }
             | TreeForm::Yield { .. }
-            | TreeForm::Defined(_)
-            | TreeForm::Lambda(_)
-            | TreeForm::Return { .. }
-            | TreeForm::Break { .. }
-            | TreeForm::Next { .. }
-            | TreeForm::Retry { .. }
             | TreeForm::Assign(_, _)
             | TreeForm::OperatorAssign(_, _, _)
-            | TreeForm::MultipleAssign(_, _)
-            | TreeForm::Define { .. }
-            | TreeForm::Class { .. }
-            | TreeForm::SingletonClass(_, _)
-            | TreeForm::Module { .. }
-            | TreeForm::Alias(_, _)
-            | TreeForm::Undef(_)
-            | TreeForm::Outside { .. } => Ok(value),
+            | TreeForm::MultipleAssign(_, _) => Ok(value),
         }
     }
 
@@ -360,52 +334,19 @@ impl Lower for TreeForm {
             TreeForm::Index(e, items) => operate_index(
                 alloc, passed, depth, e, items, operator, value,
             ),
-            TreeForm::Nil
-            | TreeForm::True
-            | TreeForm::False
+            plain_form!()
             | TreeForm::SelfReference
-            | TreeForm::Integer(_)
-            | TreeForm::Text(_)
-            | TreeForm::Symbol(_)
-            | TreeForm::SymbolText(_)
-            | TreeForm::Words(_)
-            | TreeForm::Symbols(_)
             | TreeForm::TopConstant(_)
-            | TreeForm::Array(_)
-            | TreeForm::Hash(_)
             | TreeForm::Statements(_)
             | TreeForm::Not(_)
             | TreeForm::Unary(_, _)
             | TreeForm::Operation(_, _, _)
-            | TreeForm::And(_, _)
-            | TreeForm::Or(_, _)
-            | TreeForm::Range { .. }
-            | TreeForm::If { .. }
-            | TreeForm::Unless { .. }
-            | TreeForm::While { .. }
-            | TreeForm::For { .. }
-            | TreeForm::Case { .. }
-            | TreeForm::Begin(_)
-            | TreeForm::RescueModifier(_, _)
             | TreeForm::Super { .. }
             | TreeForm::Yield { .. }
-            | TreeForm::Defined(_)
-            | TreeForm::Lambda(_)
-            | TreeForm::Return { .. }
-            | TreeForm::Break { .. }
-            | TreeForm::Next { .. }
-            | TreeForm::Retry { .. }
             | TreeForm::Assign(_, _)
             | TreeForm::OperatorAssign(_, _, _)
             | TreeForm::MultipleAssign(_, _)
-            | TreeForm::Targets(_)
-            | TreeForm::Define { .. }
-            | TreeForm::Class { .. }
-            | TreeForm::SingletonClass(_, _)
-            | TreeForm::Module { .. }
-            | TreeForm::Alias(_, _)
-            | TreeForm::Undef(_)
-            | TreeForm::Outside { .. } => Ok(value),
+            | TreeForm::Targets(_) => Ok(value),
         }
     }
 
@@ -441,41 +382,7 @@ impl Lower for TreeForm {
             TreeForm::Assign(_, _)
             | TreeForm::OperatorAssign(_, _, _)
             | TreeForm::MultipleAssign(_, _) => asks(alloc, DefinedKind::Assignment, b""),
-            TreeForm::Nil
-            | TreeForm::True
-            | TreeForm::False
-            | TreeForm::Integer(_)
-            | TreeForm::Text(_)
-            | TreeForm::Symbol(_)
-            | TreeForm::SymbolText(_)
-            | TreeForm::Words(_)
-            | TreeForm::Symbols(_)
-            | TreeForm::Array(_)
-            | TreeForm::Hash(_)
-            | TreeForm::And(_, _)
-            | TreeForm::Or(_, _)
-            | TreeForm::Range { .. }
-            | TreeForm::If { .. }
-            | TreeForm::Unless { .. }
-            | TreeForm::While { .. }
-            | TreeForm::For { .. }
-            | TreeForm::Case { .. }
-            | TreeForm::Begin(_)
-            | TreeForm::RescueModifier(_, _)
-            | TreeForm::Defined(_)
-            | TreeForm::Lambda(_)
-            | TreeForm::Return { .. }
-            | TreeForm::Break { .. }
-            | TreeForm::Next { .. }
-            | TreeForm::Retry { .. }
-            | TreeForm::Targets(_)
-            | TreeForm::Define { .. }
-            | TreeForm::Class { .. }
-            | TreeForm::SingletonClass(_, _)
-            | TreeForm::Module { .. }
-            | TreeForm::Alias(_, _)
-            | TreeForm::Undef(_)
-            | TreeForm::Outside { .. } => {
+            plain_form!() | TreeForm::Targets(_) => {
                 let asked = asks(alloc, DefinedKind::Expression, b"")?;
                 Ok(asked)
             }
@@ -492,56 +399,23 @@ impl Lower for TreeForm {
                 Ok(past)
             }
             TreeForm::ScopedConstant(_, _) => deeper(depth, 1),
-            TreeForm::Nil
-            | TreeForm::True
-            | TreeForm::False
+            plain_form!()
             | TreeForm::SelfReference
-            | TreeForm::Integer(_)
-            | TreeForm::Text(_)
-            | TreeForm::Symbol(_)
-            | TreeForm::SymbolText(_)
-            | TreeForm::Words(_)
-            | TreeForm::Symbols(_)
             | TreeForm::Local(_)
             | TreeForm::InstanceVariable(_)
             | TreeForm::GlobalVariable(_)
             | TreeForm::Constant(_)
             | TreeForm::TopConstant(_)
-            | TreeForm::Array(_)
-            | TreeForm::Hash(_)
             | TreeForm::Statements(_)
             | TreeForm::Not(_)
             | TreeForm::Unary(_, _)
             | TreeForm::Operation(_, _, _)
-            | TreeForm::And(_, _)
-            | TreeForm::Or(_, _)
-            | TreeForm::Range { .. }
-            | TreeForm::If { .. }
-            | TreeForm::Unless { .. }
-            | TreeForm::While { .. }
-            | TreeForm::For { .. }
-            | TreeForm::Case { .. }
-            | TreeForm::Begin(_)
-            | TreeForm::RescueModifier(_, _)
             | TreeForm::Super { .. }
             | TreeForm::Yield { .. }
-            | TreeForm::Defined(_)
-            | TreeForm::Lambda(_)
-            | TreeForm::Return { .. }
-            | TreeForm::Break { .. }
-            | TreeForm::Next { .. }
-            | TreeForm::Retry { .. }
             | TreeForm::Assign(_, _)
             | TreeForm::OperatorAssign(_, _, _)
             | TreeForm::MultipleAssign(_, _)
-            | TreeForm::Targets(_)
-            | TreeForm::Define { .. }
-            | TreeForm::Class { .. }
-            | TreeForm::SingletonClass(_, _)
-            | TreeForm::Module { .. }
-            | TreeForm::Alias(_, _)
-            | TreeForm::Undef(_)
-            | TreeForm::Outside { .. } => Ok(depth),
+            | TreeForm::Targets(_) => Ok(depth),
         }
     }
 }

@@ -14,10 +14,10 @@ use crate::lower::{Lower, deeper};
 use ir_builder::control::after;
 use ir_builder::leaf::{local, set_local};
 use ir_builder::names::{pattern_parameter, rest_parameter};
-use rb_base::{Bytes, List};
 use ir_core::{Core, Function, Term};
-use rb_syntax::{Item, Parameters};
 use parser_tree::{Definition, OptionalParameter, Parameter, ParameterList, RestParameter};
+use rb_base::{Bytes, List};
+use rb_syntax::{Item, Parameters};
 use std::alloc::{AllocError, Global};
 
 fn parameter_name<T: Lower>(
@@ -110,7 +110,10 @@ fn parameters_of<T: Lower>(
     alloc: Global,
     list: &ParameterList<Box<T>>,
 ) -> Result<Parameters, AllocError>
-    ensures { IfOk result (λ p. p ≡ read.parameters (parameters_by T.node list.now.required.items) (optionals_by T.node list.now.optional.items) list.now.rest (parameters_by T.node list.now.post.items) list.now.block) }
+    ensures { IfOk result (λ p. p ≡
+        read.parameters (parameters_by T.node list.now.required.items)
+        (optionals_by T.node list.now.optional.items) list.now.rest
+        (parameters_by T.node list.now.post.items) list.now.block) }
 {
     let required = parameter_names(alloc, 0, &list.required)?;
     let optional = optional_names(alloc, &list.optional)?;
@@ -143,7 +146,8 @@ fn lower_optionals<T: Lower>(
     passed: &[Item<Bytes>],
     parameters: &Vec<OptionalParameter<Box<T>>>,
 ) -> Result<Vec<Core>, AllocError>
-    ensures { IfOk result (λ v. part.cores v.items ≡ table.core_all passed.now 0 (optionals_by T.node parameters.now.items)) }
+    ensures { IfOk result (λ v. part.cores v.items ≡
+        table.core_all passed.now 0 (optionals_by T.node parameters.now.items)) }
 {
     let mut all = Vec::new(alloc);
     for parameter in parameters {
@@ -162,7 +166,8 @@ fn add_pattern<T: Lower>(
     place: usize,
     parameter: &Parameter<Box<T>>,
 ) -> Result<(), AllocError>
-    ensures { OnOk result (map core_view all.new.items ≡ map core_view all.old.items ++ patterned passed.now place (parameter_by T.node parameter.now)) }
+    ensures { OnOk result (map core_view all.new.items ≡
+        map core_view all.old.items ++ patterned passed.now place (parameter_by T.node parameter.now)) }
 {
     match parameter {
         Parameter::Name(_) => Ok(()),
@@ -183,7 +188,8 @@ fn lower_patterns<T: Lower>(
     first: usize,
     parameters: &[Parameter<Box<T>>],
 ) -> Result<Vec<Core>, AllocError>
-    ensures { IfOk result (λ v. part.cores v.items ≡ table.patterns passed.now first (parameters_by T.node parameters.now)) }
+    ensures { IfOk result (λ v. part.cores v.items ≡
+        table.patterns passed.now first (parameters_by T.node parameters.now)) }
 {
     let mut all = Vec::new(alloc);
     let mut place = first;
@@ -201,7 +207,9 @@ fn lower_parameters<T: Lower>(
     passed: &[Item<Bytes>],
     list: &ParameterList<Box<T>>,
 ) -> Result<Vec<Core>, AllocError>
-    ensures { IfOk result (λ v. part.cores v.items ≡ assigned_before passed.now (parameters_by T.node list.now.required.items) (optionals_by T.node list.now.optional.items) (parameters_by T.node list.now.post.items)) }
+    ensures { IfOk result (λ v. part.cores v.items ≡
+        assigned_before passed.now (parameters_by T.node list.now.required.items)
+        (optionals_by T.node list.now.optional.items) (parameters_by T.node list.now.post.items)) }
 {
     let mut all = lower_optionals(alloc, passed, &list.optional)?;
     let mut required = lower_patterns(alloc, passed, 0, &list.required)?;
@@ -249,7 +257,9 @@ pub fn lower_function<T: Lower>(
     passed: &[Item<Bytes>],
     definition: &Definition<Box<T>>,
 ) -> Result<Core, AllocError>
-    ensures { IfOk result (λ c. core_view c ≡ form.function (table.parameters_of (definition_by T.node definition.now)) (table.locals_of (definition_by T.node definition.now)) (table.core passed.now 0 (definition_by T.node definition.now))) }
+    ensures { IfOk result (λ c. core_view c ≡
+        form.function (table.parameters_of (definition_by T.node definition.now)) (table.locals_of
+        (definition_by T.node definition.now)) (table.core passed.now 0 (definition_by T.node definition.now))) }
 {
     let parameters = parameters_of(alloc, &definition.parameters)?;
     let function = function_of(alloc, passed, parameters, definition)?;
@@ -263,7 +273,8 @@ pub fn lower_lambda<T: Lower>(
     depth: usize,
     definition: &Definition<Box<T>>,
 ) -> Result<Core, AllocError>
-    ensures { IfOk result (λ c. core_view c ≡ table.core passed.now depth (node.lambda (definition_by T.node definition.now))) }
+    ensures { IfOk result (λ c. core_view c ≡
+        table.core passed.now depth (node.lambda (definition_by T.node definition.now))) }
 {
     let parameters = parameters_of(alloc, &definition.parameters)?;
     let function = function_of(alloc, passed, parameters, definition)?;
@@ -316,7 +327,9 @@ fn define(
     name: &[u8],
     function: Function<Core>,
 ) -> Result<Core, AllocError>
-    ensures { IfOk result (λ c. core_view c ≡ table.defined_on (part.boxed singleton) name.now function.parameters function.locals (core_view function.body)) }
+    ensures { IfOk result (λ c. core_view c ≡
+        table.defined_on (part.boxed singleton) name.now function.parameters function.locals
+        (core_view function.body)) }
 {
     let name = Bytes::from_slice(alloc, name)?;
     match singleton {
@@ -334,7 +347,9 @@ pub fn lower_define<T: Lower>(
     name: &[u8],
     definition: &Definition<Box<T>>,
 ) -> Result<Core, AllocError>
-    ensures { IfOk result (λ c. core_view c ≡ table.core passed.now depth (node.define (boxed_by T.node singleton.now) name.now (definition_by T.node definition.now))) }
+    ensures { IfOk result (λ c. core_view c ≡
+        table.core passed.now depth (node.define (boxed_by T.node singleton.now) name.now
+        (definition_by T.node definition.now))) }
 {
     let singleton = lower_maybe(alloc, passed, depth, singleton)?;
     let parameters = parameters_of(alloc, &definition.parameters)?;

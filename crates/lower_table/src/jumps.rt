@@ -9,8 +9,8 @@ use crate::lists::{lower_array, lower_item, lower_items};
 use crate::lower::Lower;
 use ir_builder::calls::yield_call;
 use ir_builder::leaf::{array, nil};
-use rb_base::Bytes;
 use ir_core::{Core, Term};
+use rb_base::Bytes;
 use rb_syntax::Item;
 use std::alloc::{AllocError, Global};
 
@@ -21,7 +21,9 @@ fn lower_single<T: Lower>(
     depth: usize,
     item: &Item<Box<T>>,
 ) -> Result<Core, AllocError>
-    ensures { IfOk result (λ c. core_view c ≡ table.value_of (node.one (item_by T.node item.now)) (table.core_all passed.now depth (node.one (item_by T.node item.now)))) }
+    ensures { IfOk result (λ c. core_view c ≡
+        table.value_of (node.one (item_by T.node item.now)) (table.core_all passed.now depth (node.one
+        (item_by T.node item.now)))) }
 {
     match item {
         Item::Plain(e) => e.lower(alloc, passed, depth),
@@ -41,7 +43,9 @@ fn lower_value<T: Lower>(
     depth: usize,
     items: &Vec<Item<Box<T>>>,
 ) -> Result<Core, AllocError>
-    ensures { IfOk result (λ c. core_view c ≡ table.value_of (items_by T.node items.now.items) (table.core_all passed.now depth (items_by T.node items.now.items))) }
+    ensures { IfOk result (λ c. core_view c ≡
+        table.value_of (items_by T.node items.now.items) (table.core_all passed.now depth
+        (items_by T.node items.now.items))) }
 {
     match items.as_slice() {
         [] => nil(alloc),
@@ -57,7 +61,8 @@ pub fn lower_return<T: Lower>(
     depth: usize,
     items: &Vec<Item<Box<T>>>,
 ) -> Result<Core, AllocError>
-    ensures { IfOk result (λ c. core_view c ≡ table.core passed.now depth (node.return_node (items_by T.node items.now.items))) }
+    ensures { IfOk result (λ c. core_view c ≡
+        table.core passed.now depth (node.return_node (items_by T.node items.now.items))) }
 {
     let value = lower_value(alloc, passed, depth, items)?;
     Term::Return(value).into_core(alloc)
@@ -70,7 +75,8 @@ pub fn lower_break<T: Lower>(
     depth: usize,
     items: &Vec<Item<Box<T>>>,
 ) -> Result<Core, AllocError>
-    ensures { IfOk result (λ c. core_view c ≡ table.core passed.now depth (node.break_node (items_by T.node items.now.items))) }
+    ensures { IfOk result (λ c. core_view c ≡
+        table.core passed.now depth (node.break_node (items_by T.node items.now.items))) }
 {
     let value = lower_value(alloc, passed, depth, items)?;
     Term::Break(value).into_core(alloc)
@@ -83,7 +89,8 @@ pub fn lower_next<T: Lower>(
     depth: usize,
     items: &Vec<Item<Box<T>>>,
 ) -> Result<Core, AllocError>
-    ensures { IfOk result (λ c. core_view c ≡ table.core passed.now depth (node.next_node (items_by T.node items.now.items))) }
+    ensures { IfOk result (λ c. core_view c ≡
+        table.core passed.now depth (node.next_node (items_by T.node items.now.items))) }
 {
     let value = lower_value(alloc, passed, depth, items)?;
     Term::Next(value).into_core(alloc)
@@ -96,7 +103,8 @@ pub fn lower_yield<T: Lower>(
     depth: usize,
     items: &Vec<Item<Box<T>>>,
 ) -> Result<Core, AllocError>
-    ensures { IfOk result (λ c. core_view c ≡ table.core passed.now depth (node.yield_node (items_by T.node items.now.items))) }
+    ensures { IfOk result (λ c. core_view c ≡
+        table.core passed.now depth (node.yield_node (items_by T.node items.now.items))) }
 {
     let items = lower_items(alloc, passed, depth, items)?;
     yield_call(alloc, items)

@@ -16,6 +16,7 @@ pub mod operated;
 pub mod operators;
 pub mod places;
 pub mod stores;
+pub mod target;
 pub mod texts;
 
 pub use lower::Lower;

@@ -11,8 +11,8 @@ ghost use Rattle.ir_core.specs.CoreForm as form;
 use crate::lower::Lower;
 use ir_builder::control::{hash, sequence};
 use ir_builder::leaf::{array, nil};
-use rb_base::Bytes;
 use ir_core::Core;
+use rb_base::Bytes;
 use rb_syntax::{Item, Pair};
 use std::alloc::{AllocError, Global};
 
@@ -24,7 +24,8 @@ pub fn lower_all<T: Lower>(
     depth: usize,
     trees: &Vec<Box<T>>,
 ) -> Result<Vec<Core>, AllocError>
-    ensures { IfOk result (λ v. part.cores v.items ≡ table.core_all passed.now depth (trees_by T.node trees.now.items)) }
+    ensures { IfOk result (λ v. part.cores v.items ≡
+        table.core_all passed.now depth (trees_by T.node trees.now.items)) }
 {
     let mut all = Vec::new(alloc);
     for tree in trees {
@@ -41,7 +42,8 @@ pub fn lower_statements<T: Lower>(
     depth: usize,
     trees: &Vec<Box<T>>,
 ) -> Result<Core, AllocError>
-    ensures { IfOk result (λ c. core_view c ≡ table.core passed.now depth (node.statements (trees_by T.node trees.now.items))) }
+    ensures { IfOk result (λ c. core_view c ≡
+        table.core passed.now depth (node.statements (trees_by T.node trees.now.items))) }
 {
     let statements = lower_all(alloc, passed, depth, trees)?;
     sequence(alloc, statements)
@@ -76,7 +78,8 @@ pub fn lower_items<T: Lower>(
     depth: usize,
     items: &Vec<Item<Box<T>>>,
 ) -> Result<Vec<Item<Core>>, AllocError>
-    ensures { IfOk result (λ v. part.items v.items ≡ table.core_all passed.now depth (items_by T.node items.now.items)) }
+    ensures { IfOk result (λ v. part.items v.items ≡
+        table.core_all passed.now depth (items_by T.node items.now.items)) }
 {
     let mut all = Vec::new(alloc);
     for item in items {
@@ -93,7 +96,8 @@ pub fn lower_array<T: Lower>(
     depth: usize,
     items: &Vec<Item<Box<T>>>,
 ) -> Result<Core, AllocError>
-    ensures { IfOk result (λ c. core_view c ≡ table.core passed.now depth (node.array (items_by T.node items.now.items))) }
+    ensures { IfOk result (λ c. core_view c ≡
+        table.core passed.now depth (node.array (items_by T.node items.now.items))) }
 {
     let items = lower_items(alloc, passed, depth, items)?;
     array(alloc, items)
@@ -120,7 +124,8 @@ fn lower_pairs<T: Lower>(
     depth: usize,
     pairs: &Vec<Pair<Box<T>>>,
 ) -> Result<Vec<Pair<Core>>, AllocError>
-    ensures { IfOk result (λ v. part.pairs v.items ≡ table.core_all passed.now depth (pairs_by T.node pairs.now.items)) }
+    ensures { IfOk result (λ v. part.pairs v.items ≡
+        table.core_all passed.now depth (pairs_by T.node pairs.now.items)) }
 {
     let mut all = Vec::new(alloc);
     for pair in pairs {
@@ -137,7 +142,8 @@ pub fn lower_hash<T: Lower>(
     depth: usize,
     pairs: &Vec<Pair<Box<T>>>,
 ) -> Result<Core, AllocError>
-    ensures { IfOk result (λ c. core_view c ≡ table.core passed.now depth (node.hash (pairs_by T.node pairs.now.items))) }
+    ensures { IfOk result (λ c. core_view c ≡
+        table.core passed.now depth (node.hash (pairs_by T.node pairs.now.items))) }
 {
     let pairs = lower_pairs(alloc, passed, depth, pairs)?;
     hash(alloc, pairs)
@@ -168,7 +174,8 @@ pub fn lower_or_nil<T: Lower>(
     depth: usize,
     tree: &Option<Box<T>>,
 ) -> Result<Core, AllocError>
-    ensures { IfOk result (λ c. core_view c ≡ built.first_or form.nil (table.core_all passed.now depth (boxed_by T.node tree.now))) }
+    ensures { IfOk result (λ c. core_view c ≡
+        built.first_or form.nil (table.core_all passed.now depth (boxed_by T.node tree.now))) }
 {
     match tree {
         None => nil(alloc),

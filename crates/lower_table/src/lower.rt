@@ -4,10 +4,10 @@ ghost use Rattle.ir_core.specs.View.{core_view};
 ghost use Rattle.lower_table.specs.Lowering as table;
 ghost use Rattle.lower_table.specs.Parts.{is_tree};
 
-use rb_base::Bytes;
 use ir_core::Core;
-use rb_syntax::Item;
 use parser_tree::AssignmentOperator;
+use rb_base::Bytes;
+use rb_syntax::Item;
 use std::alloc::{AllocError, Global};
 
 /// What stands for the node of a tree, and not of a part of one.
@@ -36,7 +36,8 @@ pub trait Lower: Whole {
         depth: usize,
         value: Core,
     ) -> Result<Core, AllocError>
-        ensures { IfOk result (λ c. core_view c ≡ table.store passed.now depth (Self.node self.now) (core_view value)) };
+        ensures { IfOk result (λ c. core_view c ≡
+            table.store passed.now depth (Self.node self.now) (core_view value)) };
 
     /// The abbreviated assignment of a value to the tree, a target.
     fn operate(
@@ -47,7 +48,8 @@ pub trait Lower: Whole {
         operator: AssignmentOperator,
         value: Core,
     ) -> Result<Core, AllocError>
-        ensures { IfOk result (λ c. core_view c ≡ table.operate passed.now depth (Self.node self.now) operator (core_view value)) };
+        ensures { IfOk result (λ c. core_view c ≡
+            table.operate passed.now depth (Self.node self.now) operator (core_view value)) };
 
     /// What `defined?` asks about the tree.
     fn ask(&self, alloc: Global, passed: &[Item<Bytes>], depth: usize) -> Result<Core, AllocError>

@@ -10,10 +10,10 @@ use crate::lower::Lower;
 use ir_builder::calls::{send, send_alone, send_one};
 use ir_builder::control::{both, either, rescued};
 use ir_builder::leaf::scoped_constant;
-use rb_base::Bytes;
 use ir_core::{Core, Term};
-use rb_syntax::Item;
 use parser_tree::{BinaryOperator, UnaryOperator};
+use rb_base::Bytes;
+use rb_syntax::Item;
 use std::alloc::{AllocError, Global};
 
 /// `!e`
@@ -23,7 +23,8 @@ pub fn lower_not<T: Lower>(
     depth: usize,
     operand: &Box<T>,
 ) -> Result<Core, AllocError>
-    ensures { IfOk result (λ c. core_view c ≡ table.core passed.now depth (node.not_node (tree_by T.node operand.now))) }
+    ensures { IfOk result (λ c. core_view c ≡
+        table.core passed.now depth (node.not_node (tree_by T.node operand.now))) }
 {
     let operand = operand.lower(alloc, passed, depth)?;
     send_alone(alloc, operand, b"!")
@@ -37,7 +38,8 @@ pub fn lower_unary<T: Lower>(
     operator: UnaryOperator,
     operand: &Box<T>,
 ) -> Result<Core, AllocError>
-    ensures { IfOk result (λ c. core_view c ≡ table.core passed.now depth (node.unary operator (tree_by T.node operand.now))) }
+    ensures { IfOk result (λ c. core_view c ≡
+        table.core passed.now depth (node.unary operator (tree_by T.node operand.now))) }
 {
     let operand = operand.lower(alloc, passed, depth)?;
     send_alone(alloc, operand, operator.name())
@@ -52,7 +54,8 @@ pub fn lower_operation<T: Lower>(
     operator: BinaryOperator,
     right: &Box<T>,
 ) -> Result<Core, AllocError>
-    ensures { IfOk result (λ c. core_view c ≡ table.core passed.now depth (node.operation (tree_by T.node left.now) operator (tree_by T.node right.now))) }
+    ensures { IfOk result (λ c. core_view c ≡
+        table.core passed.now depth (node.operation (tree_by T.node left.now) operator (tree_by T.node right.now))) }
 {
     let left = left.lower(alloc, passed, depth)?;
     let right = right.lower(alloc, passed, depth)?;
@@ -67,7 +70,8 @@ pub fn lower_and<T: Lower>(
     left: &Box<T>,
     right: &Box<T>,
 ) -> Result<Core, AllocError>
-    ensures { IfOk result (λ c. core_view c ≡ table.core passed.now depth (node.and_node (tree_by T.node left.now) (tree_by T.node right.now))) }
+    ensures { IfOk result (λ c. core_view c ≡
+        table.core passed.now depth (node.and_node (tree_by T.node left.now) (tree_by T.node right.now))) }
 {
     let left = left.lower(alloc, passed, depth)?;
     let right = right.lower(alloc, passed, depth)?;
@@ -82,7 +86,8 @@ pub fn lower_or<T: Lower>(
     left: &Box<T>,
     right: &Box<T>,
 ) -> Result<Core, AllocError>
-    ensures { IfOk result (λ c. core_view c ≡ table.core passed.now depth (node.or_node (tree_by T.node left.now) (tree_by T.node right.now))) }
+    ensures { IfOk result (λ c. core_view c ≡
+        table.core passed.now depth (node.or_node (tree_by T.node left.now) (tree_by T.node right.now))) }
 {
     let left = left.lower(alloc, passed, depth)?;
     let right = right.lower(alloc, passed, depth)?;
@@ -99,7 +104,8 @@ pub fn lower_range<T: Lower>(
     exclusive: bool,
     at: u32,
 ) -> Result<Core, AllocError>
-    ensures { IfOk result (λ c. core_view c ≡ table.core passed.now depth (node.range (tree_by T.node from.now) (tree_by T.node to.now) exclusive at)) }
+    ensures { IfOk result (λ c. core_view c ≡
+        table.core passed.now depth (node.range (tree_by T.node from.now) (tree_by T.node to.now) exclusive at)) }
 {
     let from = from.lower(alloc, passed, depth)?;
     let to = to.lower(alloc, passed, depth)?;
@@ -119,7 +125,8 @@ pub fn lower_rescue<T: Lower>(
     body: &Box<T>,
     rescue: &Box<T>,
 ) -> Result<Core, AllocError>
-    ensures { IfOk result (λ c. core_view c ≡ table.core passed.now depth (node.rescue_modifier (tree_by T.node body.now) (tree_by T.node rescue.now))) }
+    ensures { IfOk result (λ c. core_view c ≡
+        table.core passed.now depth (node.rescue_modifier (tree_by T.node body.now) (tree_by T.node rescue.now))) }
 {
     let body = body.lower(alloc, passed, depth)?;
     let rescue = rescue.lower(alloc, passed, depth)?;
@@ -134,7 +141,8 @@ pub fn lower_index<T: Lower>(
     receiver: &Box<T>,
     items: &Vec<Item<Box<T>>>,
 ) -> Result<Core, AllocError>
-    ensures { IfOk result (λ c. core_view c ≡ table.core passed.now depth (node.index (tree_by T.node receiver.now) (items_by T.node items.now.items))) }
+    ensures { IfOk result (λ c. core_view c ≡
+        table.core passed.now depth (node.index (tree_by T.node receiver.now) (items_by T.node items.now.items))) }
 {
     let receiver = receiver.lower(alloc, passed, depth)?;
     let items = lower_items(alloc, passed, depth, items)?;
@@ -149,7 +157,8 @@ pub fn lower_scoped<T: Lower>(
     scope: &Box<T>,
     name: &[u8],
 ) -> Result<Core, AllocError>
-    ensures { IfOk result (λ c. core_view c ≡ table.core passed.now depth (node.scoped_constant (tree_by T.node scope.now) name.now)) }
+    ensures { IfOk result (λ c. core_view c ≡
+        table.core passed.now depth (node.scoped_constant (tree_by T.node scope.now) name.now)) }
 {
     let scope = scope.lower(alloc, passed, depth)?;
     scoped_constant(alloc, scope, name)

@@ -17,8 +17,8 @@ use ir_builder::calls::{send, send_alone};
 use ir_builder::control::seq;
 use ir_builder::hidden::{keep, local_number, stored};
 use ir_builder::leaf::{array, set_scoped_constant};
-use rb_base::Bytes;
 use ir_core::Core;
+use rb_base::Bytes;
 use rb_syntax::Item;
 use std::alloc::{AllocError, Global};
 
@@ -45,20 +45,21 @@ pub fn attribute_store(
     stored(alloc, depth, &setter, Vec::new(alloc), number, value)
 }
 
-/// Forms behind one that is kept in hidden local `depth`.
-pub fn behind_kept(
+/// Forms after one that is kept in hidden local `depth`.
+pub fn after_kept(
     alloc: Global,
     depth: usize,
     kept: Core,
-    behind: Vec<Core>,
+    rest: Vec<Core>,
 ) -> Result<Core, AllocError>
-    ensures { IfOk result (λ c. core_view c ≡ form.seq (form.more (lowered.keep depth (core_view kept)) (part.cores behind.items))) }
+    ensures { IfOk result (λ c. core_view c ≡
+        form.seq (form.more (lowered.keep depth (core_view kept)) (part.cores rest.items))) }
 {
     let kept = keep(alloc, depth, kept)?;
-    let mut behind = behind;
+    let mut rest = rest;
     let mut statements = Vec::new(alloc);
     statements.push(kept)?;
-    statements.append(&mut behind)?;
+    statements.append(&mut rest)?;
     seq(alloc, statements)
 }
 
@@ -71,7 +72,9 @@ pub fn store_attribute<T: Lower>(
     name: &[u8],
     value: Core,
 ) -> Result<Core, AllocError>
-    ensures { IfOk result (λ c. core_view c ≡ table.attribute_set depth name.now (table.core_all passed.now (depth + 2) (boxed_by T.node receiver.now)) (core_view value)) }
+    ensures { IfOk result (λ c. core_view c ≡
+        table.attribute_set depth name.now (table.core_all passed.now (depth + 2) (boxed_by T.node receiver.now))
+        (core_view value)) }
 {
     match receiver {
         None => Ok(value),
@@ -79,7 +82,7 @@ pub fn store_attribute<T: Lower>(
             let inner = deeper(depth, 2)?;
             let receiver = receiver.lower(alloc, passed, inner)?;
             let stores = attribute_store(alloc, depth, name, value)?;
-            behind_kept(alloc, depth, receiver, stores)
+            after_kept(alloc, depth, receiver, stores)
         }
     }
 }
@@ -93,7 +96,8 @@ pub fn store_scoped<T: Lower>(
     name: &[u8],
     value: Core,
 ) -> Result<Core, AllocError>
-    ensures { IfOk result (λ c. core_view c ≡ form.set_in_constant (table.core passed.now depth (tree_by T.node scope.now)) name.now (core_view value)) }
+    ensures { IfOk result (λ c. core_view c ≡
+        form.set_in_constant (table.core passed.now depth (tree_by T.node scope.now)) name.now (core_view value)) }
 {
     let scope = scope.lower(alloc, passed, depth)?;
     set_scoped_constant(alloc, scope, name, value)
@@ -107,7 +111,7 @@ pub fn index_width<T: Lower>(items: &Vec<Item<Box<T>>>) -> Result<usize, AllocEr
     deeper(items.len(), 2)
 }
 
-/// Behind the hidden locals of an index and its receiver, which begin at `depth`.
+/// After the hidden locals of an index and its receiver, which begin at `depth`.
 #[tactic(auto, using(crate::proofs::Numbers::counted))]
 fn index_end<T: Lower>(depth: usize, items: &Vec<Item<Box<T>>>) -> Result<usize, AllocError>
     ensures { IfOk result (λ n. n ≡ depth + 1 + read.count (items_by T.node items.now.items)) }
@@ -182,7 +186,8 @@ fn keep_items<T: Lower>(
     first: usize,
     items: &[Item<Box<T>>],
 ) -> Result<Vec<Core>, AllocError>
-    ensures { IfOk result (λ v. part.cores v.items ≡ table.keeps first (items_by T.node items.now) (table.core_all passed.now depth (items_by T.node items.now))) }
+    ensures { IfOk result (λ v. part.cores v.items ≡
+        table.keeps first (items_by T.node items.now) (table.core_all passed.now depth (items_by T.node items.now))) }
 {
     let mut all = Vec::new(alloc);
     let mut number = first;
@@ -202,7 +207,8 @@ pub fn keep_index<T: Lower>(
     receiver: &Box<T>,
     items: &Vec<Item<Box<T>>>,
 ) -> Result<Vec<Core>, AllocError>
-    ensures { IfOk result (λ v. part.cores v.items ≡ index_kept passed.now depth (tree_by T.node receiver.now) (items_by T.node items.now.items)) }
+    ensures { IfOk result (λ v. part.cores v.items ≡
+        index_kept passed.now depth (tree_by T.node receiver.now) (items_by T.node items.now.items)) }
 {
     let width = index_width(items)?;
     let inner = deeper(depth, width)?;
@@ -237,7 +243,8 @@ pub fn index_store<T: Lower>(
     items: &Vec<Item<Box<T>>>,
     value: Core,
 ) -> Result<Vec<Core>, AllocError>
-    ensures { IfOk result (λ v. part.cores v.items ≡ table.index_store depth (items_by T.node items.now.items) (core_view value)) }
+    ensures { IfOk result (λ v. part.cores v.items ≡
+        table.index_store depth (items_by T.node items.now.items) (core_view value)) }
 {
     let first = deeper(depth, 1)?;
     let number = index_end(depth, items)?;
@@ -255,7 +262,9 @@ pub fn store_index<T: Lower>(
     items: &Vec<Item<Box<T>>>,
     value: Core,
 ) -> Result<Core, AllocError>
-    ensures { IfOk result (λ c. core_view c ≡ table.store passed.now depth (node.index (tree_by T.node receiver.now) (items_by T.node items.now.items)) (core_view value)) }
+    ensures { IfOk result (λ c. core_view c ≡
+        table.store passed.now depth (node.index (tree_by T.node receiver.now) (items_by T.node items.now.items))
+        (core_view value)) }
 {
     let mut statements = keep_index(alloc, passed, depth, receiver, items)?;
     let mut stores = index_store(alloc, depth, items, value)?;

@@ -14,10 +14,10 @@ use ir_builder::control::seq;
 use ir_builder::hidden::{element, element_behind, elements_between, keep, local_number};
 use ir_builder::leaf::local;
 use ir_builder::names::{exception_local, pattern_parameter};
-use rb_base::Bytes;
 use ir_core::Core;
-use rb_syntax::Item;
 use parser_tree::TargetList;
+use rb_base::Bytes;
+use rb_syntax::Item;
 use std::alloc::{AllocError, Global};
 
 /// Where the values of a list of targets come from.
@@ -63,7 +63,8 @@ fn store_from<T: Lower>(
     place: usize,
     target: &Box<T>,
 ) -> Result<Core, AllocError>
-    ensures { IfOk result (λ c. core_view c ≡ table.store passed.now depth (tree_by T.node target.now) (source_form source place)) }
+    ensures { IfOk result (λ c. core_view c ≡
+        table.store passed.now depth (tree_by T.node target.now) (source_form source place)) }
 {
     let value = source_core(alloc, source, place)?;
     target.store(alloc, passed, depth, value)
@@ -76,7 +77,8 @@ fn store_each<T: Lower>(
     source: Source,
     targets: &[Box<T>],
 ) -> Result<Vec<Core>, AllocError>
-    ensures { IfOk result (λ v. part.cores v.items ≡ table.stores passed.now depth (source_form source) 0 (trees_by T.node targets.now)) }
+    ensures { IfOk result (λ v. part.cores v.items ≡
+        table.stores passed.now depth (source_form source) 0 (trees_by T.node targets.now)) }
 {
     let mut all = Vec::new(alloc);
     let mut place = 0;
@@ -96,7 +98,8 @@ pub fn store_all<T: Lower>(
     source: Source,
     targets: &Vec<Box<T>>,
 ) -> Result<Vec<Core>, AllocError>
-    ensures { IfOk result (λ v. part.cores v.items ≡ table.stores passed.now depth (source_form source) 0 (trees_by T.node targets.now.items)) }
+    ensures { IfOk result (λ v. part.cores v.items ≡
+        table.stores passed.now depth (source_form source) 0 (trees_by T.node targets.now.items)) }
 {
     let all = store_each(alloc, passed, depth, source, targets)?;
     Ok(all)
@@ -110,7 +113,8 @@ pub fn store_maybe<T: Lower>(
     source: Source,
     target: &Option<Box<T>>,
 ) -> Result<Option<Core>, AllocError>
-    ensures { IfOk result (λ o. part.boxed o ≡ table.stores passed.now depth (source_form source) 0 (boxed_by T.node target.now)) }
+    ensures { IfOk result (λ o. part.boxed o ≡
+        table.stores passed.now depth (source_form source) 0 (boxed_by T.node target.now)) }
 {
     match target {
         None => Ok(None),
@@ -151,7 +155,9 @@ fn store_group<T: Lower>(
     depth: usize,
     targets: &TargetList<Box<T>>,
 ) -> Result<Vec<Core>, AllocError>
-    ensures { IfOk result (λ v. part.cores v.items ≡ group_stores passed.now depth (trees_by T.node targets.now.before.items) (boxed_by T.node targets.now.rest) (trees_by T.node targets.now.after.items)) }
+    ensures { IfOk result (λ v. part.cores v.items ≡
+        group_stores passed.now depth (trees_by T.node targets.now.before.items) (boxed_by T.node targets.now.rest)
+        (trees_by T.node targets.now.after.items)) }
 {
     let from = count_of(&targets.before);
     let post = count_of(&targets.after);
@@ -188,7 +194,8 @@ pub fn store_targets<T: Lower>(
     targets: &TargetList<Box<T>>,
     value: Core,
 ) -> Result<Core, AllocError>
-    ensures { IfOk result (λ c. core_view c ≡ table.store passed.now depth (targets_by T.node targets.now) (core_view value)) }
+    ensures { IfOk result (λ c. core_view c ≡
+        table.store passed.now depth (targets_by T.node targets.now) (core_view value)) }
 {
     let mut statements = Vec::new(alloc);
     let kept = keep(alloc, depth, value)?;
@@ -208,7 +215,9 @@ pub fn lower_multiple<T: Lower>(
     targets: &TargetList<Box<T>>,
     value: &Box<T>,
 ) -> Result<Core, AllocError>
-    ensures { IfOk result (λ c. core_view c ≡ table.core passed.now depth (node.multiple_assign (targets_by T.node targets.now) (tree_by T.node value.now))) }
+    ensures { IfOk result (λ c. core_view c ≡
+        table.core passed.now depth (node.multiple_assign (targets_by T.node targets.now)
+        (tree_by T.node value.now))) }
 {
     let inner = deeper(depth, 1)?;
     let value = value.lower(alloc, passed, inner)?;
@@ -223,7 +232,8 @@ pub fn lower_assign<T: Lower>(
     target: &Box<T>,
     value: &Box<T>,
 ) -> Result<Core, AllocError>
-    ensures { IfOk result (λ c. core_view c ≡ table.core passed.now depth (node.assign (tree_by T.node target.now) (tree_by T.node value.now))) }
+    ensures { IfOk result (λ c. core_view c ≡
+        table.core passed.now depth (node.assign (tree_by T.node target.now) (tree_by T.node value.now))) }
 {
     let inner = target.past(depth)?;
     let value = value.lower(alloc, passed, inner)?;

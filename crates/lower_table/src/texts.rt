@@ -13,10 +13,10 @@ use crate::lower::Lower;
 use ir_builder::calls::text_item;
 use ir_builder::control::text;
 use ir_builder::leaf::{string, symbol};
-use rb_base::Bytes;
 use ir_core::{Core, Term};
-use rb_syntax::Item;
 use parser_tree::Piece;
+use rb_base::Bytes;
+use rb_syntax::Item;
 use std::alloc::{AllocError, Global};
 
 /// Whether a piece is no bytes of the text.
@@ -88,7 +88,8 @@ fn lower_pieces<T: Lower>(
     depth: usize,
     pieces: &[Piece<Box<T>>],
 ) -> Result<Vec<Core>, AllocError>
-    ensures { IfOk result (λ v. map core_view v.items ≡ map (piece_core passed.now depth) (map (piece_by T.node) pieces.now)) }
+    ensures { IfOk result (λ v. map core_view v.items ≡
+        map (piece_core passed.now depth) (map (piece_by T.node) pieces.now)) }
 {
     let mut all = Vec::new(alloc);
     for piece in pieces {
@@ -118,7 +119,8 @@ pub fn lower_text<T: Lower>(
     depth: usize,
     pieces: &Vec<Piece<Box<T>>>,
 ) -> Result<Core, AllocError>
-    ensures { IfOk result (λ c. core_view c ≡ table.core passed.now depth (node.text (pieces_by T.node pieces.now.items))) }
+    ensures { IfOk result (λ c. core_view c ≡
+        table.core passed.now depth (node.text (pieces_by T.node pieces.now.items))) }
 {
     if is_literal(pieces) {
         let bytes = joined(alloc, pieces)?;
@@ -135,7 +137,8 @@ pub fn lower_symbol_text<T: Lower>(
     depth: usize,
     pieces: &Vec<Piece<Box<T>>>,
 ) -> Result<Core, AllocError>
-    ensures { IfOk result (λ c. core_view c ≡ table.core passed.now depth (node.symbol_text (pieces_by T.node pieces.now.items))) }
+    ensures { IfOk result (λ c. core_view c ≡
+        table.core passed.now depth (node.symbol_text (pieces_by T.node pieces.now.items))) }
 {
     if is_literal(pieces) {
         let name = joined(alloc, pieces)?;

@@ -3,19 +3,22 @@ use Rattle.std.proofs.Common.{◌≡◌, ℕ, List, [], ◌∷◌, ◌++◌, map
 use Rattle.std.specs.Prelude.{Bool, true, false, if◌then◌else◌, ◌||◌, bytes_eq}
 use Rattle.std.proofs.lemmas.List.{map-append, length-map, take-map}
 use Rattle.std.specs.Borrow.{Bor}
-use Rattle.text_set.specs.Sets.{text, texts}
 use Rattle.std.specs.List.{list_any}
-use Rattle.text_set.specs.Sets.{is_among, with_text}
+use Rattle.text_set.specs.Sets.{is_among, text, texts, with_text}
 
 among_or : (a b : Bool) → (if a then true else b) ≡ (a || b)
 among_or true b = refl
 among_or false b = refl
 
-pub is_among-texts : (x : List ℕ) (ks : List (Bor (List ℕ))) → is_among x (texts ks) ≡ list_any (λ (k : Bor (List ℕ)). bytes_eq x k.now) ks
+pub is_among-texts : (x : List ℕ) (ks : List (Bor (List ℕ)))
+    → is_among x (texts ks) ≡ list_any (λ (k : Bor (List ℕ)). bytes_eq x k.now) ks
 is_among-texts x [] = refl
-is_among-texts x (k ∷ ks) = rw (is_among-texts x ks) (among_or (bytes_eq x k.now) (list_any (λ (k : Bor (List ℕ)). bytes_eq x k.now) ks))
+is_among-texts x (k ∷ ks) =
+    rw (is_among-texts x ks) (among_or (bytes_eq x k.now) (list_any (λ (k : Bor (List ℕ)). bytes_eq x k.now) ks))
 
-pub with_text-texts : (k : Bor (List ℕ)) (ks : List (Bor (List ℕ))) → texts (if list_any (λ (y : Bor (List ℕ)). bytes_eq k.now y.now) ks then ks else ks ++ k ∷ []) ≡ with_text (texts ks) k.now
+pub with_text-texts : (k : Bor (List ℕ)) (ks : List (Bor (List ℕ)))
+    → texts (if list_any (λ (y : Bor (List ℕ)). bytes_eq k.now y.now) ks then ks else ks ++ k ∷ [])
+    ≡ with_text (texts ks) k.now
 with_text-texts k ks = rw (is_among-texts k.now ks) (at (list_any (λ (y : Bor (List ℕ)). bytes_eq k.now y.now) ks))
   where
     at : (b : Bool) → texts (if b then ks else ks ++ k ∷ []) ≡ (if b then texts ks else texts ks ++ k.now ∷ [])

@@ -1,6 +1,5 @@
 ghost use Rattle.std.specs.Prelude.{◌≡◌, [], length, not, take, IfOk, OnOk};
-ghost use Rattle.text_set.specs.Sets.{is_among, with_text};
-ghost use Rattle.text_set.specs.Sets.{texts};
+ghost use Rattle.text_set.specs.Sets.{is_among, texts, with_text};
 
 use indexmap::IndexSet;
 use std::alloc::{AllocError, Global};

@@ -6,4 +6,6 @@ use Rattle.lower_table.proofs.branches.lower_whens.Goals as goal
 
 pub returns : goal.returns
 returns g c =
-    whens-end branch_form (when_by g.T.Whole.node) _ _ (asked_by c.args.subject) _ _ _ _ c.loop-clause.invariant c.deref-clause-items.ensures.value c.loop-clause-test.false
+    whens-end branch_form (when_by g.T.Whole.node) _ _
+    (asked_by c.args.subject) _ _ _ _ c.loop-clause.invariant c.deref-clause-items.ensures.value
+    c.loop-clause-test.false

@@ -6,4 +6,7 @@ use Rattle.parser_tree.specs.PartsBy.{when_by}
 use Rattle.lower_table.proofs.branches.lower_whens.Given as goal
 
 abbrev pub invariant-loop-clause : goal.invariant-loop-clause
-invariant-loop-clause g l = map branch_form l.all.items ≡ map (when l.fn.passed l.fn.depth (asked_by l.fn.subject)) (map (when_by g.T.Whole.node) (take l.clause-index l.clauses.items))
+invariant-loop-clause g l =
+    map branch_form l.all.items
+    ≡ map (when l.fn.passed l.fn.depth (asked_by l.fn.subject))
+    (map (when_by g.T.Whole.node) (take l.clause-index l.clauses.items))

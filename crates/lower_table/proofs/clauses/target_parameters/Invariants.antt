@@ -4,4 +4,6 @@ use Rattle.parser_tree.specs.PartsBy.{tree_by}
 use Rattle.lower_table.proofs.clauses.target_parameters.Given as goal
 
 abbrev pub invariant-loop-target : goal.invariant-loop-target
-invariant-loop-target g l = (l.names, l.place) ≡ fold (numbered_step target_named) ([], 0) (map (tree_by g.T.Whole.node) (take l._target-index l.targets))
+invariant-loop-target g l =
+    (l.names, l.place) ≡ fold (numbered_step target_named) ([], 0) (map (tree_by g.T.Whole.node)
+    (take l._target-index l.targets))

@@ -5,4 +5,6 @@ use Rattle.parser_tree.specs.PartsBy.{optional_by}
 use Rattle.lower_table.proofs.functions.lower_optionals.Given as goal
 
 abbrev pub invariant-loop-parameter : goal.invariant-loop-parameter
-invariant-loop-parameter g l = map core_view l.all.items ≡ map (core l.fn.passed 0) (map (optional_by g.T.Whole.node) (take l.parameter-index l.parameters.items))
+invariant-loop-parameter g l =
+    map core_view l.all.items
+    ≡ map (core l.fn.passed 0) (map (optional_by g.T.Whole.node) (take l.parameter-index l.parameters.items))

@@ -5,4 +5,7 @@ use Rattle.parser_tree.specs.PartsBy.{parameter_by}
 use Rattle.lower_table.proofs.functions.lower_patterns.Given as goal
 
 abbrev pub invariant-loop-parameter : goal.invariant-loop-parameter
-invariant-loop-parameter g l = (map core_view l.all.items, l.place) ≡ fold (numbered_step (patterned l.fn.passed)) ([], l.fn.first) (map (parameter_by g.T.Whole.node) (take l.parameter-index l.parameters))
+invariant-loop-parameter g l =
+    (map core_view l.all.items, l.place)
+    ≡ fold (numbered_step (patterned l.fn.passed)) ([], l.fn.first)
+    (map (parameter_by g.T.Whole.node) (take l.parameter-index l.parameters))

@@ -4,4 +4,5 @@ use Rattle.parser_tree.specs.PartsBy.{optional_by}
 use Rattle.lower_table.proofs.functions.optional_names.Given as goal
 
 abbrev pub invariant-loop-parameter : goal.invariant-loop-parameter
-invariant-loop-parameter g l = l.names ≡ map optional_name (map (optional_by g.T.Whole.node) (take l.parameter-index l.parameters))
+invariant-loop-parameter g l =
+    l.names ≡ map optional_name (map (optional_by g.T.Whole.node) (take l.parameter-index l.parameters))

@@ -4,4 +4,6 @@ use Rattle.parser_tree.specs.PartsBy.{parameter_by}
 use Rattle.lower_table.proofs.functions.parameter_names.Given as goal
 
 abbrev pub invariant-loop-parameter : goal.invariant-loop-parameter
-invariant-loop-parameter g l = (l.names, l.place) ≡ fold (numbered_step named) ([], l.fn.first) (map (parameter_by g.T.Whole.node) (take l.parameter-index l.parameters))
+invariant-loop-parameter g l =
+    (l.names, l.place) ≡ fold (numbered_step named) ([], l.fn.first) (map (parameter_by g.T.Whole.node)
+    (take l.parameter-index l.parameters))

@@ -5,4 +5,7 @@ use Rattle.parser_tree.specs.PartsBy.{item_by}
 use Rattle.lower_table.proofs.places.keep_items.Given as goal
 
 abbrev pub invariant-loop-item : goal.invariant-loop-item
-invariant-loop-item g l = (map core_view l.all.items, l.number) ≡ fold (numbered_step (kept_by l.fn.passed l.fn.depth)) ([], l.fn.first) (map (item_by g.T.Whole.node) (take l.item-index l.items))
+invariant-loop-item g l =
+    (map core_view l.all.items, l.number)
+    ≡ fold (numbered_step (kept_by l.fn.passed l.fn.depth)) ([], l.fn.first)
+    (map (item_by g.T.Whole.node) (take l.item-index l.items))

@@ -5,4 +5,6 @@ use Rattle.parser_tree.specs.PartsBy.{item_by}
 use Rattle.lower_table.proofs.places.kept_items.Given as goal
 
 abbrev pub invariant-loop-item : goal.invariant-loop-item
-invariant-loop-item g l = (map item_form l.all.items, l.number) ≡ fold (numbered_step kept_item) ([], l.fn.first) (map (item_by g.T.Whole.node) (take l.item-index l.items))
+invariant-loop-item g l =
+    (map item_form l.all.items, l.number)
+    ≡ fold (numbered_step kept_item) ([], l.fn.first) (map (item_by g.T.Whole.node) (take l.item-index l.items))

@@ -5,4 +5,6 @@ use Rattle.parser_tree.specs.PartsBy.{piece_by}
 use Rattle.lower_table.proofs.texts.lower_pieces.Given as goal
 
 abbrev pub invariant-loop-piece : goal.invariant-loop-piece
-invariant-loop-piece g l = map core_view l.all.items ≡ map (piece_core l.fn.passed l.fn.depth) (map (piece_by g.T.Whole.node) (take l.piece-index l.pieces))
+invariant-loop-piece g l =
+    map core_view l.all.items
+    ≡ map (piece_core l.fn.passed l.fn.depth) (map (piece_by g.T.Whole.node) (take l.piece-index l.pieces))
