@@ -53,7 +53,8 @@ fn qualified_name(st: &Store, scope: ObjId, name: SymId) -> Result<Vec<u8>, Allo
     requires sound { Sound st.now.store }
     requires scope { Is (census st.now.store) ClassOrModule scope }
     requires name { IsSymbol (census st.now.store) name }
-    ensures { IfOk result (λ text. text.items ≡ texts.class_name st.now.store scope ++ codes "::" ++ name_at st.now.store name) }
+    ensures { IfOk result (λ text.
+        text.items ≡ texts.class_name st.now.store scope ++ codes "::" ++ name_at st.now.store name) }
 {
     let mut text = Vec::from_slice(st.alloc(), class_name(st, scope))?;
     text.extend_from_slice(b"::")?;
@@ -99,7 +100,7 @@ fn named_class(
     fresh(st.alloc(), st.class_object(class), Kind::Class(contents))
 }
 
-/// Puts a new class or module with a name behind the other objects. Where memory runs out all is as before.
+/// Puts a new class or module with a name after the other objects. Where memory runs out all is as before.
 #[tactic(auto, using(crate::proofs::Naming::sound_named, crate::proofs::Naming::named_is_class, def_core::proofs::Grows::one_more, def_core::proofs::Grows::extends_itself))]
 fn add_class(
     st: &mut Store,
@@ -142,8 +143,10 @@ fn make_named(
     requires plain { is_module class ≡ false }
     requires superclass { OptionIs (Is (census st.old.store) Superclass) superclass }
     requires root { form ≡ forms.Module → superclass ≡ None }
-    ensures outcome { IfOk result (λ o. o ≡ (defined.make_named (defined.full_name st.old.store scope name) scope name class form superclass).outcome) }
-    ensures store { OnOk result (st.new.store ≡ (defined.make_named (defined.full_name st.old.store scope name) scope name class form superclass).store) }
+    ensures outcome { IfOk result (λ o. o ≡
+        (defined.make_named (defined.full_name st.old.store scope name) scope name class form superclass).outcome) }
+    ensures store { OnOk result (st.new.store ≡
+        (defined.make_named (defined.full_name st.old.store scope name) scope name class form superclass).store) }
     ensures class { IfOk result (GivesClass (census st.new.store)) }
     ensures err { OnErr result (IsGrown st.old.store st.new.store) }
     ensures sound { Sound st.new.store }
@@ -201,8 +204,12 @@ fn reopen_class(
     requires sound { Sound st.old.store }
     requires name { IsSymbol (census st.old.store) name }
     requires there { IsValue (census st.old.store) there }
-    ensures outcome { IfOk result (λ o. o ≡ (defined.reopen_class st.old.store name parent (defined.object_of_sort defined.is_class_sort st.old.store.objects there)).outcome) }
-    ensures store { OnOk result (st.new.store ≡ (defined.reopen_class st.old.store name parent (defined.object_of_sort defined.is_class_sort st.old.store.objects there)).store) }
+    ensures outcome { IfOk result (λ o. o ≡
+        (defined.reopen_class st.old.store name parent
+        (defined.object_of_sort defined.is_class_sort st.old.store.objects there)).outcome) }
+    ensures store { OnOk result (st.new.store ≡
+        (defined.reopen_class st.old.store name parent
+        (defined.object_of_sort defined.is_class_sort st.old.store.objects there)).store) }
     ensures class { IfOk result (GivesClass (census st.new.store)) }
     ensures err { OnErr result (st.new.store ≡ st.old.store) }
     ensures sound { Sound st.new.store }
@@ -231,8 +238,12 @@ fn define_under(
     requires scope { Is (census st.old.store) ClassOrModule scope }
     requires name { IsSymbol (census st.old.store) name }
     requires parent { OptionIs (Is (census st.old.store) Class) parent }
-    ensures outcome { IfOk result (λ o. o ≡ (defined.define_class_by st.old.store scope name parent (defined.constant_in (classes.class_at st.old.store.objects scope).constants name)).outcome) }
-    ensures store { OnOk result (st.new.store ≡ (defined.define_class_by st.old.store scope name parent (defined.constant_in (classes.class_at st.old.store.objects scope).constants name)).store) }
+    ensures outcome { IfOk result (λ o. o ≡
+        (defined.define_class_by st.old.store scope name parent
+        (defined.constant_in (classes.class_at st.old.store.objects scope).constants name)).outcome) }
+    ensures store { OnOk result (st.new.store ≡
+        (defined.define_class_by st.old.store scope name parent
+        (defined.constant_in (classes.class_at st.old.store.objects scope).constants name)).store) }
     ensures class { IfOk result (GivesClass (census st.new.store)) }
     ensures err { OnErr result (IsGrown st.old.store st.new.store) }
     ensures sound { Sound st.new.store }
@@ -299,8 +310,12 @@ fn reopen_module(st: &mut Store, name: SymId, there: Value) -> Result<Outcome, A
     requires sound { Sound st.old.store }
     requires name { IsSymbol (census st.old.store) name }
     requires there { IsValue (census st.old.store) there }
-    ensures outcome { IfOk result (λ o. o ≡ (defined.reopen_module st.old.store name (defined.object_of_sort defined.is_module_sort st.old.store.objects there)).outcome) }
-    ensures store { OnOk result (st.new.store ≡ (defined.reopen_module st.old.store name (defined.object_of_sort defined.is_module_sort st.old.store.objects there)).store) }
+    ensures outcome { IfOk result (λ o. o ≡
+        (defined.reopen_module st.old.store name
+        (defined.object_of_sort defined.is_module_sort st.old.store.objects there)).outcome) }
+    ensures store { OnOk result (st.new.store ≡
+        (defined.reopen_module st.old.store name
+        (defined.object_of_sort defined.is_module_sort st.old.store.objects there)).store) }
     ensures class { IfOk result (GivesClass (census st.new.store)) }
     ensures err { OnErr result (st.new.store ≡ st.old.store) }
     ensures sound { Sound st.new.store }

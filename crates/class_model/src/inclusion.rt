@@ -40,7 +40,7 @@ pub fn is_in_chain(st: &Store, class: ObjId, other: ObjId) -> bool
     is_ahead(&mut walk, other)
 }
 
-/// Puts a module that isn't in the chain of the class behind the others.
+/// Puts a module that isn't in the chain of the class after the others.
 fn push_new(st: &Store, list: &mut Vec<ObjId>, class: ObjId, mixin: ObjId) -> Result<(), AllocError>
     requires sound { Sound st.now.store }
     requires class { Is (census st.now.store) ClassOrModule class }
@@ -73,7 +73,8 @@ fn include_module(st: &mut Store, class: ObjId, mixin: ObjId) -> Result<(), Allo
     requires sound { Sound st.old.store }
     requires class { Is (census st.old.store) ClassOrModule class }
     requires mixin { Is (census st.old.store) Module mixin }
-    ensures ok { OnOk result (st.new.store ≡ record st.old.store { objects = defined.with_included st.old.store.objects class mixin }) }
+    ensures ok { OnOk result (st.new.store ≡
+        record st.old.store { objects = defined.with_included st.old.store.objects class mixin }) }
     ensures err { OnErr result (st.new.store ≡ st.old.store) }
     ensures sound { Sound st.new.store }
     ensures extends { Extends (census st.old.store) (census st.new.store) }

@@ -45,7 +45,8 @@ pub fn set_method(
 pub fn set_default(st: &mut Store, class: ObjId, visibility: Visibility)
     requires sound { Sound st.old.store }
     requires class { Is (census st.old.store) ClassOrModule class }
-    ensures store { st.new.store ≡ record st.old.store { objects = defined.with_default st.old.store.objects class visibility } }
+    ensures store { st.new.store ≡
+        record st.old.store { objects = defined.with_default st.old.store.objects class visibility } }
     ensures sound { Sound st.new.store }
     ensures extends { Extends (census st.old.store) (census st.new.store) }
     ensures counted { IsCounted st.old st.new }

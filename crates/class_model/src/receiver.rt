@@ -15,7 +15,8 @@ fn nearest_singleton(st: &Store, id: ObjId, other: ObjId) -> ObjId
     requires sound { Sound st.now.store }
     requires there { id.0 < length st.now.store.objects }
     requires other { Is (census st.now.store) ClassOrModule other }
-    ensures value { result ≡ classes.nearest_singleton st.now.store.objects (classes.lineage st.now.store.objects id) other }
+    ensures value { result ≡
+        classes.nearest_singleton st.now.store.objects (classes.lineage st.now.store.objects id) other }
     ensures class { Is (census st.now.store) ClassOrModule result }
 {
     let mut at = id;
@@ -51,13 +52,10 @@ pub fn class_of(st: &Store, v: Value) -> ObjId
     ensures value { result ≡ classes.class_of st.now.store.objects v }
     ensures class { Is (census st.now.store) ClassOrModule result }
 {
+    let class = plain_class_of(st, v);
     match v {
-        Value::Nil => core_class(st, CoreClass::NilClass),
-        Value::True => core_class(st, CoreClass::TrueClass),
-        Value::False => core_class(st, CoreClass::FalseClass),
-        Value::Int(_) => core_class(st, CoreClass::Integer),
-        Value::Sym(_) => core_class(st, CoreClass::Symbol),
-        Value::Obj(id) => nearest_singleton(st, id, st.get(id).class),
+        Value::Obj(id) => nearest_singleton(st, id, class),
+        _ => class,
     }
 }
 

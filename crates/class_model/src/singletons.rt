@@ -90,7 +90,8 @@ fn superclass_for(st: &Store, id: ObjId) -> ObjId
 fn attach(st: &mut Store, id: ObjId) -> Result<(), AllocError>
     requires sound { Sound st.old.store }
     requires there { id.0 < length st.old.store.objects }
-    ensures ok { OnOk result (st.new.store ≡ record st.old.store { objects = with_new_singleton st.old.store.objects id }) }
+    ensures ok { OnOk result (st.new.store ≡
+        record st.old.store { objects = with_new_singleton st.old.store.objects id }) }
     ensures err { OnErr result (st.new.store ≡ st.old.store) }
     ensures more { length st.old.store.objects ≤ length st.new.store.objects }
     ensures sound { Sound st.new.store }
@@ -112,7 +113,8 @@ fn attach(st: &mut Store, id: ObjId) -> Result<(), AllocError>
 fn make_all(st: &mut Store, ids: &[ObjId]) -> Result<(), AllocError>
     requires sound { Sound st.old.store }
     requires there { AllAre (Is (census st.old.store) Any) ids.now }
-    ensures ok { OnOk result (st.new.store ≡ record st.old.store { objects = defined.make_all st.old.store.objects ids.now }) }
+    ensures ok { OnOk result (st.new.store ≡
+        record st.old.store { objects = defined.make_all st.old.store.objects ids.now }) }
     ensures err { OnErr result (IsMadeInPart st.old.store ids.now st.new.store) }
     ensures more { length st.old.store.objects ≤ length st.new.store.objects }
     ensures sound { Sound st.new.store }
@@ -127,7 +129,7 @@ fn make_all(st: &mut Store, ids: &[ObjId]) -> Result<(), AllocError>
     Ok(())
 }
 
-/// Puts an object that has no singleton class behind the others.
+/// Puts an object that has no singleton class after the others.
 fn push_missing(st: &Store, list: &mut Vec<ObjId>, id: ObjId) -> Result<(), AllocError>
     requires { id.0 < length st.now.store.objects }
     ensures { OnOk result (list.new.items ≡ list.old.items ++ filter (is_missing st.now.store.objects) (id ∷ [])) }

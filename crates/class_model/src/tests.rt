@@ -151,7 +151,7 @@ fn own_visibility(
     })
 }
 
-/// The names of the ancestors, each with a space behind.
+/// The names of the ancestors, each with a space after it.
 fn ancestor_names(rt: &impl Abort, st: &Store, v: Value) -> Result<Vec<u8>, AllocError>
     requires { Sound st.now.store }
 {

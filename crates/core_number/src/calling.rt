@@ -27,7 +27,8 @@ fn of_integer(
     requires sound { Sound st.old.store }
     requires receiver { IsValue (census st.old.store) receiver }
     requires args { AllAre (IsValue (census st.old.store)) args.now }
-    ensures { Completes st.old st.new result (rows.of_integer row st.old.store args.now (operands.integer st.old.store.objects receiver)) }
+    ensures { Completes st.old st.new result
+        (rows.of_integer row st.old.store args.now (operands.integer st.old.store.objects receiver)) }
 {
     match integer(st, receiver) {
         Ok(x) => call_integer(st, row, x, args),
@@ -45,7 +46,8 @@ fn of_range(
     requires sound { Sound st.old.store }
     requires receiver { IsValue (census st.old.store) receiver }
     requires args { AllAre (IsValue (census st.old.store)) args.now }
-    ensures { Completes st.old st.new result (rows.of_range row st.old.store args.now (ranges.range st.old.store.objects receiver)) }
+    ensures { Completes st.old st.new result
+        (rows.of_range row st.old.store args.now (ranges.range st.old.store.objects receiver)) }
 {
     match range(st, receiver) {
         Ok(ends) => call_range(st, row, ends, args),

@@ -21,7 +21,7 @@ fn hexadecimal_digit(digit: u8) -> u8
     }
 }
 
-/// What stands behind a backslash for the byte, where something does.
+/// What stands after a backslash for the byte, where something does.
 fn letter(byte: u8) -> Option<u8>
     ensures { result ≡ escapes.letter byte }
 {
@@ -40,7 +40,7 @@ fn letter(byte: u8) -> Option<u8>
     None
 }
 
-/// Puts a byte without a letter behind a text, as `inspect` shows it.
+/// Puts a byte without a letter after a text, as `inspect` shows it.
 fn put_plain(text: &mut Vec<u8>, byte: u8) -> Result<(), AllocError>
     ensures { OnOk result (text.new.items ≡ text.old.items ++ escapes.escape_by byte None) }
 {
@@ -52,7 +52,7 @@ fn put_plain(text: &mut Vec<u8>, byte: u8) -> Result<(), AllocError>
     text.extend_from_slice(&[b'\\', b'x', high, low])
 }
 
-/// Puts a byte behind a text, as `inspect` shows it.
+/// Puts a byte after a text, as `inspect` shows it.
 fn put_escape(text: &mut Vec<u8>, byte: u8) -> Result<(), AllocError>
     ensures { OnOk result (text.new.items ≡ text.old.items ++ escapes.escape byte) }
 {
@@ -62,7 +62,7 @@ fn put_escape(text: &mut Vec<u8>, byte: u8) -> Result<(), AllocError>
     }
 }
 
-/// Puts an item behind a text, as `inspect` shows it.
+/// Puts an item after a text, as `inspect` shows it.
 #[tactic(auto, using(std::proofs::Common::append_assoc))]
 fn put_item(text: &mut Vec<u8>, item: Item) -> Result<(), AllocError>
     ensures { OnOk result (text.new.items ≡ text.old.items ++ rows.item_inspection item) }

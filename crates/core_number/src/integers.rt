@@ -92,7 +92,8 @@ pub(crate) fn number(result_of: Result<i64, IntegerFailure>) -> Result<Value, Ca
 fn binary(st: &Store, operation: Binary, x: i64, other: Value) -> Result<Value, Cause>
     requires sound { Sound st.now.store }
     requires value { IsValue (census st.now.store) other }
-    ensures value { result ≡ answers.and_then (operands.integer st.now.store.objects other) (λ y. rows.integer_value (rows.of_two operation x y)) }
+    ensures value { result ≡
+        answers.and_then (operands.integer st.now.store.objects other) (λ y. rows.integer_value (rows.of_two operation x y)) }
     ensures cause { IfErr result (SoundCause (census st.now.store)) }
 {
     let y = integer(st, other)?;
@@ -103,7 +104,8 @@ fn binary(st: &Store, operation: Binary, x: i64, other: Value) -> Result<Value, 
 fn relation(st: &Store, order: Relation, x: i64, other: Value) -> Result<Value, Cause>
     requires sound { Sound st.now.store }
     requires value { IsValue (census st.now.store) other }
-    ensures value { result ≡ answers.and_then (operands.comparable st.now.store.objects other) (λ y. Ok (truth (rows.relates order x y))) }
+    ensures value { result ≡
+        answers.and_then (operands.comparable st.now.store.objects other) (λ y. Ok (truth (rows.relates order x y))) }
     ensures cause { IfErr result (SoundCause (census st.now.store)) }
 {
     let y = comparable(st, other)?;
@@ -168,7 +170,8 @@ fn clamp(st: &Store, x: i64, args: &[Value]) -> Result<Value, Cause>
 fn quotient_and_remainder(st: &Store, x: i64, other: Value) -> Result<(i64, i64), Cause>
     requires sound { Sound st.now.store }
     requires value { IsValue (census st.now.store) other }
-    ensures value { result ≡ answers.and_then (operands.integer st.now.store.objects other) (λ y. answers.caused (divisions.quotient_and_remainder x y)) }
+    ensures value { result ≡
+        answers.and_then (operands.integer st.now.store.objects other) (λ y. answers.caused (divisions.quotient_and_remainder x y)) }
     ensures cause { IfErr result (SoundCause (census st.now.store)) }
 {
     let y = integer(st, other)?;

@@ -20,6 +20,8 @@ pub fn laws_of_rows()
 /// The exception of a failure of a number has the class and the text that rb_integer gives it.
 #[tactic(auto, using(crate::proofs::SameRows::same_text, crate::proofs::SameRows::same_class))]
 pub fn laws_of_failures()
-    ensures text { (st : stores.Store) (f : numbers.IntegerFailure) → texts.text_of st (cause_of f) ≡ failures.message_of f }
-    ensures class { (f : numbers.IntegerFailure) → name_of (texts.class_of (cause_of f)) ≡ failures.name_of (failures.class_of f) }
+    ensures text { (st : stores.Store) (f : numbers.IntegerFailure) →
+        texts.text_of st (cause_of f) ≡ failures.message_of f }
+    ensures class { (f : numbers.IntegerFailure) →
+        name_of (texts.class_of (cause_of f)) ≡ failures.name_of (failures.class_of f) }
 {}

@@ -20,10 +20,12 @@ struct Items {
     values: Vec<Value>,
 }
 
-/// Puts an item behind the others. The store has so many objects.
+/// Puts an item after the others. The store has so many objects.
 fn put_item(items: &mut Items, st: &Store, item: Item) -> Result<(), AllocError>
     ensures strings { OnOk result (items.new.strings.items ≡ items.old.strings.items ++ rows.strings_of (item ∷ [])) }
-    ensures values { OnOk result (items.new.values.items ≡ items.old.values.items ++ rows.values_from (length st.now.store.objects + length items.old.strings.items) (item ∷ [])) }
+    ensures values { OnOk result (items.new.values.items ≡
+        items.old.values.items
+        ++ rows.values_from (length st.now.store.objects + length items.old.strings.items) (item ∷ [])) }
 {
     match item {
         Item::Integer(number) => items.values.push(Value::Int(number))?,
@@ -41,7 +43,8 @@ fn put_item(items: &mut Items, st: &Store, item: Item) -> Result<(), AllocError>
 fn make_items(st: &Store, ends: Ends, count: u64) -> Result<Items, AllocError>
     requires { count ≤ numbers.count ends.bounds ends.is_exclusive }
     ensures strings { IfOk result (λ made. made.strings.items ≡ rows.strings_of (rows.items ends.bounds count)) }
-    ensures values { IfOk result (λ made. made.values.items ≡ rows.values_from (length st.now.store.objects) (rows.items ends.bounds count)) }
+    ensures values { IfOk result (λ made. made.values.items ≡
+        rows.values_from (length st.now.store.objects) (rows.items ends.bounds count)) }
 {
     let mut made = Items {
         strings: Vec::new(st.alloc()),

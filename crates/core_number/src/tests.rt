@@ -51,7 +51,7 @@ const GIVEN_2_FOR_0_TO_1: Wanted = Raises(
     b"wrong number of arguments (given 2, expected 0..1)",
 );
 
-/// Objects that stand behind those of the store at the start, in this order.
+/// Objects that stand after those of the store at the start, in this order.
 const LETTER_A: Value = Obj(ObjId(41));
 
 const LETTER_C: Value = Obj(ObjId(42));
@@ -272,7 +272,7 @@ fn opened(alloc: Global) -> Result<Store, AllocError>
     Store::new(alloc)
 }
 
-/// The store at the start with the objects above behind its own.
+/// The store at the start with the objects above after its own.
 fn prepared(alloc: Global) -> Result<Store, AllocError>
     ensures { IfOk result (λ store. Sound store.store) }
 {

@@ -59,7 +59,7 @@ fn remaining(alloc: Global, shape: Shape, given: &Given) -> Result<List<Value>, 
     Ok(List::from_vec(Vec::from_slice(alloc, values)?))
 }
 
-/// So many times nil behind.
+/// So many times nil at the end.
 fn push_nils(list: &mut Args, count: usize) -> Result<(), AllocError>
     ensures { OnOk result (list.new ≡ list.old ++ replicate count Nil) }
 {
@@ -69,7 +69,7 @@ fn push_nils(list: &mut Args, count: usize) -> Result<(), AllocError>
     Ok(())
 }
 
-/// These values behind.
+/// These values at the end.
 fn push_all(list: &mut Args, values: &[Value]) -> Result<(), AllocError>
     ensures { OnOk result (list.new ≡ list.old ++ values.now) }
 {
@@ -79,7 +79,7 @@ fn push_all(list: &mut Args, values: &[Value]) -> Result<(), AllocError>
     Ok(())
 }
 
-/// The value of the parameter for the rest behind, where there is one.
+/// The value of the parameter for the rest at the end, where there is one.
 fn push_rest(list: &mut Args, rest: Option<ObjId>) -> Result<(), AllocError>
     ensures { OnOk result (list.new ≡ list.old ++ rest_of rest) }
 {

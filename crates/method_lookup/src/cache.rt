@@ -123,11 +123,13 @@ pub fn find_cached(
     ensures err { OnErr result (cache.new ≡ cache.old) }
     ensures hit { IsSome (caches.known cache.old st.now.changes class name) → steps.new ≡ steps.old }
     ensures hit_is_ok { IsSome (caches.known cache.old st.now.changes class name) → IsOk result }
-    ensures search { caches.known cache.old st.now.changes class name ≡ None → steps.new ≡ counted steps.old (probes st.now.store.objects (chain st.now.store.objects class) name) }
+    ensures search { caches.known cache.old st.now.changes class name ≡ None →
+        steps.new ≡ counted steps.old (probes st.now.store.objects (chain st.now.store.objects class) name) }
     ensures probes { steps.new ≤ steps.old + length (chain st.now.store.objects class) }
     ensures number { OnOk result (cache.new.number ≡ st.now.changes) }
     ensures stays { OnOk result (caches.Stays cache.old cache.new st.now.changes) }
-    ensures keeps { IfOk result (λ f. IfSome f (λ x. st.now.changes < 2 ^ 64 - 1 → caches.kept_of cache.new class name ≡ Some x)) }
+    ensures keeps { IfOk result (λ f. IfSome f (λ x.
+        st.now.changes < 2 ^ 64 - 1 → caches.kept_of cache.new class name ≡ Some x)) }
 {
     let changes = st.changes();
     if let Some(found) = cache.known(changes, class, name) {

@@ -30,7 +30,8 @@ fn first_counted(walk: &mut Chain, st: &Store, name: SymId, steps: &mut Steps) -
     requires walk { IsWalk walk.old }
     requires store { walk.old.store.now ≡ st.now }
     ensures found { result ≡ defined.first_of st.now.store.objects (left walk.old) name }
-    ensures ticks { steps.new ≡ counted steps.old (probes st.now.store.objects (left walk.old) name) }
+    ensures ticks { steps.new ≡
+        counted steps.old (probes st.now.store.objects (left walk.old) name) }
 {
     'members: while let Some(class) = walk.next() {
         match own_method(st, class, name, steps) {
@@ -53,7 +54,8 @@ pub(crate) fn find_counted(
     requires sound { Sound st.now.store }
     requires class { Is (census st.now.store) ClassOrModule class }
     ensures found { result ≡ defined.find st.now.store.objects class name }
-    ensures ticks { steps.new ≡ counted steps.old (probes st.now.store.objects (chain st.now.store.objects class) name) }
+    ensures ticks { steps.new ≡
+        counted steps.old (probes st.now.store.objects (chain st.now.store.objects class) name) }
     ensures probes { steps.new ≤ steps.old + length (chain st.now.store.objects class) }
 {
     let mut walk = Chain::of(st, class);

@@ -9,7 +9,7 @@ use def_core::BindKind;
 use rb_store::Store;
 use rb_value::{Kind, Shape, Value};
 
-/// Arguments: those of a slice, and behind them nil for so many that are missing.
+/// Arguments: those of a slice, and after them nil for so many that are missing.
 #[derive(Clone, Copy)]
 pub(crate) struct Given<'a> {
     values: &'a [Value],
@@ -118,7 +118,8 @@ impl<'a> Given<'a> {
     pub(crate) fn nils(&self, from: usize, to: usize) -> usize
         requires order { from ≤ to }
         requires within { to ≤ length (all_of self.now) }
-        ensures { drop from (take to (all_of self.now)) ≡ drop from (take to self.now.values.now) ++ replicate result Nil }
+        ensures { drop from (take to (all_of self.now)) ≡
+            drop from (take to self.now.values.now) ++ replicate result Nil }
     {
         to.saturating_sub(from.max(self.values.len()))
     }

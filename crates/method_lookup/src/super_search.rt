@@ -1,4 +1,4 @@
-//! The search for a method behind its owner.
+//! The search for a method after its owner.
 ghost use Rattle.std.specs.Prelude.{◌≡◌};
 ghost use Rattle.def_core.specs.Find as defined;
 ghost use Rattle.def_core.specs.Sound.{Sound, census, Is, ClassOrModule};
@@ -25,7 +25,7 @@ fn pass(walk: &mut Chain, owner: ObjId)
 }
 
 /// The method that `super` finds in a method of that name and owner: that of the first class or module with the name
-/// behind the owner in the chain of the class (ISO/IEC 30170:2012, 11.3.3). None where the owner isn't in the chain. It
+/// after the owner in the chain of the class (ISO/IEC 30170:2012, 11.3.3). None where the owner isn't in the chain. It
 /// takes no memory.
 #[tactic(auto, unfolding(def_core::specs::Find::find_super))]
 pub fn find_super(st: &Store, class: ObjId, owner: ObjId, name: SymId) -> Option<Found>

@@ -55,7 +55,7 @@ fn numeral(number: i64, base: u64) -> Text
     }
 }
 
-/// `number.to_s` without a base, and `number.inspect`: decimal digits, behind a sign below 0.
+/// `number.to_s` without a base, and `number.inspect`: decimal digits, after a sign below 0.
 pub fn decimal(number: i64) -> Text
     ensures value { result ≡ signed_decimal number }
     ensures short { length result ≤ 20 }
@@ -64,7 +64,7 @@ pub fn decimal(number: i64) -> Text
     Text::joined(buffer.format(number).as_bytes(), b"")
 }
 
-/// `number.to_s(base)`: digits in 0 to 9 and small letters, behind a sign below 0. A failure where the base isn't from
+/// `number.to_s(base)`: digits in 0 to 9 and small letters, after a sign below 0. A failure where the base isn't from
 /// 2 to 36.
 #[tactic(auto, using(crate::proofs::Letters::decimal_numeral))]
 pub fn to_text(number: i64, base: i64) -> Result<Text, IntegerFailure>

@@ -23,7 +23,7 @@ impl Model for Text {
 }
 
 impl Text {
-    /// The two parts, one behind the other.
+    /// The two parts, one after the other.
     pub(crate) fn joined(first: &[u8], second: &[u8]) -> Text
         requires { length first.now + length second.now ≤ 65 }
         ensures { result ≡ first.now ++ second.now }

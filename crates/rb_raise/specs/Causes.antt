@@ -1,7 +1,7 @@
 -- When a cause is one of a store: what it names is there.
 use Rattle.def_core.specs.declared.cause.Cause.{Cause}
 use Rattle.def_core.specs.declared.cause.Cause.TheVariants as cause
-use Rattle.def_core.specs.Sound.{Census, Any, ClassOrModule, Is, IsSymbol, IsValue, OptionIs}
+use Rattle.def_core.specs.Sound.{Census, ClassOrModule, String, Is, IsSymbol, IsValue, OptionIs}
 
 abbrev pub SoundCause : Census → Cause → Type 0
 SoundCause k (cause.UndefinedMethod s c) = IsSymbol k s × Is k ClassOrModule c
@@ -35,7 +35,7 @@ SoundCause k (cause.NotModule s) = IsSymbol k s
 SoundCause k cause.NoSingleton = Unit {0}
 SoundCause k cause.NoVariable = Unit {0}
 SoundCause k (cause.IndexOutOfRange i) = Unit {0}
-SoundCause k (cause.KeyNotFound key) = Is k Any key
+SoundCause k (cause.KeyNotFound key) = Is k String key
 SoundCause k cause.IntegerOverflow = Unit {0}
 SoundCause k cause.StringTooLong = Unit {0}
 SoundCause k (cause.CharOutOfRange i) = Unit {0}

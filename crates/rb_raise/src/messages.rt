@@ -1,7 +1,7 @@
 //! The texts of the exceptions that the language itself raises.
 ghost use Rattle.std.specs.Prelude.{◌≡◌, ◌++◌, IfOk, codes};
 ghost use Rattle.def_core.specs.Store.{name_at};
-ghost use Rattle.def_core.specs.Sound.{Sound, census, Is, Any, ClassOrModule, IsSymbol, OptionIs};
+ghost use Rattle.def_core.specs.Sound.{Sound, census, Is, ClassOrModule, String, IsSymbol, OptionIs};
 ghost use Rattle.def_core.specs.Texts as texts;
 ghost use Rattle.rb_raise.specs.Causes.{SoundCause};
 
@@ -46,14 +46,14 @@ fn name(st: &Store, symbol: SymId) -> &[u8]
 }
 
 /// The bytes of a String.
-#[tactic(auto, using(def_core::proofs::Roles::is_within))]
+#[tactic(auto, using(def_core::proofs::Roles::is_within, def_core::proofs::Roles::is_plays))]
 fn bytes_of(st: &Store, string: ObjId) -> &[u8]
-    requires { Is (census st.now.store) Any string }
+    requires { Is (census st.now.store) String string }
     ensures { result.now ≡ texts.bytes_at st.now.store.objects string }
 {
     match &st.get(string).kind {
         Kind::String(bytes) => bytes.as_slice(),
-        _ => &[],
+        _ => unreachable!(),
     }
 }
 
@@ -95,7 +95,8 @@ fn between_classes(
     requires sound { Sound st.now.store }
     requires left { Is (census st.now.store) ClassOrModule left }
     requires right { Is (census st.now.store) ClassOrModule right }
-    ensures { IfOk result (λ text. text ≡ before.now ++ texts.class_name st.now.store left ++ between.now ++ texts.class_name st.now.store right) }
+    ensures { IfOk result (λ text.
+        text ≡ before.now ++ texts.class_name st.now.store left ++ between.now ++ texts.class_name st.now.store right) }
 {
     Text::of(st.alloc(), before)?
         .with(class_name(st, left))?
@@ -109,7 +110,8 @@ fn constant(st: &Store, scope: Option<ObjId>, symbol: SymId) -> Result<Text, All
     requires sound { Sound st.now.store }
     requires scope { OptionIs (Is (census st.now.store) ClassOrModule) scope }
     requires symbol { IsSymbol (census st.now.store) symbol }
-    ensures { IfOk result (λ text. text ≡ codes "uninitialized constant " ++ texts.scope_text st.now.store scope ++ name_at st.now.store symbol) }
+    ensures { IfOk result (λ text.
+        text ≡ codes "uninitialized constant " ++ texts.scope_text st.now.store scope ++ name_at st.now.store symbol) }
 {
     let before = Text::of(st.alloc(), b"uninitialized constant ")?;
     let scoped = match scope {
@@ -119,7 +121,7 @@ fn constant(st: &Store, scope: Option<ObjId>, symbol: SymId) -> Result<Text, All
     scoped.with(name(st, symbol))
 }
 
-/// A text with the number of arguments that is expected behind it.
+/// A text with the number of arguments that is expected after it.
 #[tactic(auto, using(std::proofs::Common::append_assoc))]
 fn with_expected(text: Text, least: u64, most: Option<u64>) -> Result<Text, AllocError>
     ensures { IfOk result (λ longer. longer ≡ text ++ texts.expected_text least most) }

@@ -14,13 +14,14 @@ use rb_store::Store;
 use rb_value::{CoreClass, Failure, Kind, ObjId, Object, Outcome};
 use std::alloc::AllocError;
 
-/// Puts a String with those bytes behind the other objects, and gives its number. Where memory runs out the store is
+/// Puts a String with those bytes after the other objects, and gives its number. Where memory runs out the store is
 /// as before.
 #[tactic(auto, using(crate::proofs::Strings::sound_string))]
 pub fn new_string(st: &mut Store, bytes: Bytes) -> Result<ObjId, AllocError>
     requires { Sound st.old.store }
     ensures number { IfOk result (λ id. id ≡ next_number st.old.store) }
-    ensures ok { OnOk result (st.new.store ≡ with_object st.old.store (fresh (core classes.String) (kinds.String bytes))) }
+    ensures ok { OnOk result (st.new.store ≡
+        with_object st.old.store (fresh (core classes.String) (kinds.String bytes))) }
     ensures changes { st.new.changes ≡ st.old.changes }
     ensures err { OnErr result (st.new.store ≡ st.old.store) }
     ensures sound { Sound st.new.store }
@@ -35,7 +36,7 @@ pub fn new_string(st: &mut Store, bytes: Bytes) -> Result<ObjId, AllocError>
     Ok(id)
 }
 
-/// Raises by a cause: puts a String with its text behind the other objects, and gives the failure from which the
+/// Raises by a cause: puts a String with its text after the other objects, and gives the failure from which the
 /// exception is made, with the class and the detail of the cause. What the cause names is of the store. Where memory
 /// runs out the store is as before.
 #[tactic(auto, unfolding(def_core::specs::Changes::fails))]

@@ -31,7 +31,7 @@ impl Text {
         })
     }
 
-    /// The text with the bytes behind it.
+    /// The text with the bytes after it.
     pub(crate) fn with(self, bytes: &[u8]) -> Result<Text, AllocError>
         ensures { IfOk result (λ text. text ≡ self ++ bytes.now) }
     {
@@ -40,7 +40,7 @@ impl Text {
         Ok(text)
     }
 
-    /// The text with the decimal digits of a number behind it.
+    /// The text with the decimal digits of a number after it.
     pub(crate) fn with_number(self, number: u64) -> Result<Text, AllocError>
         ensures { IfOk result (λ text. text ≡ self ++ decimal number) }
     {
@@ -48,7 +48,7 @@ impl Text {
         self.with(buffer.format(number).as_bytes())
     }
 
-    /// The text with the decimal digits of a number behind it, after a sign where it is below 0.
+    /// The text with the decimal digits of a number after it, and before them a sign where it is below 0.
     pub(crate) fn with_signed(self, number: i64) -> Result<Text, AllocError>
         ensures { IfOk result (λ text. text ≡ self ++ signed_decimal number) }
     {

@@ -301,7 +301,8 @@ impl Store {
         requires there { class.0 < length self.old.store.objects }
         requires is_class { plays ClassOrModule (sort_at self.old.store.objects class) ≡ true }
         requires rows { first + length names.now < 2 ^ 16 }
-        ensures ok { OnOk result (self.new.store ≡ opening.with_rows self.old.store class first (map (λ name. name.now) names.now)) }
+        ensures ok { OnOk result (self.new.store ≡
+            opening.with_rows self.old.store class first (map (λ name. name.now) names.now)) }
         ensures objects { OnOk result (sorts_of self.new.store.objects ≡ sorts_of self.old.store.objects) }
     {
         'rows: for (i, name) in names.iter().enumerate() {
@@ -312,9 +313,11 @@ impl Store {
         Ok(())
     }
 
-    /// The store at the start: the core classes and modules, the main object, and the core methods.
+    /// The store at the start: the core classes and modules, the main object, and the core methods. No change of a
+    /// class or module is counted yet.
     pub fn new(alloc: Global) -> Result<Store, AllocError>
         ensures store { IfOk result (λ store. store.store ≡ opening.opening) }
+        ensures changes { IfOk result (λ store. store.changes ≡ 0) }
         ensures sound { IfOk result (λ store. Sound store.store) }
     {
         let mut store = Store::nameless(alloc)?;
@@ -323,6 +326,7 @@ impl Store {
         store.add_rows(ObjId(7), 0, &INTEGER_METHODS)?;
         store.add_rows(ObjId(15), 39, &RANGE_METHODS)?;
         store.add_rows(ObjId(RANGE_SINGLETON), 51, &RANGE_OWN_METHODS)?;
+        store.changes = 0;
         Ok(store)
     }
 

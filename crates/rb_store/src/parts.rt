@@ -58,7 +58,8 @@ impl Store {
     pub fn put_default(&mut self, class: ObjId, visibility: Visibility)
         requires there { class.0 < length self.old.store.objects }
         requires is_class { plays ClassOrModule (sort_at self.old.store.objects class) ≡ true }
-        ensures store { self.new.store ≡ record self.old.store { objects = defined.with_default self.old.store.objects class visibility } }
+        ensures store { self.new.store ≡
+            record self.old.store { objects = defined.with_default self.old.store.objects class visibility } }
         ensures changes { self.new.changes ≡ changes_after self.old.changes (sort_at self.old.store.objects class) }
         ensures counted { IsCounted self.old self.new }
     {
@@ -70,12 +71,14 @@ impl Store {
         }
     }
 
-    /// Puts a constant behind the others of a class or module. Where memory runs out the objects are as before.
+    /// Puts a constant after the others of a class or module. Where memory runs out the objects are as before.
     #[tactic(auto, using(crate::proofs::Counted::class_counted))]
     pub fn put_constant(&mut self, class: ObjId, constant: Constant) -> Result<(), AllocError>
         requires there { class.0 < length self.old.store.objects }
         requires is_class { plays ClassOrModule (sort_at self.old.store.objects class) ≡ true }
-        ensures ok { OnOk result (self.new.store ≡ record self.old.store { objects = defined.with_constant self.old.store.objects class constant.name constant.value }) }
+        ensures ok { OnOk result (self.new.store ≡ record self.old.store {
+          objects = defined.with_constant self.old.store.objects class constant.name constant.value;
+        }) }
         ensures changes { self.new.changes ≡ changes_after self.old.changes (sort_at self.old.store.objects class) }
         ensures counted { IsCounted self.old self.new }
         ensures err { OnErr result (self.new.store ≡ self.old.store) }
@@ -93,7 +96,10 @@ impl Store {
     pub fn put_included(&mut self, class: ObjId, included: List<ObjId>)
         requires there { class.0 < length self.old.store.objects }
         requires is_class { plays ClassOrModule (sort_at self.old.store.objects class) ≡ true }
-        ensures store { self.new.store ≡ record self.old.store { objects = with_class self.old.store.objects class (record (class_at self.old.store.objects class) { included = included }) } }
+        ensures store { self.new.store ≡ record self.old.store {
+          objects = with_class self.old.store.objects class
+              (record (class_at self.old.store.objects class) { included = included });
+        } }
         ensures changes { self.new.changes ≡ changes_after self.old.changes (sort_at self.old.store.objects class) }
         ensures counted { IsCounted self.old self.new }
     {
@@ -109,7 +115,10 @@ impl Store {
     #[tactic(auto, using(crate::proofs::Counted::set_counted))]
     pub fn put_singleton(&mut self, id: ObjId, singleton: ObjId)
         requires there { id.0 < length self.old.store.objects }
-        ensures store { self.new.store ≡ record self.old.store { objects = set_object self.old.store.objects id (record (object_at self.old.store.objects id) { singleton = Some singleton }) } }
+        ensures store { self.new.store ≡ record self.old.store {
+          objects = set_object self.old.store.objects id
+              (record (object_at self.old.store.objects id) { singleton = Some singleton });
+        } }
         ensures changes { self.new.changes ≡ changes_after self.old.changes (sort_at self.old.store.objects id) }
         ensures counted { IsCounted self.old self.new }
     {

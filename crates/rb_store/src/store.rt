@@ -27,7 +27,10 @@ impl Model for Store {
 
     ghost Value = { Held };
 
-    ghost view = { λ s. record { store = record { objects = s.objects.items; symbols = s.symbols }; changes = s.changes } };
+    ghost view = { λ s. record {
+      store = record { objects = s.objects.items; symbols = s.symbols };
+      changes = s.changes;
+    } };
 }
 
 /// The count of changes after a change of an object of that sort: it rises with each change of a class or module and
@@ -71,7 +74,7 @@ impl Store {
         &self.objects[id.0 as usize]
     }
 
-    /// Puts an object behind the others, and gives its number. Where memory runs out all is as before.
+    /// Puts an object after the others, and gives its number. Where memory runs out all is as before.
     #[tactic(auto, using(crate::proofs::Counted::added_counted, crate::proofs::Counted::unchanged))]
     pub fn add(&mut self, object: Object) -> Result<ObjId, AllocError>
         ensures number { IfOk result (λ id. id ≡ next_number self.old.store) }
@@ -85,7 +88,7 @@ impl Store {
         Ok(id)
     }
 
-    /// Puts objects behind the others, in their order. Where memory runs out all is as before.
+    /// Puts objects after the others, in their order. Where memory runs out all is as before.
     pub fn add_all(&mut self, objects: List<Object>) -> Result<(), AllocError>
         ensures ok { OnOk result (self.new.store ≡ record self.old.store { objects = self.old.store.objects ++ objects }) }
         ensures changes { self.new.changes ≡ self.old.changes }

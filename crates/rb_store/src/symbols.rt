@@ -54,7 +54,7 @@ impl Symbols {
         self.names[place].as_slice()
     }
 
-    /// Puts a name that isn't there behind. Where memory runs out all is as before.
+    /// Puts a name that isn't there at the end. Where memory runs out all is as before.
     pub fn push(&mut self, alloc: Global, name: &[u8]) -> Result<(), AllocError>
         requires { position (bytes_eq name.now) self.old ≡ None }
         ensures ok { OnOk result (self.new ≡ self.old ++ name.now ∷ []) }

@@ -40,7 +40,7 @@ impl Args {
         })
     }
 
-    /// Puts one more behind. Where memory runs out all is as before.
+    /// Puts one more at the end. Where memory runs out all is as before.
     pub fn push(&mut self, value: Value) -> Result<(), AllocError>
         ensures ok { OnOk result (self.new ≡ self.old ++ value ∷ []) }
         ensures err { OnErr result (self.new ≡ self.old) }

@@ -14,7 +14,7 @@ pub enum KeyPart {
 }
 
 /// A key of a Hash: an Integer, Symbol, nil, true, false or an object by itself; a String by a copy of its bytes; an
-/// Array by a copy of its elements, those of inner Arrays behind their heads.
+/// Array by a copy of its elements, those of inner Arrays after their heads.
 #[derive(Debug, Drop)]
 pub enum Key {
     Plain(Value),

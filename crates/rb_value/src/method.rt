@@ -36,7 +36,7 @@ pub struct MethodEntry {
 }
 
 /// How many parameters a method, lambda or block has: required ones, optional ones, whether there is one for the
-/// rest, and required ones behind it (ISO/IEC 30170:2012, 13.3.2).
+/// rest, and required ones after it (ISO/IEC 30170:2012, 13.3.2).
 #[derive(Clone, Copy, Debug, PartialEq, Eq)]
 pub struct Shape {
     pub required: u8,

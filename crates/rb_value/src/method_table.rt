@@ -42,7 +42,7 @@ impl MethodTable {
         self.entries.get(&name.0).copied()
     }
 
-    /// Puts an entry in the place of what the name had, or behind. Where memory runs out all is as before.
+    /// Puts an entry in the place of what the name had, or at the end. Where memory runs out all is as before.
     pub fn set(&mut self, name: SymId, entry: MethodEntry) -> Result<(), AllocError>
         ensures ok { OnOk result (self.new ≡ with_entry self.old name entry) }
         ensures err { OnErr result (self.new ≡ self.old) }

@@ -136,7 +136,7 @@ impl<T: Copy> SlotPool<T> {
         b.0 * PLACES + i
     }
 
-    /// The value `i` places behind the place `start` of the pool: place 64 b + i is place i of block b.
+    /// The value `i` places after the place `start` of the pool: place 64 b + i is place i of block b.
     #[inline]
     pub fn read_at(&self, start: usize, i: usize) -> T
         requires { IsLive self.now ((start + i) / 64) }
@@ -145,7 +145,7 @@ impl<T: Copy> SlotPool<T> {
         self.slots[start + i]
     }
 
-    /// Writes the place `i` places behind the place `start` of the pool: place 64 b + i is place i of block b.
+    /// Writes the place `i` places after the place `start` of the pool: place 64 b + i is place i of block b.
     #[inline]
     pub fn write_at(&mut self, start: usize, i: usize, v: T)
         requires { IsLive self.old ((start + i) / 64) }

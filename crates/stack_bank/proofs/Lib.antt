@@ -5,4 +5,5 @@ pub mod Slots
 pub mod Sound
 pub mod Calls
 pub mod Reach
+pub mod Runs
 pub mod Staying

@@ -1,25 +1,31 @@
 -- Slots that are reached by their places.
-use Rattle.std.proofs.Common.{◌≡◌, ◌≢◌, ◌⊎◌, ℕ, ◌+◌, ◌-◌, ◌*◌, ◌^◌, ◌/◌, ◌%◌, ◌<◌, ◌≤◌, List, [], ◌∷◌, ◌++◌, length, get_or, set, take, map, refl, ap, sym, ◌∙◌, subst, arith, inl, inr}
-use Rattle.std.specs.Prelude.{Option, Some, None, IsSome, unwrap_or, slice_get}
+use Rattle.std.proofs.Common.{◌≡◌, ◌≢◌, ℕ, ◌+◌, ◌-◌, ◌*◌, ◌^◌, ◌/◌, ◌%◌, ◌<◌, ◌≤◌, min, List, [], ◌∷◌, ◌++◌, length, get_or, set, take, map, refl, ap, ◌∙◌, subst, arith, inl, inr}
+use Rattle.std.specs.Prelude.{Some, None, IsSome, unwrap_or, slice_get}
 use Rattle.std.proofs.lemmas.Bool.{cases_lt, cases_eq}
 use Rattle.std.proofs.lemmas.List.{get_or_default, get_or_append_left, get_or_past, get_or-take, get_or-set_same, get_or-set_other, set_past, length-append, length-take}
 use Rattle.rb_value.specs.declared.exit.Slot.{Slot}
 use Rattle.stack_bank.specs.Bank.{Bank, Grows, table, blocks_for, cut, closed, opened}
 use Rattle.stack_bank.specs.Window.{Reaches}
 use Rattle.stack_bank.specs.declared.window.Window.{Window}
-use Rattle.stack_bank.specs.Inside.{Blocks, Held, see, no_stack, block_at, values_at, slots_of, seen, table_of, table_at, IsSound}
+use Rattle.stack_bank.specs.Inside.{Blocks, Held, see, no_stack, block_at, values_at, seen, IsSound}
 use Rattle.stack_bank.proofs.Sound.{IsStack, IsSeen, seen_at, live_number}
 use Rattle.stack_bank.proofs.Calls.{in_stack, block_live, slot_read, SetsSlot, sets_slot}
 
 -- ---- the window of a run of blocks
 
-pub reaches_run : (blocks : Blocks) (hs : List Held) (k : ℕ) (h : Held) (w : Window) (n run : ℕ) → w.id.0 ≡ k → IsSeen blocks hs k h → w.base + n ≤ h.length → w.near ≤ n → w.start ≡ 64 * get_or h.table (w.base / 64) 0 + w.base % 64 → ((i : ℕ) → i < w.near → (w.base + i) / 64 ≤ run) → ((j : ℕ) → w.base / 64 ≤ j → j ≤ run → get_or h.table j 0 ≡ get_or h.table (w.base / 64) 0 + (j - w.base / 64)) → Reaches (see blocks hs) w
-reaches_run blocks hs k h w n run id s within near start up_to follow =
+-- the window reaches the slots in the blocks up to number run of the table, which follow one another
+pub reaches_run :
+    (blocks : Blocks) (hs : List Held) (k : ℕ) (h : Held) (w : Window) (n run : ℕ) →
+    w.id.0 ≡ k → IsSeen blocks hs k h → w.base + n ≤ h.length → w.near ≡ min n (64 * (run + 1) - w.base) →
+    w.start ≡ 64 * get_or h.table (w.base / 64) 0 + w.base % 64 →
+    ((j : ℕ) → w.base / 64 ≤ j → j ≤ run → get_or h.table j 0 ≡ get_or h.table (w.base / 64) 0 + (j - w.base / 64)) →
+    Reaches (see blocks hs) w
+reaches_run blocks hs k h w n run id s within near start follow =
     let is : table (see blocks hs) w.id.0 ≡ h.table = ap (table (see blocks hs)) id ∙ s.table in
     record {
       within = λ i in_near. rw is (omega (arith, s.sized));
       place = λ i in_near. rw is (
-          let step = follow ((w.base + i) / 64) (omega arith) (up_to i in_near) in
+          let step = follow ((w.base + i) / 64) (omega arith) (omega arith) in
           omega arith);
     }
 

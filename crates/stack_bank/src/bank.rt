@@ -54,7 +54,7 @@ impl StackBank {
         Ok(StackId(id as u64))
     }
 
-    /// Puts `n` times nil behind the slots of a stack. Where memory runs out, or so many slots can't be numbered,
+    /// Puts `n` times nil after the slots of a stack. Where memory runs out, or so many slots can't be numbered,
     /// the bank is as before.
     pub fn grow(&mut self, id: StackId, n: usize) -> Result<(), AllocError>
         requires { IsLive self.old id.0 }

@@ -34,7 +34,7 @@ impl Stack {
     }
 }
 
-/// Puts `n` times nil behind the slots of a stack. All memory is taken before anything is changed.
+/// Puts `n` times nil after the slots of a stack. All memory is taken before anything is changed.
 pub(crate) fn grow_stack(
     pool: &mut SlotPool<Slot>,
     stack: &mut Stack,
@@ -56,7 +56,7 @@ pub(crate) fn grow_stack(
     Ok(())
 }
 
-/// Writes nil into the places behind the slots, as far as `n` slots more need them and the last block has them.
+/// Writes nil into the places after the slots, as far as `n` slots more need them and the last block has them.
 fn clear_rest(pool: &mut SlotPool<Slot>, blocks: &Vec<usize>, len: usize, n: usize)
     requires holds { HoldsTable pool.old.blocks blocks.now.items }
     requires sized { length blocks.now.items ≡ div_ceil len 64 }

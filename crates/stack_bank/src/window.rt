@@ -1,7 +1,7 @@
 //! A part of a stack whose first slots are reached by their places in the pool.
-ghost use Rattle.std.specs.Prelude.{◌≡◌, ◌+◌, ◌-◌, ◌/◌, ◌^◌, ◌<◌, ◌≤◌, ℕ, length, Some, slice_get, slice_index};
-ghost use Rattle.stack_bank.specs.Bank.{IsLive, slots, with_slot};
-ghost use Rattle.stack_bank.specs.Window.{Reaches};
+ghost use Rattle.std.specs.Prelude.{◌≡◌, ◌+◌, ◌-◌, ◌*◌, ◌/◌, ◌^◌, ◌<◌, ◌≤◌, ℕ, length, min, Some, slice_get, slice_index};
+ghost use Rattle.stack_bank.specs.Bank.{IsLive, slots, table, with_slot};
+ghost use Rattle.stack_bank.specs.Window.{Reaches, near_slots, run_last};
 
 use crate::bank::{StackBank, StackId};
 use crate::blocks::PLACES;
@@ -26,6 +26,7 @@ impl StackBank {
         requires within { base + n ≤ length (slots self.now id.0) }
         ensures id { result.id ≡ id }
         ensures base { result.base ≡ base }
+        ensures near { result.near ≡ near_slots (table self.now id.0) base n }
         ensures reaches { Reaches self.now result }
     {
         let stack = &self.stacks[id.0 as usize];
@@ -93,8 +94,7 @@ fn slots_up_to(base: usize, n: usize, run: usize, last: usize) -> usize
     requires low { base / 64 ≤ run }
     requires high { run ≤ last }
     requires last { last ≡ (base + n - 1) / 64 }
-    ensures within { result ≤ n }
-    ensures blocks { (i : ℕ) → i < result → (base + i) / 64 ≤ run }
+    ensures { result ≡ min n (64 * (run + 1) - base) }
 {
     if run == last {
         n
@@ -108,9 +108,9 @@ fn run_end(blocks: &[usize], first: usize, last: usize) -> usize
     requires order { first ≤ last }
     requires within { last < length blocks.now }
     requires fits { slice_index blocks.now first + last < 2 ^ 64 }
-    ensures low { first ≤ result }
-    ensures high { result ≤ last }
-    ensures follow { (j : ℕ) → first ≤ j → j ≤ result → slice_index blocks.now j ≡ slice_index blocks.now first + (j - first) }
+    ensures run { result ≡ min last (run_last blocks.now first) }
+    ensures follow { (j : ℕ) → first ≤ j → j ≤ result →
+        slice_index blocks.now j ≡ slice_index blocks.now first + (j - first) }
 {
     let mut at = first;
     'run: while at < last {

@@ -118,7 +118,7 @@ impl Envs {
     }
 }
 
-/// Puts what the slots of a window read as behind the values. There is room for them.
+/// Puts what the slots of a window read as after the values. There is room for them.
 fn copy_window(bank: &StackBank, stack: StackId, base: usize, size: usize, values: &mut Vec<Value>)
     requires live { IsLive bank.now stack.0 }
     requires within { base + size ≤ length (slots bank.now stack.0) }

@@ -41,7 +41,8 @@ fn write_both(
     requires same_length { length list.old ≡ length (contents bank.old (env envs.old e.0)) }
     ensures count { length envs.new ≡ length envs.old }
     ensures lie { (other : ℕ) → Lies bank.old (env envs.old other) → Lies bank.new (env envs.new other) }
-    ensures lengths { (other : ℕ) → length (contents bank.new (env envs.new other)) ≡ length (contents bank.old (env envs.old other)) }
+    ensures lengths { (other : ℕ) →
+        length (contents bank.new (env envs.new other)) ≡ length (contents bank.old (env envs.old other)) }
 {
     envs.write(bank, e, i, value);
     list[i] = value;

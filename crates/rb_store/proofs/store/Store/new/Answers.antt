@@ -6,6 +6,7 @@ use Rattle.def_core.specs.Store.{Store, core}
 use Rattle.def_core.specs.Changes.{intern}
 use Rattle.def_core.specs.Rows.{integer_names, range_names}
 use Rattle.def_core.specs.Sound.{sorts_of, ClassOrModule, Sound}
+use Rattle.rb_store.specs.Held.{Held}
 use Rattle.rb_store.specs.Opening.{opening, bare, nameless, with_names, with_rows, range_singleton}
 use Rattle.rb_store.proofs.Rows.{there_still, plays_still, nameless_length, nameless_integer, nameless_range, nameless_singleton}
 use Rattle.rb_store.proofs.Start.{opening_sound}
@@ -48,7 +49,7 @@ returns-clause-store c =
     let all = c.in_ok-intern.ensures.ok ∙ ap (λ (st : Store). (intern st (codes "Yielder")).store) named in
     let first = c.in_ok-add_rows.ensures.ok ∙ ap (λ (st : Store). with_rows st (core class.Integer) 0 integer_names) all in
     let second = c.in_ok-add_rows-2.ensures.ok ∙ ap (λ (st : Store). with_rows st (core class.Range) 39 range_names) first in
-    c.in_ok-add_rows-3.ensures.ok ∙ ap (λ (st : Store). with_rows st range_singleton 51 (codes "new" ∷ [])) second
+    ap (λ (h : Held). h.store) c.store-5.view_is ∙ c.in_ok-add_rows-3.ensures.ok ∙ ap (λ (st : Store). with_rows st range_singleton 51 (codes "new" ∷ [])) second
 
 pub returns-clause-sound : goal.returns-clause-sound
 returns-clause-sound c = subst Sound (sym (returns-clause-store c)) opening_sound

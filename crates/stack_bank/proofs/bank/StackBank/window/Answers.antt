@@ -1,7 +1,9 @@
-use Rattle.std.proofs.Common.{◌≡◌, ℕ, ◌+◌, ◌-◌, ◌*◌, ◌/◌, ◌%◌, ◌<◌, ◌≤◌, List, length, get_or, refl, ap, subst, ◌∙◌, arith}
+use Rattle.std.proofs.Common.{◌≡◌, ℕ, ◌+◌, ◌-◌, ◌*◌, ◌/◌, ◌%◌, ◌<◌, ◌≤◌, min, List, length, get_or, refl, ap, subst, ◌∙◌, arith}
 use Rattle.std.proofs.lemmas.List.{get_or_default}
 use Rattle.stack_bank.proofs.Calls.{the_stack, up_to_stack, block_live}
+use Rattle.stack_bank.specs.Window.{run_last}
 use Rattle.stack_bank.proofs.Reach.{reaches_run}
+use Rattle.stack_bank.proofs.Runs.{near_is}
 use Rattle.stack_bank.proofs.bank.StackBank.window.Goals as goal
 
 pub overflow_add-last : goal.overflow_add-last
@@ -40,4 +42,11 @@ returns-clause-reaches c =
     let first : c.args.base / 64 < length table = omega (arith, s.sized, up) in
     let start : c.place-start.result ≡ 64 * get_or table (c.args.base / 64) 0 + c.args.base % 64 = c.place-start.ensures ∙ ap (λ b. 64 * b + c.args.base % 64) (c.index.ensures ∙ get_or_default table (c.args.base / 64) c.index.result.now 0 first) in
     let follow = subst (λ t. (j : ℕ) → c.args.base / 64 ≤ j → j ≤ c.run_end-run.result → get_or t j 0 ≡ get_or t (c.args.base / 64) 0 + (j - c.args.base / 64)) c.deref.ensures.value c.run_end-run.ensures.follow in
-    rw (← c.self.view_is) (reaches_run _ _ c.args.id.0 _ _ c.args.n c.run_end-run.result refl s up c.slots_up_to-near.ensures.within start c.slots_up_to-near.ensures.blocks follow)
+    rw (← c.self.view_is) (reaches_run _ _ c.args.id.0 _ _ c.args.n c.run_end-run.result refl s up c.slots_up_to-near.ensures start follow)
+
+pub returns-clause-near : goal.returns-clause-near
+returns-clause-near c =
+    let s = the_stack _ _ c.args.id.0 c.index-stack.result.now c.self.invariant (rw (← c.self.view_is) at c.requires.live) c.index-stack.ensures in
+    let table : List ℕ = c.index-stack.result.now.blocks.items in
+    let run = subst (λ t. c.run_end-run.result ≡ min ((c.args.base + c.args.n - 1) / 64) (run_last t (c.args.base / 64))) c.deref.ensures.value c.run_end-run.ensures.run in
+    rw (← c.self.view_is) (rw s.table (rw (← near_is table c.args.base c.args.n (omega arith)) (rw (← run) c.slots_up_to-near.ensures)))
