@@ -3,6 +3,8 @@ use Rattle.std.specs.Prelude.{Bool, true, not, ◌&&◌, if◌then◌else◌, Li
 use Rattle.text_set.specs.Sets.{is_among, with_text}
 use Rattle.parser_tree.specs.declared.tree.RestParameter.{RestParameter}
 use Rattle.parser_tree.specs.declared.tree.RestParameter.TheVariants.{Absent, Unnamed, Named}
+use Rattle.parser_tree.specs.declared.tree.ParameterList.{ParameterList}
+use Rattle.parser_tree.specs.PartsBy.{Boxed, optionals_by, parameters_by}
 use Rattle.parser_tree.specs.Node as node
 use Rattle.parser_tree.specs.Node.{Name, Node, Nodes}
 
@@ -32,7 +34,12 @@ abbrev pub names_of : Nodes → Nodes → RestParameter → Nodes → Option Nam
 names_of required optional rest post b =
     all_bound required ++ (all_bound optional ++ (rest_bound rest ++ (all_bound post ++ block_bound b)))
 
--- no name stands behind itself or among those before the list, but `_` may
+-- the names of parameters, by the node of each tree in them
+abbrev pub names_by : {T : Type 0} → (T → Node) → ParameterList (Boxed T) → List Name
+names_by v p =
+    names_of (parameters_by v p.required.items) (optionals_by v p.optional.items) p.rest (parameters_by v p.post.items) p.block
+
+-- no name stands after itself or among those before the list, but `_` may
 abbrev pub are_distinct : List Name → List Name → Bool
 are_distinct before [] = true
 are_distinct before (x ∷ xs) =

@@ -14,6 +14,8 @@ pub struct Around {
     pub in_method: bool,
     /// A method.
     pub in_definition: bool,
+    /// The number of the word that opens the method around, 0 where none is.
+    pub opening: usize,
 }
 
 impl Around {
@@ -27,6 +29,7 @@ impl Around {
             may_return: true,
             in_method: false,
             in_definition: false,
+            opening: 0,
         }
     }
 
@@ -73,9 +76,9 @@ impl Around {
         }
     }
 
-    /// Inside of a method.
-    pub fn method() -> Around
-        ensures { result ≡ places.method }
+    /// Inside of the method that the word of that number opens.
+    pub fn method(opening: usize) -> Around
+        ensures { result ≡ places.method opening }
     {
         Around {
             in_loop: false,
@@ -83,6 +86,7 @@ impl Around {
             may_return: true,
             in_method: true,
             in_definition: true,
+            opening,
         }
     }
 

@@ -2,15 +2,15 @@ ghost use Rattle.std.specs.Prelude.{◌≡◌};
 ghost use Rattle.parser_checks.specs.Places as places;
 
 use crate::around::Around;
-use rb_syntax::Outside;
+use crate::error::RuleError;
+use crate::placed::Check;
 use std::alloc::Global;
 
-/// What a rule asks of the place where a tree stands. `opening` is the place of the method around it.
+/// What a rule asks of the place where a tree stands.
 #[derive(Clone, Copy)]
 pub struct Context {
     pub alloc: Global,
     pub around: Around,
-    pub opening: u32,
 }
 
 impl Context {
@@ -50,23 +50,30 @@ impl Context {
         self.with(self.around.class_body())
     }
 
-    pub fn inside_method(self, opening: u32) -> Context
-        ensures { result.around ≡ places.method }
+    /// Inside of the method that the word of that number opens.
+    pub fn inside_method(self, opening: usize) -> Context
+        ensures { result.around ≡ places.method opening }
     {
-        Context {
-            around: Around::method(),
-            opening,
-            ..self
+        self.with(Around::method(opening))
+    }
+
+    /// Goes on after so many words, where what has no number of its own may stand.
+    pub fn allowed(self, may: bool, seen: usize) -> Check
+        ensures { places.Walks result (places.allowed may self.around.opening seen) }
+    {
+        if may {
+            Ok(seen)
+        } else {
+            Err(RuleError::Misplaced {
+                word: self.around.opening,
+            })
         }
     }
 
-    /// Inside of a construct outside the language.
-    pub fn inside_construct(self, what: Outside) -> Context
-        ensures { result.around ≡ places.within_outside what self.around }
+    /// Goes on after so many words, where a target may be assigned: a constant not inside of a method.
+    pub fn assigns(self, constant: bool, seen: usize) -> Check
+        ensures { places.Walks result (places.assigns self.around constant seen) }
     {
-        match what {
-            Outside::EndlessMethod => self.with(Around::method()),
-            _ => self,
-        }
+        self.allowed(!(self.around.in_definition && constant), seen)
     }
 }

@@ -4,14 +4,14 @@ ghost use Rattle.parser_tree.specs.PartsBy.{optionals_by, parameter_by, paramete
 ghost use Rattle.parser_checks.specs.Doubled as doubled;
 
 use crate::placed::Placed;
-use rb_base::{Bytes, List};
 use parser_tree::{OptionalParameter, Parameter, ParameterList, RestParameter};
+use rb_base::{Bytes, List};
 use std::alloc::{AllocError, Global};
 use text_set::TextSet;
 
 type Collected = Result<(), AllocError>;
 
-/// Puts a name behind others.
+/// Puts a name after others.
 pub fn put_name(name: &[u8], alloc: Global, names: &mut List<Bytes>) -> Collected
     ensures { OnOk result (names.new ≡ names.old ++ name.now ∷ []) }
 {
@@ -86,7 +86,7 @@ fn names_of<T: Placed>(
     alloc: Global,
     list: &ParameterList<Box<T>>,
 ) -> Result<List<Bytes>, AllocError>
-    ensures { IfOk result (λ names. names ≡ doubled.names_of (parameters_by T.node list.now.required.items) (optionals_by T.node list.now.optional.items) list.now.rest (parameters_by T.node list.now.post.items) list.now.block) }
+    ensures { IfOk result (λ names. names ≡ doubled.names_by T.node list.now) }
 {
     let mut names: List<Bytes> = List::new(alloc);
     required_names(&list.required, alloc, &mut names)?;
@@ -118,7 +118,7 @@ pub fn parameters_differ<T: Placed>(
     alloc: Global,
     list: &ParameterList<Box<T>>,
 ) -> Result<bool, AllocError>
-    ensures { IfOk result (λ b. b ≡ doubled.are_distinct [] (doubled.names_of (parameters_by T.node list.now.required.items) (optionals_by T.node list.now.optional.items) list.now.rest (parameters_by T.node list.now.post.items) list.now.block)) }
+    ensures { IfOk result (λ b. b ≡ doubled.are_distinct [] (doubled.names_by T.node list.now)) }
 {
     let names = names_of(alloc, list)?;
     are_distinct(alloc, names.as_slice())

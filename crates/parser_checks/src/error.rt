@@ -6,9 +6,9 @@ use std::alloc::AllocError;
 /// Why a tree is no program.
 #[derive(Clone, Copy, Debug, PartialEq, Eq)]
 pub enum RuleError {
-    /// A word stands where it may not, or a parameter has the name of another. `at` is the place of the word, that of
-    /// the method around a class, a module or a constant, or that of the definition with the parameters.
-    Misplaced { at: u32 },
+    /// A word stands where it may not, or a parameter has the name of another. `word` is the number of the word, or
+    /// that of the `def` around a class, a module, a constant or the parameters, and 0 where none is around.
+    Misplaced { word: usize },
     /// Memory ran out.
     NoMemory,
 }

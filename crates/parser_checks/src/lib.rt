@@ -10,6 +10,7 @@ ghost use Rattle.parser_checks.specs.Places as places;
 
 pub mod around;
 pub mod context;
+pub mod count;
 pub mod doubled;
 pub mod error;
 pub mod forms;
@@ -21,19 +22,19 @@ mod tree;
 pub use around::Around;
 use context::Context;
 pub use error::RuleError;
-use placed::Placed;
 use parser_tree::Tree;
+use placed::Placed;
 use std::alloc::Global;
 
 /// Whether each word of a program stands where it may, and the names of parameters differ. Refused exactly where that
-/// isn't so, want of memory aside.
+/// isn't so, with the number of the first word that may not, unless memory runs out.
 pub fn check(alloc: Global, tree: &Tree) -> Result<(), RuleError>
-    ensures { places.Checks result (places.placed places.program (view tree.now)) }
+    ensures { places.Checks result (places.misplaced (view tree.now)) }
 {
     let context = Context {
         alloc,
         around: Around::program(),
-        opening: 0,
     };
-    tree.check(context)
+    tree.check(context, 0)?;
+    Ok(())
 }

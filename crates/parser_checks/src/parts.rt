@@ -1,243 +1,264 @@
 //! The parts of trees.
-ghost use Rattle.std.specs.Prelude.{◌≡◌, not, ◌&&◌};
 ghost use Rattle.parser_tree.specs.PartsBy as by;
-ghost use Rattle.parser_checks.specs.Places.{Checks, placed, all_placed};
+ghost use Rattle.parser_checks.specs.Places.{Walks, walk, walk_all};
 
 use crate::context::Context;
 use crate::doubled::parameters_differ;
-use crate::error::RuleError;
 use crate::placed::{Check, Placed};
 use crate::targets::is_constant;
-use rb_syntax::{Branch, Item, Pair};
 use parser_tree::{
     Arguments, Definition, OptionalParameter, Parameter, Piece, RescueClause, Scope, WhenClause,
 };
-
-/// Refused unless the word may stand at its place.
-pub fn allowed(may: bool, at: u32) -> Check
-    ensures { Checks result may }
-{
-    if may {
-        Ok(())
-    } else {
-        Err(RuleError::Misplaced { at })
-    }
-}
-
-/// Whether a target may be assigned: a constant not inside of a method.
-pub fn may_assign(constant: bool, context: Context) -> bool
-    ensures { result ≡ not (context.around.in_definition && constant) }
-{
-    !(context.around.in_definition && constant)
-}
+use rb_syntax::{Branch, Item, Pair};
 
 /// Trees.
-pub fn check_all<T: Placed>(trees: &Vec<Box<T>>, context: Context) -> Check
-    ensures { Checks result (all_placed context.around (by.trees_by T.node trees.now.items)) }
+pub fn check_all<T: Placed>(trees: &Vec<Box<T>>, context: Context, seen: usize) -> Check
+    ensures { Walks result (walk_all context.around (by.trees_by T.node trees.now.items) seen) }
 {
+    let mut count = seen;
     for tree in trees {
-        tree.check(context)?;
+        count = tree.check(context, count)?;
     }
-    Ok(())
+    Ok(count)
 }
 
 /// A tree that may be there.
-pub fn check_maybe<T: Placed>(tree: &Option<Box<T>>, context: Context) -> Check
-    ensures { Checks result (all_placed context.around (by.boxed_by T.node tree.now)) }
+pub fn check_maybe<T: Placed>(tree: &Option<Box<T>>, context: Context, seen: usize) -> Check
+    ensures { Walks result (walk_all context.around (by.boxed_by T.node tree.now) seen) }
 {
     match tree {
-        None => Ok(()),
-        Some(tree) => tree.check(context),
+        None => Ok(seen),
+        Some(tree) => tree.check(context, seen),
     }
 }
 
 /// An item.
-fn check_item<T: Placed>(item: &Item<Box<T>>, context: Context) -> Check
-    ensures { Checks result (placed context.around (by.item_by T.node item.now)) }
+fn check_item<T: Placed>(item: &Item<Box<T>>, context: Context, seen: usize) -> Check
+    ensures { Walks result (walk context.around (by.item_by T.node item.now) seen) }
 {
     match item {
-        Item::Plain(tree) | Item::Splat(tree) => tree.check(context),
+        Item::Plain(tree) | Item::Splat(tree) => tree.check(context, seen),
     }
 }
 
 /// A pair.
-fn check_pair<T: Placed>(pair: &Pair<Box<T>>, context: Context) -> Check
-    ensures { Checks result (placed context.around (by.pair_by T.node pair.now)) }
+fn check_pair<T: Placed>(pair: &Pair<Box<T>>, context: Context, seen: usize) -> Check
+    ensures { Walks result (walk context.around (by.pair_by T.node pair.now) seen) }
 {
-    pair.key.check(context)?;
-    pair.value.check(context)
+    let seen = pair.key.check(context, seen)?;
+    pair.value.check(context, seen)
 }
 
 /// A piece of a literal.
-fn check_piece<T: Placed>(piece: &Piece<Box<T>>, context: Context) -> Check
-    ensures { Checks result (placed context.around (by.piece_by T.node piece.now)) }
+fn check_piece<T: Placed>(piece: &Piece<Box<T>>, context: Context, seen: usize) -> Check
+    ensures { Walks result (walk context.around (by.piece_by T.node piece.now) seen) }
 {
     match piece {
-        Piece::Text(_) => Ok(()),
-        Piece::Interpolation(tree) => tree.check(context),
+        Piece::Text(_) => Ok(seen),
+        Piece::Interpolation(tree) => tree.check(context, seen),
     }
 }
 
 /// A branch.
-fn check_branch<T: Placed>(branch: &Branch<Box<T>>, context: Context) -> Check
-    ensures { Checks result (placed context.around (by.branch_by T.node branch.now)) }
+fn check_branch<T: Placed>(branch: &Branch<Box<T>>, context: Context, seen: usize) -> Check
+    ensures { Walks result (walk context.around (by.branch_by T.node branch.now) seen) }
 {
-    branch.test.check(context)?;
-    branch.body.check(context)
+    let seen = branch.test.check(context, seen)?;
+    branch.body.check(context, seen)
 }
 
 /// A `when` clause.
-fn check_when<T: Placed>(clause: &WhenClause<Box<T>>, context: Context) -> Check
-    ensures { Checks result (placed context.around (by.when_by T.node clause.now)) }
+fn check_when<T: Placed>(clause: &WhenClause<Box<T>>, context: Context, seen: usize) -> Check
+    ensures { Walks result (walk context.around (by.when_by T.node clause.now) seen) }
 {
-    check_all(&clause.tests, context)?;
-    clause.body.check(context)
+    let seen = check_all(&clause.tests, context, seen)?;
+    clause.body.check(context, seen)
 }
 
 /// A rescue clause.
-fn check_rescue<T: Placed>(clause: &RescueClause<Box<T>>, context: Context) -> Check
-    ensures { Checks result (placed context.around (by.rescue_by T.node clause.now)) }
+fn check_rescue<T: Placed>(clause: &RescueClause<Box<T>>, context: Context, seen: usize) -> Check
+    ensures { Walks result (walk context.around (by.rescue_by T.node clause.now) seen) }
 {
-    let may = may_assign(is_constant(&clause.target), context);
-    allowed(may, context.opening)?;
     let inside = context.inside_clause();
-    check_all(&clause.classes, inside)?;
-    check_maybe(&clause.target, inside)?;
-    clause.body.check(inside)
+    let seen = check_all(&clause.classes, inside, seen)?;
+    let seen = context.assigns(is_constant(&clause.target), seen)?;
+    let seen = check_maybe(&clause.target, inside, seen)?;
+    clause.body.check(inside, seen)
 }
 
 /// A required parameter.
-fn check_parameter<T: Placed>(parameter: &Parameter<Box<T>>, context: Context) -> Check
-    ensures { Checks result (placed context.around (by.parameter_by T.node parameter.now)) }
+fn check_parameter<T: Placed>(parameter: &Parameter<Box<T>>, context: Context, seen: usize) -> Check
+    ensures { Walks result (walk context.around (by.parameter_by T.node parameter.now) seen) }
 {
     match parameter {
-        Parameter::Name(_) => Ok(()),
-        Parameter::Pattern(tree) => tree.check(context),
+        Parameter::Name(_) => Ok(seen),
+        Parameter::Pattern(tree) => tree.check(context, seen),
     }
 }
 
 /// An optional parameter.
-fn check_optional<T: Placed>(parameter: &OptionalParameter<Box<T>>, context: Context) -> Check
-    ensures { Checks result (placed context.around (by.optional_by T.node parameter.now)) }
+fn check_optional<T: Placed>(
+    parameter: &OptionalParameter<Box<T>>,
+    context: Context,
+    seen: usize,
+) -> Check
+    ensures { Walks result (walk context.around (by.optional_by T.node parameter.now) seen) }
 {
-    parameter.value.check(context)
+    parameter.value.check(context, seen)
 }
 
-pub fn check_items<T: Placed>(items: &Vec<Item<Box<T>>>, context: Context) -> Check
-    ensures { Checks result (all_placed context.around (by.items_by T.node items.now.items)) }
+pub fn check_items<T: Placed>(items: &Vec<Item<Box<T>>>, context: Context, seen: usize) -> Check
+    ensures { Walks result (walk_all context.around (by.items_by T.node items.now.items) seen) }
 {
+    let mut count = seen;
     for item in items {
-        check_item(item, context)?;
+        count = check_item(item, context, count)?;
     }
-    Ok(())
+    Ok(count)
 }
 
-pub fn check_pairs<T: Placed>(pairs: &Vec<Pair<Box<T>>>, context: Context) -> Check
-    ensures { Checks result (all_placed context.around (by.pairs_by T.node pairs.now.items)) }
+pub fn check_pairs<T: Placed>(pairs: &Vec<Pair<Box<T>>>, context: Context, seen: usize) -> Check
+    ensures { Walks result (walk_all context.around (by.pairs_by T.node pairs.now.items) seen) }
 {
+    let mut count = seen;
     for pair in pairs {
-        check_pair(pair, context)?;
+        count = check_pair(pair, context, count)?;
     }
-    Ok(())
+    Ok(count)
 }
 
-pub fn check_pieces<T: Placed>(pieces: &Vec<Piece<Box<T>>>, context: Context) -> Check
-    ensures { Checks result (all_placed context.around (by.pieces_by T.node pieces.now.items)) }
+pub fn check_pieces<T: Placed>(pieces: &Vec<Piece<Box<T>>>, context: Context, seen: usize) -> Check
+    ensures { Walks result (walk_all context.around (by.pieces_by T.node pieces.now.items) seen) }
 {
+    let mut count = seen;
     for piece in pieces {
-        check_piece(piece, context)?;
+        count = check_piece(piece, context, count)?;
     }
-    Ok(())
+    Ok(count)
 }
 
-pub fn check_branches<T: Placed>(branches: &Vec<Branch<Box<T>>>, context: Context) -> Check
-    ensures { Checks result (all_placed context.around (by.branches_by T.node branches.now.items)) }
+pub fn check_branches<T: Placed>(
+    branches: &Vec<Branch<Box<T>>>,
+    context: Context,
+    seen: usize,
+) -> Check
+    ensures { Walks result (walk_all context.around (by.branches_by T.node branches.now.items) seen) }
 {
+    let mut count = seen;
     for branch in branches {
-        check_branch(branch, context)?;
+        count = check_branch(branch, context, count)?;
     }
-    Ok(())
+    Ok(count)
 }
 
-pub fn check_whens<T: Placed>(clauses: &Vec<WhenClause<Box<T>>>, context: Context) -> Check
-    ensures { Checks result (all_placed context.around (by.whens_by T.node clauses.now.items)) }
+pub fn check_whens<T: Placed>(
+    clauses: &Vec<WhenClause<Box<T>>>,
+    context: Context,
+    seen: usize,
+) -> Check
+    ensures { Walks result (walk_all context.around (by.whens_by T.node clauses.now.items) seen) }
 {
+    let mut count = seen;
     for clause in clauses {
-        check_when(clause, context)?;
+        count = check_when(clause, context, count)?;
     }
-    Ok(())
+    Ok(count)
 }
 
-pub fn check_rescues<T: Placed>(clauses: &Vec<RescueClause<Box<T>>>, context: Context) -> Check
-    ensures { Checks result (all_placed context.around (by.rescues_by T.node clauses.now.items)) }
+pub fn check_rescues<T: Placed>(
+    clauses: &Vec<RescueClause<Box<T>>>,
+    context: Context,
+    seen: usize,
+) -> Check
+    ensures { Walks result (walk_all context.around (by.rescues_by T.node clauses.now.items) seen) }
 {
+    let mut count = seen;
     for clause in clauses {
-        check_rescue(clause, context)?;
+        count = check_rescue(clause, context, count)?;
     }
-    Ok(())
+    Ok(count)
 }
 
-pub fn check_parameters<T: Placed>(parameters: &Vec<Parameter<Box<T>>>, context: Context) -> Check
-    ensures { Checks result (all_placed context.around (by.parameters_by T.node parameters.now.items)) }
+pub fn check_parameters<T: Placed>(
+    parameters: &Vec<Parameter<Box<T>>>,
+    context: Context,
+    seen: usize,
+) -> Check
+    ensures { Walks result (walk_all context.around (by.parameters_by T.node parameters.now.items) seen) }
 {
+    let mut count = seen;
     for parameter in parameters {
-        check_parameter(parameter, context)?;
+        count = check_parameter(parameter, context, count)?;
     }
-    Ok(())
+    Ok(count)
 }
 
 pub fn check_optionals<T: Placed>(
     parameters: &Vec<OptionalParameter<Box<T>>>,
     context: Context,
+    seen: usize,
 ) -> Check
-    ensures { Checks result (all_placed context.around (by.optionals_by T.node parameters.now.items)) }
+    ensures { Walks result (walk_all context.around (by.optionals_by T.node parameters.now.items) seen) }
 {
+    let mut count = seen;
     for parameter in parameters {
-        check_optional(parameter, context)?;
+        count = check_optional(parameter, context, count)?;
     }
-    Ok(())
+    Ok(count)
 }
 
-pub fn check_arguments<T: Placed>(passed: &Option<Arguments<Box<T>>>, context: Context) -> Check
-    ensures { Checks result (all_placed context.around (by.arguments_by T.node passed.now)) }
+pub fn check_arguments<T: Placed>(
+    passed: &Option<Arguments<Box<T>>>,
+    context: Context,
+    seen: usize,
+) -> Check
+    ensures { Walks result (walk_all context.around (by.arguments_by T.node passed.now) seen) }
 {
     match passed {
-        None => Ok(()),
+        None => Ok(seen),
         Some(passed) => {
-            check_items(&passed.items, context)?;
-            check_maybe(&passed.block, context)
+            let seen = check_items(&passed.items, context, seen)?;
+            check_maybe(&passed.block, context, seen)
         }
     }
 }
 
-pub fn check_block<T: Placed>(block: &Option<Definition<Box<T>>>, context: Context) -> Check
-    ensures { Checks result (all_placed context.around (by.block_by T.node block.now)) }
+pub fn check_block<T: Placed>(
+    block: &Option<Definition<Box<T>>>,
+    context: Context,
+    seen: usize,
+) -> Check
+    ensures { Walks result (walk_all context.around (by.block_by T.node block.now) seen) }
 {
     match block {
-        None => Ok(()),
-        Some(definition) => check_definition(definition, context),
+        None => Ok(seen),
+        Some(definition) => check_definition(definition, context, seen),
     }
 }
 
 /// The parameters and the body of a method, a block or a lambda.
-pub fn check_definition<T: Placed>(definition: &Definition<Box<T>>, context: Context) -> Check
-    ensures { Checks result (placed context.around (by.definition_by T.node definition.now)) }
+pub fn check_definition<T: Placed>(
+    definition: &Definition<Box<T>>,
+    context: Context,
+    seen: usize,
+) -> Check
+    ensures { Walks result (walk context.around (by.definition_by T.node definition.now) seen) }
 {
     let differ = parameters_differ(context.alloc, &definition.parameters)?;
-    allowed(differ, definition.at)?;
-    check_parameters(&definition.parameters.required, context)?;
-    check_optionals(&definition.parameters.optional, context)?;
-    check_parameters(&definition.parameters.post, context)?;
-    check_all(&definition.parameters.outside, context)?;
-    definition.body.check(context)
+    let seen = context.allowed(differ, seen)?;
+    let seen = check_parameters(&definition.parameters.required, context, seen)?;
+    let seen = check_optionals(&definition.parameters.optional, context, seen)?;
+    let seen = check_parameters(&definition.parameters.post, context, seen)?;
+    let seen = check_all(&definition.parameters.outside, context, seen)?;
+    definition.body.check(context, seen)
 }
 
 /// Where the constant of a class or module stands.
-pub fn check_scope<T: Placed>(scope: &Scope<Box<T>>, context: Context) -> Check
-    ensures { Checks result (placed context.around (by.scope_by T.node scope.now)) }
+pub fn check_scope<T: Placed>(scope: &Scope<Box<T>>, context: Context, seen: usize) -> Check
+    ensures { Walks result (walk context.around (by.scope_by T.node scope.now) seen) }
 {
     match scope {
-        Scope::Innermost | Scope::Top => Ok(()),
-        Scope::In(tree) => tree.check(context),
+        Scope::Innermost | Scope::Top => Ok(seen),
+        Scope::In(tree) => tree.check(context, seen),
     }
 }

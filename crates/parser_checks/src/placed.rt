@@ -8,22 +8,22 @@ use crate::error::RuleError;
 use rb_base::{Bytes, List};
 use std::alloc::{AllocError, Global};
 
-/// Nothing, where all words of some trees stand where they may.
-pub type Check = Result<(), RuleError>;
+/// How many words there are up to the end of some trees, where each stands where it may.
+pub type Check = Result<usize, RuleError>;
 
 /// What is checked: a tree that stands for a node.
 pub trait Placed {
     ghost node: { Self → Node };
 
-    /// Whether each word of the tree stands where it may, and the parameters in it differ.
-    fn check(&self, context: Context) -> Check
-        ensures { places.Checks result (places.placed context.around (node self.now)) };
+    /// Counts the words of the tree after so many, where each stands where it may and the parameters differ.
+    fn check(&self, context: Context, seen: usize) -> Check
+        ensures { places.Walks result (places.walk context.around (node self.now) seen) };
 
     /// Whether a constant is among the targets that the tree is.
     fn names_constant(&self) -> bool
         ensures { result ≡ places.names_constant (node self.now) };
 
-    /// Puts the names that the tree, a pattern, binds behind others.
+    /// Puts the names that the tree, a pattern, binds after others.
     fn bound_names(&self, alloc: Global, names: &mut List<Bytes>) -> Result<(), AllocError>
         ensures { OnOk result (names.new ≡ names.old ++ bound (node self.now)) };
 }

@@ -5,8 +5,8 @@ ghost use Rattle.parser_checks.specs.Doubled.{all_bound, bound};
 ghost use Rattle.parser_checks.specs.Places as places;
 
 use crate::placed::Placed;
-use rb_base::{Bytes, List};
 use parser_tree::TargetList;
+use rb_base::{Bytes, List};
 use std::alloc::{AllocError, Global};
 
 /// Whether a constant is among some targets.
@@ -38,7 +38,7 @@ pub fn has_constant<T: Placed>(list: &TargetList<Box<T>>) -> bool
     any_constant(&list.before) || is_constant(&list.rest) || any_constant(&list.after)
 }
 
-/// Puts the names that some targets bind behind others.
+/// Puts the names that some targets bind after others.
 #[tactic(auto, using(crate::proofs::Names::name_laws))]
 pub fn all_names<T: Placed>(
     trees: &Vec<Box<T>>,
@@ -53,7 +53,7 @@ pub fn all_names<T: Placed>(
     Ok(())
 }
 
-/// Puts the names that a target binds, if there is one, behind others.
+/// Puts the names that a target binds, if there is one, after others.
 #[tactic(auto, using(crate::proofs::Names::name_laws))]
 pub fn star_names<T: Placed>(
     tree: &Option<Box<T>>,
@@ -68,7 +68,7 @@ pub fn star_names<T: Placed>(
     }
 }
 
-/// Puts the names that the targets of a list bind behind others.
+/// Puts the names that the targets of a list bind after others.
 #[tactic(auto, using(crate::proofs::Names::name_laws))]
 pub fn list_names<T: Placed>(
     list: &TargetList<Box<T>>,

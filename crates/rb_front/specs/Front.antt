@@ -1,10 +1,10 @@
 -- The core of a text, and why it has none.
-use Rattle.std.specs.Prelude.{◌≡◌, ℕ, ◌≤◌, ◌<◌, nat_le, Bool, true, false, if◌then◌else◌, List, [], length, Option, None, Some, Result, Ok, Err}
+use Rattle.std.specs.Prelude.{◌≡◌, ℕ, ◌≤◌, ◌<◌, nat_le, if◌then◌else◌, List, [], length, Option, None, Some, Result, Ok, Err}
 use Rattle.rb_syntax.specs.declared.token.Token.{Token}
 use Rattle.rb_lexer.specs.Lexing.{tokens_of}
 use Rattle.lexer_depth.specs.Levels.{deep}
 use Rattle.parser_tree.specs.Node.{Node}
-use Rattle.parser_checks.specs.Places.{placed, program}
+use Rattle.parser_checks.specs.Places.{misplaced}
 use Rattle.rb_parser.specs.Program.{tree_of, Misses}
 use Rattle.lower_outside.specs.Search.{found}
 use Rattle.lower_outside.specs.declared.construct.Found.{Found}
@@ -16,15 +16,15 @@ use Rattle.rb_front.specs.declared.error.FrontError.TheVariants.{TooLong, Syntax
 -- the tokens, at most 256 deep, have the tree, and each word in it may stand where it stands
 abbrev pub IsTree : Result (List Token) ℕ → ℕ → Node → Type 0
 IsTree (Err place) size n = ⊥
-IsTree (Ok tokens) size n = (deep tokens ≤ 256) × (tree_of tokens size ≡ Ok n) × (placed program n ≡ true)
+IsTree (Ok tokens) size n = (deep tokens ≤ 256) × (tree_of tokens size ≡ Ok n) × (misplaced n ≡ None)
 
 abbrev pub HasTree : List ℕ → Node → Type 0
 HasTree text n = (length text ≤ 16777216) × IsTree (tokens_of text) (length text) n
 
--- there are no tokens, for a cause at that place, or they are at most 256 deep and have no such tree
+-- there are no tokens, for a cause at that place, or they are at most 256 deep and are refused for that place
 abbrev pub IsNoProgram : Result (List Token) ℕ → ℕ → ℕ → Type 0
 IsNoProgram (Err place) size at = at ≡ place
-IsNoProgram (Ok tokens) size at = (deep tokens ≤ 256) × Misses at (tree_of tokens size)
+IsNoProgram (Ok tokens) size at = (deep tokens ≤ 256) × Misses tokens size at (tree_of tokens size)
 
 abbrev pub IsTooDeep : Result (List Token) ℕ → Type 0
 IsTooDeep (Err place) = ⊥
@@ -46,14 +46,14 @@ Refuses text TooDeep = HasNoTree text TooDeep
 Refuses text NoMemory = HasNoTree text NoMemory
 
 -- the core of a tree in which each word may stand where it stands and no construct is outside the language
-abbrev pub core_within : Bool → Option Found → Node → Option CoreForm
-core_within true None n = Some (core [] 0 n)
-core_within true (Some f) n = None
-core_within false f n = None
+abbrev pub core_within : Option ℕ → Option Found → Node → Option CoreForm
+core_within None None n = Some (core [] 0 n)
+core_within None (Some f) n = None
+core_within (Some word) f n = None
 
 abbrev pub core_of_tree : Result Node ℕ → Option CoreForm
 core_of_tree (Err place) = None
-core_of_tree (Ok n) = core_within (placed program n) (found None n) n
+core_of_tree (Ok n) = core_within (misplaced n) (found None n) n
 
 -- the core of tokens at most 256 deep
 abbrev pub core_of_tokens : Result (List Token) ℕ → ℕ → Option CoreForm

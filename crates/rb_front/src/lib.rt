@@ -8,22 +8,28 @@ ghost use Rattle.ir_core.specs.View.{core_view};
 ghost use Rattle.parser_tree.specs.View.{view};
 ghost use Rattle.rb_front.specs.Front as front;
 
+#[cfg(test)]
+mod core_print;
+#[cfg(test)]
+mod core_tests;
 pub mod error;
 #[cfg(test)]
-mod print;
+mod page;
 #[cfg(test)]
 mod refusal_tests;
 #[cfg(test)]
 mod rows;
 #[cfg(test)]
-mod tests;
+mod tree_print;
+#[cfg(test)]
+mod tree_tests;
 
 pub use error::FrontError;
 use ir_core::Core;
+use parser_tree::Tree;
 use rb_lexer::{depth, lex};
 use rb_lower::lower;
 use rb_parser::parse;
-use parser_tree::Tree;
 use std::alloc::Global;
 
 /// The most bytes of a text.

@@ -1,5 +1,5 @@
 //! What is read of a text, as a text, for tests.
-use crate::print::{Page, Printed};
+use crate::page::{Page, Printed};
 use crate::read;
 use std::alloc::Global;
 use std::process::Abort;
@@ -7,10 +7,7 @@ use std::test::Fail;
 
 /// The core as text, or the refusal.
 fn line_of(alloc: Global, text: &[u8]) -> Result<Vec<u8>, Fail> {
-    let mut page = Page {
-        alloc,
-        text: Vec::new(alloc),
-    };
+    let mut page = Page::new(alloc);
     match read(alloc, text) {
         Ok(core) => core.print(&mut page)?,
         Err(error) => {

@@ -2,25 +2,25 @@
 ghost use Rattle.std.specs.Prelude.{◌≡◌, ◌<◌, ◌≤◌, length, IfOk};
 ghost use Rattle.rb_parser.specs.Levels as deep;
 
-use parser_form_nodes::sections::Section;
-use parser_form_nodes::targets::Targets;
-use parser_forms::definition::block;
-use parser_operands::operators::operation;
-use parser_phrases::phrases::{argument, phrase};
-use parser_phrases::targets::targets;
-use parser_tokens::failure::syntax;
 use parser_ahead::groups::TargetUse;
 use parser_ahead::names::Names;
 use parser_ahead::primary::{BlockStyle, DoOwner, Place};
 use parser_ahead::sections::Compound;
-use rb_syntax::Token;
-use parser_tree::{Definition, Tree};
+use parser_form_nodes::sections::Section;
+use parser_form_nodes::targets::Targets;
+use parser_forms::definition::block;
 use parser_forms::{Inner, Read};
+use parser_nodes::listed::{Listed, Phrase};
+use parser_operands::operators::operation;
+use parser_phrases::phrases::{argument, phrase};
+use parser_phrases::targets::targets;
 use parser_statements::lists::list;
 use parser_statements::sections::sections;
 use parser_statements::statements::{expression, negation, statements};
+use parser_tokens::failure::syntax;
+use parser_tree::{Definition, Tree};
+use rb_syntax::Token;
 use std::alloc::{AllocError, Global};
-use parser_nodes::listed::{Listed, Phrase};
 
 /// The levels that are left.
 #[derive(Drop)]

@@ -6,10 +6,7 @@
 pub mod error;
 pub mod level;
 pub mod parser;
-#[cfg(test)]
-mod print;
-#[cfg(test)]
-mod tests;
+pub mod place;
 
 pub use error::ParseError;
 pub use parser::{derive, parse};

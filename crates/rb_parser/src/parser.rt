@@ -5,27 +5,17 @@ ghost use Rattle.rb_parser.specs.Program as grammar;
 
 use crate::error::ParseError;
 use crate::level::{Level, levels_above, release};
+use crate::place::{place, word_place};
+use parser_ahead::names::Names;
+use parser_checks::{RuleError, check};
+use parser_forms::Inner;
+use parser_statements::statements::statements;
 use parser_tokens::failure::{Failure, syntax};
 use parser_tokens::tokens::first;
 use parser_tokens::word::Word;
-use parser_ahead::names::Names;
-use rb_syntax::Token;
 use parser_tree::Tree;
-use parser_forms::Inner;
-use parser_statements::statements::statements;
+use rb_syntax::Token;
 use std::alloc::Global;
-use parser_checks::{RuleError, check};
-
-/// The place of the token with which so many are left, or else the end of a text of `size` bytes.
-fn place(tokens: &[Token], left: usize, size: u32) -> u32
-    ensures value { result ≡ grammar.place tokens.now left size }
-    ensures within { result ≤ size }
-{
-    match tokens.get(tokens.len().saturating_sub(left)) {
-        Some(token) => token.at.min(size),
-        None => size,
-    }
-}
 
 /// Whether a word is the end of the tokens.
 fn is_finish(word: Word) -> bool
@@ -66,15 +56,27 @@ pub fn derive(alloc: Global, tokens: &[Token], size: u32) -> Result<Tree, ParseE
     }
 }
 
+/// Why a tree of the tokens of a text of `size` bytes is no program.
+fn refusal(error: RuleError, tokens: &[Token], size: u32) -> ParseError
+    ensures value { result ≡ grammar.refusal tokens.now size error }
+    ensures place { grammar.IsWithin size result }
+{
+    match error {
+        RuleError::Misplaced { word } => ParseError::Syntax {
+            at: word_place(tokens, word, size),
+        },
+        RuleError::NoMemory => ParseError::NoMemory,
+    }
+}
+
 /// The tree of the tokens of a text of `size` bytes, in which each word may stand where it stands.
 pub fn parse(alloc: Global, tokens: &[Token], size: u32) -> Result<Tree, ParseError>
-    ensures tree { grammar.Parses result (grammar.tree_of tokens.now size) }
+    ensures tree { grammar.Parses tokens.now size result (grammar.tree_of tokens.now size) }
     ensures place { IfErr result (λ e. grammar.IsWithin size e) }
 {
     let tree = derive(alloc, tokens, size)?;
     match check(alloc, &tree) {
         Ok(()) => Ok(tree),
-        Err(RuleError::Misplaced { at }) => Err(ParseError::Syntax { at: at.min(size) }),
-        Err(RuleError::NoMemory) => Err(ParseError::NoMemory),
+        Err(error) => Err(refusal(error, tokens, size)),
     }
 }

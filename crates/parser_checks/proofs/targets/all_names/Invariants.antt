@@ -5,4 +5,5 @@ use Rattle.parser_checks.proofs.targets.all_names.Given as goal
 
 abbrev pub invariant-loop-tree : goal.invariant-loop-tree
 invariant-loop-tree g l =
-    l.names ++ all_bound (trees_by g.T.Placed.node (drop l.tree-index l.trees.items)) ≡ l.fn.names ++ all_bound (trees_by g.T.Placed.node l.trees.items)
+    l.names ++ all_bound (trees_by g.T.Placed.node (drop l.tree-index l.trees.items))
+    ≡ l.fn.names ++ all_bound (trees_by g.T.Placed.node l.trees.items)

@@ -5,4 +5,5 @@ use Rattle.parser_checks.proofs.targets.any_constant.Given as goal
 
 abbrev pub invariant-loop-tree : goal.invariant-loop-tree
 invariant-loop-tree g l =
-    any_constant (trees_by g.T.Placed.node (drop l.tree-index l.trees.items)) ≡ any_constant (trees_by g.T.Placed.node l.trees.items)
+    any_constant (trees_by g.T.Placed.node (drop l.tree-index l.trees.items))
+    ≡ any_constant (trees_by g.T.Placed.node l.trees.items)

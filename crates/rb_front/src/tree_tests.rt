@@ -1,9 +1,9 @@
 //! Sources and their trees as the grammar derives them.
-use crate::print::{Page, Printed};
-use crate::{ParseError, derive, parse};
-use rb_lexer::{LexError, lex};
-use rb_syntax::Token;
+use crate::page::{Page, Printed};
 use parser_tree::Tree;
+use rb_lexer::{LexError, lex};
+use rb_parser::{ParseError, derive, parse};
+use rb_syntax::Token;
 use std::alloc::Global;
 use std::process::Abort;
 use std::test::Fail;
@@ -26,10 +26,7 @@ fn read(alloc: Global, tokens: &[Token], size: u32, rules: Rules) -> Result<Tree
 fn line_of(rt: &impl Abort, alloc: Global, text: &[u8], rules: Rules) -> Result<Vec<u8>, Fail> {
     assert!(rt; text.len() < 4294967296);
     let size = text.len() as u32;
-    let mut page = Page {
-        alloc,
-        text: Vec::new(alloc),
-    };
+    let mut page = Page::new(alloc);
     match lex(alloc, text) {
         Ok(tokens) => match read(alloc, &tokens, size, rules) {
             Ok(tree) => tree.print(&mut page)?,
@@ -483,6 +480,11 @@ fn places(rt: HostRuntime) -> Result<(), Fail> {
         &[
             ("break", "Syntax { at: 0 }"),
             ("1; next 2", "Syntax { at: 3 }"),
+            (
+                "def f(x = a.break); yield; :next; { next: 1 }; end; next",
+                "Syntax { at: 52 }",
+            ),
+            ("return if 1; def f() = super; retry", "Syntax { at: 30 }"),
             ("while 1; break; end", "((while 1 ((break))))"),
             (
                 "until 1; f = -> { next }; end",
@@ -541,9 +543,10 @@ fn places(rt: HostRuntime) -> Result<(), Fail> {
             ("def f(a, (b, (*a, c))); end", "Syntax { at: 0 }"),
             ("def f(a, &a); end", "Syntax { at: 0 }"),
             ("def f(_, a, _); end", "((def  f {| _ a _;| ()}))"),
-            ("1; ->(x, *x) { }", "Syntax { at: 3 }"),
-            ("f { |x, (y, x)| }", "Syntax { at: 2 }"),
-            ("f do |x, x| end", "Syntax { at: 2 }"),
+            ("1; ->(x, *x) { }", "Syntax { at: 16 }"),
+            ("f { |x, (y, x)| }", "Syntax { at: 17 }"),
+            ("def f; g { |x, x| }; end", "Syntax { at: 0 }"),
+            ("f do |x, x| end", "Syntax { at: 15 }"),
             ("x = 1; f { |x| x }", "((= x 1); ~f{| x;| (x)})"),
         ],
         Rules::All,

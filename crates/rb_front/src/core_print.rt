@@ -1,35 +1,8 @@
 //! Cores as text, for tests. A call of a name alone has a `~` before it.
-use rb_base::{Bytes, List};
+use crate::page::{Done, Page, Printed, array, forms, hash, integer, items, maybe, name};
 use ir_core::{BeginForm, Clause, Function, Receiver, Term};
-use rb_syntax::{Branch, DefinedKind, Item, Pair, Parameters};
-use std::alloc::{AllocError, Global};
-
-/// What was printed so far.
-#[derive(Drop)]
-pub struct Page {
-    pub alloc: Global,
-    pub text: Vec<u8>,
-}
-
-type Done = Result<(), AllocError>;
-
-/// What can be printed.
-pub trait Printed {
-    /// Puts its text behind the page's.
-    fn print(&self, page: &mut Page) -> Done;
-}
-
-impl Page {
-    fn put(&mut self, bytes: &[u8]) -> Done {
-        self.text.extend_from_slice(bytes)
-    }
-}
-
-fn name(page: &mut Page, before: &[u8], name: &Bytes, behind: &[u8]) -> Done {
-    page.put(before)?;
-    page.put(name.as_slice())?;
-    page.put(behind)
-}
+use rb_base::{Bytes, List};
+use rb_syntax::{Branch, DefinedKind, Item, Parameters};
 
 fn names(page: &mut Page, list: &List<Bytes>, behind: &[u8]) -> Done {
     for word in list.as_slice() {
@@ -52,51 +25,6 @@ fn parameters(page: &mut Page, list: &Parameters) -> Done {
     maybe_name(page, b" *", &list.rest)?;
     names(page, &list.post, b"")?;
     maybe_name(page, b" &", &list.block)
-}
-
-fn integer(page: &mut Page, value: i64) -> Done {
-    let digits = format!(in page.alloc; "{value}")?;
-    page.put(digits.as_bytes())
-}
-
-fn forms<T: Printed>(page: &mut Page, between: &[u8], list: &Vec<Box<T>>) -> Done {
-    let mut gap: &[u8] = b"";
-    for core in list {
-        page.put(gap)?;
-        core.print(page)?;
-        gap = between;
-    }
-    Ok(())
-}
-
-fn maybe<T: Printed>(page: &mut Page, before: &[u8], core: &Option<Box<T>>) -> Done {
-    match core {
-        Some(core) => {
-            page.put(before)?;
-            core.print(page)
-        }
-        None => Ok(()),
-    }
-}
-
-fn item<T: Printed>(page: &mut Page, item: &Item<Box<T>>) -> Done {
-    match item {
-        Item::Plain(core) => core.print(page),
-        Item::Splat(core) => {
-            page.put(b"*")?;
-            core.print(page)
-        }
-    }
-}
-
-fn items<T: Printed>(page: &mut Page, list: &Vec<Item<Box<T>>>) -> Done {
-    let mut gap: &[u8] = b"";
-    for part in list {
-        page.put(gap)?;
-        item(page, part)?;
-        gap = b" ";
-    }
-    Ok(())
 }
 
 fn function<T: Printed>(page: &mut Page, function: &Function<Box<T>>) -> Done {
@@ -145,25 +73,6 @@ fn set_in_constant<T: Printed>(page: &mut Page, of: &Box<T>, word: &Bytes, value
     page.put(b" = ")?;
     value.print(page)?;
     page.put(b")")
-}
-
-fn array<T: Printed>(page: &mut Page, list: &Vec<Item<Box<T>>>) -> Done {
-    page.put(b"[")?;
-    items(page, list)?;
-    page.put(b"]")
-}
-
-fn hash<T: Printed>(page: &mut Page, list: &Vec<Pair<Box<T>>>) -> Done {
-    page.put(b"{")?;
-    let mut gap: &[u8] = b"";
-    for pair in list {
-        page.put(gap)?;
-        pair.key.print(page)?;
-        page.put(b"=>")?;
-        pair.value.print(page)?;
-        gap = b" ";
-    }
-    page.put(b"}")
 }
 
 fn listed<T: Printed>(page: &mut Page, before: &[u8], between: &[u8], list: &Vec<Box<T>>) -> Done {

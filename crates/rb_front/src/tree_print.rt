@@ -1,32 +1,11 @@
 //! Trees as text, for tests. A local is its name; a name that is called without arguments has a `~` before it.
-use rb_base::{Bytes, List};
-use rb_syntax::{Branch, Item, Outside, Pair};
+use crate::page::{Done, Page, Printed, array, forms, hash, integer, items, maybe, name};
 use parser_tree::{
     Arguments, AssignmentOperator, Definition, Parameter, ParameterList, Piece, RescueBody,
     RestParameter, Scope, TargetList, TreeForm, WhenClause,
 };
-use std::alloc::{AllocError, Global};
-
-/// What was printed so far.
-#[derive(Drop)]
-pub struct Page {
-    pub alloc: Global,
-    pub text: Vec<u8>,
-}
-
-type Done = Result<(), AllocError>;
-
-/// What can be printed.
-pub trait Printed {
-    /// Puts its text behind the page's.
-    fn print(&self, page: &mut Page) -> Done;
-}
-
-impl Page {
-    fn put(&mut self, bytes: &[u8]) -> Done {
-        self.text.extend_from_slice(bytes)
-    }
-}
+use rb_base::{Bytes, List};
+use rb_syntax::{Branch, Item, Outside};
 
 fn names(page: &mut Page, list: &List<Bytes>) -> Done {
     for name in list.as_slice() {
@@ -44,14 +23,6 @@ fn trees<T: Printed>(page: &mut Page, list: &Vec<Box<T>>) -> Done {
     Ok(())
 }
 
-fn maybe<T: Printed>(page: &mut Page, word: &[u8], tree: &Option<Box<T>>) -> Done {
-    if let Some(tree) = tree {
-        page.put(word)?;
-        tree.print(page)?;
-    }
-    Ok(())
-}
-
 fn pieces<T: Printed>(page: &mut Page, list: &Vec<Piece<Box<T>>>) -> Done {
     for piece in list {
         page.put(b" ")?;
@@ -62,22 +33,6 @@ fn pieces<T: Printed>(page: &mut Page, list: &Vec<Piece<Box<T>>>) -> Done {
                 page.put(b"'")?;
             }
             Piece::Interpolation(tree) => tree.print(page)?,
-        }
-    }
-    Ok(())
-}
-
-fn items<T: Printed>(page: &mut Page, list: &Vec<Item<Box<T>>>) -> Done {
-    let mut between: &[u8] = b"";
-    for item in list {
-        page.put(between)?;
-        between = b" ";
-        match item {
-            Item::Plain(tree) => tree.print(page)?,
-            Item::Splat(tree) => {
-                page.put(b"*")?;
-                tree.print(page)?;
-            }
         }
     }
     Ok(())
@@ -375,16 +330,6 @@ fn index<T: Printed>(page: &mut Page, of: &Box<T>, list: &Vec<Item<Box<T>>>) -> 
     page.put(b"]")
 }
 
-fn integer(page: &mut Page, value: i64) -> Done {
-    let digits = format!(in page.alloc; "{value}")?;
-    page.put(digits.as_bytes())
-}
-
-fn name(page: &mut Page, before: &[u8], name: &Bytes) -> Done {
-    page.put(before)?;
-    page.put(name.as_slice())
-}
-
 fn listed_names(page: &mut Page, open: &[u8], list: &List<Bytes>, close: &[u8]) -> Done {
     page.put(open)?;
     names(page, list)?;
@@ -397,33 +342,9 @@ fn text<T: Printed>(page: &mut Page, word: &[u8], list: &Vec<Piece<Box<T>>>) -> 
     page.put(b")")
 }
 
-fn array<T: Printed>(page: &mut Page, list: &Vec<Item<Box<T>>>) -> Done {
-    page.put(b"[")?;
-    items(page, list)?;
-    page.put(b"]")
-}
-
-fn hash<T: Printed>(page: &mut Page, list: &Vec<Pair<Box<T>>>) -> Done {
-    page.put(b"{")?;
-    let mut between: &[u8] = b"";
-    for pair in list {
-        page.put(between)?;
-        pair.key.print(page)?;
-        page.put(b"=>")?;
-        pair.value.print(page)?;
-        between = b" ";
-    }
-    page.put(b"}")
-}
-
 fn statements<T: Printed>(page: &mut Page, list: &Vec<Box<T>>) -> Done {
     page.put(b"(")?;
-    let mut between: &[u8] = b"";
-    for tree in list {
-        page.put(between)?;
-        tree.print(page)?;
-        between = b"; ";
-    }
+    forms(page, b"; ", list)?;
     page.put(b")")
 }
 
@@ -486,15 +407,15 @@ impl Printed for TreeForm {
             TreeForm::SelfReference => page.put(b"self"),
             TreeForm::Integer(value) => integer(page, *value),
             TreeForm::Text(list) => text(page, b"(str", list),
-            TreeForm::Symbol(word) => name(page, b":", word),
+            TreeForm::Symbol(word) => name(page, b":", word, b""),
             TreeForm::SymbolText(list) => text(page, b"(sym", list),
             TreeForm::Words(list) => listed_names(page, b"%w[", list, b"]"),
             TreeForm::Symbols(list) => listed_names(page, b"%i[", list, b"]"),
             TreeForm::Local(word)
             | TreeForm::InstanceVariable(word)
             | TreeForm::GlobalVariable(word)
-            | TreeForm::Constant(word) => name(page, b"", word),
-            TreeForm::TopConstant(word) => name(page, b"::", word),
+            | TreeForm::Constant(word) => name(page, b"", word, b""),
+            TreeForm::TopConstant(word) => name(page, b"::", word, b""),
             TreeForm::ScopedConstant(of, word) => scoped(page, of, word),
             TreeForm::Array(list) => array(page, list),
             TreeForm::Hash(list) => hash(page, list),
