@@ -45,7 +45,7 @@ module _ (ss : List Standing) (registers symbols size : ℕ) where
   AllPass at [] = Unit {0}
   AllPass at (i ∷ is) = Sound (at + size_of i) i × AllPass (at + size_of i) is
 
-  -- instructions that start from a place on, one behind the other
+  -- instructions that start from a place on, one after another
   abbrev pub Begin : ℕ → List Operation → Type 0
   Begin at [] = Unit {0}
   Begin at (i ∷ is) = (is_start ss at ≡ true) × Begin (at + size_of i) is
@@ -257,7 +257,7 @@ module _ (ss : List Standing) (registers symbols size : ℕ) where
             (form_passes e r at fine.0 (omega (arith, wide)) (begin_front at (gen ns e r at) _ begins) (rest_begin es r M others end))
             (rest_pass es r M fine.1 (omega (arith, wide)) others end)
 
-        -- what stands behind a part begins where an instruction starts
+        -- what stands after a part begins where an instruction starts
         operands_begin : (a : Action) (es : Forms) (r n at : ℕ) → Begin at (gen_operands ns a es r n at) → is_start ss at ≡ true
         operands_begin a none r n at h = h.0
         operands_begin a (more e es) r n at h = form_begins e (r + n) at (begin_front at (gen ns e (r + n) at) _ h)

@@ -115,7 +115,7 @@ none_within ns = λ x h. absurd (cc)
 pub fine_code : (f : Form) → IsWithin f → Fine (full_code f) 0 (names_of f) f
 fine_code f w = fine_of (full_code f) 0 (names_of f) refl [] f (none_within (names_of f)) (assigned_own f) w.plain w.scoped (named_by f)
 
--- the instructions stand in the code one behind the other
+-- the instructions stand in the code one after another
 pub has_code : (f : Form) → IsWithin f → HasAt (full_code f) 0 0 (operations_of f)
 has_code f w =
     let registers = within_registers f w in

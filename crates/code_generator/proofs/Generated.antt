@@ -30,7 +30,7 @@ module _ (p : Program) (b : ℕ) (ns : List Name) where
   abbrev h : Around
   h = record { names = ns }
 
-  -- one part, and an instruction behind it
+  -- one part, and an instruction after it
   one_part : (e : Form) (r at : ℕ) (i : Operation) → HasAt p b at (gen ns e r at ++ i ∷ []) → Ins p b (at + len e) i
   one_part e r at i code = record { here = (back p b at (len e) (gen ns e r at) (i ∷ []) (gen_len ns e r at) code).0 }
 

@@ -38,7 +38,7 @@ fits_put q p ls b n i v f = record {
   layout = f.layout;
 }
 
--- writes behind the locals, and to a local
+-- writes after the locals, and to a local
 front_above : (n r : ℕ) (ss : List Slot) (v : Slot) → n + 1 ≤ r → take n (behind_self (set ss r v)) ≡ take n (behind_self ss)
 front_above n r [] v le = refl
 front_above n zero (s ∷ ss) v le = absurd (omega arith)

@@ -18,7 +18,7 @@ abbrev pub Holds : List Registers → ℕ → ℕ → List Slot → Type 0
 Holds ls n r [] = Unit {0}
 Holds ls n r (v ∷ vs) = (slot_at ls n r ≡ v) × Holds ls n (r + 1) vs
 
--- the registers behind self
+-- the registers after self
 abbrev pub behind_self : List Slot → List Slot
 behind_self [] = []
 behind_self (s ∷ ss) = ss
@@ -83,7 +83,7 @@ Related q p (Halt s) (On f fs m) = ⊥
 Related q p (Run x ks w) (Off t) = ⊥
 Related q p (Run x ks w) (On f fs m) = Focused q p x ks w f fs m
 
--- A value given to a part: it stands in a row with the values that the part kept, behind the registers that it spares.
+-- A value given to a part: it stands in a row with the values that the part kept, after the registers that it spares.
 pub record Given (q : Source) (p : Program) (v : Value) (k : Part) (ks : List Item) (w : World) (f : Frame) (fs : List Frame) (m : Memory) : Type 0 where
   pub same : Same q w f.list m
   pub h : Around

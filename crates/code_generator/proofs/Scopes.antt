@@ -1,4 +1,4 @@
--- Names that are known, and those that lines add behind them.
+-- Names that are known, and those that lines add after them.
 use Rattle.std.proofs.Common.{◌≡◌, ℕ, zero, suc, List, [], ◌∷◌, ◌++◌, ◌≤◌, take, length, length-append, Bool, true, false, if◌then◌else◌, refl, ap, ◌∙◌, arith}
 use Rattle.path_core.specs.Form.{Name, Form, strict, local, set_local, seq, cond, while_form}
 use Rattle.text_set.specs.Sets.{is_among, with_text}

@@ -80,12 +80,12 @@ abbrev mutual
   StandAll p b h none r at end = record { load : Ins p b at (LoadNil r); room : Room p b r; ends : at + 2 ≡ end }
   StandAll p b h (more e es) r at end = record { mid : ℕ; first : Stands p b h e r at mid; others : StandRest p b h es r mid end }
 
-  -- what stands behind a first form
+  -- what stands after a first form
   pub StandRest : Program → ℕ → Around → Forms → ℕ → ℕ → ℕ → Type 0
   StandRest p b h none r at end = at ≡ end
   StandRest p b h (more e es) r at end = record { mid : ℕ; first : Stands p b h e r at mid; others : StandRest p b h es r mid end }
 
--- how many registers a part keeps free, and the values that it keeps behind them
+-- how many registers a part keeps free, and the values that it keeps after them
 abbrev pub spared : Part → ℕ
 spared (operands a vs es) = before_operands a
 spared (rest es) = 0
@@ -104,7 +104,7 @@ kept (loop_test t e) = []
 kept (loop_body t e) = []
 kept (assign x) = []
 
--- The code behind a part, from the byte at which its value is awaited to the end of its form. The form's register is r.
+-- The code after a part, from the byte at which its value is awaited to the end of its form. The form's register is r.
 abbrev pub Behind : Program → ℕ → Around → Part → ℕ → ℕ → ℕ → Type 0
 Behind p b h (operands a vs es) r at end = StandOperands p b h a es r (before_operands a + (length vs + 1)) at end
 Behind p b h (rest es) r at end = StandRest p b h es r at end

@@ -82,7 +82,7 @@ stopped p (On f fs m) o = absurd (true≢false (sym o))
 step_law : (q : Source) (p : Program) → StepLaw (go q) (turn p) seen shown over measure (Related q p)
 step_law q p = record { alike = alike q p; ended = ended q; stopped = stopped p; matched = matched q p }
 
--- Body 0 is the code of the main program, and a stop behind it.
+-- Body 0 is the code of the main program, and a stop after it.
 pub record IsCodeOf (q : Source) (p : Program) : Type 0 where
   pub layout : (body_at p 0).locals ≡ length (source.body_at q 0).names + 1
   pub room : (body_at p 0).locals ≤ (body_at p 0).registers

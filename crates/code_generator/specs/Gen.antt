@@ -12,7 +12,7 @@ use Rattle.rite_code.specs.declared.operation.Operation.TheVariants.{Move, LoadI
 use Rattle.rite_code.specs.Instruction.{narrow}
 use Rattle.rite_code.specs.Spelling.{encodings}
 
--- the distance of a jump, from the place behind it
+-- the distance of a jump, from the place after it
 abbrev pub distance : ℕ → ℕ → ℤ
 distance from to = pos to -ℤ pos from
 
@@ -35,7 +35,7 @@ operate LessEqual r = Le r
 operate Greater r = Gt r
 operate GreaterEqual r = Ge r
 
--- the instruction of an action behind its operands, with its value in r
+-- the instruction of an action after its operands, with its value in r
 abbrev pub action_of : Action → ℕ → Operation
 action_of give_nil r = LoadNil r
 action_of give_true r = LoadT r
@@ -150,7 +150,7 @@ abbrev mutual
 abbrev pub symbols_of : Form → List (List ℕ)
 symbols_of f = if calls_puts f then codes "puts" ∷ [] else []
 
--- the first register behind self and the locals
+-- the first register after self and the locals
 abbrev pub first_free : Form → ℕ
 first_free f = length (names_of f) + 1
 

@@ -33,7 +33,7 @@ fn put_move(code: &mut Assembly, a: u16, b: u16) -> Result<(), AllocError>
     code.put(Operation::Move { a, b })
 }
 
-/// Puts a jump at the end, from the place behind it.
+/// Puts a jump at the end, from the place after it.
 fn put_jump(code: &mut Assembly, from: usize, to: usize) -> Result<(), AllocError>
     requires begin { from < 32768 }
     requires end { to < 32768 }
@@ -73,7 +73,7 @@ fn load(r: u16, n: i64) -> Operation
     }
 }
 
-/// The instruction of an operator on `r` and the register behind it.
+/// The instruction of an operator on `r` and the register after it.
 fn operation(operator: Operator, r: u16) -> Operation
     requires { r < 256 }
     ensures value { result ≡ operate operator r }
@@ -164,7 +164,7 @@ pub fn emit(
     }
 }
 
-/// Puts the code of forms, one behind the other.
+/// Puts the code of forms, one after another.
 #[cycle(emission)]
 fn emit_all(
     code: &mut Assembly,

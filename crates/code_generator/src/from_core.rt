@@ -4,8 +4,8 @@ ghost use Rattle.ir_core.specs.View.{term_view};
 use crate::formed::{Formed, Made};
 use crate::parts::{call_tree, cond_tree, seq_tree, set_tree, while_tree};
 use crate::tree::Tree;
-use rb_base::Bytes;
 use ir_core::Term;
+use rb_base::Bytes;
 use std::alloc::Global;
 
 impl Formed for Term {

@@ -54,7 +54,7 @@ fn are_plain(list: &[Tree]) -> bool
     true
 }
 
-/// What is left of a number of operators behind those of a form.
+/// What is left of a number of operators after those of a form.
 #[cycle(operators)]
 #[tactic(auto, using(crate::proofs::Budgets::budget_laws))]
 fn operators_left(tree: &Tree, budget: usize) -> Option<usize>
@@ -128,7 +128,7 @@ fn have_short_sums(list: &[Tree]) -> bool
     true
 }
 
-/// What is left of a number of forms behind those in a form.
+/// What is left of a number of forms after those in a form.
 #[cycle(parts)]
 #[tactic(auto, using(crate::proofs::Budgets::budget_laws))]
 fn parts_left(tree: &Tree, budget: usize) -> Option<usize>
@@ -166,7 +166,7 @@ fn all_parts_left(list: &[Tree], budget: usize) -> Option<usize>
     Some(left)
 }
 
-/// The name that a line assigns, behind those known.
+/// The name that a line assigns, after those known.
 fn learn<'a>(known: &mut TextSet<'a>, line: &'a Tree) -> Result<(), AllocError>
     ensures { OnOk result (known.new ≡ limits.known_after known.old (form line.now)) }
 {

@@ -7,8 +7,8 @@ ghost use Rattle.code_generator.specs.Emission.{called, form_in, forms_in, set_f
 use crate::formed::{Formed, Made};
 use crate::node;
 use crate::tree::Tree;
-use rb_base::Bytes;
 use ir_core::Receiver;
+use rb_base::Bytes;
 use rb_syntax::{Branch, Item};
 use std::alloc::{AllocError, Global};
 
@@ -77,7 +77,9 @@ pub fn call_tree<T: Formed>(
     items: &Vec<Item<Box<T>>>,
     block: &Option<Box<T>>,
 ) -> Made
-    ensures { IfOk result (λ tree. called T.core receiver.now name.now (by.items_by T.core items.now.items) (by.boxed_by T.core block.now) ≡ form_in tree) }
+    ensures { IfOk result (λ tree.
+        called T.core receiver.now name.now (by.items_by T.core items.now.items) (by.boxed_by T.core block.now)
+        ≡ form_in tree) }
 {
     if block.is_some() {
         return Ok(None);
@@ -102,7 +104,8 @@ pub fn cond_tree<T: Formed>(
     branches: &Vec<Branch<Box<T>>>,
     otherwise: &Box<T>,
 ) -> Made
-    ensures { IfOk result (λ tree. cond_of (by.branches_by T.core branches.now.items) (form_of (by.core_by T.core otherwise.now)) ≡ form_in tree) }
+    ensures { IfOk result (λ tree.
+        cond_of (by.branches_by T.core branches.now.items) (form_of (by.core_by T.core otherwise.now)) ≡ form_in tree) }
 {
     let mut tree = otherwise.tree(alloc)?;
     let mut left = branches.len();
@@ -118,7 +121,9 @@ pub fn cond_tree<T: Formed>(
 
 /// The loop while a test holds, where it is asked first.
 pub fn while_tree<T: Formed>(alloc: Global, body_first: bool, test: &Box<T>, body: &Box<T>) -> Made
-    ensures { IfOk result (λ tree. loop_of body_first (form_of (by.core_by T.core test.now)) (form_of (by.core_by T.core body.now)) ≡ form_in tree) }
+    ensures { IfOk result (λ tree.
+        loop_of body_first (form_of (by.core_by T.core test.now)) (form_of (by.core_by T.core body.now))
+        ≡ form_in tree) }
 {
     if body_first {
         return Ok(None);

@@ -15,8 +15,8 @@ use crate::limits::is_within;
 use crate::measure::width_of;
 use crate::names::collect;
 use crate::tree::Tree;
-use rb_base::{Bytes, List};
 use ir_core::Core;
+use rb_base::{Bytes, List};
 use rite_code::{Code, Irep, Operation};
 use std::alloc::{AllocError, Global};
 

@@ -2,7 +2,7 @@
 use rb_base::Bytes;
 use rb_syntax::Operator;
 
-/// A form. A form inside another is behind a `Box` or in a `Vec`.
+/// A form. A form inside another is after a `Box` or in a `Vec`.
 #[derive(Debug, Drop)]
 pub enum Tree {
     Nil,

@@ -1,40 +1,22 @@
--- What a run reports.
-use Rattle.std.proofs.Common.{◌≡◌, ℕ, List, [], ◌∙◌, subst}
-use Rattle.rb_base.specs.Outside.{with_more}
-use Rattle.path_value.specs.declared.failure.Failure.{Failure}
+-- What a run says, by how it came out.
+use Rattle.std.proofs.Common.{◌≡◌, ◌≢◌, ℕ, List, Result, Ok, Err, IfOk, OnOk, OnErr, IsErrOf, refl}
+use Rattle.rb_base.specs.Outside.{Rose, with_more}
 use Rattle.rite_code.specs.Code.{Program}
-use Rattle.def_eval.specs.Seen.{Ended, Uncaught, Going, Over, Seen, output_of}
+use Rattle.def_eval.specs.Seen.{output_of}
 use Rattle.path_machine.specs.Run.{seen_after, IsRan, StoppedWithin}
 use Rattle.path_machine.specs.declared.ran.Ran.{Ran}
-use Rattle.path_machine.specs.declared.ran.Ran.TheVariants as rans
-use Rattle.code_listing.specs.Writing.{Stream}
-use Rattle.mrb_tool.specs.Running.{RanWhole, RanInPart}
-use Rattle.mrb_tool.proofs.Input.{seen-input}
+use Rattle.path_machine.specs.declared.ran.RunFault.{RunFault}
+use Rattle.path_machine.specs.declared.ran.RunFault.TheVariants.{OutputFault, NoMemory}
+use Rattle.rb_refusal.specs.Writing.{Stream}
+use Rattle.mrb_tool.specs.Running.{Runs}
 
-abbrev pub Writes : Program → ℕ → Stream → Stream → Type 0
-Writes code n before after = (input : List ℕ) → after.taken ≡ with_more before.taken (output_of (seen_after code n input))
-
-whole : (code : Program) (n : ℕ) (before after : Stream) (seen : Seen) → seen_after code n [] ≡ seen → Writes code n before after → after.faults ≡ before.faults → RanWhole code n before after seen
-whole code n before after seen is writes same = record {
-  seen_is = λ input. seen-input code n input [] ∙ is;
-  taken = subst (λ s. after.taken ≡ with_more before.taken (output_of s)) is (writes []);
-  faults = same;
-}
-
-pub ran_ended : (code : Program) (n : ℕ) (before after : Stream) (ran : Ran) (k : ℕ) → ran ≡ rans.Ended k → ((input : List ℕ) → IsRan ran (seen_after code n input)) → Writes code n before after → after.faults ≡ before.faults → (out : List ℕ) × RanWhole code n before after (Over (Ended out k))
-ran_ended code n before after ran k is h writes same =
-    let r : (out : List ℕ) × (seen_after code n [] ≡ Over (Ended out k)) = subst (λ x. IsRan x (seen_after code n [])) is (h []) in
-    (r.0, whole code n before after (Over (Ended r.0 k)) r.1 writes same)
-
-pub ran_uncaught : (code : Program) (n : ℕ) (before after : Stream) (ran : Ran) (f : Failure) → ran ≡ rans.Uncaught f → ((input : List ℕ) → IsRan ran (seen_after code n input)) → Writes code n before after → after.faults ≡ before.faults → (out : List ℕ) × RanWhole code n before after (Over (Uncaught out f))
-ran_uncaught code n before after ran f is h writes same =
-    let r : (out : List ℕ) × (seen_after code n [] ≡ Over (Uncaught out f)) = subst (λ x. IsRan x (seen_after code n [])) is (h []) in
-    (r.0, whole code n before after (Over (Uncaught r.0 f)) r.1 writes same)
-
-pub ran_on : (code : Program) (n : ℕ) (before after : Stream) (ran : Ran) → ran ≡ rans.Spent → ((input : List ℕ) → IsRan ran (seen_after code n input)) → Writes code n before after → after.faults ≡ before.faults → (out : List ℕ) × RanWhole code n before after (Going out)
-ran_on code n before after ran is h writes same =
-    let r : (out : List ℕ) × (seen_after code n [] ≡ Going out) = subst (λ x. IsRan x (seen_after code n [])) is (h []) in
-    (r.0, whole code n before after (Going r.0) r.1 writes same)
-
-pub stopped : (code : Program) (n : ℕ) (before after : Stream) → StoppedWithin code n [] before.taken after.taken → RanInPart code n before after (seen_after code n [])
-stopped code n before after front = record { seen_is = λ input. seen-input code n input []; front = front }
+pub runs : (code : Program) (n : ℕ) (before after : Stream) (ran : Result Ran RunFault)
+    → IfOk ran (λ r. (input : List ℕ) → IsRan r (seen_after code n input))
+    → OnOk ran ((input : List ℕ) → after.taken ≡ with_more before.taken (output_of (seen_after code n input)))
+    → (ran ≢ Err OutputFault → after.faults ≡ before.faults)
+    → (IsErrOf ran OutputFault → Rose before.faults after.faults)
+    → OnErr ran ((input : List ℕ) → StoppedWithin code n input before.taken after.taken)
+    → Runs code n before after ran
+runs code n before after (Ok ran) is written counted fault front = (is, written, counted (λ e. cc e))
+runs code n before after (Err OutputFault) is written counted fault front = (front, fault refl)
+runs code n before after (Err NoMemory) is written counted fault front = (front, counted (λ e. cc e))

@@ -3,7 +3,10 @@ pub mod Asked
 pub mod Told
 pub mod Texts
 pub mod Writing
-pub mod Answer
-pub mod Showing
+pub mod Stops
+pub mod Making
 pub mod Running
+pub mod Showing
+pub mod Reporting
+pub mod Answer
 pub mod Status

@@ -1,7 +1,7 @@
 -- The status of each answer.
 use Rattle.std.specs.Prelude.{ℕ}
-use Rattle.mrb_tool.specs.declared.rite.End.{End}
-use Rattle.mrb_tool.specs.declared.rite.End.TheVariants.{Ended, Uncaught, Usage, Refused, Spent, NoMemory, InputFault, OutputFault, FileFault}
+use Rattle.mrb_tool.specs.declared.end.End.{End}
+use Rattle.mrb_tool.specs.declared.end.End.TheVariants.{Ended, Uncaught, Usage, Refused, Spent, NoMemory, InputFault, OutputFault, FileFault}
 
 abbrev pub status_of : End → ℕ
 status_of (Ended n) = n

@@ -2,8 +2,8 @@
 use Rattle.std.specs.Prelude.{ℕ, List, [], ◌∷◌, ◌++◌, codes, decimal}
 use Rattle.path_value.specs.Failure as failures
 use Rattle.path_value.specs.declared.failure.Failure.{Failure}
-use Rattle.code_listing.specs.declared.refusal.Refusal.{Refusal}
-use Rattle.code_listing.specs.RefusalText.{refusal_text}
+use Rattle.rb_refusal.specs.declared.refusal.Refusal.{Refusal}
+use Rattle.rb_refusal.specs.RefusalText.{refusal_text}
 
 abbrev pub line : List ℕ → List ℕ
 line text = text ++ 10 ∷ []

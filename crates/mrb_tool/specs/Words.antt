@@ -1,5 +1,6 @@
 -- The words after the program's name, and the command that they mean.
 use Rattle.std.specs.Prelude.{ℕ, ◌+◌, ◌*◌, ◌-◌, List, [], ◌∷◌, Option, Some, None, Bool, true, false, codes, bytes_eq, nat_le, nat_eq, if◌then◌else◌, ◌&&◌, not, take}
+use Rattle.rb_base.specs.Option.{◌>>=◌}
 
 pub data Command : Type 0 where
   -- the code of the source in the first file goes into the second
@@ -61,20 +62,21 @@ abbrev pub of_two : (List ℕ → List ℕ → Command) → Option (List ℕ × 
 of_two command None = None
 of_two command (Some files) = Some (command files.0 files.1)
 
--- the two files behind the options
-abbrev pub exec_files : ℕ → List (List ℕ) → Option Command
-exec_files n words = of_two (exec n) (two_files words)
+-- The options that stand before the other words, and these words. There is one: at most how many turns are made.
+abbrev pub with_steps : Option ℕ → List (List ℕ) → Option (ℕ × List (List ℕ))
+with_steps None words = None
+with_steps (Some n) words = Some (n, words)
 
-abbrev pub exec_steps : Option ℕ → List (List ℕ) → Option Command
-exec_steps None words = None
-exec_steps (Some n) words = exec_files n words
+abbrev pub options_of : List (List ℕ) → Option (ℕ × List (List ℕ))
+options_of [] = Some (most_turns, [])
+options_of (word ∷ []) = Some (most_turns, word ∷ [])
+options_of (word ∷ (next ∷ words)) =
+    if bytes_eq word (codes "--steps") then with_steps (number_of next) words
+    else Some (most_turns, word ∷ (next ∷ words))
 
--- what stands behind the word exec
+-- what stands after the word exec
 abbrev pub exec_of : List (List ℕ) → Option Command
-exec_of [] = None
-exec_of (word ∷ []) = None
-exec_of (word ∷ (next ∷ words)) =
-    if bytes_eq word (codes "--steps") then exec_steps (number_of next) words else exec_files most_turns (word ∷ (next ∷ words))
+exec_of words = options_of words >>= λ o. of_two (exec o.0) (two_files o.1)
 
 abbrev pub command_of : List (List ℕ) → Option Command
 command_of [] = None

@@ -1,9 +1,9 @@
 -- What it means to give an answer.
 use Rattle.std.specs.Prelude.{◌≡◌, ◌⊎◌, ℕ, List}
 use Rattle.rb_base.specs.Outside.{Rose, with_more, TookFront}
-use Rattle.code_listing.specs.Writing.{Stream}
-use Rattle.mrb_tool.specs.declared.rite.End.{End}
-use Rattle.mrb_tool.specs.declared.rite.End.TheVariants.{OutputFault}
+use Rattle.rb_refusal.specs.Writing.{Stream}
+use Rattle.mrb_tool.specs.declared.end.End.{End}
+use Rattle.mrb_tool.specs.declared.end.End.TheVariants.{OutputFault}
 
 -- the text was written and the answer is the end that is meant, or the text couldn't be written
 abbrev pub IsAnswer : List ℕ → End → Stream → Stream → End → Type 0

@@ -2,42 +2,21 @@
 ghost use Rattle.std.specs.Prelude.{◌<◌};
 
 use crate::building::check;
-use crate::report::Report;
-use crate::rite::{End, rite};
-use code_listing::Refusal;
-use rb_base::{MemoryFiles, MemorySink, MemorySource};
+use crate::end::End;
+use crate::stop::Stop;
+use crate::trial::{self, Left, sink};
+use rb_base::MemorySink;
+use rb_refusal::Refusal;
 use rite_code::Cause;
 use std::alloc::{AllocError, Global};
 use std::process::Abort;
 use std::test::Fail;
 
-/// What a call left behind.
-#[derive(Drop)]
-struct Left {
-    end: End,
-    files: MemoryFiles,
-    out: MemorySink,
-    err: MemorySink,
-}
-
 /// Calls the program with these words over one file `given`; the output's calls of the numbers `fails` fail.
 fn call(alloc: Global, words: &[&str], given: &[u8], fails: Vec<u64>) -> Result<Left, Fail> {
-    let mut texts = Vec::new(alloc);
-    for word in words {
-        texts.push(String::from_str(alloc, word)?)?;
-    }
-    let mut files = MemoryFiles::new(alloc, Vec::new(alloc));
-    files.put("given", given)?;
-    let mut input = MemorySource::new(Vec::new(alloc), Vec::new(alloc));
-    let mut out = MemorySink::new(alloc, 7, fails);
-    let mut err = MemorySink::new(alloc, 5, Vec::new(alloc));
-    let end = rite(alloc, &texts, &mut files, &mut input, &mut out, &mut err);
-    Ok(Left {
-        end,
-        files,
-        out,
-        err,
-    })
+    let none = Vec::new(alloc);
+    let out = MemorySink::new(alloc, 7, fails);
+    trial::call(alloc, words, given, none, out, sink(alloc, 5))
 }
 
 /// A file of version 1 whose one instruction is STOP.
@@ -45,14 +24,8 @@ const STOP: [u8; 61] = *b"RITE0300\x00\x00\x00\x3dRBWN0001IREP\x00\x00\x00\x2103
     \x00\x00\x00\x15\x00\x01\x00\x01\x00\x00\x00\x00\x00\x00\x00\x01\x48\x00\x00\x00\x00END\x00\x00\x00\x00\x08";
 
 /// The answer to `list` and `info` is this text.
-fn shows(
-    rt: &impl Abort,
-    alloc: Global,
-    command: &str,
-    given: &[u8],
-    text: &str,
-) -> Result<(), Fail> {
-    let left = call(alloc, &[command, "given"], given, Vec::new(alloc))?;
+fn shows(rt: &impl Abort, alloc: Global, word: &str, given: &[u8], text: &str) -> Result<(), Fail> {
+    let left = call(alloc, &[word, "given"], given, Vec::new(alloc))?;
     assert_eq!(rt; left.end, End::Ended(0));
     assert_eq!(rt; left.out.bytes(), text.as_bytes());
     assert_eq!(rt; left.err.bytes().len(), 0);
@@ -64,11 +37,11 @@ fn shows(
 fn refuses(
     rt: &impl Abort,
     alloc: Global,
-    command: &str,
+    word: &str,
     given: &[u8],
     text: &str,
 ) -> Result<(), Fail> {
-    let left = call(alloc, &[command, "given"], given, Vec::new(alloc))?;
+    let left = call(alloc, &[word, "given"], given, Vec::new(alloc))?;
     assert!(rt; matches!(left.end, End::Refused(_)));
     assert_eq!(rt; left.end.status(), 121);
     assert_eq!(rt; left.out.bytes().len(), 0);
@@ -187,7 +160,7 @@ const WIDE: [u8; 67] = *b"RITE0300\x00\x00\x00\x43RBWN0002IREP\x00\x00\x00\x2703
 /// Why a file isn't a program that can be run.
 fn refusal(alloc: Global, given: &[u8]) -> Option<Refusal> {
     match check(alloc, given) {
-        Err(Report::Refused(refusal)) => Some(refusal),
+        Err(Stop::Refused(refusal)) => Some(refusal),
         _ => None,
     }
 }

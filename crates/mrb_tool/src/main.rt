@@ -2,11 +2,14 @@
 #![tactic(auto)]
 
 mod building;
+mod end;
 mod exec;
 mod report;
 mod rite;
 mod showing;
+mod stop;
 mod texts;
+mod told;
 mod words;
 
 use rb_base::{DiskFiles, StdSink, StdSource};
@@ -15,6 +18,7 @@ use rite::rite;
 use std::env;
 use std::io::ErrorKind;
 use std::process::ExitCode;
+use stop::Stop;
 
 fn main(rt: HostRuntime) -> ExitCode {
     let mut err = StdSink::new(rt.stderr());
@@ -36,14 +40,21 @@ fn main(rt: HostRuntime) -> ExitCode {
 fn given_words(rt: &HostRuntime) -> Result<Vec<String>, Report> {
     let mut args = match env::args(rt) {
         Ok(args) => args,
-        Err(error) if error.kind() == ErrorKind::OutOfMemory => return Err(Report::NoMemory),
+        Err(error) if error.kind() == ErrorKind::OutOfMemory => {
+            return Err(Report::Stopped(Stop::NoMemory));
+        }
         Err(_) => return Err(Report::Usage),
     };
     let _program = args.next();
-    Ok(args.collect(rt.alloc())?)
+    match args.collect(rt.alloc()) {
+        Ok(words) => Ok(words),
+        Err(_) => Err(Report::Stopped(Stop::NoMemory)),
+    }
 }
 
 #[cfg(test)]
 mod file_tests;
 #[cfg(test)]
 mod tests;
+#[cfg(test)]
+mod trial;

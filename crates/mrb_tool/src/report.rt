@@ -1,40 +1,66 @@
-//! What a command did, before it is told.
+//! What is reported of a command, before it is told.
 ghost use Rattle.std.specs.Prelude.{◌≡◌};
+ghost use Rattle.rb_refusal.specs.Writing.{Says};
+ghost use Rattle.mrb_tool.specs.Reporting as reporting;
+ghost use Rattle.mrb_tool.specs.Writing.{IsAnswer};
 
-use crate::rite::End;
+use crate::end::End;
+use crate::stop::Stop;
 use crate::texts;
-use code_listing::Refusal;
-use code_verifier::VerifyError;
-use path_value::Failure;
-use rb_base::{Failed, FileError, Sink};
-use rb_compile::CompileError;
-use rite_file::LoadError;
-use std::alloc::AllocError;
+use crate::told::OfSink;
+use path_machine::{Ran, RunFault};
+use rb_base::{Failed, Sink};
 
-/// What a command did.
+/// What is reported of a command.
 #[derive(Clone, Copy, Debug)]
 pub enum Report {
-    Ended(u8),
-    Uncaught(Failure),
-    /// So many turns were made, and the program goes on.
-    Spent(u64),
-    Refused(Refusal),
+    /// The words are no command.
     Usage,
-    FileFault,
-    OutputFault,
-    NoMemory,
+    /// Nothing was run or shown, for this cause.
+    Stopped(Stop),
+    /// The file of a source was made.
+    Built,
+    /// A run of at most so many turns came out so.
+    Ran(u64, Result<Ran, RunFault>),
+    /// A text of a file was written, or a call on the output failed.
+    Shown(Result<(), Failed>),
 }
 
 impl Report {
-    ghost use Rattle.mrb_tool.specs.Running.{end_of, text_of};
-    ghost use Rattle.code_listing.specs.Writing.{Says};
-    ghost use Rattle.mrb_tool.specs.Writing.{IsAnswer};
+    /// Of a file that was to be made.
+    pub fn of_build(built: Result<(), Stop>) -> Report
+        ensures { result ≡ reporting.of_build built }
+    {
+        match built {
+            Ok(()) => Report::Built,
+            Err(stop) => Report::Stopped(stop),
+        }
+    }
+
+    /// Of a source that was to be run.
+    pub fn of_exec(steps: u64, ran: Result<Result<Ran, RunFault>, Stop>) -> Report
+        ensures { result ≡ reporting.of_exec steps ran }
+    {
+        match ran {
+            Ok(ran) => Report::Ran(steps, ran),
+            Err(stop) => Report::Stopped(stop),
+        }
+    }
+
+    /// Of a file that was to be shown.
+    pub fn of_show(shown: Result<Result<(), Failed>, Stop>) -> Report
+        ensures { result ≡ reporting.of_show shown }
+    {
+        match shown {
+            Ok(said) => Report::Shown(said),
+            Err(stop) => Report::Stopped(stop),
+        }
+    }
 
     /// Tells it, and gives the answer: `OutputFault` where its line couldn't be written.
     pub fn answer<E: Sink>(self, err: &mut E) -> End
-        ensures { IsAnswer (text_of self) (end_of self)
-            (record { taken = E.taken err.old; faults = E.faults err.old })
-            (record { taken = E.taken err.new; faults = E.faults err.new }) result }
+        ensures { IsAnswer (reporting.text_of self) (reporting.end_of self)
+            (⟦<E as OfSink>⟧.told err.old) (⟦<E as OfSink>⟧.told err.new) result }
     {
         match self.tell(err) {
             Ok(()) => self.end(),
@@ -44,107 +70,57 @@ impl Report {
 
     /// The answer that is given for it.
     pub fn end(self) -> End
-        ensures { result ≡ end_of self }
+        ensures { result ≡ reporting.end_of self }
     {
         match self {
-            Report::Ended(status) => End::Ended(status),
-            Report::Uncaught(_) => End::Uncaught,
-            Report::Spent(_) => End::Spent,
-            Report::Refused(refusal) => End::Refused(refusal),
             Report::Usage => End::Usage,
-            Report::FileFault => End::FileFault,
-            Report::OutputFault => End::OutputFault,
-            Report::NoMemory => End::NoMemory,
+            Report::Stopped(Stop::Refused(refusal)) => End::Refused(refusal),
+            Report::Stopped(Stop::FileFault) => End::FileFault,
+            Report::Stopped(Stop::NoMemory) => End::NoMemory,
+            Report::Built | Report::Shown(Ok(())) => End::Ended(0),
+            Report::Shown(Err(Failed)) => End::OutputFault,
+            Report::Ran(_, ran) => end_of_run(ran),
         }
     }
 
     /// Writes its line, if it has one.
     pub fn tell<E: Sink>(self, err: &mut E) -> Result<(), Failed>
-        ensures { Says (text_of self)
-            (record { taken = E.taken err.old; faults = E.faults err.old })
-            (record { taken = E.taken err.new; faults = E.faults err.new }) result }
+        ensures { Says (reporting.text_of self)
+            (⟦<E as OfSink>⟧.told err.old) (⟦<E as OfSink>⟧.told err.new) result }
     {
         match self {
-            Report::Ended(_) | Report::OutputFault => Ok(()),
-            Report::Uncaught(failure) => texts::tell_uncaught(err, failure),
-            Report::Spent(steps) => texts::tell_spent(err, steps),
-            Report::Refused(refusal) => texts::tell_refused(err, refusal),
             Report::Usage => texts::tell_usage(err),
-            Report::FileFault => texts::tell_file_fault(err),
-            Report::NoMemory => texts::tell_no_memory(err),
+            Report::Stopped(Stop::Refused(refusal)) => texts::tell_refused(err, refusal),
+            Report::Stopped(Stop::FileFault) => texts::tell_file_fault(err),
+            Report::Stopped(Stop::NoMemory) => texts::tell_no_memory(err),
+            Report::Built | Report::Shown(_) => Ok(()),
+            Report::Ran(steps, ran) => tell_run(err, steps, ran),
         }
     }
 }
 
-impl From<CompileError> for Report {
-    ghost use Rattle.mrb_tool.specs.Running.{of_compile_error};
-
-    ghost from_gives = { λ error r. r ≡ of_compile_error error };
-
-    fn from(error: CompileError) -> Report {
-        match error {
-            CompileError::TooLarge { what, count } => {
-                Report::Refused(Refusal::TooLarge { what, count })
-            }
-            CompileError::Syntax { at } => Report::Refused(Refusal::Syntax { at }),
-            CompileError::TooDeep => Report::Refused(Refusal::TooDeep),
-            CompileError::Outside { what, at } => Report::Refused(Refusal::Outside { what, at }),
-            CompileError::NoMemory => Report::NoMemory,
-        }
+// How a run ends the program.
+fn end_of_run(ran: Result<Ran, RunFault>) -> End
+    ensures { result ≡ reporting.end_of_run ran }
+{
+    match ran {
+        Ok(Ran::Ended(status)) => End::Ended(status),
+        Ok(Ran::Uncaught(_)) => End::Uncaught,
+        Ok(Ran::Spent) => End::Spent,
+        Err(RunFault::OutputFault) => End::OutputFault,
+        Err(RunFault::NoMemory) => End::NoMemory,
     }
 }
 
-impl From<FileError> for Report {
-    ghost use Rattle.mrb_tool.specs.Running.{of_file_error};
-
-    ghost from_gives = { λ error r. r ≡ of_file_error error };
-
-    fn from(error: FileError) -> Report {
-        match error {
-            FileError::Failed => Report::FileFault,
-            FileError::NoMemory => Report::NoMemory,
-        }
-    }
-}
-
-impl From<LoadError> for Report {
-    ghost use Rattle.mrb_tool.specs.Running.{of_load_error};
-
-    ghost from_gives = { λ error r. r ≡ of_load_error error };
-
-    fn from(error: LoadError) -> Report {
-        match error {
-            LoadError::NotRite => Report::Refused(Refusal::NotRite),
-            LoadError::Foreign { name } => Report::Refused(Refusal::Foreign { name }),
-            LoadError::Truncated { at } => Report::Refused(Refusal::Truncated { at }),
-            LoadError::BadSection { at } => Report::Refused(Refusal::BadSection { at }),
-            LoadError::BadRecord { at } => Report::Refused(Refusal::BadRecord { at }),
-            LoadError::NoMemory => Report::NoMemory,
-        }
-    }
-}
-
-impl From<VerifyError> for Report {
-    ghost use Rattle.mrb_tool.specs.Running.{of_verify_error};
-
-    ghost from_gives = { λ error r. r ≡ of_verify_error error };
-
-    fn from(error: VerifyError) -> Report {
-        match error {
-            VerifyError::Bad { irep, at, cause } => {
-                Report::Refused(Refusal::Bad { irep, at, cause })
-            }
-            VerifyError::NoMemory => Report::NoMemory,
-        }
-    }
-}
-
-impl From<AllocError> for Report {
-    ghost use Rattle.mrb_tool.specs.declared.report.Report.TheVariants as reports;
-
-    ghost from_gives = { λ _ r. r ≡ reports.NoMemory };
-
-    fn from(_refused: AllocError) -> Report {
-        Report::NoMemory
+// Writes the line for a run of at most `steps` turns, if there is one.
+fn tell_run<E: Sink>(err: &mut E, steps: u64, ran: Result<Ran, RunFault>) -> Result<(), Failed>
+    ensures { Says (reporting.text_of_run steps ran)
+        (⟦<E as OfSink>⟧.told err.old) (⟦<E as OfSink>⟧.told err.new) result }
+{
+    match ran {
+        Ok(Ran::Ended(_)) | Err(RunFault::OutputFault) => Ok(()),
+        Ok(Ran::Uncaught(failure)) => texts::tell_uncaught(err, failure),
+        Ok(Ran::Spent) => texts::tell_spent(err, steps),
+        Err(RunFault::NoMemory) => texts::tell_no_memory(err),
     }
 }

@@ -1,53 +1,10 @@
 //! The program over files and streams in memory.
-ghost use Rattle.std.specs.Prelude.{◌<◌};
-
-use crate::rite::{End, rite};
-use rb_base::{MemoryFiles, MemorySink, MemorySource};
+use crate::end::End;
+use crate::trial::{Left, call, sink};
+use rb_base::MemorySink;
 use std::alloc::Global;
 use std::process::Abort;
 use std::test::Fail;
-
-/// What a call left behind.
-#[derive(Drop)]
-struct Left {
-    end: End,
-    files: MemoryFiles,
-    out: MemorySink,
-    err: MemorySink,
-}
-
-/// Calls the program with these words over one file `one.rb`. The file's calls of the numbers `fails` fail;
-/// the error stream takes three bytes a call.
-fn call(
-    alloc: Global,
-    words: &[&str],
-    source: &[u8],
-    fails: Vec<u64>,
-    mut out: MemorySink,
-    mut err: MemorySink,
-) -> Result<Left, Fail> {
-    let mut given = Vec::new(alloc);
-    for word in words {
-        given.push(String::from_str(alloc, word)?)?;
-    }
-    let mut files = MemoryFiles::new(alloc, fails);
-    files.put("one.rb", source)?;
-    let mut input = MemorySource::new(Vec::new(alloc), Vec::new(alloc));
-    let end = rite(alloc, &given, &mut files, &mut input, &mut out, &mut err);
-    Ok(Left {
-        end,
-        files,
-        out,
-        err,
-    })
-}
-
-/// A sink that takes so many bytes a call and never fails.
-fn sink(alloc: Global, most: usize) -> MemorySink
-    requires { 0 < most }
-{
-    MemorySink::new(alloc, most, Vec::new(alloc))
-}
 
 /// Executes the source, with at most so many turns where a number is given.
 fn exec(alloc: Global, source: &[u8], steps: Option<&str>) -> Result<Left, Fail> {
@@ -56,17 +13,10 @@ fn exec(alloc: Global, source: &[u8], steps: Option<&str>) -> Result<Left, Fail>
     let none = Vec::new(alloc);
     match steps {
         Some(n) => {
-            let words = ["exec", "--steps", n, "one.rb", "one.mrb"];
+            let words = ["exec", "--steps", n, "given", "one.mrb"];
             call(alloc, &words, source, none, out, err)
         }
-        None => call(
-            alloc,
-            &["exec", "one.rb", "one.mrb"],
-            source,
-            none,
-            out,
-            err,
-        ),
+        None => call(alloc, &["exec", "given", "one.mrb"], source, none, out, err),
     }
 }
 
@@ -308,7 +258,7 @@ fn refuses_large_texts(rt: HostRuntime) -> Result<(), Fail> {
 #[test]
 fn tells_faults_of_files(rt: HostRuntime) -> Result<(), Fail> {
     let alloc = rt.alloc();
-    let words = ["exec", "two.rb", "one.mrb"];
+    let words = ["exec", "other", "one.mrb"];
     let none = Vec::new(alloc);
     let missing = call(
         alloc,
@@ -321,7 +271,7 @@ fn tells_faults_of_files(rt: HostRuntime) -> Result<(), Fail> {
     assert_eq!(rt; missing.end, End::FileFault);
     assert_eq!(rt; missing.end.status(), 126);
     assert_eq!(rt; missing.err.bytes(), b"file fault\n".as_slice());
-    let words = ["exec", "one.rb", "one.mrb"];
+    let words = ["exec", "given", "one.mrb"];
     let second = vec![in alloc; 2u64]?;
     let unstored = call(
         alloc,
@@ -339,7 +289,7 @@ fn tells_faults_of_files(rt: HostRuntime) -> Result<(), Fail> {
 #[test]
 fn tells_faults_of_streams(rt: HostRuntime) -> Result<(), Fail> {
     let alloc = rt.alloc();
-    let words = ["exec", "one.rb", "one.mrb"];
+    let words = ["exec", "given", "one.mrb"];
     let sixth = MemorySink::new(alloc, 1, vec![in alloc; 6u64]?);
     let none = Vec::new(alloc);
     let cut = call(
@@ -356,7 +306,7 @@ fn tells_faults_of_streams(rt: HostRuntime) -> Result<(), Fail> {
     assert_eq!(rt; cut.err.bytes().len(), 0);
     let third = MemorySink::new(alloc, 3, vec![in alloc; 3u64]?);
     let none = Vec::new(alloc);
-    let words = ["exec", "two.rb", "one.mrb"];
+    let words = ["exec", "other", "one.mrb"];
     let cut = call(alloc, &words, b"puts 1", none, sink(alloc, 1), third)?;
     assert_eq!(rt; cut.end, End::OutputFault);
     assert_eq!(rt; cut.err.bytes(), b"file f".as_slice());

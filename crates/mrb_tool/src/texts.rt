@@ -1,19 +1,17 @@
 //! The lines that go to the error stream.
 ghost use Rattle.std.specs.Prelude.{◌≡◌};
 ghost use Rattle.mrb_tool.specs.Texts as texts;
-ghost use Rattle.code_listing.specs.Writing.{Says};
+ghost use Rattle.rb_refusal.specs.Writing.{Says};
 
-use code_listing::pieces::write_text;
-use code_listing::{Refusal, refusal_text, write_pieces};
+use crate::told::OfSink;
 use itoa::Buffer;
 use path_value::Failure;
 use rb_base::{Failed, Sink, write_all};
+use rb_refusal::{Refusal, refusal_text, write_pieces, write_text};
 
 /// Writes how the program is called.
 pub fn tell_usage<E: Sink>(err: &mut E) -> Result<(), Failed>
-    ensures { Says texts.usage
-        (record { taken = E.taken err.old; faults = E.faults err.old })
-        (record { taken = E.taken err.new; faults = E.faults err.new }) result }
+    ensures { Says texts.usage (⟦<E as OfSink>⟧.told err.old) (⟦<E as OfSink>⟧.told err.new) result }
 {
     write_all(
         err,
@@ -23,9 +21,7 @@ pub fn tell_usage<E: Sink>(err: &mut E) -> Result<(), Failed>
 
 /// Writes that so many turns are spent.
 pub fn tell_spent<E: Sink>(err: &mut E, steps: u64) -> Result<(), Failed>
-    ensures { Says (texts.spent steps)
-        (record { taken = E.taken err.old; faults = E.faults err.old })
-        (record { taken = E.taken err.new; faults = E.faults err.new }) result }
+    ensures { Says (texts.spent steps) (⟦<E as OfSink>⟧.told err.old) (⟦<E as OfSink>⟧.told err.new) result }
 {
     let mut digits = Buffer::new();
     write_pieces(
@@ -36,9 +32,7 @@ pub fn tell_spent<E: Sink>(err: &mut E, steps: u64) -> Result<(), Failed>
 
 /// Writes the class and the message of an exception that nothing caught.
 pub fn tell_uncaught<E: Sink>(err: &mut E, failure: Failure) -> Result<(), Failed>
-    ensures { Says (texts.uncaught failure)
-        (record { taken = E.taken err.old; faults = E.faults err.old })
-        (record { taken = E.taken err.new; faults = E.faults err.new }) result }
+    ensures { Says (texts.uncaught failure) (⟦<E as OfSink>⟧.told err.old) (⟦<E as OfSink>⟧.told err.new) result }
 {
     match failure {
         Failure::IntegerOverflow => write_pieces(err, &[b"RangeError: integer overflow\n"]),
@@ -61,27 +55,21 @@ pub fn tell_uncaught<E: Sink>(err: &mut E, failure: Failure) -> Result<(), Faile
 
 /// Writes that memory ran out.
 pub fn tell_no_memory<E: Sink>(err: &mut E) -> Result<(), Failed>
-    ensures { Says texts.no_memory
-        (record { taken = E.taken err.old; faults = E.faults err.old })
-        (record { taken = E.taken err.new; faults = E.faults err.new }) result }
+    ensures { Says texts.no_memory (⟦<E as OfSink>⟧.told err.old) (⟦<E as OfSink>⟧.told err.new) result }
 {
     write_all(err, b"no memory\n")
 }
 
 /// Writes that a file wasn't read or written.
 pub fn tell_file_fault<E: Sink>(err: &mut E) -> Result<(), Failed>
-    ensures { Says texts.file_fault
-        (record { taken = E.taken err.old; faults = E.faults err.old })
-        (record { taken = E.taken err.new; faults = E.faults err.new }) result }
+    ensures { Says texts.file_fault (⟦<E as OfSink>⟧.told err.old) (⟦<E as OfSink>⟧.told err.new) result }
 {
     write_all(err, b"file fault\n")
 }
 
 /// Writes why a source or a file is refused.
 pub fn tell_refused<E: Sink>(err: &mut E, refusal: Refusal) -> Result<(), Failed>
-    ensures { Says (texts.refused refusal)
-        (record { taken = E.taken err.old; faults = E.faults err.old })
-        (record { taken = E.taken err.new; faults = E.faults err.new }) result }
+    ensures { Says (texts.refused refusal) (⟦<E as OfSink>⟧.told err.old) (⟦<E as OfSink>⟧.told err.new) result }
 {
     write_text(err, b"refused: ")?;
     refusal_text(&refusal, err)?;

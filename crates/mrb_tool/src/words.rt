@@ -1,6 +1,6 @@
 //! What the words after the program's name mean.
 ghost use Rattle.std.specs.Prelude.{◌≡◌, true, nat_le, if◌then◌else◌, map, string_bytes};
-ghost use Rattle.mrb_tool.specs.Words.{is_digit, are_digits, is_numeral, value_after, most_turns, number_of, is_name, two_files, one_file, exec_files, exec_of, command_of};
+ghost use Rattle.mrb_tool.specs.Words.{is_digit, are_digits, is_numeral, value_after, most_turns, number_of, is_name, two_files, one_file, options_of, exec_of, command_of};
 ghost use Rattle.mrb_tool.specs.Asked.{asked};
 ghost use Rattle.std.specs.Option.{option_map};
 
@@ -52,27 +52,29 @@ pub fn read_words(words: &[String]) -> Option<Command<'_>>
     }
 }
 
-// The command behind the word exec.
+// The command after the word exec.
 fn exec(words: &[String]) -> Option<Command<'_>>
     ensures { asked result ≡ exec_of (map string_bytes words.now) }
 {
-    match words {
-        [word, next, rest @ ..] if word.as_bytes() == b"--steps".as_slice() => {
-            exec_files(number(next.as_bytes())?, rest)
-        }
-        _ => exec_files(u64::MAX, words),
-    }
-}
-
-fn exec_files(steps: u64, words: &[String]) -> Option<Command<'_>>
-    ensures { asked result ≡ exec_files steps (map string_bytes words.now) }
-{
+    let (steps, words) = options(words)?;
     let (source, file) = two_files(words)?;
     Some(Command::Exec {
         steps,
         source,
         file,
     })
+}
+
+// The number of turns that is asked for, and the words after the options.
+fn options(words: &[String]) -> Option<(u64, &[String])>
+    ensures { option_map (λ o. (o.0, map string_bytes o.1.now)) result ≡ options_of (map string_bytes words.now) }
+{
+    match words {
+        [word, next, rest @ ..] if word.as_bytes() == b"--steps".as_slice() => {
+            Some((number(next.as_bytes())?, rest))
+        }
+        _ => Some((u64::MAX, words)),
+    }
 }
 
 // The names of two files and nothing else.
@@ -120,7 +122,8 @@ fn number(word: &[u8]) -> Option<u64>
 #[tactic(auto, using(crate::proofs::Digits::digit_steps))]
 fn value(digits: &[u8]) -> Option<u64>
     requires { are_digits digits.now ≡ true }
-    ensures { result ≡ (if nat_le (value_after 0 digits.now) most_turns then Some (value_after 0 digits.now) else None) }
+    ensures { result ≡
+        (if nat_le (value_after 0 digits.now) most_turns then Some (value_after 0 digits.now) else None) }
 {
     let mut value: u64 = 0;
     'digits: for digit in digits {

@@ -37,7 +37,7 @@ gets_outcome rs a (writes bytes) next = (rs, nexts.Ended 0)
 abbrev pub operated : Operator → Values → ℕ → ℕ → Values × Next
 operated o rs a next = gets_outcome rs a (call o (value_of rs a) (value_of rs (a + 1))) next
 
--- a call on self: puts writes the register behind a, which gets nil
+-- a call on self: puts writes the register after a, which gets nil
 abbrev pub sent : Bool → Values → ℕ → ℕ → Values × Next
 sent true rs a next = (set rs a Nil, nexts.Puts next (value_of rs (a + 1)))
 sent false rs a next = (rs, nexts.Ended 0)

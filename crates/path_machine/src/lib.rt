@@ -21,10 +21,12 @@ use std::alloc::Global;
 /// input, so the clauses hold for every input.
 pub fn run<O: Sink>(alloc: Global, code: &Code, budget: u64, out: &mut O) -> Result<Ran, RunFault>
     ensures ran { IfOk result (λ ran. (input : List ℕ) → IsRan ran (seen_after code.now budget input)) }
-    ensures written { OnOk result ((input : List ℕ) → O.taken out.new ≡ with_more (O.taken out.old) (output_of (seen_after code.now budget input))) }
+    ensures written { OnOk result
+        ((input : List ℕ) → O.taken out.new ≡ with_more (O.taken out.old) (output_of (seen_after code.now budget input))) }
     ensures counted { result ≢ Err RunFault.OutputFault → O.faults out.new ≡ O.faults out.old }
     ensures fault { IsErrOf result RunFault.OutputFault → Rose (O.faults out.old) (O.faults out.new) }
-    ensures stopped { OnErr result ((input : List ℕ) → StoppedWithin code.now budget input (O.taken out.old) (O.taken out.new)) }
+    ensures stopped { OnErr result
+        ((input : List ℕ) → StoppedWithin code.now budget input (O.taken out.old) (O.taken out.new)) }
 {
     match code.bodies().first() {
         Some(body) => running::run_body(alloc, body, budget, out),

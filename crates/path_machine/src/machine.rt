@@ -69,7 +69,7 @@ fn is_puts(symbols: &[Bytes], symbol: u16, count: u16) -> bool
     }
 }
 
-/// The call of an operator on register `a` with the register behind it.
+/// The call of an operator on register `a` with the register after it.
 #[inline(always)]
 fn operate(operator: Operator, registers: &mut [Value], a: u16, next: usize) -> Next
     ensures { (registers.new, result) ≡ operated operator registers.old a next }
@@ -107,7 +107,7 @@ fn load(registers: &mut [Value], a: u16, value: Value, next: usize) -> Next
     Next::To(next)
 }
 
-/// One operation, with the place behind it.
+/// One operation, with the place after it.
 #[inline(always)]
 fn execute(symbols: &[Bytes], operation: Operation, next: usize, registers: &mut [Value]) -> Next
     requires { next < 2 ^ 63 }
@@ -145,7 +145,7 @@ fn execute(symbols: &[Bytes], operation: Operation, next: usize, registers: &mut
     }
 }
 
-/// The instruction that stands at a place, and the place behind it.
+/// The instruction that stands at a place, and the place after it.
 #[inline(always)]
 fn fetch(code: &[u8], place: usize) -> Option<(Instr, usize)>
     ensures same { result ≡ spelling.decode_wide_at code.now place }

@@ -45,10 +45,12 @@ fn turns<O: Sink>(
     out: &mut O,
 ) -> Result<Ran, Failed>
     ensures ran { IfOk result (λ ran. ran ≡ (course body.now budget 0 registers.old).ran) }
-    ensures written { OnOk result (O.taken out.new ≡ with_more (O.taken out.old) (course body.now budget 0 registers.old).written) }
+    ensures written { OnOk result
+        (O.taken out.new ≡ with_more (O.taken out.old) (course body.now budget 0 registers.old).written) }
     ensures counted { OnOk result (O.faults out.new ≡ O.faults out.old) }
     ensures failed { OnErr result (Rose (O.faults out.old) (O.faults out.new)) }
-    ensures front { OnErr result (TookFront (O.taken out.old) (O.taken out.new) (course body.now budget 0 registers.old).written) }
+    ensures front { OnErr result
+        (TookFront (O.taken out.old) (O.taken out.new) (course body.now budget 0 registers.old).written) }
 {
     let mut place = 0;
     let mut left = budget;
@@ -75,10 +77,12 @@ pub fn run_body<O: Sink>(
     out: &mut O,
 ) -> Result<Ran, RunFault>
     ensures ran { IfOk result (λ ran. ran ≡ (whole_course body.now budget).ran) }
-    ensures written { OnOk result (O.taken out.new ≡ with_more (O.taken out.old) (whole_course body.now budget).written) }
+    ensures written { OnOk result
+        (O.taken out.new ≡ with_more (O.taken out.old) (whole_course body.now budget).written) }
     ensures counted { result ≢ Err RunFault.OutputFault → O.faults out.new ≡ O.faults out.old }
     ensures fault { IsErrOf result RunFault.OutputFault → Rose (O.faults out.old) (O.faults out.new) }
-    ensures stopped { OnErr result (TookFront (O.taken out.old) (O.taken out.new) (whole_course body.now budget).written) }
+    ensures stopped { OnErr result
+        (TookFront (O.taken out.old) (O.taken out.new) (whole_course body.now budget).written) }
 {
     let mut registers = vec![in alloc; Value::Nil; usize::from(body.registers)]?;
     let ran = turns(body, &mut registers, budget, out)?;

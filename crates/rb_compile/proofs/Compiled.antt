@@ -1,5 +1,5 @@
 -- What holds of the code of a form within the limits.
-use Rattle.std.proofs.Common.{ℕ, ◌+◌, ◌^◌, ◌<◌, List, [], ◌∷◌, Option, Some, None, sym, subst, arith, length, length-append, Bool, true, false, cond}
+use Rattle.std.proofs.Common.{◌≡◌, refl, ℕ, ◌+◌, ◌^◌, ◌<◌, List, [], ◌∷◌, Option, Some, None, sym, subst, arith, length, length-append, Bool, true, false, cond}
 use Rattle.std.specs.Prelude.{MatchOption, codes}
 use Rattle.rb_compile.specs.Compiled.{IsCodeOf}
 use Rattle.path_core.specs.Form.{Form}
@@ -53,3 +53,10 @@ verified_of (Some f) c (w, e) = subst IsVerified (sym e) (code_verified f w)
 pub short_of : (o : Option Form) (c : Program) → IsCodeOf c o → length (canonical c) < 2 ^ 32
 short_of None c h = absurd h
 short_of (Some f) c (w, e) = subst (λ (d : Program). length (canonical d) < 2 ^ 32) (sym e) (short_code f w)
+
+version_code : (f : Form) → (code_of f).version ≡ 2
+version_code f = either f (λ (c : Program). c.version ≡ 2) refl refl
+
+pub version_of : (o : Option Form) (c : Program) → IsCodeOf c o → c.version ≡ 2
+version_of None c h = absurd h
+version_of (Some f) c (w, e) = subst (λ (d : Program). d.version ≡ 2) (sym e) (version_code f)

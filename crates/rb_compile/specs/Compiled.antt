@@ -30,12 +30,14 @@ IsUnbuilt text what at = (what ≡ Unbuilt) × (at ≡ 0) × (c : CoreForm) × (
 -- the text has a core that the generator builds, of which this is the first count that exceeds its limit
 abbrev pub IsPastLimit : List ℕ → Count → ℕ → Type 0
 IsPastLimit text what count =
-    (c : CoreForm) × (core_of text ≡ Some c) × (is_some (built c) ≡ true) × (first_excess (need c) ≡ Some (record { what = what; count = count }))
+    (c : CoreForm) × (core_of text ≡ Some c) × (is_some (built c) ≡ true)
+    × (first_excess (need c) ≡ Some (record { what = what; count = count }))
 
--- Each cause holds of other texts than the next, and of none that is compiled: a long text, none of the language, a
--- construct outside the language, one that isn't built, a count past its limit.
+-- A long text, none of the language, a construct outside the language, one that isn't built, a count past its limit.
+-- No two causes hold of one text, and none of a text that has a program (see Causes).
 abbrev pub Refuses : List ℕ → CompileError → Type 0
-Refuses text (TooLarge what count) = (16777216 < length text) × (what ≡ Source) × (count ≡ 16777217) ⊎ IsPastLimit text what count
+Refuses text (TooLarge what count) =
+    (16777216 < length text) × (what ≡ Source) × (count ≡ 16777217) ⊎ IsPastLimit text what count
 Refuses text (Syntax at) = front.Refuses text (front_errors.Syntax at)
 Refuses text TooDeep = front.Refuses text front_errors.TooDeep
 Refuses text (Outside what at) = front.Refuses text (front_errors.Outside what at) ⊎ IsUnbuilt text what at

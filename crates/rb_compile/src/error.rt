@@ -3,6 +3,7 @@ ghost use Rattle.rb_compile.specs.declared.error.CompileError.TheVariants.{NoMem
 ghost use Rattle.rb_compile.specs.Errors.{front_error};
 
 use rb_front::FrontError;
+use rb_refusal::Refusal;
 use rb_syntax::{Count, Outside};
 use std::alloc::AllocError;
 
@@ -19,6 +20,23 @@ pub enum CompileError {
     Outside { what: Outside, at: u32 },
     /// Memory ran out.
     NoMemory,
+}
+
+impl CompileError {
+    ghost use Rattle.rb_compile.specs.Refusal.{refusal_of};
+
+    /// Why the source is refused. None where memory ran out.
+    pub fn refusal(self) -> Option<Refusal>
+        ensures { result ≡ refusal_of self }
+    {
+        match self {
+            CompileError::TooLarge { what, count } => Some(Refusal::TooLarge { what, count }),
+            CompileError::Syntax { at } => Some(Refusal::Syntax { at }),
+            CompileError::TooDeep => Some(Refusal::TooDeep),
+            CompileError::Outside { what, at } => Some(Refusal::Outside { what, at }),
+            CompileError::NoMemory => None,
+        }
+    }
 }
 
 impl From<FrontError> for CompileError {

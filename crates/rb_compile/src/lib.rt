@@ -1,6 +1,6 @@
 //! The compiler, from text to code.
 //!
-//! Type: [`CompileError`]. Call: [`compile`].
+//! Type: [`CompileError`]. Call: [`compile`]. Law: [`laws_of_refusals`].
 #![tactic(auto)]
 
 ghost use Rattle.std.specs.Prelude.{◌≡◌, ◌<◌, ◌^◌, Some, length, IfOk, IfErr, MatchOption};
@@ -12,13 +12,14 @@ ghost use Rattle.rite_code.specs.Code.{IsWhole};
 ghost use Rattle.code_generator.specs.Implements.{Implements};
 ghost use Rattle.rb_compile.specs.Language.{program_of};
 ghost use Rattle.rb_compile.specs.Compiled.{IsCodeOf, Refuses};
+ghost use Rattle.rb_compile.specs.Causes.{OneCause, NoProgram};
 
 pub mod error;
 
 use code_generator::generate;
-use ir_counts::first_past_limit;
 pub use error::CompileError;
 use ir_core::Core;
+use ir_counts::first_past_limit;
 use rb_front::read;
 use rb_syntax::Outside;
 use rite_code::Code;
@@ -55,7 +56,7 @@ fn generate_code(alloc: Global, text: &[u8], core: &Core) -> Result<Code, Compil
     }
 }
 
-/// Code that implements the source, in which no check of the verifier fails and whose file has a size.
+/// Code of version 2 that implements the source, in which no check of the verifier fails and whose file has a size.
 ///
 /// Each refusal comes exactly where its cause is the first in this order. `TooLarge` of the source: the text has more
 /// than 16,777,216 bytes, whatever they are. `Syntax`: it has no tokens. `TooDeep`: these are more than 256 deep.
@@ -65,6 +66,7 @@ fn generate_code(alloc: Global, text: &[u8], core: &Core) -> Result<Code, Compil
 pub fn compile(alloc: Global, text: &[u8]) -> Result<Code, CompileError>
     ensures implements { IfOk result (λ code. MatchOption (program_of text.now) ⊥ (Implements code)) }
     ensures whole { IfOk result IsWhole }
+    ensures version { IfOk result (λ code. code.version ≡ 2) }
     ensures verified { IfOk result IsVerified }
     ensures fits { IfOk result (λ code. length (canonical code) < 2 ^ 32) }
     ensures refused { IfErr result (Refuses text.now) }
@@ -73,3 +75,9 @@ pub fn compile(alloc: Global, text: &[u8]) -> Result<Code, CompileError>
     let code = generate_code(alloc, text, &core)?;
     Ok(code)
 }
+
+/// Memory aside, a text is refused for one cause, and one that is refused has no program.
+pub fn laws_of_refusals()
+    ensures one_cause { OneCause }
+    ensures no_program { NoProgram }
+{}

@@ -1,9 +1,17 @@
-use Rattle.mrb_tool.specs.Running.{files_alone}
-use Rattle.mrb_tool.proofs.Reporting.{not_loaded}
+use Rattle.mrb_tool.proofs.Disks.{disk, stream}
+use Rattle.mrb_tool.proofs.Listing.{unlisted, listed_as}
 use Rattle.mrb_tool.proofs.showing.list.Goals as goal
+
+pub returns-in_err-code : goal.returns-in_err-code
+returns-in_err-code g c =
+    let before = disk g.F.Files.tells g.F.Files.file g.F.Files.load_faults g.F.Files.store_faults c.args.files.now in
+    let after = disk g.F.Files.tells g.F.Files.file g.F.Files.load_faults g.F.Files.store_faults c.load.new.files in
+    unlisted before after (stream g.O.Sink.taken g.O.Sink.faults c.args.out.now) c.args.file.now c.in_err-code.field-0.0
+    c.from_residual.result c.from_residual.ensures.1 c.in_err-code.ensures
 
 pub returns : goal.returns
 returns g c =
-    let before = files_alone (g.F.Files.tells c.args.files.now) (g.F.Files.file c.args.files.now) (g.F.Files.load_faults c.args.files.now) (g.F.Files.store_faults c.args.files.now) in
-    let after = files_alone (g.F.Files.tells c.load.new.files) (g.F.Files.file c.load.new.files) (g.F.Files.load_faults c.load.new.files) (g.F.Files.store_faults c.load.new.files) in
-    not_loaded before after (record { taken = g.O.Sink.taken c.args.out.now; faults = g.O.Sink.faults c.args.out.now }) c.args.file.now c.in-Err.report c.in-Err.ensures
+    let before = disk g.F.Files.tells g.F.Files.file g.F.Files.load_faults g.F.Files.store_faults c.args.files.now in
+    let after = disk g.F.Files.tells g.F.Files.file g.F.Files.load_faults g.F.Files.store_faults c.load.new.files in
+    listed_as before after (stream g.O.Sink.taken g.O.Sink.faults c.args.out.now)
+    (stream g.O.Sink.taken g.O.Sink.faults c.list.new.out) c.args.file.now c.in_ok-code.code c.list.result c.in_ok-code.ensures c.list.ensures

@@ -1,6 +1,6 @@
-use Rattle.std.proofs.Common.{refl, append_assoc, ◌∷◌, ◌++◌, [], codes}
-use Rattle.code_listing.specs.RefusalText.{refusal_text}
-use Rattle.code_listing.proofs.Progress.{started, went_on, stopped, ended}
+use Rattle.std.proofs.Common.{refl, append_assoc, ◌∷◌, [], codes}
+use Rattle.rb_refusal.specs.RefusalText.{refusal_text}
+use Rattle.rb_refusal.proofs.Progress.{started, went_on, stopped, ended}
 use Rattle.mrb_tool.proofs.texts.tell_refused.Goals as goal
 
 pub returns-in_err-write_text : goal.returns-in_err-write_text

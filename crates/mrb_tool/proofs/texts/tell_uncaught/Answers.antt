@@ -1,6 +1,6 @@
 use Rattle.std.proofs.Common.{append_assoc, ap, sym}
 use Rattle.mrb_tool.specs.Texts as texts
-use Rattle.code_listing.proofs.Writing.{says_same}
+use Rattle.rb_refusal.proofs.Writing.{says_same}
 use Rattle.mrb_tool.proofs.texts.tell_uncaught.Goals as goal
 
 pub returns-in-IntegerOverflow : goal.returns-in-IntegerOverflow

@@ -1,0 +1,37 @@
+//! What files and streams tell at one moment, as the clauses of this program name it.
+ghost use Rattle.rb_refusal.specs.Writing.{Stream};
+ghost use Rattle.mrb_tool.specs.Told.{Disk, Input};
+
+use rb_base::{Files, Sink, Source};
+
+/// Files that tell.
+pub trait OfFiles {
+    ghost told: { Self → Disk };
+}
+
+impl<F: Files> OfFiles for F {
+    ghost told = { λ f. record {
+      tells = F.tells f;
+      file = F.file f;
+      load_faults = F.load_faults f;
+      store_faults = F.store_faults f;
+    } };
+}
+
+/// A source of input that tells.
+pub trait OfSource {
+    ghost told: { Self → Input };
+}
+
+impl<S: Source> OfSource for S {
+    ghost told = { λ s. record { left = S.left s; faults = S.faults s } };
+}
+
+/// A stream of output that tells.
+pub trait OfSink {
+    ghost told: { Self → Stream };
+}
+
+impl<O: Sink> OfSink for O {
+    ghost told = { λ o. record { taken = O.taken o; faults = O.faults o } };
+}

@@ -1,0 +1,49 @@
+//! Calls of the program over files and streams in memory, for the tests.
+ghost use Rattle.std.specs.Prelude.{◌<◌};
+
+use crate::end::End;
+use crate::rite::rite;
+use rb_base::{MemoryFiles, MemorySink, MemorySource};
+use std::alloc::Global;
+use std::test::Fail;
+
+/// What a call left behind.
+#[derive(Drop)]
+pub struct Left {
+    pub end: End,
+    pub files: MemoryFiles,
+    pub out: MemorySink,
+    pub err: MemorySink,
+}
+
+/// Calls the program with these words over one file `given`. The calls on files of the numbers `fails` fail.
+pub fn call(
+    alloc: Global,
+    words: &[&str],
+    given: &[u8],
+    fails: Vec<u64>,
+    mut out: MemorySink,
+    mut err: MemorySink,
+) -> Result<Left, Fail> {
+    let mut texts = Vec::new(alloc);
+    for word in words {
+        texts.push(String::from_str(alloc, word)?)?;
+    }
+    let mut files = MemoryFiles::new(alloc, fails);
+    files.put("given", given)?;
+    let mut input = MemorySource::new(Vec::new(alloc), Vec::new(alloc));
+    let end = rite(alloc, &texts, &mut files, &mut input, &mut out, &mut err);
+    Ok(Left {
+        end,
+        files,
+        out,
+        err,
+    })
+}
+
+/// A sink that takes so many bytes a call and never fails.
+pub fn sink(alloc: Global, most: usize) -> MemorySink
+    requires { 0 < most }
+{
+    MemorySink::new(alloc, most, Vec::new(alloc))
+}

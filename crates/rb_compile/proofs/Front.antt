@@ -1,0 +1,142 @@
+-- The causes of the front exclude each other.
+use Rattle.std.proofs.Common.{◌≡◌, ◌≢◌, ℕ, ◌≤◌, ◌<◌, nat_le, true, false, List, length, Option, Some, None, Result, Ok, Err, refl, sym, ◌∙◌, ap, arith}
+use Rattle.std.proofs.lemmas.Bool.Decides.{nat_tests}
+use Rattle.rb_syntax.specs.declared.token.Token.{Token}
+use Rattle.rb_lexer.specs.Lexing.{tokens_of}
+use Rattle.lexer_depth.specs.Levels.{deep}
+use Rattle.parser_tree.specs.Node.{Node}
+use Rattle.parser_checks.specs.Places.{misplaced}
+use Rattle.std.specs.Option.{option_map}
+use Rattle.rb_parser.specs.Program.{tree_of, Misses}
+use Rattle.rb_parser.specs.Places.{word_place}
+use Rattle.lower_outside.specs.Search.{found}
+use Rattle.lower_outside.specs.declared.construct.Found.{Found}
+use Rattle.rb_front.specs.Front.{IsTree, IsNoProgram, IsTooDeep, Refuses, core_within, core_of_tree, core_of_tokens, core_of}
+use Rattle.rb_front.specs.declared.error.FrontError.{FrontError}
+use Rattle.rb_front.specs.declared.error.FrontError.TheVariants.{TooLong, Syntax, TooDeep, Outside, NoMemory}
+use Rattle.rb_compile.proofs.Misplaced.{one_place, not_missed}
+
+missed_within : (o : Option ℕ) (f : ℕ → ℕ) (at : ℕ) (c : Option Found) (n : Node) → option_map f o ≡ Some at
+    → core_within o c n ≡ None
+missed_within None f at c n h = absurd (cc h)
+missed_within (Some word) f at c n h = refl
+
+-- tokens that are refused for a place have no core
+missed_core : (ts : List Token) (size at : ℕ) (r : Result Node ℕ) → Misses ts size at r → core_of_tree r ≡ None
+missed_core ts size at (Err place) h = refl
+missed_core ts size at (Ok n) h = missed_within (misplaced n) (λ word. word_place ts 0 word size) at (found None n) n h
+
+syntax_core : (r : Result (List Token) ℕ) (size at : ℕ) → IsNoProgram r size at → core_of_tokens r size ≡ None
+syntax_core (Err place) size at h = refl
+syntax_core (Ok tokens) size at (within, misses) =
+    let fits : nat_le (deep tokens) 256 ≡ true = grind (arith, nat_tests) in
+    rw fits (missed_core tokens size at (tree_of tokens size) misses)
+
+deep_core : (r : Result (List Token) ℕ) (size : ℕ) → IsTooDeep r → core_of_tokens r size ≡ None
+deep_core (Err place) size h = absurd h
+deep_core (Ok tokens) size past =
+    let over : nat_le (deep tokens) 256 ≡ false = grind (arith, nat_tests) in
+    rw over
+
+outside_within : (o : Option ℕ) (c : Option Found) (n : Node) (f : Found) → c ≡ Some f → core_within o c n ≡ None
+outside_within None None n f is = absurd (cc is)
+outside_within None (Some g) n f is = refl
+outside_within (Some word) None n f is = refl
+outside_within (Some word) (Some g) n f is = refl
+
+outside_tree : (r : Result Node ℕ) (n : Node) (f : Found) → r ≡ Ok n → found None n ≡ Some f → core_of_tree r ≡ None
+outside_tree (Err place) n f is there = absurd (cc is)
+outside_tree (Ok m) n f is there =
+    let same : m ≡ n = cc is in
+    outside_within (misplaced m) (found None m) m f (ap (found None) same ∙ there)
+
+outside_core : (r : Result (List Token) ℕ) (size : ℕ) (n : Node) (f : Found) → IsTree r size n → found None n ≡ Some f
+    → core_of_tokens r size ≡ None
+outside_core (Err place) size n f h there = absurd h
+outside_core (Ok tokens) size n f (within, is, well) there =
+    let fits : nat_le (deep tokens) 256 ≡ true = grind (arith, nat_tests) in
+    rw fits (outside_tree (tree_of tokens size) n f is there)
+
+-- a text within its size has the core of its tokens
+within_size : (text : List ℕ) → length text ≤ 16777216 → core_of text ≡ core_of_tokens (tokens_of text) (length text)
+unfolding core_of
+within_size text h =
+    let fits : nat_le (length text) 16777216 ≡ true = grind (arith, nat_tests) in
+    rw fits
+
+past_size : (text : List ℕ) → 16777216 < length text → core_of text ≡ None
+unfolding core_of
+past_size text h =
+    let over : nat_le (length text) 16777216 ≡ false = grind (arith, nat_tests) in
+    rw over
+
+-- a text that the front refuses has no core
+pub refused_core : (text : List ℕ) (e : FrontError) → e ≢ NoMemory → Refuses text e → core_of text ≡ None
+refused_core text TooLong other h = past_size text h
+refused_core text (Syntax at) other (size, none, within) =
+    within_size text size ∙ syntax_core (tokens_of text) (length text) at none
+refused_core text TooDeep other (size, deep) = within_size text size ∙ deep_core (tokens_of text) (length text) deep
+refused_core text (Outside what at) other (n, (size, tree), there) =
+    within_size text size ∙ outside_core (tokens_of text) (length text) n _ tree there
+refused_core text NoMemory other h = absurd (other refl)
+
+-- one place without a tree
+same_place : (r : Result (List Token) ℕ) (size a b : ℕ) → IsNoProgram r size a → IsNoProgram r size b → a ≡ b
+same_place (Err place) size a b g h = g ∙ sym h
+same_place (Ok tokens) size a b (within, g) (again, h) = one_place tokens size a b (tree_of tokens size) g h
+
+not_deep : (r : Result (List Token) ℕ) (size at : ℕ) → IsNoProgram r size at → IsTooDeep r → ⊥
+not_deep (Err place) size at g h = h
+not_deep (Ok tokens) size at (within, g) h = absurd (omega arith)
+
+not_tree : (r : Result (List Token) ℕ) (size at : ℕ) (n : Node) → IsNoProgram r size at → IsTree r size n → ⊥
+not_tree (Err place) size at n g h = h
+not_tree (Ok tokens) size at n (within, g) (again, is, well) =
+    not_missed tokens size at (tree_of tokens size) n g is well
+
+shallow : (r : Result (List Token) ℕ) (size : ℕ) (n : Node) → IsTooDeep r → IsTree r size n → ⊥
+shallow (Err place) size n g h = g
+shallow (Ok tokens) size n g (within, is, well) = absurd (omega arith)
+
+same_node : (r : Result (List Token) ℕ) (size : ℕ) (n m : Node) → IsTree r size n → IsTree r size m → n ≡ m
+same_node (Err place) size n m g h = absurd g
+same_node (Ok tokens) size n m (within, is, well) (again, too, right) = cc (sym is ∙ too)
+
+same_construct : (n m : Node) (f g : Found) → n ≡ m → found None n ≡ Some f → found None m ≡ Some g
+    → Outside f.what f.at ≡ Outside g.what g.at
+same_construct n m f g same is too =
+    let there : f ≡ g = cc (sym is ∙ ap (found None) same ∙ too) in
+    ap (λ (x : Found). Outside x.what x.at) there
+
+-- the front refuses a text for one cause
+pub one_front : (text : List ℕ) (e d : FrontError) → e ≢ NoMemory → d ≢ NoMemory → Refuses text e → Refuses text d
+    → e ≡ d
+one_front text TooLong TooLong p q g h = refl
+one_front text TooLong (Syntax b) p q g (size, h, within) = absurd (omega arith)
+one_front text TooLong TooDeep p q g (size, h) = absurd (omega arith)
+one_front text TooLong (Outside w b) p q g (n, (size, h), there) = absurd (omega arith)
+one_front text TooLong NoMemory p q g h = absurd (q refl)
+one_front text (Syntax a) TooLong p q (size, g, within) h = absurd (omega arith)
+one_front text (Syntax a) (Syntax b) p q (size, g, within) (again, h, too) =
+    ap Syntax (same_place (tokens_of text) (length text) a b g h)
+one_front text (Syntax a) TooDeep p q (size, g, within) (again, h) =
+    absurd (not_deep (tokens_of text) (length text) a g h)
+one_front text (Syntax a) (Outside w b) p q (size, g, within) (n, (again, h), there) =
+    absurd (not_tree (tokens_of text) (length text) a n g h)
+one_front text (Syntax a) NoMemory p q g h = absurd (q refl)
+one_front text TooDeep TooLong p q (size, g) h = absurd (omega arith)
+one_front text TooDeep (Syntax b) p q (size, g) (again, h, within) =
+    absurd (not_deep (tokens_of text) (length text) b h g)
+one_front text TooDeep TooDeep p q g h = refl
+one_front text TooDeep (Outside w b) p q (size, g) (n, (again, h), there) =
+    absurd (shallow (tokens_of text) (length text) n g h)
+one_front text TooDeep NoMemory p q g h = absurd (q refl)
+one_front text (Outside v a) TooLong p q (n, (size, g), here) h = absurd (omega arith)
+one_front text (Outside v a) (Syntax b) p q (n, (size, g), here) (again, h, within) =
+    absurd (not_tree (tokens_of text) (length text) b n h g)
+one_front text (Outside v a) TooDeep p q (n, (size, g), here) (again, h) =
+    absurd (shallow (tokens_of text) (length text) n h g)
+one_front text (Outside v a) (Outside w b) p q (n, (size, g), here) (m, (again, h), there) =
+    same_construct n m _ _ (same_node (tokens_of text) (length text) n m g h) here there
+one_front text (Outside v a) NoMemory p q g h = absurd (q refl)
+one_front text NoMemory d p q g h = absurd (p refl)
