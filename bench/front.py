@@ -1,22 +1,36 @@
 #!/usr/bin/env python3
-"""Measures how many lines a second go from text to core, beside mruby's compiler. Not part of the tests.
+"""Measures what reading a text to its core costs, beside mruby's compiler. Not part of the tests.
 
-    bench/front.py RITE [LINES]
+    bench/front.py RITE [LINES] [--mebibytes N] [--times N]
 
-RITE is the built program (build/rite), `mrbc` stands on the path. The source is made of the programs
-of examples/programs that both read, again and again up to about so many lines (9,000 without a number; mruby refuses a
-body of some 11,000). RITE reads it as tokens, tree and core, and refuses the core, of which it builds little so far:
-what is timed is the front end alone. mruby's compiler makes the code, too, also with `-c`, which doesn't write it.
+RITE is the built program (build/rite), `mrbc` and GNU `time` stand on the path. The texts are
+
+- the programs of examples/programs that both read, again and again up to about so many lines (9,000 without a number;
+  mruby refuses a body of some 11,000);
+- 10,000 local variables, each set once and used three times: in scopes of 200, and in one scope, which mruby refuses;
+- N MiB of methods (16 without a number).
+
+RITE reads a text as tokens, tree and core, and may refuse the core, of which it builds some so far: what is timed is
+the front end alone then. mruby's compiler makes the code, too, also with `-c`, which doesn't write it. The seconds are
+processor time, the least of N runs (5 without a number). The memory is the greatest that a run held, by byte of the
+text, the program itself (some MiB) within it.
 """
+import argparse
 import glob
 import os
+import resource
 import subprocess
 import sys
 import tempfile
-import time
 
 PROGRAMS = os.path.join(os.path.dirname(os.path.abspath(__file__)), "..", "examples", "programs", "*.rb")
-TIMES = 5
+LOCALS = 10_000
+METHOD = """  # adds what it is given
+  def add_{0}(text, count = 1_000)
+    text.split(", ").each {{ |word| @words[word] += count if word != "the #{{count + {0}}} of them" }}
+    @total += count * 0x1F - (3 << 2)
+  end
+"""
 
 
 def is_read(rite, text, folder):
@@ -29,46 +43,96 @@ def is_read(rite, text, folder):
     return theirs.returncode == 0 and (ours.returncode == 0 or ours.stderr.startswith(b"refused: Outside Unbuilt "))
 
 
-def source(rite, lines, folder):
-    """The programs one after another, repeated. A local variable of one may be a method of another: that one is left out."""
+def programs(rite, lines, folder):
+    """The programs one after another, repeated, without those in which a local variable is a method of another."""
     whole = ""
     for path in sorted(glob.glob(PROGRAMS)):
         with open(path) as file:
             text = whole + file.read().rstrip("\n") + "\n"
         if is_read(rite, text + text, folder):
             whole = text
-    return whole * max(1, round(lines / whole.count("\n")))
+    return whole * max(1, round(lines / max(1, whole.count("\n"))))
 
 
-def best(command, statuses):
-    """The least time of some runs, and what the last one said."""
-    seconds = []
-    for _ in range(TIMES):
-        start = time.perf_counter()
-        run = subprocess.run(command, capture_output=True, timeout=600)
-        seconds.append(time.perf_counter() - start)
-        assert run.returncode in statuses, (command, run.returncode, run.stderr[:200])
-    return min(seconds), run.stderr.decode().strip()
+def scope(names):
+    """Statements that set so many local variables once and use each three times."""
+    first = [f"local_{one} = {one}\n" for one in range(names)]
+    others = [f"local_{one} += local_{(one * step) % names}\n" for step in (7, 7_919, 104_729) for one in range(names)]
+    return "".join(first + others)
 
 
-def main(rite, lines):
+def scopes(names):
+    """So many local variables in all, in methods of 200."""
+    return "".join(f"def scope_{one}\n{scope(200)}end\n" for one in range(names // 200))
+
+
+def methods(size):
+    """Classes of 100 methods, at most so many bytes."""
+    body = "".join(METHOD.format(one) for one in range(100))
+    return "".join(f"class Part{one}\n{body}end\n" for one in range(size // (len(body) + 20)))
+
+
+def measured(command, times):
+    """The least processor time of some runs in seconds, the greatest memory in bytes, the status, and what was said.
+
+    A child of this script begins with its memory, one of `time` doesn't: so `time` is asked for the memory.
+    """
+    seconds, peak = [], 0
+    for _ in range(times):
+        with tempfile.NamedTemporaryFile() as told:
+            before = resource.getrusage(resource.RUSAGE_CHILDREN)
+            run = subprocess.run(["time", "-q", "-f", "%M", "-o", told.name, *command], stdin=subprocess.DEVNULL,
+                                 capture_output=True)
+            after = resource.getrusage(resource.RUSAGE_CHILDREN)
+            peak = max(peak, int(told.read()) * 1024)
+        seconds.append(after.ru_utime + after.ru_stime - before.ru_utime - before.ru_stime)
+    said = (run.stdout + run.stderr).decode(errors="replace").strip().split("\n")[0]
+    return min(seconds), peak, run.returncode, said
+
+
+def compare(name, text, rite, times, folder):
+    """Writes the text, drops it, and measures both compilers on it."""
+    path, target = os.path.join(folder, "long.rb"), os.path.join(folder, "long.mrb")
+    with open(path, "w") as file:
+        file.write(text)
+    lines, size = text.count("\n"), len(text)
+    del text
+    print(f"{name}: {lines:,} lines, {size:,} bytes")
+    commands = [("rite build", [rite, "build", path, target], (0, 121)), ("mrbc -c", ["mrbc", "-c", path], (0,))]
+    spent = {}
+    for tool, command, statuses in commands:
+        if tool == "mrbc -c" and name == "one scope":
+            print("  mrbc -c     has no bodies with so many local variables")
+            continue
+        seconds, peak, status, said = measured(command, times)
+        if status not in statuses:
+            print(f"  {tool:10}  status {status}: {said}")
+            continue
+        spent[tool] = seconds
+        speed = f"{lines / max(seconds, 0.001):12,.0f} lines a second ({seconds:.2f} s)"
+        print(f"  {tool:10}{speed}, {peak / size:6.1f} bytes a byte   {said if tool == 'rite build' else ''}".rstrip())
+    if len(spent) == 2:
+        print(f"  time to mrbc's {spent['rite build'] / max(spent['mrbc -c'], 0.001):.2f}")
+
+
+def main():
+    words = argparse.ArgumentParser(description=__doc__, formatter_class=argparse.RawDescriptionHelpFormatter)
+    words.add_argument("rite")
+    words.add_argument("lines", nargs="?", type=int, default=9_000)
+    words.add_argument("--mebibytes", type=int, default=16)
+    words.add_argument("--times", type=int, default=5)
+    asked = words.parse_intermixed_args()
     with tempfile.TemporaryDirectory() as folder:
-        text = source(rite, lines, folder)
-        path, target = os.path.join(folder, "long.rb"), os.path.join(folder, "long.mrb")
-        with open(path, "w") as file:
-            file.write(text)
-        runs = [
-            ("rite build, up to the core", [rite, "build", path, target], (0, 121)),
-            ("mrbc -c, up to the code", ["mrbc", "-c", path], (0,)),
+        texts = [
+            ("programs", lambda: programs(asked.rite, asked.lines, folder)),
+            ("scopes of 200", lambda: scopes(LOCALS)),
+            ("one scope", lambda: scope(LOCALS)),
+            ("methods", lambda: methods(asked.mebibytes << 20)),
         ]
-        count = text.count("\n")
-        print(f"{count} lines, {len(text)} bytes")
-        for name, command, statuses in runs:
-            seconds, said = best(command, statuses)
-            print(f"{name}: {count / seconds:,.0f} lines a second ({seconds:.2f} s) {said}")
+        for name, text in texts:
+            compare(name, text(), asked.rite, asked.times, folder)
+            sys.stdout.flush()
 
 
 if __name__ == "__main__":
-    if len(sys.argv) < 2:
-        sys.exit(__doc__)
-    main(sys.argv[1], int(sys.argv[2]) if len(sys.argv) > 2 else 9_000)
+    main()
