@@ -27,6 +27,3 @@ pub use methods::{
 };
 pub use receiver::{class_of, plain_class_of};
 pub use singletons::singleton;
-
-#[cfg(test)]
-mod tests;

@@ -14,6 +14,3 @@ pub use bodies::list;
 pub use info_fault::InfoFault;
 pub use informing::info;
 pub use inspecting::write_inspected;
-
-#[cfg(test)]
-mod tests;

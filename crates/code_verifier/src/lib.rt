@@ -37,6 +37,3 @@ pub fn verify(alloc: Global, code: Code) -> Result<Verified, VerifyError>
     check_bodies(&code, &found)?;
     Ok(Verified::new(code, found))
 }
-
-#[cfg(test)]
-mod tests;

@@ -20,6 +20,3 @@ pub mod rows;
 pub use calling::call;
 pub use laws::{laws_of_failures, laws_of_rows};
 pub use rows::{Binary, Counts, IntegerRow, NumberRow, RangeRow, Relation, Test, Unary};
-
-#[cfg(test)]
-mod tests;

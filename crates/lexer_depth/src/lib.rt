@@ -9,6 +9,3 @@ pub mod level;
 pub mod stack;
 
 pub use fold::depth;
-
-#[cfg(test)]
-mod tests;

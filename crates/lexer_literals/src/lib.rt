@@ -19,6 +19,3 @@ pub use fault::Fault;
 pub use integers::{Scanned, integer};
 pub use numbers::{Number, Tail, numeral};
 pub use plain_escapes::{Delimiters, is_word_space, plain_escape, word_escape};
-
-#[cfg(test)]
-mod tests;

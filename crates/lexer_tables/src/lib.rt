@@ -13,6 +13,3 @@ pub mod marks;
 pub use context::{Context, after_keyword};
 pub use keywords::keyword_of;
 pub use marks::{Mark, mark_of, operator_name};
-
-#[cfg(test)]
-mod tests;

@@ -17,6 +17,3 @@ pub use cache::{Cache, find_cached, new_cache};
 pub use class_model::find;
 pub use permission::allowed;
 pub use super_search::find_super;
-
-#[cfg(test)]
-mod tests;

@@ -10,5 +10,3 @@ pub mod groups;
 pub mod names;
 pub mod primary;
 pub mod sections;
-#[cfg(test)]
-mod tests;

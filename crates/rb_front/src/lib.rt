@@ -8,21 +8,7 @@ ghost use Rattle.ir_core.specs.View.{core_view};
 ghost use Rattle.parser_tree.specs.View.{view};
 ghost use Rattle.rb_front.specs.Front as front;
 
-#[cfg(test)]
-mod core_print;
-#[cfg(test)]
-mod core_tests;
 pub mod error;
-#[cfg(test)]
-mod page;
-#[cfg(test)]
-mod refusal_tests;
-#[cfg(test)]
-mod rows;
-#[cfg(test)]
-mod tree_print;
-#[cfg(test)]
-mod tree_tests;
 
 pub use error::FrontError;
 use ir_core::Core;

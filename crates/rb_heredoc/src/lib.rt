@@ -9,6 +9,3 @@ pub mod search;
 
 pub use heredoc::{Bodies, Head};
 pub use search::bodies;
-
-#[cfg(test)]
-mod tests;

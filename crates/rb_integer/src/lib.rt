@@ -25,6 +25,3 @@ pub use failure::{ExceptionClass, IntegerFailure};
 pub use laws::laws_of_ranges;
 pub use numeral::laws_of_numerals;
 pub use text::Text;
-
-#[cfg(test)]
-mod tests;

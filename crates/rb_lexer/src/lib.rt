@@ -12,6 +12,3 @@ pub mod strings;
 pub use lexer::lex;
 pub use lexer_depth::depth;
 pub use lexer_steps::LexError;
-
-#[cfg(test)]
-mod tests;

@@ -11,6 +11,3 @@ pub mod refusal_texts;
 pub use pieces::{write_pieces, write_text};
 pub use refusal::Refusal;
 pub use refusal_texts::{refusal_text, visible_name};
-
-#[cfg(test)]
-mod tests;

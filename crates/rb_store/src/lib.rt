@@ -12,6 +12,3 @@ pub mod store;
 mod symbols;
 
 pub use store::Store;
-
-#[cfg(test)]
-mod tests;

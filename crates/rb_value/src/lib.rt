@@ -31,6 +31,3 @@ pub use method_table::MethodTable;
 pub use object::{Object, Variable};
 pub use outcome::{Failure, Outcome};
 pub use value::{ObjId, SymId, Value};
-
-#[cfg(test)]
-mod tests;

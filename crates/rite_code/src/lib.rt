@@ -21,6 +21,3 @@ pub use encoding::{encode, word_of};
 pub use instr::Instr;
 pub use opcode::{Opcode, Shape};
 pub use operation::{Operands, Operation, Parameters};
-
-#[cfg(test)]
-mod tests;

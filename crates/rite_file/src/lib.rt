@@ -74,6 +74,3 @@ pub fn write(alloc: Global, code: &Code) -> Result<Vec<u8>, AllocError>
     out.extend_from_slice(&END)?;
     Ok(out)
 }
-
-#[cfg(test)]
-mod tests;

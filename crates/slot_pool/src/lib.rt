@@ -10,6 +10,3 @@
 pub mod pool;
 
 pub use pool::{BlockId, SlotPool};
-
-#[cfg(test)]
-mod tests;

@@ -13,6 +13,3 @@ pub mod window;
 
 pub use bank::{StackBank, StackId};
 pub use window::Window;
-
-#[cfg(test)]
-mod tests;

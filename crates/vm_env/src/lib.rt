@@ -10,6 +10,3 @@
 pub mod envs;
 
 pub use envs::{EnvId, Envs};
-
-#[cfg(test)]
-mod tests;

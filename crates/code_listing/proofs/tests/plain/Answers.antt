@@ -1,4 +1,0 @@
-use Rattle.code_listing.proofs.tests.plain.Goals as goal
-
-pub program-requires-clause-body : goal.program-requires-clause-body
-program-requires-clause-body c = c.in_ok-body.ensures.body c.args.version

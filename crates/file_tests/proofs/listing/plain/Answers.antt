@@ -1,0 +1,4 @@
+use Rattle.file_tests.proofs.listing.plain.Goals as goal
+
+pub program-requires-clause-body : goal.program-requires-clause-body
+program-requires-clause-body c = c.in_ok-body.ensures.body c.args.version

@@ -1,0 +1,13 @@
+//! Instructions, files, the verifier and the listing, by files whose answers are known.
+#![tactic(auto)]
+
+#[cfg(test)]
+mod instructions;
+#[cfg(test)]
+mod files;
+#[cfg(test)]
+mod verifier;
+#[cfg(test)]
+mod listing;
+#[cfg(test)]
+mod refusals;

@@ -1,5 +1,0 @@
-use Rattle.def_core.specs.Sound.{Sound}
-use Rattle.method_lookup.proofs.tests.first_wrong.Given as goal
-
-abbrev pub invariant-loop-i : goal.invariant-loop-i
-invariant-loop-i l = record { sound : Sound l.st.store }

@@ -1,0 +1,7 @@
+//! The methods of Integer and Range on plain numbers and over a store, by calls whose results are known.
+#![tactic(auto)]
+
+#[cfg(test)]
+mod plain;
+#[cfg(test)]
+mod calls;

@@ -1,0 +1,9 @@
+//! Blocks, stacks, windows and environments of registers, by calls whose results are known.
+#![tactic(auto)]
+
+#[cfg(test)]
+mod pool;
+#[cfg(test)]
+mod stacks;
+#[cfg(test)]
+mod environments;

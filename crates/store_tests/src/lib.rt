@@ -1,0 +1,11 @@
+//! Values, the store, classes and the look-up of methods, by calls whose results are known.
+#![tactic(auto)]
+
+#[cfg(test)]
+mod values;
+#[cfg(test)]
+mod objects;
+#[cfg(test)]
+mod classes;
+#[cfg(test)]
+mod lookup;
