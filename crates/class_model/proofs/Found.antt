@@ -23,14 +23,17 @@ use Rattle.class_model.proofs.Members.{all_append, all_filter}
 abbrev SoundFound : Census → Option Found → Type 0
 SoundFound k = OptionIs (λ f. SoundMethod k f.method)
 
-entry_is_sound : (k : Census) (name : SymId) (es : List (ℕ × MethodEntry)) → AllAre (SoundEntry k) es → OptionIs (λ e. SoundMethod k e.method) (lookup (nat_eq name.0) es)
+entry_is_sound : (k : Census) (name : SymId) (es : List (ℕ × MethodEntry)) → AllAre (SoundEntry k) es
+    → OptionIs (λ e. SoundMethod k e.method) (lookup (nat_eq name.0) es)
 entry_is_sound k name [] all = tt
-entry_is_sound k name (e ∷ es) all = elim (nat_eq name.0 e.0) as (λ b. OptionIs (λ x. SoundMethod k x.method) (cond b (Some e.1) (lookup (nat_eq name.0) es))) [
-  | true ↦ all.0.1
-  | false ↦ entry_is_sound k name es all.1
-]
+entry_is_sound k name (e ∷ es) all = elim (nat_eq name.0 e.0) as
+    (λ b. OptionIs (λ x. SoundMethod k x.method) (cond b (Some e.1) (lookup (nat_eq name.0) es))) [
+      | true ↦ all.0.1
+      | false ↦ entry_is_sound k name es all.1
+    ]
 
-found_as_sound : (k : Census) (c : ObjId) (v : Visibility) (m : Method) → SoundMethod k m → SoundFound k (found_as c v m)
+found_as_sound : (k : Census) (c : ObjId) (v : Visibility) (m : Method) → SoundMethod k m
+    → SoundFound k (found_as c v m)
 found_as_sound k c v (method.Body b s) h = h
 found_as_sound k c v (method.Core r) h = h
 found_as_sound k c v (method.Reader n) h = h
@@ -38,11 +41,13 @@ found_as_sound k c v (method.Writer n) h = h
 found_as_sound k c v (method.Block p) h = h
 found_as_sound k c v method.Undefined h = tt
 
-found_or_sound : (k : Census) (c : ObjId) (e : Option MethodEntry) (rest : Option Found) → OptionIs (λ x. SoundMethod k x.method) e → SoundFound k rest → SoundFound k (found_or c e rest)
+found_or_sound : (k : Census) (c : ObjId) (e : Option MethodEntry) (rest : Option Found)
+    → OptionIs (λ x. SoundMethod k x.method) e → SoundFound k rest → SoundFound k (found_or c e rest)
 found_or_sound k c None rest h g = g
 found_or_sound k c (Some e) rest h g = found_as_sound k c e.visibility e.method h
 
-first_is_sound : (st : Store) → Sound st → (cs : List ObjId) (name : SymId) → AllAre (Is (census st) ClassOrModule) cs → SoundFound (census st) (first_of st.objects cs name)
+first_is_sound : (st : Store) → Sound st → (cs : List ObjId) (name : SymId) → AllAre (Is (census st) ClassOrModule) cs
+    → SoundFound (census st) (first_of st.objects cs name)
 unfolding first_of
 first_is_sound st sound [] name all = tt
 first_is_sound st sound (c ∷ cs) name all =
@@ -51,30 +56,38 @@ first_is_sound st sound (c ∷ cs) name all =
     (first_is_sound st sound cs name all.1)
 
 -- the members of a chain are classes and modules
-chain_is_classes : (st : Store) → Sound st → (n : ℕ) (c : Option ObjId) → OptionIs (Is (census st) ClassOrModule) c → AllAre (Is (census st) ClassOrModule) (chain_within n st.objects c)
+chain_is_classes : (st : Store) → Sound st → (n : ℕ) (c : Option ObjId) → OptionIs (Is (census st) ClassOrModule) c
+    → AllAre (Is (census st) ClassOrModule) (chain_within n st.objects c)
 unfolding chain_within
 chain_is_classes st sound zero c is = tt
 chain_is_classes st sound (suc n) None is = tt
 chain_is_classes st sound (suc n) (Some c) is = (
   is,
-  all_append (Is (census st) ClassOrModule) (class_at st.objects c).included (chain_within n st.objects (class_at st.objects c).superclass)
+  all_append (Is (census st) ClassOrModule) (class_at st.objects c).included
+      (chain_within n st.objects (class_at st.objects c).superclass)
       (included_are_classes st sound c is)
       (chain_is_classes st sound n (class_at st.objects c).superclass (above_is_class st sound c is)),
 )
 
-pub found_is_sound : (st : Store) → Sound st → (c : ObjId) (name : SymId) → Is (census st) ClassOrModule c → SoundFound (census st) (find st.objects c name)
+pub found_is_sound : (st : Store) → Sound st → (c : ObjId) (name : SymId) → Is (census st) ClassOrModule c
+    → SoundFound (census st) (find st.objects c name)
 unfolding find chain
-found_is_sound st sound c name is = first_is_sound st sound (chain st.objects c) name (chain_is_classes st sound (suc c.0) (Some c) is)
+found_is_sound st sound c name is = first_is_sound st sound (chain st.objects c) name
+    (chain_is_classes st sound (suc c.0) (Some c) is)
 
-pub extends_method : (st : Store) (c : ObjId) (name : SymId) (m : Method) (v : Visibility) → Is (census st) ClassOrModule c → Extends (census st) (census (with_method st c name m v))
+pub extends_method : (st : Store) (c : ObjId) (name : SymId) (m : Method) (v : Visibility)
+    → Is (census st) ClassOrModule c → Extends (census st) (census (with_method st c name m v))
 unfolding with_method
 extends_method st c name m v is = same_objects st _ (sorts-with_method st c name m v (is_plays st ClassOrModule c is))
 
-pub ancestors_are_classes : (st : Store) → Sound st → (c : ObjId) → Is (census st) ClassOrModule c → AllAre (Is (census st) ClassOrModule) (ancestors st.objects c)
+pub ancestors_are_classes : (st : Store) → Sound st → (c : ObjId) → Is (census st) ClassOrModule c
+    → AllAre (Is (census st) ClassOrModule) (ancestors st.objects c)
 unfolding ancestors chain
 ancestors_are_classes st sound c is =
-    all_filter (Is (census st) ClassOrModule) (λ k. not (is_singleton (class_at st.objects k).form)) (chain st.objects c) (chain_is_classes st sound (suc c.0) (Some c) is)
+    all_filter (Is (census st) ClassOrModule) (λ k. not (is_singleton (class_at st.objects k).form))
+    (chain st.objects c) (chain_is_classes st sound (suc c.0) (Some c) is)
 
-pub extends_default : (st : Store) (c : ObjId) (v : Visibility) → Is (census st) ClassOrModule c → Extends (census st) (census (record st { objects = with_default st.objects c v }))
+pub extends_default : (st : Store) (c : ObjId) (v : Visibility) → Is (census st) ClassOrModule c
+    → Extends (census st) (census (record st { objects = with_default st.objects c v }))
 unfolding with_default
 extends_default st c v is = same_objects st _ (sorts-with_class st.objects c _ (is_plays st ClassOrModule c is) refl)

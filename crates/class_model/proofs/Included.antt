@@ -32,18 +32,26 @@ module_sort sort.Enumerator h = refl
 module_sort sort.Yielder h = refl
 
 -- the chain of a module is itself and the modules that it includes
-pub chain_of_module : (st : Store) → Sound st → (m : ObjId) → Is (census st) Module m → chain st.objects m ≡ m ∷ (class_at st.objects m).included ++ []
+pub chain_of_module : (st : Store) → Sound st → (m : ObjId) → Is (census st) Module m
+    → chain st.objects m ≡ m ∷ (class_at st.objects m).included ++ []
 chain_of_module st sound m is =
     chain_is st sound m (module_is_class st m is)
-    ∙ ap (λ p. m ∷ (class_at st.objects m).included ++ chain_above st.objects p) (no_superclass st sound m (is_within st Module m is) (module_sort (sort_at st.objects m) (is_plays st Module m is)))
+    ∙ ap (λ p. m ∷ (class_at st.objects m).included ++ chain_above st.objects p)
+    (no_superclass st sound m (is_within st Module m is)
+    (module_sort (sort_at st.objects m) (is_plays st Module m is)))
 
-all_modules : (st : Store) → Sound st → (m : ObjId) → Is (census st) Module m → AllAre (Is (census st) Module) (chain st.objects m)
+all_modules : (st : Store) → Sound st → (m : ObjId) → Is (census st) Module m
+    → AllAre (Is (census st) Module) (chain st.objects m)
 all_modules st sound m is =
     let P = Is (census st) Module in
-    subst (AllAre P) (sym (chain_of_module st sound m is))
-    (is, all_append P (class_at st.objects m).included [] (sound_class st sound m (module_is_class st m is)).included tt)
+    subst (AllAre P) (sym (chain_of_module st sound m is)) (
+      is,
+      all_append P (class_at st.objects m).included [] (sound_class st sound m (module_is_class st m is)).included
+          tt,
+    )
 
-pub sound_with_included : (st : Store) → Sound st → (c m : ObjId) → Is (census st) ClassOrModule c → Is (census st) Module m → Sound (record st { objects = with_included st.objects c m })
+pub sound_with_included : (st : Store) → Sound st → (c m : ObjId) → Is (census st) ClassOrModule c
+    → Is (census st) Module m → Sound (record st { objects = with_included st.objects c m })
 unfolding with_included
 sound_with_included st sound c m is mixin =
     let old = sound_class st sound c is in
@@ -52,11 +60,13 @@ sound_with_included st sound c m is mixin =
       name = old.name;
       superclass = old.superclass;
       module_root = old.module_root;
-      included = all_append P (new_members st.objects c m) (class_at st.objects c).included (all_filter P (is_new st.objects c) (chain st.objects m) (all_modules st sound m mixin)) old.included;
+      included = all_append P (new_members st.objects c m) (class_at st.objects c).included
+          (all_filter P (is_new st.objects c) (chain st.objects m) (all_modules st sound m mixin)) old.included;
       constants = old.constants;
       methods = old.methods;
     })
 
-pub extends_included : (st : Store) (c m : ObjId) → Is (census st) ClassOrModule c → Extends (census st) (census (record st { objects = with_included st.objects c m }))
+pub extends_included : (st : Store) (c m : ObjId) → Is (census st) ClassOrModule c
+    → Extends (census st) (census (record st { objects = with_included st.objects c m }))
 unfolding with_included
 extends_included st c m is = same_objects st _ (sorts-with_class st.objects c _ (is_plays st ClassOrModule c is) refl)

@@ -23,7 +23,8 @@ use Rattle.def_core.proofs.Grows as grows
 use Rattle.def_core.proofs.Chains.{lineage_is, lineage_above}
 
 -- only a class has a superclass
-root_of_module : (k : Census) (n : ℕ) (c : ClassContents) → SoundClass k n c → plays Superclass (sort_of_form c.form) ≡ false → c.superclass ≡ None
+root_of_module : (k : Census) (n : ℕ) (c : ClassContents) → SoundClass k n c
+    → plays Superclass (sort_of_form c.form) ≡ false → c.superclass ≡ None
 root_of_module k n c s h = by c.form refl
   where
     by : (f : ClassForm) → c.form ≡ f → c.superclass ≡ None
@@ -31,7 +32,8 @@ root_of_module k n c s h = by c.form refl
     by form.Singleton e = absurd (true≢false (sym (ap (λ x. plays Superclass (sort_of_form x)) e) ∙ h))
     by form.Module e = s.module_root e
 
-root : (k : Census) (n : ℕ) (x : Kind) → SoundKind k n x → plays Superclass (sort_of x) ≡ false → (contents_of x).superclass ≡ None
+root : (k : Census) (n : ℕ) (x : Kind) → SoundKind k n x → plays Superclass (sort_of x) ≡ false
+    → (contents_of x).superclass ≡ None
 root k n kind.Plain s h = refl
 root k n (kind.Class c) s h = root_of_module k n c s h
 root k n (kind.String x) s h = refl
@@ -59,19 +61,26 @@ above_sound k n (kind.Exception m d) s = tt
 above_sound k n (kind.Enumerator e) s = tt
 above_sound k n (kind.Yielder b) s = tt
 
-pub above_is : (st : Store) → Sound st → (id : ObjId) → id.0 < length st.objects → OptionIs (IsSuperclass (census st) id.0) (class_at st.objects id).superclass
-above_is st sound id within = above_sound (census st) id.0 (object_at st.objects id).kind (sound.objects id.0 within).kind
+pub above_is : (st : Store) → Sound st → (id : ObjId) → id.0 < length st.objects
+    → OptionIs (IsSuperclass (census st) id.0) (class_at st.objects id).superclass
+above_is st sound id within = above_sound (census st) id.0 (object_at st.objects id).kind
+    (sound.objects id.0 within).kind
 
-pub above_is_below : (st : Store) → Sound st → (id p : ObjId) → id.0 < length st.objects → (class_at st.objects id).superclass ≡ Some p → (p.0 < length st.objects) × (p.0 < id.0)
+pub above_is_below : (st : Store) → Sound st → (id p : ObjId) → id.0 < length st.objects
+    → (class_at st.objects id).superclass ≡ Some p → (p.0 < length st.objects) × (p.0 < id.0)
 above_is_below st sound id p within h =
-    let above : IsSuperclass (census st) id.0 p = subst (OptionIs (IsSuperclass (census st) id.0)) h (above_is st sound id within) in
+    let above : IsSuperclass (census st) id.0 p =
+    subst (OptionIs (IsSuperclass (census st) id.0)) h (above_is st sound id within) in
     (is_within st Superclass p above.0, above.1)
 
-pub no_superclass : (st : Store) → Sound st → (id : ObjId) → id.0 < length st.objects → plays Superclass (sort_at st.objects id) ≡ false → (class_at st.objects id).superclass ≡ None
-no_superclass st sound id within h = root (census st) id.0 (object_at st.objects id).kind (sound.objects id.0 within).kind h
+pub no_superclass : (st : Store) → Sound st → (id : ObjId) → id.0 < length st.objects
+    → plays Superclass (sort_at st.objects id) ≡ false → (class_at st.objects id).superclass ≡ None
+no_superclass st sound id within h = root (census st) id.0 (object_at st.objects id).kind
+    (sound.objects id.0 within).kind h
 
 -- an object without a superclass is alone
-lineage_root : (objects : List Object) (id : ObjId) → (class_at objects id).superclass ≡ None → lineage objects id ≡ id ∷ []
+lineage_root : (objects : List Object) (id : ObjId) → (class_at objects id).superclass ≡ None
+    → lineage objects id ≡ id ∷ []
 unfolding lineage lineage_within
 lineage_root objects id h = rw h (ap (λ rest. id ∷ rest) (none id.0))
   where
@@ -94,16 +103,20 @@ superclass_sort sort.Exception h = cc
 superclass_sort sort.Enumerator h = cc
 superclass_sort sort.Yielder h = cc
 
-pub lineage_of : (st : Store) → Sound st → (id : ObjId) → id.0 < length st.objects → lineage st.objects id ≡ id ∷ lineage_above st.objects (class_at st.objects id).superclass
+pub lineage_of : (st : Store) → Sound st → (id : ObjId) → id.0 < length st.objects
+    → lineage st.objects id ≡ id ∷ lineage_above st.objects (class_at st.objects id).superclass
 lineage_of st sound id within = by (plays Superclass (sort_at st.objects id)) refl
   where
-    by : (b : Bool) → plays Superclass (sort_at st.objects id) ≡ b → lineage st.objects id ≡ id ∷ lineage_above st.objects (class_at st.objects id).superclass
-    by true h = lineage_is st sound id (is_by_sort st ClassOrModule id within (superclass_sort (sort_at st.objects id) h))
+    by : (b : Bool) → plays Superclass (sort_at st.objects id) ≡ b
+        → lineage st.objects id ≡ id ∷ lineage_above st.objects (class_at st.objects id).superclass
+    by true h = lineage_is st sound id (is_by_sort st ClassOrModule id within
+        (superclass_sort (sort_at st.objects id) h))
     by false h =
         let top = no_superclass st sound id within h in
         lineage_root st.objects id top ∙ ap (λ p. id ∷ lineage_above st.objects p) (sym top)
 
-from_lineage : (objects : List Object) (id : ObjId) (s : Sort) → plays Superclass s ≡ true → singletons_from objects id s ≡ lineage objects id
+from_lineage : (objects : List Object) (id : ObjId) (s : Sort) → plays Superclass s ≡ true
+    → singletons_from objects id s ≡ lineage objects id
 from_lineage objects id sort.Plain h = cc
 from_lineage objects id sort.Class h = refl
 from_lineage objects id sort.Singleton h = refl
@@ -118,7 +131,8 @@ from_lineage objects id sort.Exception h = cc
 from_lineage objects id sort.Enumerator h = cc
 from_lineage objects id sort.Yielder h = cc
 
-from_itself : (objects : List Object) (id : ObjId) (s : Sort) → plays Superclass s ≡ false → singletons_from objects id s ≡ id ∷ []
+from_itself : (objects : List Object) (id : ObjId) (s : Sort) → plays Superclass s ≡ false
+    → singletons_from objects id s ≡ id ∷ []
 from_itself objects id sort.Plain h = refl
 from_itself objects id sort.Class h = cc
 from_itself objects id sort.Singleton h = cc
@@ -133,55 +147,71 @@ from_itself objects id sort.Exception h = refl
 from_itself objects id sort.Enumerator h = refl
 from_itself objects id sort.Yielder h = refl
 
-pub singletons_from_lineage : (st : Store) → Sound st → (id : ObjId) → id.0 < length st.objects → singletons_from st.objects id (sort_at st.objects id) ≡ lineage st.objects id
+pub singletons_from_lineage : (st : Store) → Sound st → (id : ObjId) → id.0 < length st.objects
+    → singletons_from st.objects id (sort_at st.objects id) ≡ lineage st.objects id
 singletons_from_lineage st sound id within = by (plays Superclass (sort_at st.objects id)) refl
   where
-    by : (b : Bool) → plays Superclass (sort_at st.objects id) ≡ b → singletons_from st.objects id (sort_at st.objects id) ≡ lineage st.objects id
+    by : (b : Bool) → plays Superclass (sort_at st.objects id) ≡ b
+        → singletons_from st.objects id (sort_at st.objects id) ≡ lineage st.objects id
     by true h = from_lineage st.objects id _ h
     by false h = from_itself st.objects id _ h ∙ sym (lineage_root st.objects id (no_superclass st sound id within h))
 
-pub singleton_here : (st : Store) → Sound st → (id other s : ObjId) → id.0 < length st.objects → (object_at st.objects id).singleton ≡ Some s
+pub singleton_here : (st : Store) → Sound st → (id other s : ObjId) → id.0 < length st.objects
+    → (object_at st.objects id).singleton ≡ Some s
     → nearest_singleton st.objects (lineage st.objects id) other ≡ s
 unfolding nearest_singleton
 singleton_here st sound id other s within h = rw (lineage_of st sound id within, h) refl
 
-pub singleton_above : (st : Store) → Sound st → (id other p : ObjId) → id.0 < length st.objects → (object_at st.objects id).singleton ≡ None → (class_at st.objects id).superclass ≡ Some p
-    → nearest_singleton st.objects (lineage st.objects id) other ≡ nearest_singleton st.objects (lineage st.objects p) other
+pub singleton_above : (st : Store) → Sound st → (id other p : ObjId) → id.0 < length st.objects
+    → (object_at st.objects id).singleton ≡ None → (class_at st.objects id).superclass ≡ Some p
+    → nearest_singleton st.objects (lineage st.objects id) other ≡ nearest_singleton st.objects (lineage st.objects p)
+    other
 unfolding nearest_singleton
 singleton_above st sound id other p within h g = rw (lineage_of st sound id within, h, g) refl
 
-pub singleton_nowhere : (st : Store) → Sound st → (id other : ObjId) → id.0 < length st.objects → (object_at st.objects id).singleton ≡ None → (class_at st.objects id).superclass ≡ None
+pub singleton_nowhere : (st : Store) → Sound st → (id other : ObjId) → id.0 < length st.objects
+    → (object_at st.objects id).singleton ≡ None → (class_at st.objects id).superclass ≡ None
     → nearest_singleton st.objects (lineage st.objects id) other ≡ other
 unfolding nearest_singleton
 singleton_nowhere st sound id other within h g = rw (lineage_of st sound id within, h, g) refl
 
-pub singleton_is : (st : Store) → Sound st → (id s : ObjId) → id.0 < length st.objects → (object_at st.objects id).singleton ≡ Some s → Is (census st) Superclass s
-singleton_is st sound id s within h = singleton_is_superclass st s (subst (OptionIs (Is (census st) SingletonClass)) h (sound.objects id.0 within).singleton)
+pub singleton_is : (st : Store) → Sound st → (id s : ObjId) → id.0 < length st.objects
+    → (object_at st.objects id).singleton ≡ Some s → Is (census st) Superclass s
+singleton_is st sound id s within h = singleton_is_superclass st s
+    (subst (OptionIs (Is (census st) SingletonClass)) h (sound.objects id.0 within).singleton)
 
-pub singleton_is_class : (st : Store) → Sound st → (id s : ObjId) → id.0 < length st.objects → (object_at st.objects id).singleton ≡ Some s → Is (census st) ClassOrModule s
+pub singleton_is_class : (st : Store) → Sound st → (id s : ObjId) → id.0 < length st.objects
+    → (object_at st.objects id).singleton ≡ Some s → Is (census st) ClassOrModule s
 singleton_is_class st sound id s within h = superclass_is_class st s (singleton_is st sound id s within h)
 
-pub class_is : (st : Store) → Sound st → (id : ObjId) → id.0 < length st.objects → Is (census st) Superclass (object_at st.objects id).class
+pub class_is : (st : Store) → Sound st → (id : ObjId) → id.0 < length st.objects
+    → Is (census st) Superclass (object_at st.objects id).class
 class_is st sound id within = class_is_superclass st _ (sound.objects id.0 within).class
 
-pub class_is_class : (st : Store) → Sound st → (id : ObjId) → id.0 < length st.objects → Is (census st) ClassOrModule (object_at st.objects id).class
+pub class_is_class : (st : Store) → Sound st → (id : ObjId) → id.0 < length st.objects
+    → Is (census st) ClassOrModule (object_at st.objects id).class
 class_is_class st sound id within = superclass_is_class st _ (class_is st sound id within)
 
 pub core_is : (st : Store) → Sound st → (c : CoreClass) → is_module c ≡ false → Is (census st) Superclass (core c)
 core_is st sound c plain = class_is_superclass st _ (grows.core_is_class st sound c plain)
 
-pub core_is_class : (st : Store) → Sound st → (c : CoreClass) → is_module c ≡ false → Is (census st) ClassOrModule (core c)
+pub core_is_class : (st : Store) → Sound st → (c : CoreClass) → is_module c ≡ false
+    → Is (census st) ClassOrModule (core c)
 core_is_class st sound c plain = superclass_is_class st _ (core_is st sound c plain)
 
-pub class_of_object : (st : Store) → Sound st → (id : ObjId) → id.0 < length st.objects → nearest_singleton st.objects (lineage st.objects id) (object_at st.objects id).class ≡ class_of st.objects (Obj id)
+pub class_of_object : (st : Store) → Sound st → (id : ObjId) → id.0 < length st.objects
+    → nearest_singleton st.objects (lineage st.objects id) (object_at st.objects id).class ≡ class_of st.objects
+    (Obj id)
 unfolding class_of
-class_of_object st sound id within = ap (λ (cs : List ObjId). nearest_singleton st.objects cs (object_at st.objects id).class) (sym (singletons_from_lineage st sound id within))
+class_of_object st sound id within = ap (λ (cs : List ObjId). nearest_singleton st.objects cs
+    (object_at st.objects id).class) (sym (singletons_from_lineage st sound id within))
 
 pub class_is_core : (st : Store) → Sound st → Is (census st) Superclass (core class.Class)
 class_is_core st sound = core_is st sound class.Class refl
 
 -- a superclass, if any, is there
-pub above_there : (st : Store) → Sound st → (id : ObjId) → id.0 < length st.objects → OptionIs (λ p. p.0 < length st.objects) (class_at st.objects id).superclass
+pub above_there : (st : Store) → Sound st → (id : ObjId) → id.0 < length st.objects
+    → OptionIs (λ p. p.0 < length st.objects) (class_at st.objects id).superclass
 above_there st sound id within = by _ (above_is st sound id within)
   where
     by : (o : Option ObjId) → OptionIs (IsSuperclass (census st) id.0) o → OptionIs (λ p. p.0 < length st.objects) o
@@ -208,6 +238,7 @@ pub there : (st : Store) (id : ObjId) → id.0 < length st.objects → Is (censu
 there st id within = is_by_sort st Any id within (any (sort_at st.objects id))
 
 -- a parent, or else Object
-pub parent_or_object : (st : Store) → Sound st → (p : Option ObjId) → OptionIs (Is (census st) Class) p → Is (census st) Superclass (unwrap_or p (core class.Object))
+pub parent_or_object : (st : Store) → Sound st → (p : Option ObjId) → OptionIs (Is (census st) Class) p
+    → Is (census st) Superclass (unwrap_or p (core class.Object))
 parent_or_object st sound None h = core_is st sound class.Object refl
 parent_or_object st sound (Some p) h = class_is_superclass st p h

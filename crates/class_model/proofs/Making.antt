@@ -20,7 +20,11 @@ unfolding make_all
 make_none objects ids = ap (make_all objects) (drop-length ids)
 
 pub made_nothing : (st : Store) (ids : List ObjId) → IsMadeInPart st ids st
-made_nothing st ids = (length ids, ap (λ (xs : List Object). record st { objects = xs }) (sym (make_none st.objects ids)))
+made_nothing st ids = (
+  length ids,
+  ap (λ (xs : List Object). record st { objects = xs })
+      (sym (make_none st.objects ids)),
+)
 
 pub make_more : (objects : List Object) (ids : List ObjId) (n : ℕ) (d : ObjId) → n < length ids
     → make_all objects (drop n ids) ≡ with_new_singleton (make_all objects (drop (suc n) ids)) (get_or ids n d)
@@ -30,72 +34,104 @@ make_more objects ids n d h = ap (make_all objects) (drop-cons ids n d h)
 pub make_before : (objects : List Object) (ids : List ObjId) (n : ℕ) (d : ObjId) → 0 < n → n ≤ length ids
     → make_all objects (drop (n - 1) ids) ≡ with_new_singleton (make_all objects (drop n ids)) (get_or ids (n - 1) d)
 make_before objects ids zero d h g = absurd (omega (arith, h))
-make_before objects ids (suc n) d h g = let e : suc n - 1 ≡ n = omega arith in rw e (make_more objects ids n d (omega (arith, g)))
+make_before objects ids (suc n) d h g = let e : suc n - 1 ≡ n = omega arith in
+    rw e (make_more objects ids n d (omega (arith, g)))
 
 -- the missing ones of a class and its superclasses
-pub missing_above : (st : Store) → Sound st → (id p : ObjId) → id.0 < length st.objects → (class_at st.objects id).superclass ≡ Some p
-    → filter (is_missing st.objects) (lineage st.objects id) ≡ filter (is_missing st.objects) (id ∷ []) ++ filter (is_missing st.objects) (lineage st.objects p)
+pub missing_above : (st : Store) → Sound st → (id p : ObjId) → id.0 < length st.objects
+    → (class_at st.objects id).superclass ≡ Some p
+    → filter (is_missing st.objects) (lineage st.objects id) ≡ filter (is_missing st.objects) (id ∷ [])
+    ++ filter (is_missing st.objects) (lineage st.objects p)
 missing_above st sound id p within h =
     ap (filter (is_missing st.objects)) (lineage_of st sound id within ∙ ap (λ q. id ∷ lineage_above st.objects q) h)
     ∙ filter-append (is_missing st.objects) (id ∷ []) (lineage st.objects p)
 
-pub missing_last : (st : Store) → Sound st → (id : ObjId) → id.0 < length st.objects → (class_at st.objects id).superclass ≡ None
+pub missing_last : (st : Store) → Sound st → (id : ObjId) → id.0 < length st.objects
+    → (class_at st.objects id).superclass ≡ None
     → filter (is_missing st.objects) (lineage st.objects id) ≡ filter (is_missing st.objects) (id ∷ [])
-missing_last st sound id within h = ap (filter (is_missing st.objects)) (lineage_of st sound id within ∙ ap (λ q. id ∷ lineage_above st.objects q) h)
+missing_last st sound id within h = ap (filter (is_missing st.objects))
+    (lineage_of st sound id within ∙ ap (λ q. id ∷ lineage_above st.objects q) h)
 
-pub missing_is : (st : Store) → Sound st → (id : ObjId) → id.0 < length st.objects → filter (is_missing st.objects) (lineage st.objects id) ≡ missing st.objects id
+pub missing_is : (st : Store) → Sound st → (id : ObjId) → id.0 < length st.objects
+    → filter (is_missing st.objects) (lineage st.objects id) ≡ missing st.objects id
 unfolding missing
 missing_is st sound id within = ap (filter (is_missing st.objects)) (sym (singletons_from_lineage st sound id within))
 
 more_made : (objects : List Object) (ids : List ObjId) → length objects ≤ length (make_all objects ids)
 unfolding make_all
 more_made objects [] = omega arith
-more_made objects (id ∷ ids) = omega (arith, more_made objects ids, more_attached (make_all objects ids) id (above (make_all objects ids) id (sort_at (make_all objects ids) id)))
+more_made objects (id ∷ ids) = omega (
+  arith,
+  more_made objects ids,
+  more_attached (make_all objects ids) id (above (make_all objects ids) id (sort_at (make_all objects ids) id)),
+)
 
-kept_made : (objects : List Object) (ids : List ObjId) (k : ObjId) → AllAre (λ id. id.0 < length objects) ids → k.0 < length objects → is_some (object_at objects k).singleton ≡ true
+kept_made : (objects : List Object) (ids : List ObjId) (k : ObjId) → AllAre (λ id. id.0 < length objects) ids
+    → k.0 < length objects → is_some (object_at objects k).singleton ≡ true
     → is_some (object_at (make_all objects ids) k).singleton ≡ true
 unfolding make_all
 kept_made objects [] k all there h = h
 kept_made objects (id ∷ ids) k all there h =
     kept_attached (make_all objects ids) id (above (make_all objects ids) id (sort_at (make_all objects ids) id)) k
-    (omega (arith, all.0, more_made objects ids)) (omega (arith, there, more_made objects ids)) (kept_made objects ids k all.1 there h)
+    (omega (arith, all.0, more_made objects ids)) (omega (arith, there, more_made objects ids))
+    (kept_made objects ids k all.1 there h)
 
-given_made : (objects : List Object) (ids : List ObjId) (id : ObjId) → id.0 < length objects → is_some (object_at (make_all objects (id ∷ ids)) id).singleton ≡ true
+given_made : (objects : List Object) (ids : List ObjId) (id : ObjId) → id.0 < length objects
+    → is_some (object_at (make_all objects (id ∷ ids)) id).singleton ≡ true
 unfolding make_all
-given_made objects ids id there = given_attached (make_all objects ids) id (above (make_all objects ids) id (sort_at (make_all objects ids) id)) (omega (arith, there, more_made objects ids))
+given_made objects ids id there = given_attached (make_all objects ids) id
+    (above (make_all objects ids) id (sort_at (make_all objects ids) id)) (omega (arith, there, more_made objects ids))
 
 -- the object has a singleton class then
-pub has_singleton : (st : Store) → Sound st → (id : ObjId) → id.0 < length st.objects → AllAre (λ x. x.0 < length st.objects) (missing st.objects id)
+pub has_singleton : (st : Store) → Sound st → (id : ObjId) → id.0 < length st.objects
+    → AllAre (λ x. x.0 < length st.objects) (missing st.objects id)
     → is_some (object_at (make_all st.objects (missing st.objects id)) id).singleton ≡ true
 has_singleton st sound id within all =
     let rest = filter (is_missing st.objects) (lineage_above st.objects (class_at st.objects id).superclass) in
-    let e : missing st.objects id ≡ cond (is_missing st.objects id) (id ∷ rest) rest = sym (missing_is st sound id within) ∙ ap (filter (is_missing st.objects)) (lineage_of st sound id within) in
+    let e : missing st.objects id ≡ cond (is_missing st.objects id) (id ∷ rest) rest =
+    sym (missing_is st sound id within) ∙ ap (filter (is_missing st.objects)) (lineage_of st sound id within) in
     subst (λ (xs : List ObjId). is_some (object_at (make_all st.objects xs) id).singleton ≡ true) (sym e)
     (by (is_some (object_at st.objects id).singleton) refl rest (subst (AllAre (λ x. x.0 < length st.objects)) e all))
   where
-    by : (b : Bool) → is_some (object_at st.objects id).singleton ≡ b → (rest : List ObjId) → AllAre (λ x. x.0 < length st.objects) (cond (not (is_some (object_at st.objects id).singleton)) (id ∷ rest) rest)
-        → is_some (object_at (make_all st.objects (cond (not (is_some (object_at st.objects id).singleton)) (id ∷ rest) rest)) id).singleton ≡ true
-    by true h rest = subst (λ (b : Bool). AllAre (λ x. x.0 < length st.objects) (cond (not b) (id ∷ rest) rest) → is_some (object_at (make_all st.objects (cond (not b) (id ∷ rest) rest)) id).singleton ≡ true) (sym h) (λ some. kept_made st.objects rest id some within h)
-    by false h rest = subst (λ (b : Bool). AllAre (λ x. x.0 < length st.objects) (cond (not b) (id ∷ rest) rest) → is_some (object_at (make_all st.objects (cond (not b) (id ∷ rest) rest)) id).singleton ≡ true) (sym h) (λ some. given_made st.objects rest id within)
+    by : (b : Bool) → is_some (object_at st.objects id).singleton ≡ b → (rest : List ObjId)
+        → AllAre (λ x. x.0 < length st.objects)
+        (cond (not (is_some (object_at st.objects id).singleton)) (id ∷ rest) rest)
+        → is_some (object_at (make_all st.objects
+        (cond (not (is_some (object_at st.objects id).singleton)) (id ∷ rest) rest)) id).singleton ≡ true
+    by true h rest = subst (λ (b : Bool). AllAre (λ x. x.0 < length st.objects) (cond (not b) (id ∷ rest) rest)
+        → is_some (object_at (make_all st.objects (cond (not b) (id ∷ rest) rest)) id).singleton ≡ true) (sym h)
+        (λ some. kept_made st.objects rest id some within h)
+    by false h rest = subst (λ (b : Bool). AllAre (λ x. x.0 < length st.objects) (cond (not b) (id ∷ rest) rest)
+        → is_some (object_at (make_all st.objects (cond (not b) (id ∷ rest) rest)) id).singleton ≡ true) (sym h)
+        (λ some. given_made st.objects rest id within)
 
-all_within : (st : Store) (ids : List ObjId) → AllAre (Is (census st) Any) ids → AllAre (λ x. x.0 < length st.objects) ids
+all_within : (st : Store) (ids : List ObjId) → AllAre (Is (census st) Any) ids
+    → AllAre (λ x. x.0 < length st.objects) ids
 all_within st [] all = tt
 all_within st (id ∷ ids) all = (is_within st Any id all.0, all_within st ids all.1)
 
-pub given_is_class : (st : Store) → Sound st → (id : ObjId) → id.0 < length st.objects → is_some (object_at st.objects id).singleton ≡ true → Is (census st) ClassOrModule (unwrap_or (object_at st.objects id).singleton id)
+pub given_is_class : (st : Store) → Sound st → (id : ObjId) → id.0 < length st.objects
+    → is_some (object_at st.objects id).singleton ≡ true
+    → Is (census st) ClassOrModule (unwrap_or (object_at st.objects id).singleton id)
 given_is_class st sound id within h = by (object_at st.objects id).singleton refl h
   where
-    by : (o : Option ObjId) → (object_at st.objects id).singleton ≡ o → is_some o ≡ true → Is (census st) ClassOrModule (unwrap_or o id)
+    by : (o : Option ObjId) → (object_at st.objects id).singleton ≡ o → is_some o ≡ true
+        → Is (census st) ClassOrModule (unwrap_or o id)
     by None e s = absurd (true≢false (sym s))
     by (Some x) e s = singleton_is_class st sound id x within e
 
 -- what is given as the singleton class is a class
-pub made_is_class : (st after : Store) → Sound st → Sound after → (id : ObjId) (ids : List ObjId) → Is (census st) Any id → ids ≡ missing st.objects id → AllAre (Is (census st) Any) ids
-    → after ≡ record st { objects = make_all st.objects ids } → Is (census after) ClassOrModule (unwrap_or (object_at after.objects id).singleton id)
+pub made_is_class : (st after : Store) → Sound st → Sound after → (id : ObjId) (ids : List ObjId)
+    → Is (census st) Any id → ids ≡ missing st.objects id → AllAre (Is (census st) Any) ids
+    → after ≡ record st { objects = make_all st.objects ids }
+    → Is (census after) ClassOrModule (unwrap_or (object_at after.objects id).singleton id)
 made_is_class st after sound later id ids is e all s =
     let within = is_within st Any id is in
-    let some = has_singleton st sound id within (subst (AllAre (λ x. x.0 < length st.objects)) e (all_within st ids all)) in
-    let made : after.objects ≡ make_all st.objects (missing st.objects id) = ap (λ (x : Store). x.objects) s ∙ ap (make_all st.objects) e in
+    let some = has_singleton st sound id within
+    (subst (AllAre (λ x. x.0 < length st.objects)) e (all_within st ids all)) in
+    let made : after.objects ≡ make_all st.objects (missing st.objects id) = ap (λ (x : Store). x.objects) s
+    ∙ ap (make_all st.objects) e in
     given_is_class after later id
-    (subst (λ (xs : List Object). id.0 < length xs) (sym made) (omega (arith, within, more_made st.objects (missing st.objects id))))
+    (subst (λ (xs : List Object). id.0 < length xs) (sym made)
+    (omega (arith, within, more_made st.objects (missing st.objects id))))
     (subst (λ (xs : List Object). is_some (object_at xs id).singleton ≡ true) (sym made) some)

@@ -27,7 +27,8 @@ pub grown_itself : (st : Store) → IsGrown st st
 grown_itself st = record {
   objects = [];
   symbols = [];
-  same = ap (λ (xs : List Object). record st { objects = xs }) (sym (append-nil st.objects)) ∙ ap (λ (ns : List (List ℕ)). record { objects = st.objects ++ []; symbols = ns }) (sym (append-nil st.symbols));
+  same = ap (λ (xs : List Object). record st { objects = xs }) (sym (append-nil st.objects))
+      ∙ ap (λ (ns : List (List ℕ)). record { objects = st.objects ++ []; symbols = ns }) (sym (append-nil st.symbols));
 }
 
 pub grown_interned : (st : Store) (name : List ℕ) → IsGrown st (intern st name).store
@@ -35,50 +36,65 @@ unfolding intern
 grown_interned st name = by (position (bytes_eq name) st.symbols)
   where
     by : (p : Option ℕ) → IsGrown st (intern_at st name p).store
-    by None = record { objects = []; symbols = name ∷ []; same = ap (λ (xs : List Object). record { objects = xs; symbols = st.symbols ++ name ∷ [] }) (sym (append-nil st.objects)) }
+    by None = record {
+      objects = [];
+      symbols = name ∷ [];
+      same =
+          ap (λ (xs : List Object). record { objects = xs; symbols = st.symbols ++ name ∷ [] })
+          (sym (append-nil st.objects));
+    }
     by (Some i) = grown_itself st
 
 pub grown_more : (st after : Store) (o : Object) → IsGrown st after → IsGrown st (with_object after o)
 grown_more st after o g = record {
   objects = g.objects ++ o ∷ [];
   symbols = g.symbols;
-  same = ap (λ (s : Store). with_object s o) g.same ∙ ap (λ (xs : List Object). record { objects = xs; symbols = st.symbols ++ g.symbols }) (append_assoc st.objects g.objects (o ∷ []));
+  same = ap (λ (s : Store). with_object s o) g.same
+      ∙ ap (λ (xs : List Object). record { objects = xs; symbols = st.symbols ++ g.symbols })
+      (append_assoc st.objects g.objects (o ∷ []));
 }
 
 -- a superclass has a smaller number
-smaller : (st : Store) (p : Option ObjId) → OptionIs (Is (census st) Superclass) p → OptionIs (IsSuperclass (census st) (next_number st).0) p
+smaller : (st : Store) (p : Option ObjId) → OptionIs (Is (census st) Superclass) p
+    → OptionIs (IsSuperclass (census st) (next_number st).0) p
 smaller st None h = tt
 smaller st (Some p) h = (h, is_within st Superclass p h)
 
-pub sound_named : (st : Store) → Sound st → (class : CoreClass) (f : ClassForm) (p : Option ObjId) (name : SymId) → is_module class ≡ false
-    → OptionIs (Is (census st) Superclass) p → (f ≡ form.Module → p ≡ None) → IsSymbol (census st) name → Sound (with_object st (named_class class f p name))
-sound_named st sound class f p name plain is root symbol = sound_with_object st sound (named_class class f p name) (record {
-  class = core_is_class st sound class plain;
-  singleton = tt;
-  variables = tt;
-  kind = record {
-    name = symbol;
-    superclass = smaller st p is;
-    module_root = root;
-    included = tt;
-    constants = tt;
-    methods = tt;
-  };
-})
+pub sound_named : (st : Store) → Sound st → (class : CoreClass) (f : ClassForm) (p : Option ObjId) (name : SymId)
+    → is_module class ≡ false
+    → OptionIs (Is (census st) Superclass) p → (f ≡ form.Module → p ≡ None) → IsSymbol (census st) name
+    → Sound (with_object st (named_class class f p name))
+sound_named st sound class f p name plain is root symbol =
+    sound_with_object st sound (named_class class f p name) (record {
+      class = core_is_class st sound class plain;
+      singleton = tt;
+      variables = tt;
+      kind = record {
+        name = symbol;
+        superclass = smaller st p is;
+        module_root = root;
+        included = tt;
+        constants = tt;
+        methods = tt;
+      };
+    })
 
 class_form : (f : ClassForm) → plays ClassOrModule (sort_of_form f) ≡ true
 class_form form.Class = refl
 class_form form.Singleton = refl
 class_form form.Module = refl
 
-pub named_is_class : (st : Store) (class : CoreClass) (f : ClassForm) (p : Option ObjId) (name : SymId) → Is (census (with_object st (named_class class f p name))) ClassOrModule (next_number st)
+pub named_is_class : (st : Store) (class : CoreClass) (f : ClassForm) (p : Option ObjId) (name : SymId)
+    → Is (census (with_object st (named_class class f p name))) ClassOrModule (next_number st)
 named_is_class st class f p name = new_role st (named_class class f p name) ClassOrModule (class_form f)
 
 pub class_is_value : (st : Store) (c : ObjId) → Is (census st) ClassOrModule c → IsValue (census st) (Obj c)
 class_is_value st c is = there st c (is_within st ClassOrModule c is)
 
-pub extends_constant : (st : Store) (c : ObjId) (name : SymId) (v : Value) → Is (census st) ClassOrModule c → Extends (census st) (census (record st { objects = with_constant st.objects c name v }))
-extends_constant st c name v is = same_objects st (with_constant st.objects c name v) (sorts-with_class st.objects c _ (is_plays st ClassOrModule c is) refl)
+pub extends_constant : (st : Store) (c : ObjId) (name : SymId) (v : Value) → Is (census st) ClassOrModule c
+    → Extends (census st) (census (record st { objects = with_constant st.objects c name v }))
+extends_constant st c name v is = same_objects st (with_constant st.objects c name v)
+    (sorts-with_class st.objects c _ (is_plays st ClassOrModule c is) refl)
 
 -- what is there is still there
 pub still : (k l : Census) (r : Role) (id : ObjId) → Extends k l → Is k r id → Is l r id

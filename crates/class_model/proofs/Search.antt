@@ -13,7 +13,8 @@ pub first_step : (objects : List Object) (before after : List ObjId) (c : ObjId)
 unfolding first_of
 first_step objects before after c name h = rw h refl
 
-pub first_none : (objects : List Object) (before : List ObjId) (name : SymId) → before ≡ [] → first_of objects before name ≡ None
+pub first_none : (objects : List Object) (before : List ObjId) (name : SymId) → before ≡ []
+    → first_of objects before name ≡ None
 unfolding first_of
 first_none objects before name h = rw h refl
 
@@ -21,5 +22,6 @@ pub shorter : (before after : List ObjId) (c : ObjId) → before ≡ c ∷ after
 shorter before after c h = rw h (omega arith)
 
 -- a class of one store is one of the same store
-pub still_class : (h g : Held) (c : ObjId) → h ≡ g → Is (census h.store) ClassOrModule c → Is (census g.store) ClassOrModule c
+pub still_class : (h g : Held) (c : ObjId) → h ≡ g → Is (census h.store) ClassOrModule c
+    → Is (census g.store) ClassOrModule c
 still_class h g c e is = subst (λ (x : Held). Is (census x.store) ClassOrModule c) e is

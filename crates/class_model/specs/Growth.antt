@@ -17,4 +17,5 @@ pub record IsGrown (before after : Store) : Type 0 where
 
 -- a class or module with a name and nothing else
 abbrev pub named_class : CoreClass → ClassForm → Option ObjId → SymId → Object
-named_class class f superclass name = fresh (core class) (kind.Class (record (empty_class f superclass) { name = Some name }))
+named_class class f superclass name = fresh (core class)
+    (kind.Class (record (empty_class f superclass) { name = Some name }))

@@ -63,7 +63,8 @@ layer_present (Term-F.Rest e from post) = refl
 never_absent : (t : Term) → is_absent (term_view t) ≡ false
 never_absent t = ap is_absent (fold_out-Term CoreForm term_step t) ∙ layer_present _
 
-pub called_is : (r : Receiver Core) (x : Name) (is bs : CoreForms) → form_of (call (by.receiver_by term_view r) x is bs) ≡ called term_view r x is bs
+pub called_is : (r : Receiver Core) (x : Name) (is bs : CoreForms)
+    → form_of (call (by.receiver_by term_view r) x is bs) ≡ called term_view r x is bs
 called_is (To a) x is none = ap (λ b. call_of b (form_of (term_view a.value)) x (all_of is)) (never_absent a.value)
 called_is Absent x is none = refl
 called_is Bare x is none = refl

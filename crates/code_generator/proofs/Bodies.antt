@@ -14,7 +14,12 @@ use Rattle.code_generator.proofs.Pieces.{total_append, gen_len}
 use Rattle.code_generator.proofs.Compiled.{bytes_of, length_bytes}
 
 pub length_code : (f : Form) → length (bytes_of (operations_of f)) ≡ len f + 1
-length_code f = omega (arith, length_bytes (operations_of f), gen_len (names_of f) f (first_free f) 0, total_append (gen (names_of f) f (first_free f) 0) (Stop ∷ []))
+length_code f = omega (
+  arith,
+  length_bytes (operations_of f),
+  gen_len (names_of f) f (first_free f) 0,
+  total_append (gen (names_of f) f (first_free f) 0) (Stop ∷ []),
+)
 
 symbols_few : (b : Bool) → length (if b then codes "puts" ∷ [] else []) < 2 ^ 16
 symbols_few true = omega arith

@@ -8,7 +8,8 @@ use Rattle.code_generator.specs.Limits.{arity, count, is_plain_action, is_plain,
 use Rattle.code_generator.specs.Gen.{len, len_all, len_rest, number_size, action_size, width, operands_width, all_width, before_operands, first_free}
 
 -- an action that is plain has its operands, and these are plain
-pub has_operands : (a : Action) (es : Forms) → is_plain (strict a es) ≡ true → (count es ≡ arity a) × (are_plain es ≡ true)
+pub has_operands : (a : Action) (es : Forms) → is_plain (strict a es) ≡ true → (count es ≡ arity a)
+    × (are_plain es ≡ true)
 has_operands a es h =
     let p = and_parts (is_plain_action a && nat_eq (count es) (arity a)) (are_plain es) h in
     let q = and_parts (is_plain_action a) (nat_eq (count es) (arity a)) p.0 in
@@ -40,7 +41,8 @@ mutual
   pub width-operations : (f : Form) → is_plain f ≡ true → width f ≤ operations f + 1
   width-operations (strict a es) h =
       let p = has_operands a es h in
-      max-le (omega arith) (let b = operands_width-operations es (before_operands a) p.1 in let c = action_registers a in omega (arith, b, c, p.0))
+      max-le (omega arith) (let b = operands_width-operations es (before_operands a) p.1 in let c =
+      action_registers a in omega (arith, b, c, p.0))
   width-operations (local x) h = omega arith
   width-operations (set_local x e) h = width-operations e h
   width-operations (seq es) h = all_width-operations es h
@@ -56,7 +58,8 @@ mutual
       let wb = width-operations b p.1 in
       max-le (omega arith) (max-le (omega (arith, wt)) (omega (arith, wb)))
 
-  pub operands_width-operations : (es : Forms) (n : ℕ) → are_plain es ≡ true → operands_width es n ≤ n + count es + all_operations es
+  pub operands_width-operations : (es : Forms) (n : ℕ) → are_plain es ≡ true
+      → operands_width es n ≤ n + count es + all_operations es
   operands_width-operations none n h = omega arith
   operands_width-operations (more e es) n h =
       let p = and_parts (is_plain e) (are_plain es) h in
@@ -73,7 +76,8 @@ mutual
       max-le (omega (arith, we)) (omega (arith, ws))
 
 -- short operands take few registers
-short_operands : (es : Forms) (n : ℕ) → are_plain es ≡ true → are_short es ≡ true → operands_width es n ≤ n + count es + 80
+short_operands : (es : Forms) (n : ℕ) → are_plain es ≡ true → are_short es ≡ true
+    → operands_width es n ≤ n + count es + 80
 short_operands none n h s = omega arith
 short_operands (more e es) n h s =
     let p = and_parts (is_plain e) (are_plain es) h in
@@ -87,7 +91,8 @@ mutual
   pub width-short : (f : Form) → is_plain f ≡ true → has_short_sums f ≡ true → width f ≤ 82
   width-short (strict a es) h s =
       let p = has_operands a es h in
-      max-le (omega arith) (let b = short_operands es (before_operands a) p.1 s in let c = few_registers a in omega (arith, b, c, p.0))
+      max-le (omega arith) (let b = short_operands es (before_operands a) p.1 s in let c = few_registers a in
+      omega (arith, b, c, p.0))
   width-short (local x) h s = omega arith
   width-short (set_local x e) h s =
       let few = leb-true (operations e) 80 s in

@@ -29,10 +29,12 @@ left_sum b m n = by (leb_tells m b) (leb_tells n (b - m)) (leb_tells (m + n) b)
         → ((nat_le n (b - m) ≡ true) × (n ≤ b - m)) ⊎ ((nat_le n (b - m) ≡ false) × (b - m < n))
         → ((nat_le (m + n) b ≡ true) × (m + n ≤ b)) ⊎ ((nat_le (m + n) b ≡ false) × (b < m + n))
         → left_after b (m + n) ≡ after (left_after b m)
-    by (inl p) (inl q) (inl s) = left_enough b (m + n) s.0 ∙ (ap Some (omega (arith)) ∙ sym (ap after (left_enough b m p.0) ∙ left_enough (b - m) n q.0))
+    by (inl p) (inl q) (inl s) = left_enough b (m + n) s.0
+        ∙ (ap Some (omega (arith)) ∙ sym (ap after (left_enough b m p.0) ∙ left_enough (b - m) n q.0))
     by (inl p) (inl q) (inr s) = absurd (omega (arith, p.1, q.1, s.1))
     by (inl p) (inr q) (inl s) = absurd (omega (arith, p.1, q.1, s.1))
-    by (inl p) (inr q) (inr s) = left_short b (m + n) s.0 ∙ sym (ap after (left_enough b m p.0) ∙ left_short (b - m) n q.0)
+    by (inl p) (inr q) (inr s) = left_short b (m + n) s.0
+        ∙ sym (ap after (left_enough b m p.0) ∙ left_short (b - m) n q.0)
     by (inr p) q (inl s) = absurd (omega (arith, p.1, s.1))
     by (inr p) q (inr s) = left_short b (m + n) s.0 ∙ sym (ap after (left_short b m p.0))
 

@@ -41,7 +41,8 @@ byte n lt = grind (arith, nat_tests)
 load_fits : (r : ℕ) (z : ℤ) → r < 256 → is_long z ≡ true → fits (narrow (load_number r z)) ≡ true
 load_fits r (pos n) lt long = by (nat_lt n 256) refl (nat_lt n 32768) refl
   where
-    by : (s : Bool) → nat_lt n 256 ≡ s → (t : Bool) → nat_lt n 32768 ≡ t → fits (narrow (cond s (LoadI r n) (cond t (LoadI16 r (pos n)) (LoadI32 r (pos n))))) ≡ true
+    by : (s : Bool) → nat_lt n 256 ≡ s → (t : Bool) → nat_lt n 32768 ≡ t
+        → fits (narrow (cond s (LoadI r n) (cond t (LoadI16 r (pos n)) (LoadI32 r (pos n))))) ≡ true
     by true e t f = both (is_byte r) (is_byte n) (byte r lt) e
     by false e true f = both (is_byte r) (is_short (pos n)) (byte r lt) f
     by false e false f = both (is_byte r) (is_long (pos n)) (byte r lt) long
@@ -71,47 +72,67 @@ plain_action a es h = (and_parts (is_plain_action a) _ (and_parts _ (are_plain e
 
 module _ (p : Program) (b : ℕ) (ns : List Name) (few : (body_at p b).locals ≤ 256) where
   mutual
-    pub gen_fits : (e : Form) (r at : ℕ) → is_plain e ≡ true → Fine p b ns e → r + width e ≤ 256 → at + len e < 32768 → AllFit (gen ns e r at)
-    gen_fits (strict a es) r at h fine wide end = operands_fit a es r (before_operands a) at (plain_action a es h) (has_operands a es h).1 fine.2 (omega (arith, wide)) (omega (arith, wide)) (omega (arith, end))
-    gen_fits (local x) r at h fine wide end = (both (is_byte r) (is_byte (register_of ns x)) (byte r (omega (arith, wide))) (byte (register_of ns x) (omega (arith, fine, few))), tt)
+    pub gen_fits : (e : Form) (r at : ℕ) → is_plain e ≡ true → Fine p b ns e → r + width e ≤ 256 → at + len e < 32768
+        → AllFit (gen ns e r at)
+    gen_fits (strict a es) r at h fine wide end =
+        operands_fit a es r (before_operands a) at (plain_action a es h) (has_operands a es h).1 fine.2
+        (omega (arith, wide)) (omega (arith, wide)) (omega (arith, end))
+    gen_fits (local x) r at h fine wide end = (
+      both (is_byte r) (is_byte (register_of ns x)) (byte r (omega (arith, wide)))
+          (byte (register_of ns x) (omega (arith, fine, few))),
+      tt,
+    )
     gen_fits (set_local x e) r at h fine wide end =
-        AllFit-append (gen ns e r at) (Move (register_of ns x) r ∷ []) (gen_fits e r at h fine.1 wide (omega (arith, end)))
-        (both (is_byte (register_of ns x)) (is_byte r) (byte (register_of ns x) (omega (arith, fine.0, few))) (byte r (omega (arith, wide, width_pos e))), tt)
+        AllFit-append (gen ns e r at) (Move (register_of ns x) r ∷ [])
+        (gen_fits e r at h fine.1 wide (omega (arith, end))) (
+          both (is_byte (register_of ns x)) (is_byte r) (byte (register_of ns x) (omega (arith, fine.0, few)))
+              (byte r (omega (arith, wide, width_pos e))),
+          tt,
+        )
     gen_fits (seq es) r at h fine wide end = all_fit es r at h fine wide (omega (arith, end))
     gen_fits (cond_form q e f) r at h fine wide end =
         let parts = three_parts (is_plain q) (is_plain e) (is_plain f) h in
         let A = at + len q + 4 in let B = A + len e + 3 in
         let low : r < 256 = omega (arith, wide, width_pos q) in
         AllFit-append (gen ns q r at) _ (gen_fits q r at parts.0 fine.0 (omega (arith, wide)) (omega (arith, end))) (
-          both (is_byte r) (is_short (distance A B)) (byte r low) (distance_short A B (omega (arith, end)) (omega (arith, end))),
-          AllFit-append (gen ns e r A) _ (gen_fits e r A parts.1 fine.1 (omega (arith, wide)) (omega (arith, end)))
-              (distance_short B (B + len f) (omega (arith, end)) (omega (arith, end)), gen_fits f r B parts.2 fine.2 (omega (arith, wide)) (omega (arith, end))),
+          both (is_byte r) (is_short (distance A B)) (byte r low)
+              (distance_short A B (omega (arith, end)) (omega (arith, end))),
+          AllFit-append (gen ns e r A) _ (gen_fits e r A parts.1 fine.1 (omega (arith, wide)) (omega (arith, end))) (
+            distance_short B (B + len f) (omega (arith, end)) (omega (arith, end)),
+            gen_fits f r B parts.2 fine.2 (omega (arith, wide)) (omega (arith, end)),
+          ),
         )
     gen_fits (while_form q e) r at h fine wide end =
         let parts = and_parts (is_plain q) (is_plain e) h in
         let A = at + len q + 4 in let U = A + len e + 3 in
         let low : r < 256 = omega (arith, wide) in
         AllFit-append (gen ns q r at) _ (gen_fits q r at parts.0 fine.0 (omega (arith, wide)) (omega (arith, end))) (
-          both (is_byte r) (is_short (distance A U)) (byte r low) (distance_short A U (omega (arith, end)) (omega (arith, end))),
+          both (is_byte r) (is_short (distance A U)) (byte r low)
+              (distance_short A U (omega (arith, end)) (omega (arith, end))),
           AllFit-append (gen ns e r A) _ (gen_fits e r A parts.1 fine.1 (omega (arith, wide)) (omega (arith, end)))
               (distance_short U at (omega (arith, end)) (omega (arith, end)), (byte r low, tt)),
         )
 
-    operands_fit : (a : Action) (es : Forms) (r n at : ℕ) → is_plain_action a ≡ true → are_plain es ≡ true → AllFine p b ns es → r < 256 → r + operands_width es n ≤ 256 → at + (len_rest es + action_size a) < 32768 → AllFit (gen_operands ns a es r n at)
+    operands_fit : (a : Action) (es : Forms) (r n at : ℕ) → is_plain_action a ≡ true → are_plain es ≡ true
+        → AllFine p b ns es → r < 256 → r + operands_width es n ≤ 256 → at + (len_rest es + action_size a) < 32768
+        → AllFit (gen_operands ns a es r n at)
     operands_fit a none r n at ha hs fine low wide end = (action_fits a r ha low, tt)
     operands_fit a (more e es) r n at ha hs fine low wide end =
         let parts = and_parts (is_plain e) (are_plain es) hs in
-        AllFit-append (gen ns e (r + n) at) _ (gen_fits e (r + n) at parts.0 fine.0 (omega (arith, wide)) (omega (arith, end)))
+        AllFit-append (gen ns e (r + n) at) _
+        (gen_fits e (r + n) at parts.0 fine.0 (omega (arith, wide)) (omega (arith, end)))
         (operands_fit a es r (n + 1) (at + len e) ha parts.1 fine.1 low (omega (arith, wide)) (omega (arith, end)))
 
-    all_fit : (es : Forms) (r at : ℕ) → are_plain es ≡ true → AllFine p b ns es → r + all_width es ≤ 256 → at + len_all es < 32768 → AllFit (gen_all ns es r at)
+    all_fit : (es : Forms) (r at : ℕ) → are_plain es ≡ true → AllFine p b ns es → r + all_width es ≤ 256
+        → at + len_all es < 32768 → AllFit (gen_all ns es r at)
     all_fit none r at hs fine wide end = (byte r (omega (arith, wide)), tt)
     all_fit (more e es) r at hs fine wide end =
         let parts = and_parts (is_plain e) (are_plain es) hs in
         AllFit-append (gen ns e r at) _ (gen_fits e r at parts.0 fine.0 (omega (arith, wide)) (omega (arith, end)))
         (rest_fits es r (at + len e) parts.1 fine.1 (omega (arith, wide)) (omega (arith, end)))
 
-    rest_fits : (es : Forms) (r at : ℕ) → are_plain es ≡ true → AllFine p b ns es → r + all_width es ≤ 256 → at + len_rest es < 32768 → AllFit (gen_rest ns es r at)
+    rest_fits : (es : Forms) (r at : ℕ) → are_plain es ≡ true → AllFine p b ns es → r + all_width es ≤ 256
+        → at + len_rest es < 32768 → AllFit (gen_rest ns es r at)
     rest_fits none r at hs fine wide end = tt
     rest_fits (more e es) r at hs fine wide end =
         let parts = and_parts (is_plain e) (are_plain es) hs in

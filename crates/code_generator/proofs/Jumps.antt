@@ -12,7 +12,8 @@ unfolding target
 target_of z next to e = rw e refl
 
 pub distance_leads : (from to : ℕ) → target from (distance from to) ≡ to
-distance_leads from to = let e : pos from +ℤ (pos to -ℤ pos from) ≡ pos to = omega (arith, ints) in target_of (distance from to) from to e
+distance_leads from to = let e : pos from +ℤ (pos to -ℤ pos from) ≡ pos to = omega (arith, ints) in
+    target_of (distance from to) from to e
 
 short_of : (z : ℤ) (from to : ℕ) → z ≡ pos to -ℤ pos from → from < 32768 → to < 32768 → is_short z ≡ true
 short_of (pos n) from to e f t = let lt : n < 32768 = omega (arith, ints) in grind (arith, nat_tests)

@@ -15,7 +15,8 @@ pub before_none : (gs : List Form) → before gs none ≡ forms gs
 before_none [] = refl
 before_none (g ∷ gs) = ap (more g) (before_none gs)
 
-pub before_all_push : (gs : List Form) (f : Form) (rest : Option Forms) → before_all gs (rest >>= (λ fs. Some (more f fs))) ≡ before_all (gs ++ f ∷ []) rest
+pub before_all_push : (gs : List Form) (f : Form) (rest : Option Forms)
+    → before_all gs (rest >>= (λ fs. Some (more f fs))) ≡ before_all (gs ++ f ∷ []) rest
 before_all_push gs f None = refl
 before_all_push gs f (Some fs) = ap Some (before_push gs f fs)
 
@@ -24,8 +25,10 @@ map_push [] t = refl
 map_push (s ∷ ts) t = ap (λ l. form s ∷ l) (map_push ts t)
 
 -- one more tree, of any list whose members have forms
-pub trees_step : {A : Type 0} (v : A → CoreForm) (whole : Option Forms) (ts us : List Tree) (t : Tree) (a : A) (all rest : List A)
-    → whole ≡ before_all (map form ts) (all_of (cores (map v all))) → all ≡ a ∷ rest → form_of (v a) ≡ Some (form t) → us ≡ ts ++ t ∷ []
+pub trees_step : {A : Type 0} (v : A → CoreForm) (whole : Option Forms) (ts us : List Tree) (t : Tree) (a : A)
+    (all rest : List A)
+    → whole ≡ before_all (map form ts) (all_of (cores (map v all))) → all ≡ a ∷ rest → form_of (v a) ≡ Some (form t)
+    → us ≡ ts ++ t ∷ []
     → whole ≡ before_all (map form us) (all_of (cores (map v rest)))
 trees_step v whole ts us t a all rest w e h p =
     w ∙ ap (λ cs. before_all (map form ts) (all_of (cores (map v cs)))) e
@@ -35,14 +38,16 @@ trees_step v whole ts us t a all rest w e h p =
 
 -- a list with a member that has no form
 pub trees_stop : {A : Type 0} (v : A → CoreForm) (whole : Option Forms) (ts : List Tree) (a : A) (all rest : List A)
-    → whole ≡ before_all (map form ts) (all_of (cores (map v all))) → all ≡ a ∷ rest → form_of (v a) ≡ None → whole ≡ None
+    → whole ≡ before_all (map form ts) (all_of (cores (map v all))) → all ≡ a ∷ rest → form_of (v a) ≡ None
+    → whole ≡ None
 trees_stop v whole ts a all rest w e h =
     w ∙ ap (λ cs. before_all (map form ts) (all_of (cores (map v cs)))) e
     ∙ ap (λ o. before_all (map form ts) (o >>= (λ y. all_of (cores (map v rest)) >>= (λ ys. Some (more y ys))))) h
 
 pub trees_end : {A : Type 0} (v : A → CoreForm) (whole : Option Forms) (ts : List Tree) (rest : List A)
     → whole ≡ before_all (map form ts) (all_of (cores (map v rest))) → rest ≡ [] → whole ≡ Some (all_forms ts)
-trees_end v whole ts rest w e = w ∙ ap (λ cs. before_all (map form ts) (all_of (cores (map v cs)))) e ∙ ap Some (before_none (map form ts))
+trees_end v whole ts rest w e = w ∙ ap (λ cs. before_all (map form ts) (all_of (cores (map v cs)))) e
+    ∙ ap Some (before_none (map form ts))
 
 pub only_none : (ts : List Tree) → length ts ≡ 0 → only_form (all_forms ts) ≡ None
 only_none [] h = refl
@@ -53,7 +58,8 @@ only_many [] h = absurd (omega (arith, h))
 only_many (t ∷ []) h = absurd (omega (arith, h))
 only_many (t ∷ (u ∷ ts)) h = refl
 
-pub only_last : (ts : List Tree) (t : Tree) → length (ts ++ t ∷ []) ≤ 1 → only_form (all_forms (ts ++ t ∷ [])) ≡ Some (form t)
+pub only_last : (ts : List Tree) (t : Tree) → length (ts ++ t ∷ []) ≤ 1
+    → only_form (all_forms (ts ++ t ∷ [])) ≡ Some (form t)
 only_last [] t h = refl
 only_last (s ∷ []) t h = absurd (omega (arith, h))
 only_last (s ∷ (u ∷ ts)) t h = absurd (omega (arith, h))

@@ -19,13 +19,22 @@ use Rattle.code_generator.proofs.Registers.{slot_same, same_above}
 use Rattle.code_generator.proofs.Keeping.{awaits_fits, awaits_keeps, keeps_above, Keeps}
 
 -- one turn, by the instruction that stands there
-pub turned : (p : Program) (o : Operation) (f : Frame) (fs : List Frame) (m : Memory) → Ins p f.body f.pc o → turn p (On f fs m) ≡ act p o (f.pc + size_of o) f fs m
+pub turned : (p : Program) (o : Operation) (f : Frame) (fs : List Frame) (m : Memory) → Ins p f.body f.pc o
+    → turn p (On f fs m) ≡ act p o (f.pc + size_of o) f fs m
 turned p o f fs m ins = ap (λ (i : Option (Instruction × ℕ)). turn_by p i f fs m) ins.here
 
-pub by_none : (q : Source) (p : Program) (c : Config) (s : State) → measure (go q c) < measure c → Related q p (go q c) s → Step q p c s
-by_none q p c s lt r = record { turns = 0; few = omega arith; related = r; between = λ j l. absurd (omega arith); falls = λ e. lt }
+pub by_none : (q : Source) (p : Program) (c : Config) (s : State) → measure (go q c) < measure c
+    → Related q p (go q c) s → Step q p c s
+by_none q p c s lt r = record {
+  turns = 0;
+  few = omega arith;
+  related = r;
+  between = λ j l. absurd (omega arith);
+  falls = λ e. lt;
+}
 
-pub by_one : (q : Source) (p : Program) (c : Config) (s t : State) → shown s ≡ seen c → turn p s ≡ t → Related q p (go q c) t → Step q p c s
+pub by_one : (q : Source) (p : Program) (c : Config) (s t : State) → shown s ≡ seen c → turn p s ≡ t
+    → Related q p (go q c) t → Step q p c s
 by_one q p c s t e one r = record {
   turns = 1;
   few = omega arith;
@@ -38,7 +47,8 @@ by_one q p c s t e one r = record {
     between zero l = inl e
     between (suc j) l = absurd (omega arith)
 
-pub by_two : (q : Source) (p : Program) (c : Config) (s t u : State) → shown s ≡ seen c → turn p s ≡ t → shown t ≡ seen c → turn p t ≡ u → Related q p (go q c) u → Step q p c s
+pub by_two : (q : Source) (p : Program) (c : Config) (s t u : State) → shown s ≡ seen c → turn p s ≡ t
+    → shown t ≡ seen c → turn p t ≡ u → Related q p (go q c) u → Step q p c s
 by_two q p c s t u e one e' two r = record {
   turns = 2;
   few = omega arith;
@@ -57,7 +67,10 @@ pub going : {q : Source} {w : World} {n : ℕ} {m : Memory} → Same q w n m →
 going s = ap Going (sym s.out)
 
 -- the value of a form is written to its register, and the items go on
-pub gives : (q : Source) (p : Program) (v : Value) (ks : List Item) (w : World) (f : Frame) (fs : List Frame) (m : Memory) (h : Around) (r next end : ℕ) → Same q w f.list m → h.names ≡ (source.body_at q f.body).names → Room p f.body r → Awaits q p m.lists ks h f.body f.list fs end r → next ≡ end → Focused q p (give v) ks w (goto f next) fs (write m f.list r v)
+pub gives : (q : Source) (p : Program) (v : Value) (ks : List Item) (w : World) (f : Frame) (fs : List Frame)
+    (m : Memory) (h : Around) (r next end : ℕ) → Same q w f.list m → h.names ≡ (source.body_at q f.body).names
+    → Room p f.body r → Awaits q p m.lists ks h f.body f.list fs end r → next ≡ end
+    → Focused q p (give v) ks w (goto f next) fs (write m f.list r v)
 gives q p v ks w f fs m h r next end same names room a e =
     let fits = awaits_fits q p m.lists ks h f.body f.list fs end r a in
     record {
@@ -66,26 +79,34 @@ gives q p v ks w f fs m h r next end same names room a e =
       names = names;
       r = r;
       stands = slot_same m.lists f.list r (value v) fits.present (omega (arith, fits.long, room.within));
-      next = subst (λ (n : ℕ). Awaits q p (write m f.list r v).lists ks h f.body f.list fs n r) (sym e) (awaits_keeps q p m.lists (write m f.list r v).lists ks h f.body f.list fs end r (keeps_above q p m.lists f.body f.list r r (value v) fits.present (omega arith)) a);
+      next = subst (λ (n : ℕ). Awaits q p (write m f.list r v).lists ks h f.body f.list fs n r) (sym e)
+          (awaits_keeps q p m.lists (write m f.list r v).lists ks h f.body f.list fs end r
+          (keeps_above q p m.lists f.body f.list r r (value v) fits.present (omega arith)) a);
     }
 
 -- the value stays in the register of its form, and the items go on
-pub keeps_value : (q : Source) (p : Program) (v : Value) (ks : List Item) (w : World) (f : Frame) (fs : List Frame) (m m' : Memory) (h : Around) (r next end : ℕ) → Same q w f.list m' → h.names ≡ (source.body_at q f.body).names → slot_at m'.lists f.list r ≡ value v → Keeps q p m.lists m'.lists f.body f.list r → Awaits q p m.lists ks h f.body f.list fs end r → next ≡ end → Focused q p (give v) ks w (goto f next) fs m'
+pub keeps_value : (q : Source) (p : Program) (v : Value) (ks : List Item) (w : World) (f : Frame) (fs : List Frame)
+    (m m' : Memory) (h : Around) (r next end : ℕ) → Same q w f.list m' → h.names ≡ (source.body_at q f.body).names
+    → slot_at m'.lists f.list r ≡ value v → Keeps q p m.lists m'.lists f.body f.list r
+    → Awaits q p m.lists ks h f.body f.list fs end r → next ≡ end → Focused q p (give v) ks w (goto f next) fs m'
 keeps_value q p v ks w f fs m m' h r next end same names stands keep a e = record {
   same = same;
   h = h;
   names = names;
   r = r;
   stands = stands;
-  next = subst (λ (n : ℕ). Awaits q p m'.lists ks h f.body f.list fs n r) (sym e) (awaits_keeps q p m.lists m'.lists ks h f.body f.list fs end r keep a);
+  next = subst (λ (n : ℕ). Awaits q p m'.lists ks h f.body f.list fs n r) (sym e)
+      (awaits_keeps q p m.lists m'.lists ks h f.body f.list fs end r keep a);
 }
 
-holds_more : (ls : List Registers) (n low r : ℕ) (vs : List Slot) (v : Slot) → Holds ls n low vs → low + length vs ≡ r → slot_at ls n r ≡ v → Holds ls n low (vs ++ v ∷ [])
+holds_more : (ls : List Registers) (n low r : ℕ) (vs : List Slot) (v : Slot) → Holds ls n low vs → low + length vs ≡ r
+    → slot_at ls n r ≡ v → Holds ls n low (vs ++ v ∷ [])
 holds_more ls n low r [] v h e q = let e' : low ≡ r = omega arith in (ap (slot_at ls n) e' ∙ q, tt)
 holds_more ls n low r (u ∷ vs) v h e q = (h.0, holds_more ls n (low + 1) r vs v h.1 (omega arith) q)
 
 -- a value given to a part, with the values that the part kept
-pub given_of : (q : Source) (p : Program) (v : Value) (k : Part) (ks : List Item) (w : World) (f : Frame) (fs : List Frame) (m : Memory) → Focused q p (give v) (inside k ∷ ks) w f fs m → Given q p v k ks w f fs m
+pub given_of : (q : Source) (p : Program) (v : Value) (k : Part) (ks : List Item) (w : World) (f : Frame)
+    (fs : List Frame) (m : Memory) → Focused q p (give v) (inside k ∷ ks) w f fs m → Given q p v k ks w f fs m
 given_of q p v k ks w f fs m r =
     let a = r.next in
     record {

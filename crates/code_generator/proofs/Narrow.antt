@@ -3,7 +3,8 @@ use Rattle.std.proofs.Common.{◌≡◌, List, [], ◌∷◌, ◌++◌, map, fal
 use Rattle.rite_code.specs.Instruction.{Instruction, narrow}
 use Rattle.code_generator.specs.Narrow.{operations_in, AreNarrow}
 
-pub are_narrow_push : (is : List Instruction) (i : Instruction) → AreNarrow is → i.wide ≡ false → AreNarrow (is ++ i ∷ [])
+pub are_narrow_push : (is : List Instruction) (i : Instruction) → AreNarrow is → i.wide ≡ false
+    → AreNarrow (is ++ i ∷ [])
 are_narrow_push [] i a w = (w, tt)
 are_narrow_push (j ∷ is) i a w = (a.0, are_narrow_push is i a.1 w)
 
@@ -12,4 +13,5 @@ one_narrow i w = ap (λ b. let j : Instruction = record { wide = b; operation = 
 
 pub narrow_operations : (is : List Instruction) → AreNarrow is → is ≡ map narrow (operations_in is)
 narrow_operations [] a = refl
-narrow_operations (i ∷ is) a = ap (λ j. j ∷ is) (one_narrow i a.0) ∙ ap (λ l. narrow i.operation ∷ l) (narrow_operations is a.1)
+narrow_operations (i ∷ is) a = ap (λ j. j ∷ is) (one_narrow i a.0)
+    ∙ ap (λ l. narrow i.operation ∷ l) (narrow_operations is a.1)

@@ -46,19 +46,23 @@ module _ (input : List ℕ) where
   halted : (n : ℕ) → times (suc (suc (suc n))) (go (source_of nothing)) c ≡ Halt (Ended [] 0)
   halted n = stays_halted n (Ended [] 0)
 
-  ends : (n : ℕ) → over (seen (times n (go (source_of nothing)) c)) ≡ true → shown (times (32 * n + 32) (turn nothing_code) m) ≡ seen (times n (go (source_of nothing)) c)
+  ends : (n : ℕ) → over (seen (times n (go (source_of nothing)) c)) ≡ true
+      → shown (times (32 * n + 32) (turn nothing_code) m) ≡ seen (times n (go (source_of nothing)) c)
   ends zero e = absurd (cc)
   ends (suc zero) e = absurd (cc)
   ends (suc (suc zero)) e = absurd (cc)
   ends (suc (suc (suc n))) e =
       let size : 32 * suc (suc (suc n)) + 32 ≡ suc (32 * n + 127) = omega arith in
-      ap (λ (k : ℕ). shown (times k (turn nothing_code) m)) size ∙ ap shown (off (32 * n + 127)) ∙ sym (ap seen (halted n))
+      ap (λ (k : ℕ). shown (times k (turn nothing_code) m)) size ∙ ap shown (off (32 * n + 127))
+      ∙ sym (ap seen (halted n))
 
-  ends_only : (n : ℕ) → over (shown (times n (turn nothing_code) m)) ≡ true → (k : ℕ) × (seen (times k (go (source_of nothing)) c) ≡ shown (times n (turn nothing_code) m))
+  ends_only : (n : ℕ) → over (shown (times n (turn nothing_code) m)) ≡ true → (k : ℕ)
+      × (seen (times k (go (source_of nothing)) c) ≡ shown (times n (turn nothing_code) m))
   ends_only zero e = absurd (cc)
   ends_only (suc n) e = (3, ap seen (halted 0) ∙ sym (ap shown (off n)))
 
-  goes_on : (n : ℕ) → over (shown (times n (turn nothing_code) m)) ≡ false → (k : ℕ) × (seen (times k (go (source_of nothing)) c) ≡ shown (times n (turn nothing_code) m)) × (n ≤ 32 * (k + 1))
+  goes_on : (n : ℕ) → over (shown (times n (turn nothing_code) m)) ≡ false → (k : ℕ)
+      × (seen (times k (go (source_of nothing)) c) ≡ shown (times n (turn nothing_code) m)) × (n ≤ 32 * (k + 1))
   goes_on zero e = (0, refl, omega arith)
   goes_on (suc n) e = let off_now : true ≡ false = sym (ap (λ (s : State). over (shown s)) (off n)) ∙ e in absurd (cc)
 

@@ -42,11 +42,15 @@ Awaits q p ls (inside k ∷ ks) h b n fs at r = record {
   behind : Behind p b h k low at end;
   next : Awaits q p ls ks h b n fs end low;
 }
-Awaits q p ls (activation a ∷ ks) h b n fs at r = record { last : ks ≡ []; stop : Ins p b at Stop; fits : Fits q p ls b n }
+Awaits q p ls (activation a ∷ ks) h b n fs at r =
+    record { last : ks ≡ []; stop : Ins p b at Stop; fits : Fits q p ls b n }
 
 -- the scope of a list of registers
 abbrev pub scope_of : Source → Registers → Scope
-scope_of q l = record { of = l.of; values = map read (take (length (source.body_at q l.of).names) (behind_self l.slots)) }
+scope_of q l = record {
+  of = l.of;
+  values = map read (take (length (source.body_at q l.of).names) (behind_self l.slots));
+}
 
 pub record Same (q : Source) (w : World) (n : ℕ) (m : Memory) : Type 0 where
   pub is_scope : w.place.scope ≡ n
@@ -75,7 +79,10 @@ Focused q p (give v) ks w f fs m = record {
   next : Awaits q p m.lists ks h f.body f.list fs f.pc r;
 }
 -- the next turn ends the program with the exception
-Focused q p (travel (raise e)) ks w f fs m = record { out : w.out ≡ m.out; throws : turn p (On f fs m) ≡ Off (Uncaught m.out e) }
+Focused q p (travel (raise e)) ks w f fs m = record {
+  out : w.out ≡ m.out;
+  throws : turn p (On f fs m) ≡ Off (Uncaught m.out e);
+}
 
 abbrev pub Related : Source → Program → Config → State → Type 0
 Related q p (Halt s) (Off t) = t ≡ s
@@ -84,7 +91,8 @@ Related q p (Run x ks w) (Off t) = ⊥
 Related q p (Run x ks w) (On f fs m) = Focused q p x ks w f fs m
 
 -- A value given to a part: it stands in a row with the values that the part kept, after the registers that it spares.
-pub record Given (q : Source) (p : Program) (v : Value) (k : Part) (ks : List Item) (w : World) (f : Frame) (fs : List Frame) (m : Memory) : Type 0 where
+pub record Given (q : Source) (p : Program) (v : Value) (k : Part) (ks : List Item) (w : World) (f : Frame)
+    (fs : List Frame) (m : Memory) : Type 0 where
   pub same : Same q w f.list m
   pub h : Around
   pub names : h.names ≡ (source.body_at q f.body).names

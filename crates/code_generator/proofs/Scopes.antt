@@ -18,7 +18,8 @@ front_stays n names x h = at (is_among x names)
     at false = take_front n names x h
 
 -- names in front of others stay in front where a line is learned
-pub front_kept : (known : List Name) (f : Form) (names : List Name) → length names ≤ length known → take (length names) known ≡ names → take (length names) (known_after known f) ≡ names
+pub front_kept : (known : List Name) (f : Form) (names : List Name) → length names ≤ length known
+    → take (length names) known ≡ names → take (length names) (known_after known f) ≡ names
 front_kept known (strict a es) names few front = front
 front_kept known (local x) names few front = front
 front_kept known (set_local x e) names few front = front_stays (length names) known x few ∙ front

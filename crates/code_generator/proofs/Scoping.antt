@@ -12,7 +12,8 @@ use Rattle.code_generator.specs.Limits.{known_after}
 abbrev pub Within : List Name → List Name → Type 0
 Within xs bs = (x : Name) → is_among x xs ≡ true → is_among x bs ≡ true
 
-among_by : (s : Bool) (x : Name) (xs bs : List Name) → cond s true (is_among x xs) ≡ true → (is_among x xs ≡ true → is_among x (xs ++ bs) ≡ true) → cond s true (is_among x (xs ++ bs)) ≡ true
+among_by : (s : Bool) (x : Name) (xs bs : List Name) → cond s true (is_among x xs) ≡ true
+    → (is_among x xs ≡ true → is_among x (xs ++ bs) ≡ true) → cond s true (is_among x (xs ++ bs)) ≡ true
 among_by true x xs bs h k = refl
 among_by false x xs bs h k = k h
 
@@ -20,7 +21,8 @@ among_more : (x : Name) (xs bs : List Name) → is_among x xs ≡ true → is_am
 among_more x [] bs h = absurd (cc)
 among_more x (a ∷ xs) bs h = among_by (bytes_eq x a) x xs bs h (among_more x xs bs)
 
-among_end_by : (s : Bool) (x : Name) (xs : List Name) → is_among x (xs ++ x ∷ []) ≡ true → cond s true (is_among x (xs ++ x ∷ [])) ≡ true
+among_end_by : (s : Bool) (x : Name) (xs : List Name) → is_among x (xs ++ x ∷ []) ≡ true
+    → cond s true (is_among x (xs ++ x ∷ [])) ≡ true
 among_end_by true x xs h = refl
 among_end_by false x xs h = h
 
@@ -43,24 +45,31 @@ with_has : (xs : List Name) (x : Name) → is_among x (with_text xs x) ≡ true
 with_has xs x = with_has_by (is_among x xs) xs x refl
 
 -- a list with a name is within what has both
-last_by : (t : Bool) (bs : List Name) (x y : Name) → bytes_eq y x ≡ t → is_among x bs ≡ true → cond t true false ≡ true → is_among y bs ≡ true
-last_by true bs x y e h k = let same : y ≡ x = (bytes_eq-Decides y x).0 e in subst (λ (z : Name). is_among z bs ≡ true) (sym same) h
+last_by : (t : Bool) (bs : List Name) (x y : Name) → bytes_eq y x ≡ t → is_among x bs ≡ true → cond t true false ≡ true
+    → is_among y bs ≡ true
+last_by true bs x y e h k = let same : y ≡ x = (bytes_eq-Decides y x).0 e in
+    subst (λ (z : Name). is_among z bs ≡ true) (sym same) h
 last_by false bs x y e h k = absurd (cc)
 
 under : (s b : Bool) → b ≡ true → cond s true b ≡ true
 under true b e = refl
 under false b e = e
 
-head_by : (t : Bool) (c : Name) (cs bs : List Name) (x y : Name) → bytes_eq y c ≡ t → Within (c ∷ cs) bs → (is_among y (cs ++ x ∷ []) ≡ true → is_among y bs ≡ true) → cond t true (is_among y (cs ++ x ∷ [])) ≡ true → is_among y bs ≡ true
+head_by : (t : Bool) (c : Name) (cs bs : List Name) (x y : Name) → bytes_eq y c ≡ t → Within (c ∷ cs) bs
+    → (is_among y (cs ++ x ∷ []) ≡ true → is_among y bs ≡ true) → cond t true (is_among y (cs ++ x ∷ [])) ≡ true
+    → is_among y bs ≡ true
 head_by true c cs bs x y e w rest k = w y (ap (λ (s : Bool). cond s true (is_among y cs)) e)
 head_by false c cs bs x y e w rest k = rest k
 
-end_bounded : (cs bs : List Name) (x y : Name) → Within cs bs → is_among x bs ≡ true → is_among y (cs ++ x ∷ []) ≡ true → is_among y bs ≡ true
+end_bounded : (cs bs : List Name) (x y : Name) → Within cs bs → is_among x bs ≡ true → is_among y (cs ++ x ∷ []) ≡ true
+    → is_among y bs ≡ true
 end_bounded [] bs x y w h k = last_by (bytes_eq y x) bs x y refl h k
 end_bounded (c ∷ cs) bs x y w h k =
-    head_by (bytes_eq y c) c cs bs x y refl w (λ l. end_bounded cs bs x y (λ z m. w z (under (bytes_eq z c) (is_among z cs) m)) h l) k
+    head_by (bytes_eq y c) c cs bs x y refl w
+    (λ l. end_bounded cs bs x y (λ z m. w z (under (bytes_eq z c) (is_among z cs) m)) h l) k
 
-split_by : (s : Bool) (xs bs : List Name) (x y : Name) → Within xs bs → is_among x bs ≡ true → is_among y (cond s xs (xs ++ x ∷ [])) ≡ true → is_among y bs ≡ true
+split_by : (s : Bool) (xs bs : List Name) (x y : Name) → Within xs bs → is_among x bs ≡ true
+    → is_among y (cond s xs (xs ++ x ∷ [])) ≡ true → is_among y bs ≡ true
 split_by true xs bs x y w h k = w y k
 split_by false xs bs x y w h k = end_bounded xs bs x y w h k
 
@@ -68,7 +77,8 @@ pub with_bounded : (xs bs : List Name) (x : Name) → Within xs bs → is_among 
 with_bounded xs bs x w h y k = split_by (is_among x xs) xs bs x y w h k
 
 -- a name that is among names has a place there
-place_by : (s : Bool) (x : Name) (xs : List Name) → cond s true (is_among x xs) ≡ true → (is_among x xs ≡ true → place_of x xs < length xs) → cond s 0 (place_of x xs + 1) < length xs + 1
+place_by : (s : Bool) (x : Name) (xs : List Name) → cond s true (is_among x xs) ≡ true
+    → (is_among x xs ≡ true → place_of x xs < length xs) → cond s 0 (place_of x xs + 1) < length xs + 1
 place_by true x xs h k = omega arith
 place_by false x xs h k = let lt = k h in omega (arith, lt)
 
@@ -96,7 +106,8 @@ mutual
   add_within xs (local x) = λ y h. h
   add_within xs (set_local x e) = λ y h. add_within (with_text xs x) e y (with_within xs x y h)
   add_within xs (seq es) = add_all_within xs es
-  add_within xs (cond_form t a b) = λ y h. add_within (add_names (add_names xs t) a) b y (add_within (add_names xs t) a y (add_within xs t y h))
+  add_within xs (cond_form t a b) = λ y h. add_within (add_names (add_names xs t) a) b y
+      (add_within (add_names xs t) a y (add_within xs t y h))
   add_within xs (while_form t b) = λ y h. add_within (add_names xs t) b y (add_within xs t y h)
 
   add_all_within : (xs : List Name) (es : Forms) → Within xs (add_all xs es)
@@ -107,18 +118,28 @@ mutual
   assigned_in : (xs ns : List Name) (e : Form) → Within (add_names xs e) ns → Assigned ns e
   assigned_in xs ns (strict a es) w = all_assigned xs ns es w
   assigned_in xs ns (local x) w = tt
-  assigned_in xs ns (set_local x e) w = (w x (add_within (with_text xs x) e x (with_has xs x)), assigned_in (with_text xs x) ns e w)
+  assigned_in xs ns (set_local x e) w = (
+    w x (add_within (with_text xs x) e x (with_has xs x)),
+    assigned_in (with_text xs x) ns e w,
+  )
   assigned_in xs ns (seq es) w = all_assigned xs ns es w
   assigned_in xs ns (cond_form t a b) w = (
-    assigned_in xs ns t (λ y h. w y (add_within (add_names (add_names xs t) a) b y (add_within (add_names xs t) a y h))),
+    assigned_in xs ns t (λ y h. w y (add_within (add_names (add_names xs t) a) b y
+        (add_within (add_names xs t) a y h))),
     assigned_in (add_names xs t) ns a (λ y h. w y (add_within (add_names (add_names xs t) a) b y h)),
     assigned_in (add_names (add_names xs t) a) ns b w,
   )
-  assigned_in xs ns (while_form t b) w = (assigned_in xs ns t (λ y h. w y (add_within (add_names xs t) b y h)), assigned_in (add_names xs t) ns b w)
+  assigned_in xs ns (while_form t b) w = (
+    assigned_in xs ns t (λ y h. w y (add_within (add_names xs t) b y h)),
+    assigned_in (add_names xs t) ns b w,
+  )
 
   all_assigned : (xs ns : List Name) (es : Forms) → Within (add_all xs es) ns → AllAssigned ns es
   all_assigned xs ns none w = tt
-  all_assigned xs ns (more e es) w = (assigned_in xs ns e (λ y h. w y (add_all_within (add_names xs e) es y h)), all_assigned (add_names xs e) ns es w)
+  all_assigned xs ns (more e es) w = (
+    assigned_in xs ns e (λ y h. w y (add_all_within (add_names xs e) es y h)),
+    all_assigned (add_names xs e) ns es w,
+  )
 
 pub assigned_own : (f : Form) → Assigned (names_of f) f
 assigned_own f = assigned_in [] (names_of f) f (λ y h. h)

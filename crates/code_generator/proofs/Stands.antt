@@ -33,8 +33,19 @@ IsLocal p b h x = register_of h.names x < (body_at p b).locals
 abbrev mutual
   pub Stands : Program → ℕ → Around → Form → ℕ → ℕ → ℕ → Type 0
   Stands p b h (strict a es) r at end = StandOperands p b h a es r (before_operands a) at end
-  Stands p b h (local x) r at end = record { move : Ins p b at (Move r (register_of h.names x)); is_local : IsLocal p b h x; room : Room p b r; ends : at + 3 ≡ end }
-  Stands p b h (set_local x e) r at end = record { mid : ℕ; assigned : Stands p b h e r at mid; move : Ins p b mid (Move (register_of h.names x) r); is_local : IsLocal p b h x; ends : mid + 3 ≡ end }
+  Stands p b h (local x) r at end = record {
+    move : Ins p b at (Move r (register_of h.names x));
+    is_local : IsLocal p b h x;
+    room : Room p b r;
+    ends : at + 3 ≡ end;
+  }
+  Stands p b h (set_local x e) r at end = record {
+    mid : ℕ;
+    assigned : Stands p b h e r at mid;
+    move : Ins p b mid (Move (register_of h.names x) r);
+    is_local : IsLocal p b h x;
+    ends : mid + 3 ≡ end;
+  }
   Stands p b h (seq es) r at end = StandAll p b h es r at end
   Stands p b h (cond t e f) r at end = record {
     tested : ℕ;
@@ -74,16 +85,25 @@ abbrev mutual
     room : Room p b r;
     ends : at + action_size a ≡ end;
   }
-  StandOperands p b h a (more e es) r n at end = record { mid : ℕ; first : Stands p b h e (r + n) at mid; others : StandOperands p b h a es r (n + 1) mid end }
+  StandOperands p b h a (more e es) r n at end =
+      record { mid : ℕ; first : Stands p b h e (r + n) at mid; others : StandOperands p b h a es r (n + 1) mid end }
 
   pub StandAll : Program → ℕ → Around → Forms → ℕ → ℕ → ℕ → Type 0
   StandAll p b h none r at end = record { load : Ins p b at (LoadNil r); room : Room p b r; ends : at + 2 ≡ end }
-  StandAll p b h (more e es) r at end = record { mid : ℕ; first : Stands p b h e r at mid; others : StandRest p b h es r mid end }
+  StandAll p b h (more e es) r at end = record {
+    mid : ℕ;
+    first : Stands p b h e r at mid;
+    others : StandRest p b h es r mid end;
+  }
 
   -- what stands after a first form
   pub StandRest : Program → ℕ → Around → Forms → ℕ → ℕ → ℕ → Type 0
   StandRest p b h none r at end = at ≡ end
-  StandRest p b h (more e es) r at end = record { mid : ℕ; first : Stands p b h e r at mid; others : StandRest p b h es r mid end }
+  StandRest p b h (more e es) r at end = record {
+    mid : ℕ;
+    first : Stands p b h e r at mid;
+    others : StandRest p b h es r mid end;
+  }
 
 -- how many registers a part keeps free, and the values that it keeps after them
 abbrev pub spared : Part → ℕ
@@ -120,6 +140,18 @@ Behind p b h (branch e f) r at end = record {
   aim' : target (mid + 3) d' ≡ end;
 }
 Behind p b h chosen r at end = (at ≡ end) ⊎ record { d : ℤ; jump : Ins p b at (Jmp d); aim : target (at + 3) d ≡ end }
-Behind p b h (loop_test t e) r at end = record { start : ℕ; loop : Stands p b h (while_form t e) r start end; is : loop.tested ≡ at }
-Behind p b h (loop_body t e) r at end = record { start : ℕ; loop : Stands p b h (while_form t e) r start end; is : loop.mid ≡ at }
-Behind p b h (assign x) r at end = record { move : Ins p b at (Move (register_of h.names x) r); is_local : IsLocal p b h x; ends : at + 3 ≡ end }
+Behind p b h (loop_test t e) r at end = record {
+  start : ℕ;
+  loop : Stands p b h (while_form t e) r start end;
+  is : loop.tested ≡ at;
+}
+Behind p b h (loop_body t e) r at end = record {
+  start : ℕ;
+  loop : Stands p b h (while_form t e) r start end;
+  is : loop.mid ≡ at;
+}
+Behind p b h (assign x) r at end = record {
+  move : Ins p b at (Move (register_of h.names x) r);
+  is_local : IsLocal p b h x;
+  ends : at + 3 ≡ end;
+}

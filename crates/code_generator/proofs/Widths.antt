@@ -6,7 +6,8 @@ use Rattle.code_generator.specs.Gen.{width, all_width}
 
 pub one_at_least : (es : Forms) → 1 ≤ all_width es
 one_at_least none = omega arith
-one_at_least (more e es) = let r = one_at_least es in let m = le-max_right (width e) (all_width es) in omega (arith, r, m)
+one_at_least (more e es) = let r = one_at_least es in let m = le-max_right (width e) (all_width es) in
+    omega (arith, r, m)
 
 pub max_right : (a b : ℕ) → a ≤ b → max a b ≡ b
 max_right a b h = max-eq_right h

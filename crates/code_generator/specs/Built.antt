@@ -59,12 +59,14 @@ abbrev mutual
   -- several branches are a branch in the place of the other form of the one before
   pub cond_of : CoreForms → Option Form → Option Form
   cond_of core.none other = other
-  cond_of (core.more (core.branch t b) bs) other = form_of t >>= (λ test. form_of b >>= (λ body. cond_of bs other >>= (λ o. Some (cond test body o))))
+  cond_of (core.more (core.branch t b) bs) other =
+      form_of t >>= (λ test. form_of b >>= (λ body. cond_of bs other >>= (λ o. Some (cond test body o))))
   cond_of _ other = None
 
 -- what the generator asks of a form: known names, numbers that fit, and sizes
 abbrev pub is_within : Form → Bool
-is_within f = is_plain f && (is_scoped [] f && (has_short_sums f && (nat_le (length (names_of f)) 50 && nat_le (parts f) 4001)))
+is_within f = is_plain f && (is_scoped [] f &&
+    (has_short_sums f && (nat_le (length (names_of f)) 50 && nat_le (parts f) 4001)))
 
 abbrev pub within : Form → Option Form
 within f = if is_within f then Some f else None

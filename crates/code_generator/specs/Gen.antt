@@ -18,7 +18,8 @@ distance from to = pos to -ℤ pos from
 
 -- the shortest instruction that loads a number, and its bytes
 abbrev pub load_number : ℕ → ℤ → Operation
-load_number r (pos n) = if nat_lt n 256 then LoadI r n else if nat_lt n 32768 then LoadI16 r (pos n) else LoadI32 r (pos n)
+load_number r (pos n) = if nat_lt n 256 then LoadI r n else if nat_lt n 32768 then LoadI16 r (pos n) else LoadI32 r
+    (pos n)
 load_number r (negsuc n) = if nat_lt n 32768 then LoadI16 r (negsuc n) else LoadI32 r (negsuc n)
 
 abbrev pub number_size : ℤ → ℕ
@@ -89,7 +90,8 @@ abbrev mutual
   gen names (seq es) r at = gen_all names es r at
   gen names (cond t a b) r at =
       gen names t r at ++ (JmpNot r (distance (at + len t + 4) (at + len t + 4 + len a + 3))
-      ∷ (gen names a r (at + len t + 4) ++ (Jmp (distance (at + len t + 4 + len a + 3) (at + len t + 4 + len a + 3 + len b))
+      ∷ (gen names a r (at + len t + 4) ++ (Jmp
+      (distance (at + len t + 4 + len a + 3) (at + len t + 4 + len a + 3 + len b))
       ∷ gen names b r (at + len t + 4 + len a + 3))))
   gen names (while_form t b) r at =
       gen names t r at ++ (JmpNot r (distance (at + len t + 4) (at + len t + 4 + len b + 3))

@@ -17,4 +17,5 @@ source_of f = record { names = names_of f; form = f } ∷ []
 -- For every input the code ends as the evaluation does, in at most 32 turns for each transition and 32 more; it
 -- ends only so; and while neither has ended, its output is that of the evaluation, which no turn holds back.
 abbrev pub Implements : Program → Form → Type 0
-Implements c f = (input : List ℕ) → Follows (go (source_of f)) (turn c) seen shown over (opening (source_of f) input) (start c input)
+Implements c f = (input : List ℕ) → Follows (go (source_of f)) (turn c) seen shown over (opening (source_of f) input)
+    (start c input)

@@ -20,11 +20,14 @@ abbrev pub countdown : Form
 countdown =
     seq (more (set_local (codes "i") (number 2))
     (more (while_form (strict (call_operator Greater) (two (local (codes "i")) (number 0)))
-    (seq (two (strict call_puts (one (local (codes "i")))) (set_local (codes "i") (strict (call_operator Minus) (two (local (codes "i")) (number 1)))))))
+    (seq (two (strict call_puts (one (local (codes "i"))))
+    (set_local (codes "i") (strict (call_operator Minus) (two (local (codes "i")) (number 1)))))))
     none))
 
 -- both sides end with the lines 2 and 1
 pub record IsWitness (f : Form) : Type 0 where
   pub within : IsWithin f
-  pub evaluates : (input : List ℕ) → seen (times 60 (go (source_of f)) (opening (source_of f) input)) ≡ Over (Ended (codes "2\n1\n") 0)
-  pub runs : (input : List ℕ) → shown (times 40 (turn (code_of f)) (start (code_of f) input)) ≡ Over (Ended (codes "2\n1\n") 0)
+  pub evaluates : (input : List ℕ) → seen (times 60 (go (source_of f)) (opening (source_of f) input)) ≡ Over
+      (Ended (codes "2\n1\n") 0)
+  pub runs : (input : List ℕ) → shown (times 40 (turn (code_of f)) (start (code_of f) input)) ≡ Over
+      (Ended (codes "2\n1\n") 0)

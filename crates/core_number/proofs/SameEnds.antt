@@ -34,11 +34,15 @@ class_sort sort.Enumerator h = cc
 class_sort sort.Yielder h = cc
 
 -- an object of that sort is a class
-pub class_here : (st : Store) (id : ObjId) → Is (census st) Any id → is_class_sort (sort_at st.objects id) ≡ true → Is (census st) Class id
+pub class_here : (st : Store) (id : ObjId) → Is (census st) Any id → is_class_sort (sort_at st.objects id) ≡ true
+    → Is (census st) Class id
 class_here st id is h =
     let within = is_within st Any id is in
     let there : id.0 < length (sorts_of st.objects) = rw (length-sorts st.objects) within in
-    record { holds = ap (plays_at Class) (slice_get-get_or (sorts_of st.objects) id.0 sort.Plain there) ∙ ap (plays Class) (sort_at-sorts st.objects id) ∙ class_sort _ h }
+    record {
+      holds = ap (plays_at Class) (slice_get-get_or (sorts_of st.objects) id.0 sort.Plain there)
+          ∙ ap (plays Class) (sort_at-sorts st.objects id) ∙ class_sort _ h;
+    }
 
 -- The test is true just where the Ranges are equal.
 
@@ -79,10 +83,13 @@ both_bytes : (a b c d : ℕ) → a ≡ c → b ≡ d → Bytes a b ≡ Bytes c d
 both_bytes a b c d p q = ap (λ (x : ℕ). Bytes x b) p ∙ ap (λ (y : ℕ). Bytes c y) q
 
 bounds_same : (a b : Bounds) → same_bounds a b ≡ true → a ≡ b
-bounds_same (Integers a b) (Integers c d) h = both_integers a b c d (same_int a c (and_left (is_equal a c) (is_equal b d) h)) (same_int b d (and_right (is_equal a c) (is_equal b d) h))
+bounds_same (Integers a b) (Integers c d) h =
+    both_integers a b c d (same_int a c (and_left (is_equal a c) (is_equal b d) h))
+    (same_int b d (and_right (is_equal a c) (is_equal b d) h))
 bounds_same (Integers a b) (Bytes c d) h = cc
 bounds_same (Bytes a b) (Integers c d) h = cc
-bounds_same (Bytes a b) (Bytes c d) h = both_bytes a b c d (same_nat a c (and_left (nat_eq a c) (nat_eq b d) h)) (same_nat b d (and_right (nat_eq a c) (nat_eq b d) h))
+bounds_same (Bytes a b) (Bytes c d) h = both_bytes a b c d (same_nat a c (and_left (nat_eq a c) (nat_eq b d) h))
+    (same_nat b d (and_right (nat_eq a c) (nat_eq b d) h))
 
 self_bounds : (a : Bounds) → same_bounds a a ≡ true
 self_bounds (Integers a b) = rw (self_int a, self_int b) refl
@@ -90,8 +97,11 @@ self_bounds (Bytes a b) = rw (self_nat a, self_nat b) refl
 
 ends_same : (e f : Ends) → same_ends e (Some f) ≡ true → e ≡ f
 ends_same e f h =
-    ap (λ (b : Bounds). let g : Ends = record { bounds = b; is_exclusive = e.is_exclusive } in g) (bounds_same e.bounds f.bounds (and_left (same_bounds e.bounds f.bounds) (beq e.is_exclusive f.is_exclusive) h))
-    ∙ ap (λ (x : Bool). let g : Ends = record { bounds = f.bounds; is_exclusive = x } in g) (same_bool e.is_exclusive f.is_exclusive (and_right (same_bounds e.bounds f.bounds) (beq e.is_exclusive f.is_exclusive) h))
+    ap (λ (b : Bounds). let g : Ends = record { bounds = b; is_exclusive = e.is_exclusive } in g)
+    (bounds_same e.bounds f.bounds (and_left (same_bounds e.bounds f.bounds) (beq e.is_exclusive f.is_exclusive) h))
+    ∙ ap (λ (x : Bool). let g : Ends = record { bounds = f.bounds; is_exclusive = x } in g)
+    (same_bool e.is_exclusive f.is_exclusive
+    (and_right (same_bounds e.bounds f.bounds) (beq e.is_exclusive f.is_exclusive) h))
 
 self_ends : (e : Ends) → same_ends e (Some e) ≡ true
 self_ends e = rw (self_bounds e.bounds, self_bool e.is_exclusive) refl

@@ -30,7 +30,8 @@ every_at : (rs : List Row) (n : ℕ) → every rs ≡ true → n < length rs →
 unfolding every
 every_at [] n h within = absurd (omega (arith, within))
 every_at (r ∷ rs) zero h within = (both (is_number_method (Some r)) (every rs) h).0
-every_at (r ∷ rs) (suc n) h within = every_at rs n (both (is_number_method (Some r)) (every rs) h).1 (omega (arith, within))
+every_at (r ∷ rs) (suc n) h within = every_at rs n (both (is_number_method (Some r)) (every rs) h).1
+    (omega (arith, within))
 
 every_row : every rows ≡ true
 unfolding every rows integer_names range_names

@@ -42,7 +42,8 @@ class_sort sort.Enumerator h = cc
 class_sort sort.Yielder h = cc
 
 -- the class of an object is a class
-pub class_is : (st : Store) → Sound st → (id : ObjId) → Is (census st) Any id → Is (census st) ClassOrModule (object_at st.objects id).class
+pub class_is : (st : Store) → Sound st → (id : ObjId) → Is (census st) Any id
+    → Is (census st) ClassOrModule (object_at st.objects id).class
 class_is st sound id is =
     let h = (sound.objects id.0 (is_within st Any id is)).class in
     let f = found (census st).sorts (object_at st.objects id).class.0 Class h.holds in

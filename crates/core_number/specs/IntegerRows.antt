@@ -78,7 +78,8 @@ order_value x (Some y) = Int (comparison.order x y)
 
 -- two arguments that are Integers
 abbrev pub two_integers : List Object → List Value → Result (ℤ × ℤ) Cause
-two_integers objects args = and_then (integer objects (argument args 0)) (λ a. and_then (integer objects (argument args 1)) (λ b. Ok (a, b)))
+two_integers objects args = and_then (integer objects (argument args 0))
+    (λ a. and_then (integer objects (argument args 1)) (λ b. Ok (a, b)))
 
 abbrev pub between : List Object → ℤ → List Value → Result Value Cause
 between objects x args = and_then (two_integers objects args) (λ ab. Ok (truth (comparison.is_between x ab.0 ab.1)))
@@ -91,7 +92,8 @@ pair qr = Int qr.0 ∷ Int qr.1 ∷ []
 
 -- an Array of quotient and remainder
 abbrev pub divides : Store → ℤ → Value → Done
-divides st x v = lists st (and_then (and_then (integer st.objects v) (λ y. caused (division.quotient_and_remainder x y))) (λ qr. Ok (pair qr)))
+divides st x v = lists st (and_then (and_then (integer st.objects v)
+    (λ y. caused (division.quotient_and_remainder x y))) (λ qr. Ok (pair qr)))
 
 -- one byte
 abbrev pub one_byte : Result ℕ IntegerFailure → Result (List ℕ) Cause
@@ -103,10 +105,12 @@ digits objects x [] = Ok (signed_decimal x)
 digits objects x (base ∷ rest) = and_then (integer objects base) (λ b. caused (numerals.text x b))
 
 abbrev pub integer_row : IntegerRow → Store → ℤ → List Value → Done
-integer_row (row.Binary o) st x args = concludes st (and_then (integer st.objects (argument args 0)) (λ y. integer_value (of_two o x y)))
+integer_row (row.Binary o) st x args = concludes st
+    (and_then (integer st.objects (argument args 0)) (λ y. integer_value (of_two o x y)))
 integer_row (row.Unary o) st x args = concludes st (integer_value (of_one o x))
 integer_row (row.Test t) st x args = concludes st (Ok (truth (passes t x)))
-integer_row (row.Relation r) st x args = concludes st (and_then (comparable st.objects (argument args 0)) (λ y. Ok (truth (relates r x y))))
+integer_row (row.Relation r) st x args = concludes st
+    (and_then (comparable st.objects (argument args 0)) (λ y. Ok (truth (relates r x y))))
 integer_row row.Equality st x args = concludes st (Ok (truth (equals x (integer_of (argument args 0)))))
 integer_row row.Order st x args = concludes st (Ok (order_value x (integer_of (argument args 0))))
 integer_row row.Between st x args = concludes st (between st.objects x args)

@@ -123,7 +123,8 @@ values_from n (Byte b ∷ is) = Obj (object_number n) ∷ values_from (n + 1) is
 
 -- new Strings, then a new Array of all items
 abbrev pub gives_items : Store → List Item → Done
-gives_items st is = makes (record st { objects = st.objects ++ strings_of is }) (array_object (values_from (length st.objects) is))
+gives_items st is = makes (record st { objects = st.objects ++ strings_of is })
+    (array_object (values_from (length st.objects) is))
 
 abbrev pub gives_front : Store → Bounds → Result ℕ Cause → Done
 gives_front st b (Ok n) = gives_items st (items b n)
@@ -195,7 +196,8 @@ abbrev pub class_in : List Object → Value → Result ObjId Cause
 class_in objects v = ok_or (object_of_sort is_class_sort objects v) (unexpected class.Class objects v)
 
 abbrev pub range_for : Store → List Value → Result ObjId Cause → Done
-range_for st args (Ok c) = makes_range st c (is_true (argument args 2)) (kept_ends (item_of st.objects (argument args 0)) (item_of st.objects (argument args 1)))
+range_for st args (Ok c) = makes_range st c (is_true (argument args 2))
+    (kept_ends (item_of st.objects (argument args 0)) (item_of st.objects (argument args 1)))
 range_for st args (Err f) = fails st f
 
 abbrev pub new_range : Store → Value → List Value → Done

@@ -15,7 +15,8 @@ use Rattle.core_number.specs.declared.rows.NumberRow.TheVariants.{Integer, Range
 -- a method of a class that this crate has, without a star
 abbrev pub is_number_method : Option Row → Bool
 is_number_method None = false
-is_number_method (Some r) = not r.star && (nat_eq (number_of r.class) (number_of class.Integer) || nat_eq (number_of r.class) (number_of class.Range))
+is_number_method (Some r) = not r.star && (nat_eq (number_of r.class) (number_of class.Integer) || nat_eq
+    (number_of r.class) (number_of class.Range))
 
 -- whether the row is one of Integer or Range
 abbrev pub is_number_row : ℕ → Bool

@@ -64,11 +64,14 @@ module _ (k l : Census) (e : Extends k l) where
   class_grows : (n : ℕ) (c : ClassContents) → SoundClass k n c → SoundClass l n c
   class_grows n c h = record {
     name = option_grows (IsSymbol k) (IsSymbol l) symbol c.name h.name;
-    superclass = option_grows (IsSuperclass k n) (IsSuperclass l n) (λ p b. (e.roles Superclass p b.0, b.1)) c.superclass h.superclass;
+    superclass = option_grows (IsSuperclass k n) (IsSuperclass l n) (λ p b. (e.roles Superclass p b.0, b.1))
+        c.superclass h.superclass;
     module_root = h.module_root;
     included = all_grows (Is k Module) (Is l Module) (e.roles Module) c.included h.included;
-    constants = all_grows (SoundConstant k) (SoundConstant l) (λ x b. (symbol x.name b.0, value_grows x.value b.1)) c.constants h.constants;
-    methods = all_grows (SoundEntry k) (SoundEntry l) (λ x b. (e.names x.0 b.0, method_grows x.1.method b.1)) c.methods h.methods;
+    constants = all_grows (SoundConstant k) (SoundConstant l) (λ x b. (symbol x.name b.0, value_grows x.value b.1))
+        c.constants h.constants;
+    methods = all_grows (SoundEntry k) (SoundEntry l) (λ x b. (e.names x.0 b.0, method_grows x.1.method b.1)) c.methods
+        h.methods;
   }
 
   part_grows : (p : KeyPart) → SoundPart k p → SoundPart l p
@@ -85,7 +88,11 @@ module _ (k l : Census) (e : Extends k l) where
   pair_grows p h = (key_grows p.key h.0, value_grows p.shown h.1, value_grows p.value h.2)
 
   source_grows : (s : EnumeratorSource) → SoundSource k s → SoundSource l s
-  source_grows (source.Call r n args) h = (value_grows r h.0, symbol n h.1, all_grows (IsValue k) (IsValue l) value_grows args h.2)
+  source_grows (source.Call r n args) h = (
+    value_grows r h.0,
+    symbol n h.1,
+    all_grows (IsValue k) (IsValue l) value_grows args h.2,
+  )
   source_grows (source.Block b) h = e.roles Proc b h
 
   kind_grows : (n : ℕ) (x : Kind) → SoundKind k n x → SoundKind l n x
@@ -119,8 +126,10 @@ module _ (k l : Census) (e : Extends k l) where
   pub object_grows : (n : ℕ) (o : Object) → SoundObject k n o → SoundObject l n o
   object_grows n o h = record {
     class = e.roles Class o.class h.class;
-    singleton = option_grows (Is k SingletonClass) (Is l SingletonClass) (e.roles SingletonClass) o.singleton h.singleton;
-    variables = all_grows (SoundVariable k) (SoundVariable l) (λ x b. (symbol x.name b.0, value_grows x.value b.1)) o.variables h.variables;
+    singleton = option_grows (Is k SingletonClass) (Is l SingletonClass) (e.roles SingletonClass) o.singleton
+        h.singleton;
+    variables = all_grows (SoundVariable k) (SoundVariable l) (λ x b. (symbol x.name b.0, value_grows x.value b.1))
+        o.variables h.variables;
     kind = kind_grows n o.kind h.kind;
   }
 
@@ -128,17 +137,22 @@ there_still : (xs ys : List Sort) (n : ℕ) (s : Sort) → slice_get xs n ≡ So
 there_still xs ys n s h =
     let within = slice_get_within xs n s h in
     let longer : n < length (xs ++ ys) = rw length-append (omega (arith, within)) in
-    slice_get-get_or (xs ++ ys) n s longer ∙ ap Some (get_or_append_left xs ys s n within ∙ get_or_from_slice_get xs n s s h)
+    slice_get-get_or (xs ++ ys) n s longer ∙ ap Some
+    (get_or_append_left xs ys s n within ∙ get_or_from_slice_get xs n s s h)
 
 sorts_grow : (st : Store) (more : List Object) → sorts_of (st.objects ++ more) ≡ sorts_of st.objects ++ sorts_of more
 sorts_grow st more = map-append (λ (x : Object). sort_of x.kind) st.objects more
 
 -- objects that come behind the others
-pub more_objects : (st : Store) (more : List Object) → Extends (census st) (census (record st { objects = st.objects ++ more }))
+pub more_objects : (st : Store) (more : List Object)
+    → Extends (census st) (census (record st { objects = st.objects ++ more }))
 more_objects st more = record {
   roles = λ r id is.
       let f = found (sorts_of st.objects) id.0 r is.holds in
-      record { holds = ap (plays_at r) (ap (λ (ss : List Sort). slice_get ss id.0) (sorts_grow st more) ∙ there_still _ _ id.0 f.0 f.1) ∙ f.2 };
+      record {
+        holds = ap (plays_at r) (ap (λ (ss : List Sort). slice_get ss id.0) (sorts_grow st more)
+            ∙ there_still _ _ id.0 f.0 f.1) ∙ f.2;
+      };
   names = λ n h. h;
 }
 
@@ -146,40 +160,53 @@ pub one_more : (st : Store) (o : Object) → Extends (census st) (census (with_o
 one_more st o = more_objects st (o ∷ [])
 
 -- a new object that is sound in the store before it
-pub sound_with_object : (st : Store) → Sound st → (o : Object) → SoundObject (census st) (length st.objects) o → Sound (with_object st o)
+pub sound_with_object : (st : Store) → Sound st → (o : Object) → SoundObject (census st) (length st.objects) o
+    → Sound (with_object st o)
 sound_with_object st sound o new = record {
-  objects = λ n h. elim (nat_lt n (length st.objects)) as (λ b. nat_lt n (length st.objects) ≡ b → SoundObject (census (with_object st o)) n (get_or (st.objects ++ o ∷ []) n absent)) [
-    | true ↦ λ b.
-        let within : n < length st.objects = grind (arith, nat_tests, b) in
-        subst (SoundObject (census (with_object st o)) n) (sym (get_or_append_left st.objects (o ∷ []) absent n within))
-        (object_grows _ _ (one_more st o) n (get_or st.objects n absent) (sound.objects n within))
-    | false ↦ λ b.
-        let last : length st.objects ≡ n = grind (arith, nat_tests, b, rw length-append at h) in
-        subst (λ (m : ℕ). SoundObject (census (with_object st o)) m (get_or (st.objects ++ o ∷ []) m absent)) last
-        (subst (SoundObject (census (with_object st o)) (length st.objects)) (sym (get_or_push st.objects o absent (length st.objects) refl)) (object_grows _ _ (one_more st o) (length st.objects) o new))
-  ] refl;
-  core = λ q. ap (λ (ss : List Sort). slice_get ss (number_of q)) (sorts_grow st (o ∷ [])) ∙ there_still _ _ (number_of q) _ (sound.core q);
+  objects = λ n h. elim (nat_lt n (length st.objects)) as
+      (λ b. nat_lt n (length st.objects) ≡ b → SoundObject (census (with_object st o)) n
+      (get_or (st.objects ++ o ∷ []) n absent)) [
+        | true ↦ λ b.
+            let within : n < length st.objects = grind (arith, nat_tests, b) in
+            subst (SoundObject (census (with_object st o)) n) (sym (get_or_append_left st.objects (o ∷ []) absent n within))
+            (object_grows _ _ (one_more st o) n (get_or st.objects n absent) (sound.objects n within))
+        | false ↦ λ b.
+            let last : length st.objects ≡ n = grind (arith, nat_tests, b, rw length-append at h) in
+            subst (λ (m : ℕ). SoundObject (census (with_object st o)) m (get_or (st.objects ++ o ∷ []) m absent)) last
+            (subst (SoundObject (census (with_object st o)) (length st.objects))
+            (sym (get_or_push st.objects o absent (length st.objects) refl))
+            (object_grows _ _ (one_more st o) (length st.objects) o new))
+      ] refl;
+  core = λ q. ap (λ (ss : List Sort). slice_get ss (number_of q)) (sorts_grow st (o ∷ []))
+      ∙ there_still _ _ (number_of q) _ (sound.core q);
 }
 
 -- a core class is a class
-pub core_is_class : (st : Store) → Sound st → (c : CoreClass) → is_module c ≡ false → Is (census st) Class (record { 0 = number_of c })
-core_is_class st sound c plain = record { holds = ap (plays_at Class) (sound.core c ∙ ap (λ b. Some (core_sort b)) plain) }
+pub core_is_class : (st : Store) → Sound st → (c : CoreClass) → is_module c ≡ false
+    → Is (census st) Class (record { 0 = number_of c })
+core_is_class st sound c plain = record {
+  holds =
+      ap (plays_at Class) (sound.core c ∙ ap (λ b. Some (core_sort b)) plain);
+}
 
 -- the new object has each role that its sort plays
-pub new_role : (st : Store) (o : Object) (r : Role) → plays r (sort_of o.kind) ≡ true → Is (census (with_object st o)) r (next_number st)
+pub new_role : (st : Store) (o : Object) (r : Role) → plays r (sort_of o.kind) ≡ true
+    → Is (census (with_object st o)) r (next_number st)
 new_role st o r h =
     let longer : length st.objects < length (st.objects ++ o ∷ []) = rw length-append (omega arith) in
     is_by_sort (with_object st o) r (next_number st) longer
     (ap (λ (x : Object). plays r (sort_of x.kind)) (get_or_push st.objects o absent (length st.objects) refl) ∙ h)
 
 -- a store that gets more names of symbols
-pub more_names : (st : Store) (names : List (List ℕ)) → Extends (census st) (census (record st { symbols = st.symbols ++ names }))
+pub more_names : (st : Store) (names : List (List ℕ))
+    → Extends (census st) (census (record st { symbols = st.symbols ++ names }))
 more_names st names = record {
   roles = λ r id is. record { holds = is.holds };
   names = λ n h. rw length-append (omega (arith, h));
 }
 
-pub sound_with_symbols : (st : Store) → Sound st → (names : List (List ℕ)) → Sound (record st { symbols = st.symbols ++ names })
+pub sound_with_symbols : (st : Store) → Sound st → (names : List (List ℕ))
+    → Sound (record st { symbols = st.symbols ++ names })
 sound_with_symbols st sound names = record {
   objects = λ n h. object_grows _ _ (more_names st names) n (get_or st.objects n absent) (sound.objects n h);
   core = sound.core;
@@ -189,11 +216,17 @@ pub extends_itself : (k : Census) → Extends k k
 extends_itself k = record { roles = λ r id is. is; names = λ n h. h }
 
 pub extends_both : (k l m : Census) → Extends k l → Extends l m → Extends k m
-extends_both k l m e f = record { roles = λ r id is. f.roles r id (e.roles r id is); names = λ n h. f.names n (e.names n h) }
+extends_both k l m e f = record {
+  roles = λ r id is. f.roles r id (e.roles r id is);
+  names =
+      λ n h. f.names n (e.names n h);
+}
 
 -- a store with objects of the same sorts
-pub same_objects : (st : Store) (objects : List Object) → sorts_of objects ≡ sorts_of st.objects → Extends (census st) (census (record st { objects = objects }))
-same_objects st objects e = subst (λ (ss : List Sort). Extends (census st) (record { sorts = ss; symbols = length st.symbols })) (sym e) (extends_itself (census st))
+pub same_objects : (st : Store) (objects : List Object) → sorts_of objects ≡ sorts_of st.objects
+    → Extends (census st) (census (record st { objects = objects }))
+same_objects st objects e = subst (λ (ss : List Sort). Extends (census st)
+    (record { sorts = ss; symbols = length st.symbols })) (sym e) (extends_itself (census st))
 
 -- the text of an exception is a new object
 pub raised : (st : Store) (c : Cause) → Extends (census st) (census (fails st c).store)

@@ -25,25 +25,31 @@ use Rattle.def_core.proofs.Sorts.{sorts-set, same_class_sort}
 use Rattle.def_core.proofs.Roles.{is_within, is_plays, sound_class}
 
 -- what holds of each member still holds where one is replaced
-each_still : (P : ℕ → Object → Type 0) (xs : List Object) (i : ℕ) (o : Object) → i < length xs → P i o → (n : ℕ) → P n (get_or xs n absent) → P n (get_or (set xs i o) n absent)
+each_still : (P : ℕ → Object → Type 0) (xs : List Object) (i : ℕ) (o : Object) → i < length xs → P i o → (n : ℕ)
+    → P n (get_or xs n absent) → P n (get_or (set xs i o) n absent)
 each_still P xs i o within new n old = elim (nat_eq n i) as (λ b. nat_eq n i ≡ b → P n (get_or (set xs i o) n absent)) [
   | true ↦ λ e. let same : i ≡ n = grind (arith, nat_tests, e) in
-      subst (λ (k : ℕ). P k (get_or (set xs i o) k absent)) same (subst (P i) (sym (get_or-set_same xs i o absent within)) new)
-  | false ↦ λ e. let other : n ≢ i = grind (arith, nat_tests, e) in subst (P n) (sym (get_or-set_other xs i n o absent other)) old
+      subst (λ (k : ℕ). P k (get_or (set xs i o) k absent)) same
+      (subst (P i) (sym (get_or-set_same xs i o absent within)) new)
+  | false ↦ λ e. let other : n ≢ i = grind (arith, nat_tests, e) in
+      subst (P n) (sym (get_or-set_other xs i n o absent other)) old
 ] refl
 
 -- an object of the same sort that is sound in the place of another
-pub sound_with_set : (st : Store) → Sound st → (id : ObjId) (o : Object) → id.0 < length st.objects → sort_of o.kind ≡ sort_at st.objects id
+pub sound_with_set : (st : Store) → Sound st → (id : ObjId) (o : Object) → id.0 < length st.objects
+    → sort_of o.kind ≡ sort_at st.objects id
     → SoundObject (census st) id.0 o → Sound (record st { objects = set_object st.objects id o })
 sound_with_set st sound id o within sort new =
     let same : sorts_of (set_object st.objects id o) ≡ sorts_of st.objects = sorts-set st.objects id o sort in
     record {
-      objects = λ n h. subst (λ (ss : List Sort). SoundObject (record { sorts = ss; symbols = length st.symbols }) n (get_or (set_object st.objects id o) n absent)) (sym same)
+      objects = λ n h. subst (λ (ss : List Sort). SoundObject (record { sorts = ss; symbols = length st.symbols }) n
+          (get_or (set_object st.objects id o) n absent)) (sym same)
           (each_still (SoundObject (census st)) st.objects id.0 o within new n (sound.objects n (rw length-set at h)));
       core = λ q. ap (λ (ss : List Sort). slice_get ss (number_of q)) same ∙ sound.core q;
     }
 
-pub sound_with_class : (st : Store) → Sound st → (c : ObjId) (k : ClassContents) → Is (census st) ClassOrModule c → k.form ≡ (class_at st.objects c).form
+pub sound_with_class : (st : Store) → Sound st → (c : ObjId) (k : ClassContents) → Is (census st) ClassOrModule c
+    → k.form ≡ (class_at st.objects c).form
     → SoundClass (census st) c.0 k → Sound (record st { objects = with_class st.objects c k })
 sound_with_class st sound c k is form new =
     let within = is_within st ClassOrModule c is in
@@ -53,21 +59,25 @@ sound_with_class st sound c k is form new =
     (record { class = old.class; singleton = old.singleton; variables = old.variables; kind = new })
 
 -- an object gets a singleton class
-pub sound_with_singleton : (st : Store) → Sound st → (id s : ObjId) → id.0 < length st.objects → Is (census st) SingletonClass s
+pub sound_with_singleton : (st : Store) → Sound st → (id s : ObjId) → id.0 < length st.objects
+    → Is (census st) SingletonClass s
     → Sound (record st { objects = set_object st.objects id (record (object_at st.objects id) { singleton = Some s }) })
 sound_with_singleton st sound id s within is =
     let old = sound.objects id.0 within in
     sound_with_set st sound id (record (object_at st.objects id) { singleton = Some s }) within refl
     (record { class = old.class; singleton = is; variables = old.variables; kind = old.kind })
 
-entry_kept : (k : Census) (table : List (ℕ × MethodEntry)) (n : ℕ) (e : MethodEntry) → AllAre (SoundEntry k) table → SoundEntry k (n, e) → AllAre (SoundEntry k) (insert_entry nat_eq table n e)
+entry_kept : (k : Census) (table : List (ℕ × MethodEntry)) (n : ℕ) (e : MethodEntry) → AllAre (SoundEntry k) table
+    → SoundEntry k (n, e) → AllAre (SoundEntry k) (insert_entry nat_eq table n e)
 entry_kept k [] n e all new = (new, tt)
-entry_kept k (x ∷ xs) n e all new = elim (nat_eq n x.0) as (λ b. AllAre (SoundEntry k) (cond b ((x.0, e) ∷ xs) (x ∷ insert_entry nat_eq xs n e))) [
-  | true ↦ ((all.0.0, new.1), all.1)
-  | false ↦ (all.0, entry_kept k xs n e all.1 new)
-]
+entry_kept k (x ∷ xs) n e all new = elim (nat_eq n x.0) as
+    (λ b. AllAre (SoundEntry k) (cond b ((x.0, e) ∷ xs) (x ∷ insert_entry nat_eq xs n e))) [
+      | true ↦ ((all.0.0, new.1), all.1)
+      | false ↦ (all.0, entry_kept k xs n e all.1 new)
+    ]
 
-pub sound_with_method : (st : Store) → Sound st → (c : ObjId) (name : SymId) (m : Method) (v : Visibility) → Is (census st) ClassOrModule c → IsSymbol (census st) name
+pub sound_with_method : (st : Store) → Sound st → (c : ObjId) (name : SymId) (m : Method) (v : Visibility)
+    → Is (census st) ClassOrModule c → IsSymbol (census st) name
     → SoundMethod (census st) m → Sound (with_method st c name m v)
 unfolding with_method
 sound_with_method st sound c name m v is symbol method =
@@ -78,10 +88,12 @@ sound_with_method st sound c name m v is symbol method =
       module_root = old.module_root;
       included = old.included;
       constants = old.constants;
-      methods = entry_kept (census st) (class_at st.objects c).methods name.0 (record { method = m; visibility = visibility_for st name v }) old.methods (symbol.below, method);
+      methods = entry_kept (census st) (class_at st.objects c).methods name.0
+          (record { method = m; visibility = visibility_for st name v }) old.methods (symbol.below, method);
     })
 
-pub sound_with_default : (st : Store) → Sound st → (c : ObjId) (v : Visibility) → Is (census st) ClassOrModule c → Sound (record st { objects = with_default st.objects c v })
+pub sound_with_default : (st : Store) → Sound st → (c : ObjId) (v : Visibility) → Is (census st) ClassOrModule c
+    → Sound (record st { objects = with_default st.objects c v })
 unfolding with_default
 sound_with_default st sound c v is =
     let old = sound_class st sound c is in
@@ -95,7 +107,8 @@ sound_with_default st sound c v is =
     })
 
 -- a new constant that is one of the store
-pub sound_with_constant : (st : Store) → Sound st → (c : ObjId) (name : SymId) (v : Value) → Is (census st) ClassOrModule c → IsSymbol (census st) name → IsValue (census st) v
+pub sound_with_constant : (st : Store) → Sound st → (c : ObjId) (name : SymId) (v : Value)
+    → Is (census st) ClassOrModule c → IsSymbol (census st) name → IsValue (census st) v
     → Sound (record st { objects = with_constant st.objects c name v })
 sound_with_constant st sound c name v is symbol value =
     let old = sound_class st sound c is in
@@ -108,6 +121,7 @@ sound_with_constant st sound c name v is symbol value =
       methods = old.methods;
     })
   where
-    behind : (ks : List Constant) → AllAre (SoundConstant (census st)) ks → AllAre (SoundConstant (census st)) (ks ++ (record { name = name; value = v }) ∷ [])
+    behind : (ks : List Constant) → AllAre (SoundConstant (census st)) ks
+        → AllAre (SoundConstant (census st)) (ks ++ (record { name = name; value = v }) ∷ [])
     behind [] h = ((symbol, value), tt)
     behind (k ∷ ks) h = (h.0, behind ks h.1)

@@ -14,11 +14,13 @@ use Rattle.def_core.specs.Sound.{sorts_of, census, Role, Class, SingletonClass, 
 use Rattle.def_core.proofs.Sorts.{sort_at-sorts, length-sorts}
 
 -- the sort of an object that has a role
-pub found : (xs : List Sort) (n : ℕ) (r : Role) → plays_at r (slice_get xs n) ≡ true → (s : Sort) × (slice_get xs n ≡ Some s) × (plays r s ≡ true)
-found xs n r h = elim (slice_get xs n) as (λ o. slice_get xs n ≡ o → plays_at r o ≡ true → (s : Sort) × (slice_get xs n ≡ Some s) × (plays r s ≡ true)) [
-  | None ↦ λ _ e. absurd (true≢false (sym e))
-  | Some s ↦ λ is e. (s, is, e)
-] refl h
+pub found : (xs : List Sort) (n : ℕ) (r : Role) → plays_at r (slice_get xs n) ≡ true → (s : Sort)
+    × (slice_get xs n ≡ Some s) × (plays r s ≡ true)
+found xs n r h = elim (slice_get xs n) as (λ o. slice_get xs n ≡ o → plays_at r o ≡ true → (s : Sort)
+    × (slice_get xs n ≡ Some s) × (plays r s ≡ true)) [
+      | None ↦ λ _ e. absurd (true≢false (sym e))
+      | Some s ↦ λ is e. (s, is, e)
+    ] refl h
 
 pub is_within : (st : Store) (r : Role) (id : ObjId) → Is (census st) r id → id.0 < length st.objects
 is_within st r id is =
@@ -28,7 +30,8 @@ is_within st r id is =
 pub is_plays : (st : Store) (r : Role) (id : ObjId) → Is (census st) r id → plays r (sort_at st.objects id) ≡ true
 is_plays st r id is =
     let f = found (sorts_of st.objects) id.0 r is.holds in
-    ap (plays r) (sym (sort_at-sorts st.objects id) ∙ get_or_from_slice_get (sorts_of st.objects) id.0 f.0 sort.Plain f.1) ∙ f.2
+    ap (plays r) (sym (sort_at-sorts st.objects id)
+    ∙ get_or_from_slice_get (sorts_of st.objects) id.0 f.0 sort.Plain f.1) ∙ f.2
 
 -- a superclass is a class
 superclass_sort : (s : Sort) → plays Superclass s ≡ true → plays ClassOrModule s ≡ true
@@ -62,7 +65,8 @@ module_sort sort.Exception h = cc
 module_sort sort.Enumerator h = cc
 module_sort sort.Yielder h = cc
 
-with_role : (st : Store) (r q : Role) → ((s : Sort) → plays r s ≡ true → plays q s ≡ true) → (id : ObjId) → Is (census st) r id → Is (census st) q id
+with_role : (st : Store) (r q : Role) → ((s : Sort) → plays r s ≡ true → plays q s ≡ true) → (id : ObjId)
+    → Is (census st) r id → Is (census st) q id
 with_role st r q more id is =
     let f = found (sorts_of st.objects) id.0 r is.holds in
     record { holds = ap (plays_at q) f.1 ∙ more f.0 f.2 }
@@ -107,16 +111,22 @@ singleton_sort sort.Yielder h = cc
 pub class_is_superclass : (st : Store) (id : ObjId) → Is (census st) Class id → Is (census st) Superclass id
 class_is_superclass st = with_role st Class Superclass class_sort
 
-pub singleton_is_superclass : (st : Store) (id : ObjId) → Is (census st) SingletonClass id → Is (census st) Superclass id
+pub singleton_is_superclass : (st : Store) (id : ObjId) → Is (census st) SingletonClass id
+    → Is (census st) Superclass id
 singleton_is_superclass st = with_role st SingletonClass Superclass singleton_sort
 
 -- an object has each role that its sort plays
-pub is_by_sort : (st : Store) (r : Role) (id : ObjId) → id.0 < length st.objects → plays r (sort_at st.objects id) ≡ true → Is (census st) r id
+pub is_by_sort : (st : Store) (r : Role) (id : ObjId) → id.0 < length st.objects
+    → plays r (sort_at st.objects id) ≡ true → Is (census st) r id
 is_by_sort st r id within h =
     let there : id.0 < length (sorts_of st.objects) = rw (length-sorts st.objects) within in
-    record { holds = ap (plays_at r) (slice_get-get_or (sorts_of st.objects) id.0 sort.Plain there ∙ ap Some (sort_at-sorts st.objects id)) ∙ h }
+    record {
+      holds = ap (plays_at r) (slice_get-get_or (sorts_of st.objects) id.0 sort.Plain there
+          ∙ ap Some (sort_at-sorts st.objects id)) ∙ h;
+    }
 
-sound_contents : (st : Store) (n : ℕ) (k : Kind) → plays ClassOrModule (sort_of k) ≡ true → SoundKind (census st) n k → SoundClass (census st) n (contents_of k)
+sound_contents : (st : Store) (n : ℕ) (k : Kind) → plays ClassOrModule (sort_of k) ≡ true → SoundKind (census st) n k
+    → SoundClass (census st) n (contents_of k)
 sound_contents st n kind.Plain h s = absurd (true≢false (sym h))
 sound_contents st n (kind.Class c) h s = s
 sound_contents st n (kind.String x) h s = absurd (true≢false (sym h))
@@ -131,5 +141,7 @@ sound_contents st n (kind.Enumerator e) h s = absurd (true≢false (sym h))
 sound_contents st n (kind.Yielder b) h s = absurd (true≢false (sym h))
 
 -- the contents of a class or module of a sound store
-pub sound_class : (st : Store) → Sound st → (c : ObjId) → Is (census st) ClassOrModule c → SoundClass (census st) c.0 (class_at st.objects c)
-sound_class st sound c is = sound_contents st c.0 (object_at st.objects c).kind (is_plays st ClassOrModule c is) (sound.objects c.0 (is_within st ClassOrModule c is)).kind
+pub sound_class : (st : Store) → Sound st → (c : ObjId) → Is (census st) ClassOrModule c
+    → SoundClass (census st) c.0 (class_at st.objects c)
+sound_class st sound c is = sound_contents st c.0 (object_at st.objects c).kind (is_plays st ClassOrModule c is)
+    (sound.objects c.0 (is_within st ClassOrModule c is)).kind

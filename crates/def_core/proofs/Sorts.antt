@@ -22,10 +22,12 @@ use Rattle.def_core.specs.Sound.{sorts_of, plays, ClassOrModule}
 pub length-sorts : (objects : List Object) → length (sorts_of objects) ≡ length objects
 length-sorts objects = length-map objects (λ o. sort_of o.kind)
 
-pub sort_at-sorts : (objects : List Object) (id : ObjId) → get_or (sorts_of objects) id.0 sort.Plain ≡ sort_at objects id
+pub sort_at-sorts : (objects : List Object) (id : ObjId)
+    → get_or (sorts_of objects) id.0 sort.Plain ≡ sort_at objects id
 sort_at-sorts objects id = get_or-map (λ (o : Object). sort_of o.kind) objects id.0 absent
 
-pub sorts-set : (objects : List Object) (id : ObjId) (o : Object) → sort_of o.kind ≡ sort_at objects id → sorts_of (set_object objects id o) ≡ sorts_of objects
+pub sorts-set : (objects : List Object) (id : ObjId) (o : Object) → sort_of o.kind ≡ sort_at objects id
+    → sorts_of (set_object objects id o) ≡ sorts_of objects
 sorts-set objects id o e = map-set_same (λ (o : Object). sort_of o.kind) objects id.0 o absent e
 
 -- an object that is a class or module has the contents of one
@@ -43,13 +45,20 @@ class_sort (kind.Exception m d) h = cc
 class_sort (kind.Enumerator e) h = cc
 class_sort (kind.Yielder b) h = cc
 
-pub same_class_sort : (objects : List Object) (c : ObjId) (k : ClassContents) → plays ClassOrModule (sort_at objects c) ≡ true → k.form ≡ (class_at objects c).form → sort_of_form k.form ≡ sort_at objects c
+pub same_class_sort : (objects : List Object) (c : ObjId) (k : ClassContents)
+    → plays ClassOrModule (sort_at objects c) ≡ true → k.form ≡ (class_at objects c).form
+    → sort_of_form k.form ≡ sort_at objects c
 same_class_sort objects c k is same = ap sort_of_form same ∙ sym (class_sort (object_at objects c).kind is)
 
-pub sorts-with_class : (objects : List Object) (c : ObjId) (k : ClassContents) → plays ClassOrModule (sort_at objects c) ≡ true → k.form ≡ (class_at objects c).form → sorts_of (with_class objects c k) ≡ sorts_of objects
-sorts-with_class objects c k is same = sorts-set objects c (record (object_at objects c) { kind = kind.Class k }) (same_class_sort objects c k is same)
+pub sorts-with_class : (objects : List Object) (c : ObjId) (k : ClassContents)
+    → plays ClassOrModule (sort_at objects c) ≡ true → k.form ≡ (class_at objects c).form
+    → sorts_of (with_class objects c k) ≡ sorts_of objects
+sorts-with_class objects c k is same = sorts-set objects c (record (object_at objects c) { kind = kind.Class k })
+    (same_class_sort objects c k is same)
 
-pub sorts-with_method : (st : Store) (c : ObjId) (name : SymId) (m : Method) (v : Visibility) → plays ClassOrModule (sort_at st.objects c) ≡ true → sorts_of (with_method st c name m v).objects ≡ sorts_of st.objects
+pub sorts-with_method : (st : Store) (c : ObjId) (name : SymId) (m : Method) (v : Visibility)
+    → plays ClassOrModule (sort_at st.objects c) ≡ true
+    → sorts_of (with_method st c name m v).objects ≡ sorts_of st.objects
 unfolding with_method
 sorts-with_method st c name m v is = sorts-with_class st.objects c _ is refl
 
@@ -57,5 +66,7 @@ sorts-with_method st c name m v is = sorts-with_class st.objects c _ is refl
 pub is_there : (objects other : List Object) → sorts_of objects ≡ sorts_of other → length objects ≡ length other
 is_there objects other e = sym (length-sorts objects) ∙ ap length e ∙ length-sorts other
 
-pub same_sort : (objects other : List Object) (id : ObjId) → sorts_of objects ≡ sorts_of other → sort_at objects id ≡ sort_at other id
-same_sort objects other id e = sym (sort_at-sorts objects id) ∙ ap (λ (xs : List Sort). get_or xs id.0 sort.Plain) e ∙ sort_at-sorts other id
+pub same_sort : (objects other : List Object) (id : ObjId) → sorts_of objects ≡ sorts_of other
+    → sort_at objects id ≡ sort_at other id
+same_sort objects other id e = sym (sort_at-sorts objects id) ∙ ap (λ (xs : List Sort). get_or xs id.0 sort.Plain) e
+    ∙ sort_at-sorts other id

@@ -54,7 +54,8 @@ elements_or (Some a) args = a
 
 -- the elements of one Array alone
 abbrev pub spread : List Object → List Value → List Value
-spread objects args = if nat_eq (length args) 1 then elements_or (elements_in objects (get_or args 0 Nil)) args else args
+spread objects args = if nat_eq (length args) 1 then elements_or (elements_in objects (get_or args 0 Nil)) args else
+    args
 
 -- nil for each that is missing up to so many
 abbrev pub padded : ℕ → List Value → List Value
@@ -97,10 +98,16 @@ values s rest args = front s args ++ replicate (s.optional - filled s (length ar
 
 -- the remaining arguments are a new Array
 abbrev pub bind_fitting : Store → Shape → List Value → Bool → Binding
-bind_fitting st s args true = record { bound = Values (values s (Obj (next_number st) ∷ []) args) (filled s (length args)); store = with_object st (fresh (core class.Array) (kind.Array (remaining s args))) }
+bind_fitting st s args true = record {
+  bound =
+      Values (values s (Obj (next_number st) ∷ []) args) (filled s (length args));
+  store =
+      with_object st (fresh (core class.Array) (kind.Array (remaining s args)));
+}
 bind_fitting st s args false = record { bound = Values (values s [] args) (filled s (length args)); store = st }
 
 unfoldable pub bind : Store → Shape → List Value → BindKind → Binding
 bind st s args k =
     let given = arguments st.objects s k args in
-    if fits s (length given) then bind_fitting st s given s.rest else record { bound = Wrong (length given); store = st }
+    if fits s (length given) then bind_fitting st s given s.rest else
+    record { bound = Wrong (length given); store = st }

@@ -48,7 +48,11 @@ pub record Interned : Type 0 where
 
 abbrev pub intern_at : Store → List ℕ → Option ℕ → Interned
 intern_at st name (Some i) = record { symbol = symbol_number i; store = st }
-intern_at st name None = record { symbol = symbol_number (length st.symbols); store = record st { symbols = st.symbols ++ name ∷ [] } }
+intern_at st name None = record {
+  symbol = symbol_number (length st.symbols);
+  store =
+      record st { symbols = st.symbols ++ name ∷ [] };
+}
 
 unfoldable pub intern : Store → List ℕ → Interned
 intern st name = intern_at st name (position (bytes_eq name) st.symbols)
@@ -89,13 +93,15 @@ make_all objects (id ∷ ids) = let made = make_all objects ids in attach made i
 
 -- the object, and where it is a class its superclasses, that have no singleton class
 unfoldable pub missing : List Object → ObjId → List ObjId
-missing objects id = filter (λ k. not (is_some (object_at objects k).singleton)) (singletons_from objects id (sort_at objects id))
+missing objects id = filter (λ k. not (is_some (object_at objects k).singleton))
+    (singletons_from objects id (sort_at objects id))
 
 unfoldable pub with_singleton : List Object → ObjId → List Object
 with_singleton objects id = make_all objects (missing objects id)
 
 abbrev pub give_singleton : Store → ObjId → List Object → Done
-give_singleton st id objects = gives (Obj (unwrap_or (object_at objects id).singleton id)) (record st { objects = objects })
+give_singleton st id objects = gives (Obj (unwrap_or (object_at objects id).singleton id))
+    (record st { objects = objects })
 
 unfoldable pub singleton : Store → Value → Done
 singleton st Nil = fails st cause.NoSingleton
@@ -112,7 +118,8 @@ abbrev pub new_members : List Object → ObjId → ObjId → List ObjId
 new_members objects c m = filter (λ k. not (is_member (chain objects c) k)) (chain objects m)
 
 unfoldable pub with_included : List Object → ObjId → ObjId → List Object
-with_included objects c m = with_class objects c (record (class_at objects c) { included = new_members objects c m ++ (class_at objects c).included })
+with_included objects c m = with_class objects c
+    (record (class_at objects c) { included = new_members objects c m ++ (class_at objects c).included })
 
 abbrev pub is_module_sort : Sort → Bool
 is_module_sort sort.Module = true
@@ -168,7 +175,13 @@ visibility_for st name v = if bytes_eq (name_at st name) (codes "initialize") th
 
 unfoldable pub with_method : Store → ObjId → SymId → Method → Visibility → Store
 with_method st c name m v =
-    record st { objects = with_class st.objects c (record (class_at st.objects c) { methods = with_entry (class_at st.objects c).methods name (record { method = m; visibility = visibility_for st name v }) }) }
+    record st {
+      objects = with_class st.objects c
+          (record (class_at st.objects c) {
+            methods =
+                with_entry (class_at st.objects c).methods name (record { method = m; visibility = visibility_for st name v });
+          });
+    }
 
 -- a method that is found gets an entry of its own
 abbrev pub set_visibility_of : Store → ObjId → SymId → Visibility → Option Found → Done
@@ -196,12 +209,17 @@ full_name st scope name =
 
 -- a new constant of the scope, behind the others
 abbrev pub with_constant : List Object → ObjId → SymId → Value → List Object
-with_constant objects scope name v = with_class objects scope (record (class_at objects scope) { constants = (class_at objects scope).constants ++ (record { name = name; value = v }) ∷ [] })
+with_constant objects scope name v = with_class objects scope
+    (record (class_at objects scope) {
+      constants = (class_at objects scope).constants
+          ++ (record { name = name; value = v }) ∷ [];
+    })
 
 -- a new class or module as a constant of the scope
 abbrev pub make_named : Interned → ObjId → SymId → CoreClass → ClassForm → Option ObjId → Done
 make_named named scope name class f superclass =
-    let made = with_object named.store (fresh (core class) (kind.Class (record (empty_class f superclass) { name = Some named.symbol }))) in
+    let made = with_object named.store (fresh (core class)
+    (kind.Class (record (empty_class f superclass) { name = Some named.symbol }))) in
     let id = next_number named.store in
     gives (Obj id) (record made { objects = with_constant made.objects scope name (Obj id) })
 
@@ -213,24 +231,29 @@ parent_agrees (Some p) (Some s) = same_object p s
 
 abbrev pub reopen_class : Store → SymId → Option ObjId → Option ObjId → Done
 reopen_class st name parent None = fails st (cause.NotClass name)
-reopen_class st name parent (Some c) = if parent_agrees parent (class_at st.objects c).superclass then gives (Obj c) st else fails st (cause.SuperclassMismatch name)
+reopen_class st name parent (Some c) = if parent_agrees parent (class_at st.objects c).superclass then gives (Obj c) st
+    else fails st (cause.SuperclassMismatch name)
 
 abbrev pub define_class_by : Store → ObjId → SymId → Option ObjId → Option Value → Done
-define_class_by st scope name parent None = make_named (full_name st scope name) scope name class.Class form.Class (Some (unwrap_or parent (core class.Object)))
+define_class_by st scope name parent None = make_named (full_name st scope name) scope name class.Class form.Class
+    (Some (unwrap_or parent (core class.Object)))
 define_class_by st scope name parent (Some v) = reopen_class st name parent (object_of_sort is_class_sort st.objects v)
 
 abbrev pub define_class_under : Store → ObjId → SymId → Option ObjId → Done
 define_class_under st scope name None = fails st cause.SuperclassNotClass
-define_class_under st scope name (Some p) = define_class_by st scope name (Some p) (constant_in (class_at st.objects scope).constants name)
+define_class_under st scope name (Some p) = define_class_by st scope name (Some p)
+    (constant_in (class_at st.objects scope).constants name)
 
 -- a class of that name in the scope: the one that is there, or a new one
 unfoldable pub define_class : Store → ObjId → SymId → Value → Done
-define_class st scope name Nil = define_class_by st scope name None (constant_in (class_at st.objects scope).constants name)
+define_class st scope name Nil = define_class_by st scope name None
+    (constant_in (class_at st.objects scope).constants name)
 define_class st scope name True = fails st cause.SuperclassNotClass
 define_class st scope name False = fails st cause.SuperclassNotClass
 define_class st scope name (Int n) = fails st cause.SuperclassNotClass
 define_class st scope name (Sym s) = fails st cause.SuperclassNotClass
-define_class st scope name (Obj id) = define_class_under st scope name (object_of_sort is_class_sort st.objects (Obj id))
+define_class st scope name (Obj id) = define_class_under st scope name
+    (object_of_sort is_class_sort st.objects (Obj id))
 
 abbrev pub reopen_module : Store → SymId → Option ObjId → Done
 reopen_module st name None = fails st (cause.NotModule name)

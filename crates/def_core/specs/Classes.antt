@@ -18,7 +18,15 @@ use Rattle.def_core.specs.Store.{core, object_at, set_object, sort_at, object_nu
 
 -- a class without a name, modules, constants and methods
 abbrev pub empty_class : ClassForm → Option ObjId → ClassContents
-empty_class f superclass = record { form = f; name = None; superclass = superclass; included = []; constants = []; visibility = Public; methods = [] }
+empty_class f superclass = record {
+  form = f;
+  name = None;
+  superclass = superclass;
+  included = [];
+  constants = [];
+  visibility = Public;
+  methods = [];
+}
 
 -- the contents of a class or module; those of a module without anything for any other object
 abbrev pub contents_of : Kind → ClassContents
@@ -48,7 +56,8 @@ with_class objects c contents = set_object objects c (record (object_at objects 
 unfoldable pub chain_within : ℕ → List Object → Option ObjId → List ObjId
 chain_within zero objects c = []
 chain_within (suc n) objects None = []
-chain_within (suc n) objects (Some c) = c ∷ (class_at objects c).included ++ chain_within n objects (class_at objects c).superclass
+chain_within (suc n) objects (Some c) = c ∷ (class_at objects c).included
+    ++ chain_within n objects (class_at objects c).superclass
 
 unfoldable pub chain : List Object → ObjId → List ObjId
 chain objects c = chain_within (suc c.0) objects (Some c)
@@ -77,7 +86,8 @@ ancestors objects c = filter (λ k. not (is_singleton (class_at objects k).form)
 -- the first singleton class of these, or the other class
 unfoldable pub nearest_singleton : List Object → List ObjId → ObjId → ObjId
 nearest_singleton objects [] other = other
-nearest_singleton objects (c ∷ cs) other = singleton_or (object_at objects c).singleton (nearest_singleton objects cs other)
+nearest_singleton objects (c ∷ cs) other = singleton_or (object_at objects c).singleton
+    (nearest_singleton objects cs other)
   where
     singleton_or : Option ObjId → ObjId → ObjId
     singleton_or None rest = rest
@@ -106,7 +116,8 @@ class_of objects True = core class.TrueClass
 class_of objects False = core class.FalseClass
 class_of objects (Int n) = core class.Integer
 class_of objects (Sym s) = core class.Symbol
-class_of objects (Obj id) = nearest_singleton objects (singletons_from objects id (sort_at objects id)) (object_at objects id).class
+class_of objects (Obj id) = nearest_singleton objects (singletons_from objects id (sort_at objects id))
+    (object_at objects id).class
 
 -- the class of a value without its singleton class
 abbrev pub plain_class_of : List Object → Value → ObjId

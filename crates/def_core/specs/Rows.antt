@@ -17,13 +17,19 @@ abbrev pub of_singleton : CoreClass → List ℕ → Row
 of_singleton c name = record { class = c; singleton = true; name = name; star = false }
 
 unfoldable pub integer_names : List (List ℕ)
-integer_names = codes "+" ∷ codes "-" ∷ codes "*" ∷ codes "/" ∷ codes "%" ∷ codes "**" ∷ codes "div" ∷ codes "modulo" ∷ codes "divmod" ∷ codes "-@" ∷ codes "+@" ∷ codes "~" ∷ codes "&" ∷ codes "|" ∷ codes "^" ∷ codes "<<" ∷ codes ">>" ∷ codes "==" ∷ codes "<=>" ∷ codes "<" ∷ codes "<=" ∷ codes ">" ∷ codes ">=" ∷ codes "abs" ∷ codes "succ" ∷ codes "next" ∷ codes "pred" ∷ codes "chr" ∷ codes "ord" ∷ codes "to_i" ∷ codes "to_s" ∷ codes "inspect" ∷ codes "zero?" ∷ codes "even?" ∷ codes "odd?" ∷ codes "positive?" ∷ codes "negative?" ∷ codes "between?" ∷ codes "clamp" ∷ []
+integer_names = codes "+" ∷ codes "-" ∷ codes "*" ∷ codes "/" ∷ codes "%" ∷ codes "**" ∷ codes "div" ∷ codes "modulo" ∷
+    codes "divmod" ∷ codes "-@" ∷ codes "+@" ∷ codes "~" ∷ codes "&" ∷ codes "|" ∷ codes "^" ∷ codes "<<" ∷ codes ">>" ∷
+    codes "==" ∷ codes "<=>" ∷ codes "<" ∷ codes "<=" ∷ codes ">" ∷ codes ">=" ∷ codes "abs" ∷ codes "succ" ∷ codes
+    "next" ∷ codes "pred" ∷ codes "chr" ∷ codes "ord" ∷ codes "to_i" ∷ codes "to_s" ∷ codes "inspect" ∷ codes "zero?" ∷
+    codes "even?" ∷ codes "odd?" ∷ codes "positive?" ∷ codes "negative?" ∷ codes "between?" ∷ codes "clamp" ∷ []
 
 unfoldable pub range_names : List (List ℕ)
-range_names = codes "first" ∷ codes "last" ∷ codes "begin" ∷ codes "end" ∷ codes "size" ∷ codes "exclude_end?" ∷ codes "include?" ∷ codes "member?" ∷ codes "===" ∷ codes "==" ∷ codes "to_s" ∷ codes "inspect" ∷ []
+range_names = codes "first" ∷ codes "last" ∷ codes "begin" ∷ codes "end" ∷ codes "size" ∷ codes "exclude_end?" ∷ codes
+    "include?" ∷ codes "member?" ∷ codes "===" ∷ codes "==" ∷ codes "to_s" ∷ codes "inspect" ∷ []
 
 unfoldable pub rows : List Row
-rows = map (plain class.Integer) integer_names ++ map (plain class.Range) range_names ++ of_singleton class.Range (codes "new") ∷ []
+rows = map (plain class.Integer) integer_names ++ map (plain class.Range) range_names
+    ++ of_singleton class.Range (codes "new") ∷ []
 
 abbrev pub is_row : ℕ → Bool
 is_row r = nat_lt r (length rows)

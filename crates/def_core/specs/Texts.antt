@@ -71,10 +71,12 @@ text_of st cause.SuperOutside = codes "super called outside of method"
 text_of st (cause.UndefinedName s c) = about (codes "undefined local variable or method '") st s (codes "' for ") c
 text_of st (cause.UninitializedConstant o s) = codes "uninitialized constant " ++ scope_text st o ++ name_at st s
 text_of st (cause.UndefinedInClass s c) = about (codes "undefined method '") st s (codes "' for class '") c ++ codes "'"
-text_of st (cause.WrongCount g n m) = codes "wrong number of arguments (given " ++ decimal g ++ codes ", expected " ++ expected_text n m ++ codes ")"
+text_of st (cause.WrongCount g n m) = codes "wrong number of arguments (given " ++ decimal g ++ codes ", expected "
+    ++ expected_text n m ++ codes ")"
 text_of st cause.NegativeExponent = codes "negative exponent"
 text_of st cause.NoBlockGiven = codes "no block given"
-text_of st (cause.Incomparable c d) = codes "comparison of " ++ class_name st c ++ codes " with " ++ class_name st d ++ codes " failed"
+text_of st (cause.Incomparable c d) = codes "comparison of " ++ class_name st c ++ codes " with " ++ class_name st d
+    ++ codes " failed"
 text_of st cause.ComparisonFailed = codes "comparison failed"
 text_of st cause.BadRange = codes "bad value for range"
 text_of st cause.InvalidInteger = codes "invalid value for Integer"

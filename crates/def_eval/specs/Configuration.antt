@@ -84,7 +84,10 @@ abbrev pub named : Source → World → Name → Value
 named s w x = get_or (scope_at w).values (local_of s w x) Nil
 
 abbrev pub with_local : World → ℕ → Value → World
-with_local w i v = record w { scopes = set w.scopes w.place.scope (record (scope_at w) { values = set (scope_at w).values i v }) }
+with_local w i v = record w {
+  scopes = set w.scopes w.place.scope
+      (record (scope_at w) { values = set (scope_at w).values i v });
+}
 
 -- the main program, with all its locals nil, nothing written, and this input
 abbrev pub opening : Source → List ℕ → Config

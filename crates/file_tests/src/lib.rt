@@ -2,12 +2,12 @@
 #![tactic(auto)]
 
 #[cfg(test)]
-mod instructions;
-#[cfg(test)]
 mod files;
 #[cfg(test)]
-mod verifier;
+mod instructions;
 #[cfg(test)]
 mod listing;
 #[cfg(test)]
 mod refusals;
+#[cfg(test)]
+mod verifier;

@@ -1,8 +1,8 @@
 //! Texts that are written out by hand.
 ghost use Rattle.std.specs.Prelude.{◌<◌};
 
-use rb_refusal::{Refusal, refusal_text, write_pieces};
 use rb_base::{Failed, MemorySink};
+use rb_refusal::{Refusal, refusal_text, write_pieces};
 use rb_syntax::{Count, Outside};
 use rite_code::Cause;
 use std::alloc::Global;

@@ -5,8 +5,8 @@ use parser_ahead::primary::{
     primary_at, start_at,
 };
 use parser_ahead::sections::{Compound, SectionKind, first_section, next_section};
-use rb_base::Bytes;
 use parser_tokens::starts::Jump;
+use rb_base::Bytes;
 use rb_syntax::{Keyword, Outside, Punctuator, Token, TokenKind};
 use std::alloc::{AllocError, Global};
 use std::process::Abort;

@@ -54,7 +54,8 @@ keep d f = form.set_local (hidden d) f
 
 -- the store of a value by a call of x on the receiver in hidden local r with items; the value is kept in k
 abbrev pub stored : ℕ → Name → CoreForms → ℕ → CoreForm → CoreForms
-stored r x is k v = more (keep k v) (two (send_form (local_number r) x (append is (one (local_number k)))) (local_number k))
+stored r x is k v = more (keep k v) (two (send_form (local_number r) x (append is (one (local_number k))))
+    (local_number k))
 
 -- the element of the value in hidden local h for a target, from the front and, k of m, from the end
 abbrev pub element : ℕ → ℕ → CoreForm

@@ -8,8 +8,8 @@ ghost use Rattle.ir_builder.specs.Forms as lowered;
 
 use crate::control::{choice, nil_on_error};
 use crate::leaf::{local, object};
-use rb_base::Bytes;
 use ir_core::{Core, Receiver, Term};
+use rb_base::Bytes;
 use rb_syntax::{DefinedKind, Item};
 use std::alloc::{AllocError, Global};
 

@@ -8,8 +8,8 @@ ghost use Rattle.ir_core.specs.Forms as built;
 ghost use Rattle.ir_builder.specs.Forms as lowered;
 
 use crate::control::sequence;
-use rb_base::Bytes;
 use ir_core::{Core, Term};
+use rb_base::Bytes;
 use rb_syntax::Item;
 use std::alloc::{AllocError, Global};
 

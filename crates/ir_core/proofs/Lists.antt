@@ -12,11 +12,13 @@ cores-push [] f = refl
 cores-push (g ∷ fs) f = ap (more (core_view g)) (cores-push fs f)
 
 -- some forms and one behind them
-pub after-push : (fs : List Core) (f : Core) → 0 < length fs → form.seq (cores (fs ++ f ∷ [])) ≡ after (cores fs) (core_view f)
+pub after-push : (fs : List Core) (f : Core) → 0 < length fs
+    → form.seq (cores (fs ++ f ∷ [])) ≡ after (cores fs) (core_view f)
 after-push [] f some = absurd (omega arith)
 after-push (g ∷ fs) f some = ap (λ gs. form.seq (more (core_view g) gs)) (cores-push fs f)
 
-pub sequence-push : (fs : List Core) (f : Core) → 0 < length fs → form.seq (cores (fs ++ f ∷ [])) ≡ sequence (cores (fs ++ f ∷ []))
+pub sequence-push : (fs : List Core) (f : Core) → 0 < length fs
+    → form.seq (cores (fs ++ f ∷ [])) ≡ sequence (cores (fs ++ f ∷ []))
 sequence-push [] f some = absurd (omega arith)
 sequence-push (g ∷ []) f some = refl
 sequence-push (g ∷ (h ∷ fs)) f some = refl

@@ -26,28 +26,50 @@ view-Text v = of.core-Text v
 pub view-Seq : (v : Vec Core Global) → term_view (term.Seq v) ≡ form.seq (by.cores_by term_view v.items)
 view-Seq v = of.core-Seq v
 
-pub view-Cond : (v : Vec (Branch Core) Global) (o : Core) → term_view (term.Cond v o) ≡ form.cond (by.branches_by term_view v.items) (by.core_by term_view o)
+pub view-Cond : (v : Vec (Branch Core) Global) (o : Core)
+    → term_view (term.Cond v o) ≡ form.cond (by.branches_by term_view v.items) (by.core_by term_view o)
 view-Cond v o = of.core-Cond v o
 
-pub view-Call : (r : Receiver Core) (x : Bytes) (v : Vec (Item Core) Global) (b : Option Core) → term_view (term.Call r x v b) ≡ form.call (by.receiver_by term_view r) x (by.items_by term_view v.items) (by.boxed_by term_view b)
+pub view-Call : (r : Receiver Core) (x : Bytes) (v : Vec (Item Core) Global) (b : Option Core)
+    → term_view (term.Call r x v b) ≡ form.call (by.receiver_by term_view r) x (by.items_by term_view v.items)
+    (by.boxed_by term_view b)
 view-Call r x v b = of.core-Call r x v b
 
-pub view-Yield : (v : Vec (Item Core) Global) → term_view (term.Yield v) ≡ form.yield_form (by.items_by term_view v.items)
+pub view-Yield : (v : Vec (Item Core) Global)
+    → term_view (term.Yield v) ≡ form.yield_form (by.items_by term_view v.items)
 view-Yield v = of.core-Yield v
 
-pub view-Super : (v : Vec (Item Core) Global) (b : Option Core) → term_view (term.Super v b) ≡ form.super_form (by.items_by term_view v.items) (by.boxed_by term_view b)
+pub view-Super : (v : Vec (Item Core) Global) (b : Option Core)
+    → term_view (term.Super v b) ≡ form.super_form (by.items_by term_view v.items) (by.boxed_by term_view b)
 view-Super v b = of.core-Super v b
 
-pub view-Class : (s : Option Core) (x : Bytes) (p : Option Core) (b : Core) → term_view (term.Class s x p b) ≡ form.class_form (by.boxed_by term_view s) x (by.boxed_by term_view p) (by.core_by term_view b)
+pub view-Class : (s : Option Core) (x : Bytes) (p : Option Core) (b : Core)
+    → term_view (term.Class s x p b) ≡ form.class_form (by.boxed_by term_view s) x (by.boxed_by term_view p)
+    (by.core_by term_view b)
 view-Class s x p b = of.core-Class s x p b
 
-pub view-Module : (s : Option Core) (x : Bytes) (b : Core) → term_view (term.Module s x b) ≡ form.module_form (by.boxed_by term_view s) x (by.core_by term_view b)
+pub view-Module : (s : Option Core) (x : Bytes) (b : Core)
+    → term_view (term.Module s x b) ≡ form.module_form (by.boxed_by term_view s) x (by.core_by term_view b)
 view-Module s x b = of.core-Module s x b
 
-pub view-Defined : (k : DefinedKind) (x : Bytes) (e : Option Core) → term_view (term.Defined k x e) ≡ form.defined k x (by.boxed_by term_view e)
+pub view-Defined : (k : DefinedKind) (x : Bytes) (e : Option Core)
+    → term_view (term.Defined k x e) ≡ form.defined k x (by.boxed_by term_view e)
 view-Defined k x e = of.core-Defined k x e
 
 pub view-Begin : (b : BeginForm Core) → term_view (term.Begin b) ≡ by.begin_by term_view b
 view-Begin b = of.core-Begin b
 
-pub ruleset views = (view-Array, view-Hash, view-Text, view-Seq, view-Cond, view-Call, view-Yield, view-Super, view-Class, view-Module, view-Defined, view-Begin)
+pub ruleset views = (
+  view-Array,
+  view-Hash,
+  view-Text,
+  view-Seq,
+  view-Cond,
+  view-Call,
+  view-Yield,
+  view-Super,
+  view-Class,
+  view-Module,
+  view-Defined,
+  view-Begin,
+)

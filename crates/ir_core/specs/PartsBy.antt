@@ -51,7 +51,8 @@ abbrev pub clauses_by : {T : Type 0} → (T → CoreForm) → List (Clause (Boxe
 clauses_by v cs = forms (map (clause_by v) cs)
 
 abbrev pub begin_by : {T : Type 0} → (T → CoreForm) → BeginForm (Boxed T) → CoreForm
-begin_by v b = form.begin_form (core_by v b.body) (clauses_by v b.clauses.items) (boxed_by v b.otherwise) (boxed_by v b.ensure)
+begin_by v b = form.begin_form (core_by v b.body) (clauses_by v b.clauses.items) (boxed_by v b.otherwise)
+    (boxed_by v b.ensure)
 
 abbrev pub receiver_by : {T : Type 0} → (T → CoreForm) → Receiver (Boxed T) → CoreForm
 receiver_by v (To c) = core_by v c

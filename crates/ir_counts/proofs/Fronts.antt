@@ -33,13 +33,15 @@ extends_name xs x = at (is_among x xs)
 
 extends_names : (xs ys : List (List ℕ)) → Extends xs (with_names xs ys)
 extends_names xs [] = extends_refl xs
-extends_names xs (y ∷ ys) = extends_trans xs (with_text xs y) (with_names (with_text xs y) ys) (extends_name xs y) (extends_names (with_text xs y) ys)
+extends_names xs (y ∷ ys) = extends_trans xs (with_text xs y) (with_names (with_text xs y) ys) (extends_name xs y)
+    (extends_names (with_text xs y) ys)
 
 extends_optional : (xs : List (List ℕ)) (o : Option (List ℕ)) → Extends xs (with_optional xs o)
 extends_optional xs None = extends_refl xs
 extends_optional xs (Some x) = extends_name xs x
 
-extends_binding : (known : List (List ℕ)) (p : Parameters) (locals : List (List ℕ)) → Extends known (binding known p locals)
+extends_binding : (known : List (List ℕ)) (p : Parameters) (locals : List (List ℕ))
+    → Extends known (binding known p locals)
 extends_binding known p locals =
     let a = with_names known p.required in
     let b = with_names a p.optional in
@@ -60,12 +62,16 @@ fronts_extended xs ys ns p =
 
 pub fronts_binding : (known : List (List ℕ)) (p : Parameters) (locals : List (List ℕ)) (ns : List ℕ)
     → fronts (binding known p locals) (reverse (ns ++ length known ∷ [])) ≡ known ∷ fronts known (reverse ns)
-fronts_binding known p locals ns = ap (fronts (binding known p locals)) (reverse-append ns (length known ∷ [])) ∙ fronts_extended known (binding known p locals) (reverse ns) (extends_binding known p locals)
+fronts_binding known p locals ns = ap (fronts (binding known p locals)) (reverse-append ns (length known ∷ []))
+    ∙ fronts_extended known (binding known p locals) (reverse ns) (extends_binding known p locals)
 
-pub fronts_same : (known : List (List ℕ)) (ns : List ℕ) → fronts known (reverse (ns ++ length known ∷ [])) ≡ known ∷ fronts known (reverse ns)
-fronts_same known ns = ap (fronts known) (reverse-append ns (length known ∷ [])) ∙ fronts_extended known known (reverse ns) (extends_refl known)
+pub fronts_same : (known : List (List ℕ)) (ns : List ℕ)
+    → fronts known (reverse (ns ++ length known ∷ [])) ≡ known ∷ fronts known (reverse ns)
+fronts_same known ns = ap (fronts known) (reverse-append ns (length known ∷ []))
+    ∙ fronts_extended known known (reverse ns) (extends_refl known)
 
-pub fronts_left : (known : List (List ℕ)) (ns : List ℕ) (n : ℕ) → fronts known (reverse (ns ++ n ∷ [])) ≡ take n known ∷ fronts (take n known) (reverse ns)
+pub fronts_left : (known : List (List ℕ)) (ns : List ℕ) (n : ℕ)
+    → fronts known (reverse (ns ++ n ∷ [])) ≡ take n known ∷ fronts (take n known) (reverse ns)
 fronts_left known ns n = ap (fronts known) (reverse-append ns (n ∷ []))
 
 pub ruleset front_laws = (fronts_binding, fronts_same, fronts_left)

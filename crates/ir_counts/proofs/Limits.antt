@@ -18,7 +18,8 @@ otherwise (Some e) b = Some e
 past_else : (w : Count) (n l : ℕ) (a b : Option Excess) → past w n l (otherwise a b) ≡ otherwise (past w n l a) b
 past_else w n l a b = at (nat_lt l n)
   where
-    at : (t : Bool) → (if t then Some (record { what = w; count = n }) else (otherwise a b)) ≡ otherwise (if t then Some (record { what = w; count = n }) else a) b
+    at : (t : Bool) → (if t then Some (record { what = w; count = n }) else (otherwise a b)) ≡ otherwise
+        (if t then Some (record { what = w; count = n }) else a) b
     at true = refl
     at false = refl
 
@@ -30,8 +31,10 @@ of_body_else c b =
     let p3 = past Pool c.pool 65535 p4 in
     let p2 = past Registers c.registers 65535 p3 in
     let e6 : past Code c.code 4194303 b ≡ otherwise p6 b = past_else Code c.code 4194303 None b in
-    let e5 : past Children c.children 65535 (past Code c.code 4194303 b) ≡ otherwise p5 b = ap (past Children c.children 65535) e6 ∙ past_else Children c.children 65535 p6 b in
-    let e4 : past Symbols c.symbols 65535 (past Children c.children 65535 (past Code c.code 4194303 b)) ≡ otherwise p4 b = ap (past Symbols c.symbols 65535) e5 ∙ past_else Symbols c.symbols 65535 p5 b in
+    let e5 : past Children c.children 65535 (past Code c.code 4194303 b) ≡ otherwise p5 b =
+    ap (past Children c.children 65535) e6 ∙ past_else Children c.children 65535 p6 b in
+    let e4 : past Symbols c.symbols 65535 (past Children c.children 65535 (past Code c.code 4194303 b)) ≡ otherwise p4 b
+    = ap (past Symbols c.symbols 65535) e5 ∙ past_else Symbols c.symbols 65535 p5 b in
     let e3 = ap (past Pool c.pool 65535) e4 ∙ past_else Pool c.pool 65535 p4 b in
     let e2 = ap (past Registers c.registers 65535) e3 ∙ past_else Registers c.registers 65535 p3 b in
     ap (past Parameters c.parameters 127) e2 ∙ past_else Parameters c.parameters 127 p2 b

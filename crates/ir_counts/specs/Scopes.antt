@@ -18,7 +18,8 @@ no_scope = record { known = []; outer = [] }
 
 -- the names bound within a function
 abbrev pub binding : List (List ℕ) → Parameters → List (List ℕ) → List (List ℕ)
-binding known p locals = with_names (with_optional (with_names (with_optional (with_names (with_names known p.required) p.optional) p.rest) p.post) p.block) locals
+binding known p locals = with_names (with_optional
+    (with_names (with_optional (with_names (with_names known p.required) p.optional) p.rest) p.post) p.block) locals
 
 abbrev pub entered : Scopes → Body → Scopes
 entered s (function_body p l f) = record { known = binding s.known p l; outer = s.known ∷ s.outer }

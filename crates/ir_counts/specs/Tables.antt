@@ -187,40 +187,144 @@ added f = record {
 
 -- a form of so many bytes of code that adds nothing else
 abbrev pub plain : ℕ → Added
-plain code = record { kind = 0; local = None; code = code; handlers = 0; children = 0; name = None; old_name = None; text = None; integer = None }
+plain code = record {
+  kind = 0;
+  local = None;
+  code = code;
+  handlers = 0;
+  children = 0;
+  name = None;
+  old_name = None;
+  text = None;
+  integer = None;
+}
 
 -- a form that has a symbol
 abbrev pub symbolic : ℕ → ℕ → Name → Added
-symbolic code children x = record { kind = 0; local = None; code = code; handlers = 0; children = children; name = Some x; old_name = None; text = None; integer = None }
+symbolic code children x = record {
+  kind = 0;
+  local = None;
+  code = code;
+  handlers = 0;
+  children = children;
+  name =
+      Some x;
+  old_name = None;
+  text = None;
+  integer = None;
+}
 
 -- an alias
 abbrev pub renaming : Name → Name → Added
-renaming x y = record { kind = 0; local = None; code = 16; handlers = 0; children = 0; name = Some x; old_name = Some y; text = None; integer = None }
+renaming x y = record {
+  kind = 0;
+  local = None;
+  code = 16;
+  handlers = 0;
+  children = 0;
+  name = Some x;
+  old_name = Some y;
+  text = None;
+  integer = None;
+}
 
 -- a form that has a text
 abbrev pub textual : ℕ → List ℕ → Added
-textual code t = record { kind = 0; local = None; code = code; handlers = 0; children = 0; name = None; old_name = None; text = Some t; integer = None }
+textual code t = record {
+  kind = 0;
+  local = None;
+  code = code;
+  handlers = 0;
+  children = 0;
+  name = None;
+  old_name = None;
+  text = Some t;
+  integer = None;
+}
 
 -- a form at which a body begins
 abbrev pub parental : ℕ → Added
-parental code = record { kind = 0; local = None; code = code; handlers = 0; children = 1; name = None; old_name = None; text = None; integer = None }
+parental code = record {
+  kind = 0;
+  local = None;
+  code = code;
+  handlers = 0;
+  children = 1;
+  name = None;
+  old_name = None;
+  text = None;
+  integer = None;
+}
 
 -- a read of a local, or a store into one
 abbrev pub at_local : Name → Added
-at_local x = record { kind = 0; local = Some x; code = 16; handlers = 0; children = 0; name = None; old_name = None; text = None; integer = None }
+at_local x = record {
+  kind = 0;
+  local = Some x;
+  code = 16;
+  handlers = 0;
+  children = 0;
+  name = None;
+  old_name = None;
+  text = None;
+  integer = None;
+}
 
 -- parts of an Array, which ask for so many parameters of one kind
 abbrev pub of_kind : ℕ → Added
-of_kind k = record { kind = k; local = None; code = 16; handlers = 0; children = 0; name = None; old_name = None; text = None; integer = None }
+of_kind k = record {
+  kind = k;
+  local = None;
+  code = 16;
+  handlers = 0;
+  children = 0;
+  name = None;
+  old_name = None;
+  text =
+      None;
+  integer = None;
+}
 
 -- a form with handlers
 abbrev pub handling : ℕ → ℕ → Added
-handling code handlers = record { kind = 0; local = None; code = code; handlers = handlers; children = 0; name = None; old_name = None; text = None; integer = None }
+handling code handlers = record {
+  kind = 0;
+  local = None;
+  code = code;
+  handlers = handlers;
+  children = 0;
+  name = None;
+  old_name = None;
+  text = None;
+  integer = None;
+}
 
 -- an integer
 abbrev pub numeric : ℤ → Added
-numeric n = record { kind = 0; local = None; code = 16; handlers = 0; children = 0; name = None; old_name = None; text = None; integer = integer_of (form.int n) }
+numeric n = record {
+  kind = 0;
+  local = None;
+  code = 16;
+  handlers = 0;
+  children = 0;
+  name = None;
+  old_name = None;
+  text =
+      None;
+  integer = integer_of (form.int n);
+}
 
 -- a `defined?`
 abbrev pub asking : DefinedKind → Name → Added
-asking k x = record { kind = 0; local = None; code = 16; handlers = 0; children = 0; name = asked_name k x; old_name = None; text = answer_of k; integer = None }
+asking k x = record {
+  kind = 0;
+  local = None;
+  code = 16;
+  handlers = 0;
+  children = 0;
+  name = asked_name k x;
+  old_name =
+      None;
+  text = answer_of k;
+  integer = None;
+}

@@ -4,8 +4,8 @@ ghost use Rattle.std.specs.Option.{option_copied};
 ghost use Rattle.ir_counts.specs.Scopes.{binding};
 
 use crate::names::{add_names, add_optional};
-use rb_base::Bytes;
 use ir_core::{Core, Function};
+use rb_base::Bytes;
 use std::alloc::AllocError;
 use text_set::TextSet;
 

@@ -4,8 +4,8 @@ ghost use Rattle.ir_core.specs.View.{core_view};
 ghost use Rattle.ir_counts.specs.Bodies.{begun, bodies as all};
 ghost use Rattle.ir_walk.specs.Steps.{body as view, steps as seen};
 
-use ir_walk::{Body, Extent, Step, Walked};
 use ir_core::Core;
+use ir_walk::{Body, Extent, Step, Walked};
 use std::alloc::{AllocError, Global};
 
 /// Adds the bodies that the steps begin.

@@ -8,11 +8,10 @@ ghost use Rattle.ir_walk.specs.Steps.{body as view};
 
 use crate::naming::named_locals;
 use crate::tally::{Tally, tally_of};
-use ir_walk::{Body, Extent, Walked, form};
-use ir_walk::Measured;
-use ir_walk::sums::{add, scaled, scaled_by};
-use rb_base::Bytes;
 use ir_core::Core;
+use ir_walk::sums::{add, scaled, scaled_by};
+use ir_walk::{Body, Extent, Measured, Walked, form};
+use rb_base::Bytes;
 use std::alloc::{AllocError, Global};
 use std::cmp::max;
 

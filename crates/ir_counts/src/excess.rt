@@ -7,9 +7,9 @@ ghost use Rattle.ir_counts.specs.Limits as limits;
 
 use crate::bodies::bodies_of;
 use crate::counts::{Counts, counts_of};
+use ir_core::Core;
 use ir_walk::Body;
 use ir_walk::sums::add;
-use ir_core::Core;
 use rb_syntax::Count;
 use std::alloc::{AllocError, Global};
 

@@ -6,9 +6,9 @@ ghost use Rattle.ir_counts.specs.Facts.{view};
 ghost use Rattle.ir_counts.specs.Tables as tables;
 
 use crate::shares::{answer, asked_name, classes, items_code, kind_of_item, wide};
+use ir_core::{Clause, Core, Term};
 use ir_walk::sums::{add, scaled, scaled_by};
 use rb_base::Bytes;
-use ir_core::{Clause, Core, Term};
 use rb_syntax::{Branch, DefinedKind, Item, Pair};
 use std::alloc::AllocError;
 use std::cmp::max;

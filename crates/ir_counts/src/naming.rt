@@ -9,8 +9,8 @@ ghost use Rattle.ir_counts.specs.Tables.{local_of};
 use crate::facts::facts_of;
 use crate::hidden::is_made;
 use crate::scopes::Scopes;
-use ir_walk::Step;
 use ir_core::Term;
+use ir_walk::Step;
 use std::alloc::{AllocError, Global};
 use text_set::TextSet;
 

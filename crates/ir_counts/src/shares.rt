@@ -6,9 +6,9 @@ ghost use Rattle.ir_core.specs.CoreForm.{int};
 ghost use Rattle.ir_core.specs.PartsBy as by;
 ghost use Rattle.ir_counts.specs.Tables as tables;
 
+use ir_core::{Clause, Core};
 use ir_walk::has_splat;
 use ir_walk::sums::{add, scaled};
-use ir_core::{Clause, Core};
 use rb_syntax::{DefinedKind, Item};
 use std::alloc::AllocError;
 use std::cmp::max;

@@ -1,8 +1,8 @@
 use crate::counts::{Counts, counts_of};
 use crate::excess::{Excess, first_past_limit};
+use ir_core::{Core, Function, Receiver, Term};
 use ir_walk::Body;
 use rb_base::{Bytes, List};
-use ir_core::{Core, Function, Receiver, Term};
 use rb_syntax::{Count, Item, Parameters};
 use std::alloc::{AllocError, Global};
 use std::test::Fail;

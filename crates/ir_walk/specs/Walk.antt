@@ -68,18 +68,30 @@ abbrev mutual
   walked e s (form.call r x is b) = walked_all e (walked_all e (walked e (met s (form.call r x is b)) r) is) b
   walked e s (form.yield_form is) = walked_all e (met s (form.yield_form is)) is
   walked e s (form.super_form is b) = walked_all e (walked_all e (met s (form.super_form is b)) is) b
-  walked e s (form.function p l b) = if enters_blocks e then leaving (walked e (entering (met s (form.function p l b)) (function_body p l b)) b) else met s (form.function p l b)
-  walked e s (form.lambda p l b) = if enters_blocks e then leaving (walked e (entering (met s (form.lambda p l b)) (function_body p l b)) b) else met s (form.lambda p l b)
-  walked e s (form.begin_form b cs o n) = walked_all e (walked_all e (walked_all e (walked e (met s (form.begin_form b cs o n)) b) cs) o) n
+  walked e s (form.function p l b) = if enters_blocks e then leaving
+      (walked e (entering (met s (form.function p l b)) (function_body p l b)) b) else met s (form.function p l b)
+  walked e s (form.lambda p l b) = if enters_blocks e then leaving
+      (walked e (entering (met s (form.lambda p l b)) (function_body p l b)) b) else met s (form.lambda p l b)
+  walked e s (form.begin_form b cs o n) = walked_all e
+      (walked_all e (walked_all e (walked e (met s (form.begin_form b cs o n)) b) cs) o) n
   walked e s (form.return_form f) = walked e (met s (form.return_form f)) f
   walked e s (form.break_form f) = walked e (met s (form.break_form f)) f
   walked e s (form.next_form f) = walked e (met s (form.next_form f)) f
   walked e s form.retry = met s form.retry
-  walked e s (form.define x p l b) = if enters_bodies e then leaving (walked e (entering (met s (form.define x p l b)) (function_body p l b)) b) else met s (form.define x p l b)
-  walked e s (form.define_on f x p l b) = if enters_bodies e then leaving (walked e (entering (walked e (met s (form.define_on f x p l b)) f) (function_body p l b)) b) else walked e (met s (form.define_on f x p l b)) f
-  walked e s (form.class_form c x p b) = if enters_bodies e then leaving (walked e (entering (walked_all e (walked_all e (met s (form.class_form c x p b)) c) p) (open_body b)) b) else walked_all e (walked_all e (met s (form.class_form c x p b)) c) p
-  walked e s (form.module_form c x b) = if enters_bodies e then leaving (walked e (entering (walked_all e (met s (form.module_form c x b)) c) (open_body b)) b) else walked_all e (met s (form.module_form c x b)) c
-  walked e s (form.singleton_class f b) = if enters_bodies e then leaving (walked e (entering (walked e (met s (form.singleton_class f b)) f) (open_body b)) b) else walked e (met s (form.singleton_class f b)) f
+  walked e s (form.define x p l b) = if enters_bodies e then leaving
+      (walked e (entering (met s (form.define x p l b)) (function_body p l b)) b) else met s (form.define x p l b)
+  walked e s (form.define_on f x p l b) = if enters_bodies e then leaving
+      (walked e (entering (walked e (met s (form.define_on f x p l b)) f) (function_body p l b)) b) else walked e
+      (met s (form.define_on f x p l b)) f
+  walked e s (form.class_form c x p b) = if enters_bodies e then leaving
+      (walked e (entering (walked_all e (walked_all e (met s (form.class_form c x p b)) c) p) (open_body b)) b) else
+      walked_all e (walked_all e (met s (form.class_form c x p b)) c) p
+  walked e s (form.module_form c x b) = if enters_bodies e then leaving
+      (walked e (entering (walked_all e (met s (form.module_form c x b)) c) (open_body b)) b) else walked_all e
+      (met s (form.module_form c x b)) c
+  walked e s (form.singleton_class f b) = if enters_bodies e then leaving
+      (walked e (entering (walked e (met s (form.singleton_class f b)) f) (open_body b)) b) else walked e
+      (met s (form.singleton_class f b)) f
   walked e s (form.alias_form x y) = met s (form.alias_form x y)
   walked e s (form.undef_form x) = met s (form.undef_form x)
   walked e s (form.defined k x fs) = walked_all e (met s (form.defined k x fs)) fs

@@ -6,10 +6,10 @@ ghost use Rattle.ir_walk.specs.Walk as walks;
 
 use crate::body::Body;
 use crate::extent::Extent;
+use crate::step::Step;
 use crate::walk_parts::{
     walk_branches, walk_clauses, walk_inside, walk_items, walk_optional, walk_receiver,
 };
-use crate::step::Step;
 use crate::walked::{Noted, Walked};
 use ir_core::{BeginForm, Function, Receiver};
 use rb_syntax::{Branch, Item};

@@ -3,13 +3,13 @@ ghost use Rattle.ir_core.specs.View.{term_view};
 
 use crate::body::Body;
 use crate::extent::Extent;
+use crate::step::Step;
+use crate::trail::meet;
 use crate::walk_forms::{
     walk_begin, walk_call, walk_class, walk_cond, walk_define_on, walk_function, walk_module,
     walk_singleton, walk_super, walk_two,
 };
 use crate::walk_parts::{walk_all, walk_items, walk_optional, walk_pairs};
-use crate::step::Step;
-use crate::trail::meet;
 use crate::walked::{Noted, Walked};
 use ir_core::Term;
 

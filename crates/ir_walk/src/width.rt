@@ -1,15 +1,15 @@
 //! The width of a core.
 ghost use Rattle.ir_core.specs.View.{term_view};
 
+use crate::measured::Measured;
+use crate::splat::has_splat;
+use crate::sums::in_order;
 use crate::width_forms::{
     array_width, begin_width, call_width, class_width, cond_width, defined_width, hash_width,
     module_width, one, one_and_leaf, seq_width, super_width, text_width, two, while_width,
     yield_width,
 };
-use crate::measured::Measured;
 use crate::width_parts::Measure;
-use crate::splat::has_splat;
-use crate::sums::in_order;
 use ir_core::Term;
 use std::alloc::Global;
 

@@ -4,11 +4,11 @@ ghost use Rattle.ir_core.specs.PartsBy as by;
 ghost use Rattle.ir_walk.specs.Width as widths;
 
 use crate::measured::Measured;
+use crate::sums::{in_order, in_turn, into_one, of_call};
 use crate::width_parts::{
     Measure, add_all, add_branches, add_clauses, add_items, add_optional, add_pairs,
     optional_width, receiver_width,
 };
-use crate::sums::{in_order, in_turn, into_one, of_call};
 use ir_core::{BeginForm, Receiver};
 use rb_syntax::{Branch, Item, Pair};
 use std::alloc::Global;

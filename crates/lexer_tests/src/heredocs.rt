@@ -1,5 +1,5 @@
-use rb_heredoc::{Bodies, Head, bodies};
 use rb_base::Bytes;
+use rb_heredoc::{Bodies, Head, bodies};
 use std::alloc::{AllocError, Global};
 use std::process::Abort;
 use std::test::Fail;

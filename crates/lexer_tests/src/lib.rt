@@ -2,12 +2,12 @@
 #![tactic(auto)]
 
 #[cfg(test)]
+mod depths;
+#[cfg(test)]
 mod heredocs;
 #[cfg(test)]
 mod literals;
 #[cfg(test)]
 mod tables;
-#[cfg(test)]
-mod depths;
 #[cfg(test)]
 mod tokens;

@@ -1,4 +1,6 @@
-use lexer_literals::{Delimiters, Escaped, Tail, full_escape, integer, numeral, plain_escape, word_escape};
+use lexer_literals::{
+    Delimiters, Escaped, Tail, full_escape, integer, numeral, plain_escape, word_escape,
+};
 use std::alloc::Global;
 use std::process::Abort;
 use std::test::Fail;

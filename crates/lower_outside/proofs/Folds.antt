@@ -16,12 +16,16 @@ found_all-nodes best [] = refl
 found_all-nodes best (n ∷ ns) = found_all-nodes (found best n) ns
 
 -- a case, part after part
-pub found-case : (best : Option Found) (t : TreeForm) (s : Option Tree) (v : Vec (WhenClause Tree) Global) (o : Option Tree)
-    (ws : List (WhenClause Tree)) (r1 r2 r3 : Option Found) → t ≡ tree.Case s v o → ws ≡ v.items → r1 ≡ found_all best (part.boxed s)
+pub found-case : (best : Option Found) (t : TreeForm) (s : Option Tree) (v : Vec (WhenClause Tree) Global)
+    (o : Option Tree)
+    (ws : List (WhenClause Tree)) (r1 r2 r3 : Option Found) → t ≡ tree.Case s v o → ws ≡ v.items
+    → r1 ≡ found_all best (part.boxed s)
     → r2 ≡ fold found r1 (map part.when_node ws) → r3 ≡ found_all r2 (part.boxed o) → r3 ≡ found best (form_view t)
 found-case best t s v o ws r1 r2 r3 is items e1 e2 e3 =
     let middle : r2 ≡ found_all (found_all best (part.boxed s)) (nodes (map part.when_node v.items)) =
-    e2 ∙ (ap (λ ws. fold found r1 (map part.when_node ws)) items ∙ (ap (λ b. fold found b (map part.when_node v.items)) e1 ∙ sym (found_all-nodes (found_all best (part.boxed s)) (map part.when_node v.items)))) in
+    e2 ∙ (ap (λ ws. fold found r1 (map part.when_node ws)) items
+    ∙ (ap (λ b. fold found b (map part.when_node v.items)) e1
+    ∙ sym (found_all-nodes (found_all best (part.boxed s)) (map part.when_node v.items)))) in
     e3 ∙ (ap (λ b. found_all b (part.boxed o)) middle ∙ sym (ap (found best) (ap form_view is ∙ view-Case s v o)))
 
 pub ruleset folds = found_all-nodes

@@ -6,11 +6,11 @@ ghost use Rattle.lower_outside.specs.Search.{earlier, found, found_all};
 ghost use Rattle.parser_tree.specs.Parts.{item_node, pair_node, branch_node, piece_node, boxed, arguments, parameter_node, optional_node, definition_node, block, rescue_node, begin_node, when_node, targets_node, scope_node};
 
 use crate::construct::Found;
-use rb_syntax::{Branch, Item, Outside, Pair};
 use parser_tree::{
     Arguments, Definition, OptionalParameter, Parameter, Piece, RescueBody, RescueClause, Scope,
     TargetList, Tree, TreeForm, WhenClause,
 };
+use rb_syntax::{Branch, Item, Outside, Pair};
 
 fn earlier_of(best: Option<Found>, what: Outside, at: u32) -> Option<Found>
     ensures { result ≡ earlier best what at }

@@ -23,11 +23,14 @@ not_listed before after file (Refused r) ((bytes, e, is_file, loaded_is, refusal
 not_listed before after file FileFault failed = failed
 not_listed before after file NoMemory untouched = untouched
 
-pub unlisted : (before after : Disk) (given : Stream) (file : List ℕ) (stop : Stop) (r : Result (Result Unit Failed) Stop)
+pub unlisted : (before after : Disk) (given : Stream) (file : List ℕ) (stop : Stop)
+    (r : Result (Result Unit Failed) Stop)
     → IsErrAnd r (λ e. e ≡ stop) → NotRead loaded before after file stop → Shows listed before after given given file r
 unlisted before after given file stop (Ok said) is h = absurd is
-unlisted before after given file stop (Err other) is h =
-    (subst (λ (s : Stop). NotRead listed before after file s) (sym is) (not_listed before after file stop h), (refl, refl))
+unlisted before after given file stop (Err other) is h = (
+  subst (λ (s : Stop). NotRead listed before after file s) (sym is) (not_listed before after file stop h),
+  (refl, refl),
+)
 
 -- what is loaded is listed
 pub listed_as : (before after : Disk) (given left : Stream) (file : List ℕ) (p : Program) (said : Result Unit Failed)

@@ -9,7 +9,8 @@ abbrev pub line : List ℕ → List ℕ
 line text = text ++ 10 ∷ []
 
 abbrev pub usage : List ℕ
-usage = line (codes "usage: rite build SRC OUT; run [--steps N] [--stats] FILE; exec [--steps N] SRC OUT; list FILE; info FILE; sample K")
+usage = line
+    (codes "usage: rite build SRC OUT; run [--steps N] [--stats] FILE; exec [--steps N] SRC OUT; list FILE; info FILE; sample K")
 
 abbrev pub uncaught : Failure → List ℕ
 uncaught f = line (failures.name_of (failures.class_of f) ++ codes ": " ++ failures.message_of f)

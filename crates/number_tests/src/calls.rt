@@ -5,8 +5,8 @@ ghost use Rattle.def_core.specs.Sound.{Sound, census, IsValue};
 mod integers;
 mod ranges;
 
-use core_number::*;
 use Wanted::{Gives, Integers, Raises, Text, Texts};
+use core_number::*;
 use rb_base::Bytes;
 use rb_store::Store;
 use rb_value::Value::{False, Int, Nil, Obj, Sym, True};

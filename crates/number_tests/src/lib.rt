@@ -2,6 +2,6 @@
 #![tactic(auto)]
 
 #[cfg(test)]
-mod plain;
-#[cfg(test)]
 mod calls;
+#[cfg(test)]
+mod plain;

@@ -24,7 +24,8 @@ bracket_step _ n = n
 -- the word behind the token with which no bracket is open any more, so many being open
 unfoldable pub behind_brackets : ℕ → List Token → Word
 behind_brackets n [] = words.Finish
-behind_brackets n (t ∷ ts) = if nat_eq (bracket_step (word_of t) n) 0 then first ts else behind_brackets (bracket_step (word_of t) n) ts
+behind_brackets n (t ∷ ts) = if nat_eq (bracket_step (word_of t) n) 0 then first ts else behind_brackets
+    (bracket_step (word_of t) n) ts
 
 abbrev pub word_behind_group : List Token → Word
 word_behind_group ts = behind_brackets 0 ts
@@ -42,7 +43,8 @@ literal_step _ n = n
 -- the word with which no literal is open any more, so many being open
 unfoldable pub literal_end : ℕ → List Token → Word
 literal_end n [] = words.Finish
-literal_end n (t ∷ ts) = if nat_eq (literal_step (word_of t) n) 0 then word_of t else literal_end (literal_step (word_of t) n) ts
+literal_end n (t ∷ ts) = if nat_eq (literal_step (word_of t) n) 0 then word_of t else literal_end
+    (literal_step (word_of t) n) ts
 
 abbrev pub is_quoted_label : Word → Bool
 is_quoted_label (words.Other outsides.QuotedLabel) = true

@@ -53,7 +53,8 @@ keyword_primary _ ts = primaries.Leaf
 
 abbrev pub primary_of : Word → List Variable → List Token → Primary
 primary_of words.Identifier names ts =
-    if is_known (bytes_at ts) names then (if opens_arguments (behind ts) then primaries.Name else primaries.Local) else primaries.Name
+    if is_known (bytes_at ts) names then (if opens_arguments (behind ts) then primaries.Name else primaries.Local) else
+    primaries.Name
 primary_of words.MethodName names ts = primaries.Name
 primary_of words.Constant names ts = if opens_arguments (behind ts) then primaries.Name else primaries.Leaf
 primary_of (words.Other outsides.NonAsciiName) names ts = primaries.OutsideName
@@ -84,7 +85,8 @@ of_value places.Command = places.Command
 of_value places.Argument = places.Argument
 
 abbrev pub yield_start : List Token → Start
-yield_start ts = if begins_value (first ts) then (if opens_arguments ts then starts.Operand else starts.Yield) else starts.Operand
+yield_start ts = if begins_value (first ts) then (if opens_arguments ts then starts.Operand else starts.Yield) else
+    starts.Operand
 
 abbrev pub jump_start : Jump → List Token → Start
 jump_start j ts = if begins_value (first ts) then starts.Jump j else starts.Operand
@@ -107,7 +109,8 @@ other_start place ts =
     else if allows_command place then command_start ts else starts.Operand
 
 abbrev pub start_of : Word → Place → List Token → Start
-start_of (words.Key keywords.Defined) place ts = if is_open_parenthesis (first (behind ts)) then starts.Operand else starts.Defined
+start_of (words.Key keywords.Defined) place ts =
+    if is_open_parenthesis (first (behind ts)) then starts.Operand else starts.Defined
 start_of (words.Mark marks.Star) place ts = if is_statement place then starts.Targets else other_start place ts
 start_of _ place ts = other_start place ts
 

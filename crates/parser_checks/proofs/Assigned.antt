@@ -14,7 +14,8 @@ pub view-Assign : (t e : Tree) → form_view (form.Assign t e) ≡ node.assign (
 view-Assign t e =
     ap form_view (sym (variant.rolls-Assign t e)) ∙ fold-roll-TreeForm Node view_step (TreeForm-F.Assign t e)
 
-pub view-OperatorAssign : (t : Tree) (o : AssignmentOperator) (e : Tree) → form_view (form.OperatorAssign t o e) ≡ node.operator_assign (view t) o (view e)
+pub view-OperatorAssign : (t : Tree) (o : AssignmentOperator) (e : Tree)
+    → form_view (form.OperatorAssign t o e) ≡ node.operator_assign (view t) o (view e)
 view-OperatorAssign t o e =
     ap form_view (sym (variant.rolls-OperatorAssign t o e))
     ∙ fold-roll-TreeForm Node view_step (TreeForm-F.OperatorAssign t o e)

@@ -37,7 +37,8 @@ names_of required optional rest post b =
 -- the names of parameters, by the node of each tree in them
 abbrev pub names_by : {T : Type 0} → (T → Node) → ParameterList (Boxed T) → List Name
 names_by v p =
-    names_of (parameters_by v p.required.items) (optionals_by v p.optional.items) p.rest (parameters_by v p.post.items) p.block
+    names_of (parameters_by v p.required.items) (optionals_by v p.optional.items) p.rest (parameters_by v p.post.items)
+    p.block
 
 -- no name stands after itself or among those before the list, but `_` may
 abbrev pub are_distinct : List Name → List Name → Bool

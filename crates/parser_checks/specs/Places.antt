@@ -109,7 +109,8 @@ abbrev mutual
   pub names_constant : Node → Bool
   names_constant (node.constant x) = true
   names_constant (node.scoped_constant e x) = true
-  names_constant (node.targets before star rest after) = any_constant before || (any_constant rest || any_constant after)
+  names_constant (node.targets before star rest after) =
+      any_constant before || (any_constant rest || any_constant after)
   names_constant t = false
 
   pub any_constant : Nodes → Bool
@@ -175,7 +176,8 @@ abbrev mutual
       walk_all a before k >>= (λ l. walk_all a rest l >>= (λ m. walk_all a after m))
   walk a (node.define s x d) k = walk_all a s (k + 1) >>= (λ l. walk (method (k + 1)) d l)
   walk a (node.class_node s x p b) k =
-      allowed (not a.in_definition) a.opening k >>= (λ l. walk a s l >>= (λ m. walk_all a p m >>= (λ n. walk (class_body a) b n)))
+      allowed (not a.in_definition) a.opening k >>=
+      (λ l. walk a s l >>= (λ m. walk_all a p m >>= (λ n. walk (class_body a) b n)))
   walk a (node.singleton_class e b) k = walk a e k >>= (λ l. walk (class_body a) b l)
   walk a (node.module_node s x b) k =
       allowed (not a.in_definition) a.opening k >>= (λ l. walk a s l >>= (λ m. walk (class_body a) b m))
@@ -216,7 +218,8 @@ walk_define a s d k = walk_all a s (k + 1) >>= (λ l. walk (method (k + 1)) d l)
 
 abbrev pub walk_class : Around → Node → Nodes → Node → ℕ → Result ℕ ℕ
 walk_class a s p b k =
-    allowed (not a.in_definition) a.opening k >>= (λ l. walk a s l >>= (λ m. walk_all a p m >>= (λ n. walk (class_body a) b n)))
+    allowed (not a.in_definition) a.opening k >>=
+    (λ l. walk a s l >>= (λ m. walk_all a p m >>= (λ n. walk (class_body a) b n)))
 
 abbrev pub walk_module : Around → Node → Node → ℕ → Result ℕ ℕ
 walk_module a s b k = allowed (not a.in_definition) a.opening k >>= (λ l. walk a s l >>= (λ m. walk (class_body a) b m))

@@ -27,7 +27,8 @@ last_of_map f xs x = ap last_of (map-append f xs (x ∷ [])) ∙ last_of_push (m
 pub before_last_map : {A B : Type 0} (f : A → B) (xs : List A) (x : A) → before_last (map f (xs ++ x ∷ [])) ≡ map f xs
 before_last_map f xs x = ap before_last (map-append f xs (x ∷ [])) ∙ before_last_push (map f xs) (f x)
 
-pub first_of_map : {A B : Type 0} (f : A → B) (xs : List A) (x : A) → 0 < length xs → x ≡ slice_index_or xs 0 x → first_of (map f xs) ≡ Some (f x)
+pub first_of_map : {A B : Type 0} (f : A → B) (xs : List A) (x : A) → 0 < length xs → x ≡ slice_index_or xs 0 x
+    → first_of (map f xs) ≡ Some (f x)
 unfolding first_of
 first_of_map f [] x some is = absurd (omega arith)
 first_of_map f (y ∷ xs) x some is = ap (λ y. Some (f y)) (sym is)

@@ -34,7 +34,10 @@ name_place _ ts = None
 
 abbrev pub head_at : Option (Option ℕ) → Nodes → Tokens → Result (HeadNode × Tokens) ℕ
 head_at None singleton ts = Err (length ts)
-head_at (Some outside) singleton ts = Ok (record { singleton = singleton; name = bytes_at ts; outside = outside }, behind ts)
+head_at (Some outside) singleton ts = Ok (
+  record { singleton = singleton; name = bytes_at ts; outside = outside },
+  behind ts,
+)
 
 -- the name of a method
 abbrev pub method_name : Nodes → Tokens → Result (HeadNode × Tokens) ℕ
@@ -88,16 +91,19 @@ abbrev pub alias : ℕ → Tokens → Result (Node × Tokens) ℕ
 alias at ts =
     if is_global (first ts) && is_global (first (behind ts)) then Ok (global_alias at, behind (behind ts))
     else if is_name_word (first ts)
-    then (if is_name_word (first (behind ts)) then Ok (node.alias_node (bytes_at ts) (bytes_at (behind ts)), behind (behind ts)) else Err (length (behind ts)))
+    then (if is_name_word (first (behind ts)) then Ok
+    (node.alias_node (bytes_at ts) (bytes_at (behind ts)), behind (behind ts)) else Err (length (behind ts)))
     else Err (length ts)
 
 -- names with commas between them, behind those that were found
 unfoldable pub undef_from : List Name → Tokens → Result (Node × Tokens) ℕ
 undef_from found [] = Err 0
-undef_from found (t ∷ []) = if is_name_word (word_of t) then Ok (node.undef_node (found ++ bytes_of t.kind ∷ []), []) else Err 1
+undef_from found (t ∷ []) = if is_name_word (word_of t) then Ok (node.undef_node (found ++ bytes_of t.kind ∷ []), [])
+    else Err 1
 undef_from found (t ∷ u ∷ ts) =
     if is_name_word (word_of t)
-    then (if is_comma_word (word_of u) then undef_from (found ++ bytes_of t.kind ∷ []) ts else Ok (node.undef_node (found ++ bytes_of t.kind ∷ []), u ∷ ts))
+    then (if is_comma_word (word_of u) then undef_from (found ++ bytes_of t.kind ∷ []) ts else Ok
+    (node.undef_node (found ++ bytes_of t.kind ∷ []), u ∷ ts))
     else Err (length (t ∷ u ∷ ts))
 
 -- what stands behind undef

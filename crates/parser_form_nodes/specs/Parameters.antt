@@ -76,7 +76,8 @@ may_follow p l = not (is_some l.block) && follows p l
 -- required parameters behind an optional or the rest stand behind these
 abbrev pub with_required : Node → ParameterNodes → ParameterNodes
 with_required n l =
-    if nat_eq (length l.optional) 0 && not (is_there l.rest) then (record l { required = l.required ++ n ∷ [] }) else (record l { post = l.post ++ n ∷ [] })
+    if nat_eq (length l.optional) 0 && not (is_there l.rest) then (record l { required = l.required ++ n ∷ [] }) else
+    (record l { post = l.post ++ n ∷ [] })
 
 abbrev pub put_parameter : ParameterNode → ParameterNodes → ParameterNodes
 put_parameter (required n) l = with_required n l
@@ -88,7 +89,8 @@ put_parameter (outside_parameter n) l = record l { outside = l.outside ++ n ∷ 
 -- one required parameter, and none of the others
 abbrev pub is_one : ParameterNodes → Bool
 is_one l =
-    nat_eq (length l.required) 1 && (nat_eq (length l.optional) 0 && (not (is_there l.rest) && (nat_eq (length l.post) 0 && not (is_some l.block))))
+    nat_eq (length l.required) 1 && (nat_eq (length l.optional) 0 &&
+    (not (is_there l.rest) && (nat_eq (length l.post) 0 && not (is_some l.block))))
 
 -- a comma behind the one parameter of a block stands for a rest parameter without a name
 abbrev pub with_comma : ParameterNodes → ParameterNodes
@@ -110,7 +112,8 @@ begins_parameter _ = false
 
 -- its parameters, its other variables, its body
 abbrev pub definition_of : ParameterNodes → List Name → Node → Node
-definition_of l locals body = node.definition (nodes l.required) (nodes l.optional) l.rest (nodes l.post) l.block (nodes l.outside) locals body
+definition_of l locals body = node.definition (nodes l.required) (nodes l.optional) l.rest (nodes l.post) l.block
+    (nodes l.outside) locals body
 
 -- a definition, and its body
 abbrev pub BlockNode : Type 0

@@ -17,7 +17,13 @@ pub record TargetListNode : Type 0 where
   pub after : List Node
 
 abbrev pub target_list_view : TargetList Tree → TargetListNode
-target_list_view t = record { before = map view t.before.items; star = t.star; rest = boxed t.rest; after = map view t.after.items }
+target_list_view t = record {
+  before = map view t.before.items;
+  star = t.star;
+  rest = boxed t.rest;
+  after =
+      map view t.after.items;
+}
 
 abbrev pub list_node : TargetListNode → Node
 list_node l = node.targets (nodes l.before) l.star l.rest (nodes l.after)
@@ -46,7 +52,11 @@ target_view (targets.Group l) = group_target (target_list_view l)
 target_view (targets.Star t) = star_target (option_view t)
 
 abbrev pub no_targets : TargetsNode
-no_targets = record { list = record { before = []; star = false; rest = node.none; after = [] }; several = false; commas = false }
+no_targets = record {
+  list = record { before = []; star = false; rest = node.none; after = [] };
+  several = false;
+  commas = false;
+}
 
 -- there is at most one star
 abbrev pub may_follow : TargetNode → TargetsNode → Bool
@@ -56,7 +66,8 @@ may_follow (star_target n) t = not t.list.star
 
 -- behind the star where there is one
 abbrev pub with_target : Node → TargetListNode → TargetListNode
-with_target n l = if l.star then (record l { after = l.after ++ n ∷ [] }) else (record l { before = l.before ++ n ∷ [] })
+with_target n l = if l.star then (record l { after = l.after ++ n ∷ [] }) else
+    (record l { before = l.before ++ n ∷ [] })
 
 -- the target of the star is the one that was there where it has none
 abbrev pub with_star : Option Node → TargetListNode → TargetListNode
@@ -75,7 +86,12 @@ is_several (star_target n) = true
 
 -- a target behind the others, with a comma behind it or none
 abbrev pub put : TargetNode → Bool → TargetsNode → TargetsNode
-put x comma t = record { list = put_list x t.list; several = t.several || (is_several x || comma); commas = t.commas || comma }
+put x comma t = record {
+  list = put_list x t.list;
+  several = t.several || (is_several x || comma);
+  commas =
+      t.commas || comma;
+}
 
 abbrev pub alone_among : List Node → Node → Node
 alone_among [] whole = whole

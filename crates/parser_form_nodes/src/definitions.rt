@@ -8,14 +8,14 @@ ghost use Rattle.parser_tree.specs.View.{form_view, view};
 ghost use Rattle.parser_form_nodes.specs.Definitions as made;
 ghost use Rattle.parser_form_nodes.specs.Parameters.{block_view};
 
-use rb_base::{Bytes, List};
+use parser_ahead::names::Names;
+use parser_ahead::primary::{is_comma, is_name};
 use parser_tokens::failure::{Failure, syntax};
 use parser_tokens::tokens::{bytes_at, first, place_at, skip};
 use parser_tokens::word::Word;
-use parser_ahead::names::Names;
-use parser_ahead::primary::{is_comma, is_name};
-use rb_syntax::{Outside, Punctuator, Token};
 use parser_tree::{Definition, Scope, Tree, TreeForm};
+use rb_base::{Bytes, List};
+use rb_syntax::{Outside, Punctuator, Token};
 use std::alloc::{AllocError, Global};
 
 /// What a method is defined on, and its name. `outside` is the place of a name that isn't of ASCII.

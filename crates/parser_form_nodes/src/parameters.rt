@@ -5,11 +5,11 @@ ghost use Rattle.parser_tree.specs.Parts.{parameter_node};
 ghost use Rattle.parser_tree.specs.View.{view};
 ghost use Rattle.parser_form_nodes.specs.Parameters as made;
 
-use rb_base::{Bytes, List};
-use parser_tokens::word::Word;
 use parser_ahead::names::Names;
-use rb_syntax::{Outside, Punctuator};
+use parser_tokens::word::Word;
 use parser_tree::{Definition, OptionalParameter, Parameter, ParameterList, RestParameter, Tree};
+use rb_base::{Bytes, List};
+use rb_syntax::{Outside, Punctuator};
 use std::alloc::{AllocError, Global};
 
 /// A parameter of any kind.

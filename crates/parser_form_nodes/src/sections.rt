@@ -7,10 +7,10 @@ ghost use Rattle.parser_tree.specs.View.{form_view, view};
 ghost use Rattle.parser_form_nodes.specs.Sections as made;
 
 use parser_ahead::sections::{Compound, SectionKind};
-use rb_syntax::{Branch, Outside};
-use parser_tree::{RescueBody, RescueClause, Tree, TreeForm, WhenClause};
-use std::alloc::{AllocError, Global};
 use parser_nodes::nodes::condition_tree;
+use parser_tree::{RescueBody, RescueClause, Tree, TreeForm, WhenClause};
+use rb_syntax::{Branch, Outside};
+use std::alloc::{AllocError, Global};
 
 /// A section that was read. `heads` are the tests, values, classes or targets of its heading, and `target` is what a
 /// rescue clause assigns to or what `for` walks over.

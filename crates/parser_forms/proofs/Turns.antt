@@ -15,19 +15,23 @@ use Rattle.parser_forms.specs.Parameters.{is_identifier, parameters_turn, parame
 
 module _ (i : Inside) where
   pub pieces_step : (n : ℕ) (found : List Node) (names : Names) (ts : Tokens) → 0 < n
-      → pieces_from i n found names ts ≡ (if ends_literal (first ts) then Ok (found, names, ts) else (next_piece i found names ts >>= (λ r. pieces_from i (n - 1) r.0 r.1 r.2)))
+      → pieces_from i n found names ts ≡ (if ends_literal (first ts) then Ok (found, names, ts) else
+      (next_piece i found names ts >>= (λ r. pieces_from i (n - 1) r.0 r.1 r.2)))
   unfolding pieces_from
   pieces_step zero found names ts some = absurd (omega arith)
   pieces_step (suc n) found names ts some = let less : suc n - 1 ≡ n = omega arith in rw less
 
   pub strings_step : (n : ℕ) (found : List Node) (names : Names) (ts : Tokens) → 0 < n
-      → strings_from i n found names ts ≡ (if begins_string (first ts) then (string i found names ts >>= (λ r. strings_from i (n - 1) r.0 r.1 r.2)) else Ok (found, names, ts))
+      → strings_from i n found names ts ≡ (if begins_string (first ts) then
+      (string i found names ts >>= (λ r. strings_from i (n - 1) r.0 r.1 r.2)) else Ok (found, names, ts))
   unfolding strings_from
   strings_step zero found names ts some = absurd (omega arith)
   strings_step (suc n) found names ts some = let less : suc n - 1 ≡ n = omega arith in rw less
 
   pub parameters_step : (n : ℕ) (more comma : Bool) (found : ParameterNodes) (names : Names) (ts : Tokens) → 0 < n
-      → parameters_from i n more comma found names ts ≡ (if more && begins_parameter (first ts) then parameters_turn i (λ c. parameters_from i (n - 1) c c) found names ts else Ok ((found, comma), names, ts))
+      → parameters_from i n more comma found names
+      ts ≡ (if more && begins_parameter (first ts) then parameters_turn i (λ c. parameters_from i (n - 1) c c) found
+      names ts else Ok ((found, comma), names, ts))
   unfolding parameters_from
   parameters_step zero more comma found names ts some = absurd (omega arith)
   parameters_step (suc n) more comma found names ts some = let less : suc n - 1 ≡ n = omega arith in rw less
@@ -35,7 +39,8 @@ module _ (i : Inside) where
 pub locals_step : (n : ℕ) (more : Bool) (names : Names) (ts : Tokens) → 0 < n
     → locals_from n more names ts ≡ (if more
     then (if is_identifier (first (behind ts))
-    then locals_from (n - 1) (is_comma_word (first (behind (behind ts)))) (declared names (bytes_at (behind ts)) false) (behind (behind ts))
+    then locals_from (n - 1) (is_comma_word (first (behind (behind ts)))) (declared names (bytes_at (behind ts)) false)
+    (behind (behind ts))
     else Err (length (behind ts)))
     else Ok (names, ts))
 unfolding locals_from

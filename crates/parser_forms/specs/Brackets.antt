@@ -24,29 +24,34 @@ module _ (inside : Inside) where
   -- the arguments behind an opening parenthesis
   abbrev pub call_arguments : Names → Tokens → Read (List (Item Node) × Nodes)
   call_arguments names ts =
-      inside.list names ts owners.Call >>= (λ r. expect_closing wanted.CloseParenthesis r.2 >>= (λ rest. Ok (arguments_node r.0, r.1, rest)))
+      inside.list names ts owners.Call >>= (λ r. expect_closing wanted.CloseParenthesis r.2 >>=
+      (λ rest. Ok (arguments_node r.0, r.1, rest)))
 
   -- the elements behind an opening bracket, to behind the closing one
   abbrev pub elements : Names → Tokens → Wanted → Read (List (Item Node))
   elements names ts w =
       inside.list names ts owners.Call >>= (λ r.
-      if is_none r.0.block then (expect_closing w r.2 >>= (λ rest. Ok (whole_items r.0.items r.0.pairs, r.1, rest))) else Err (length ts))
+      if is_none r.0.block then (expect_closing w r.2 >>= (λ rest. Ok (whole_items r.0.items r.0.pairs, r.1, rest)))
+      else Err (length ts))
 
   -- the pairs behind an opening brace
   abbrev pub hash : Names → Tokens → Read Node
   hash names ts =
       inside.list names ts owners.Call >>= (λ r.
       if pairs_alone r.0
-      then (expect_closing wanted.CloseBrace r.2 >>= (λ rest. Ok (node.hash (nodes (map pair_of r.0.pairs)), r.1, rest)))
+      then (expect_closing wanted.CloseBrace r.2 >>=
+      (λ rest. Ok (node.hash (nodes (map pair_of r.0.pairs)), r.1, rest)))
       else Err (length ts))
 
   -- the arguments of yield in parentheses, or none
   abbrev pub yielded : Names → Tokens → Read Node
   yielded names ts =
-      if opens_arguments ts then (elements names (behind ts) wanted.CloseParenthesis >>= (λ r. Ok (node.yield_node (items_of r.0), r.1, r.2)))
+      if opens_arguments ts then (elements names (behind ts) wanted.CloseParenthesis >>=
+      (λ r. Ok (node.yield_node (items_of r.0), r.1, r.2)))
       else Ok (node.yield_node node.none, names, ts)
 
   -- a form with sections
   abbrev pub sectioned : Names → Compound → Tokens → Read Node
   sectioned names form ts =
-      inside.sections names form ts >>= (λ r. if is_whole form r.0 then Ok (compound_node form r.0, r.1, r.2) else Err (length r.2))
+      inside.sections names form ts >>= (λ r. if is_whole form r.0 then Ok (compound_node form r.0, r.1, r.2) else Err
+      (length r.2))

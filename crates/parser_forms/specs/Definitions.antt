@@ -79,16 +79,19 @@ module _ (inside : Inside) where
 
   -- the block at the front
   unfoldable pub block : Names → Tokens → BlockStyle → Read BlockNode
-  block names ts style = block_parameters inside names (behind ts) >>= (λ r. block_body style (length names) r.0 r.1 r.2)
+  block names ts style = block_parameters inside names (behind ts) >>=
+      (λ r. block_body style (length names) r.0 r.1 r.2)
 
   -- where no parameters stand behind the arrow, they may stand in the block
   abbrev pub lambda_body : Bool → BlockStyle → ℕ → ParameterNodes → Names → Tokens → Read BlockNode
-  lambda_body true style mark l names ts = block_parameters inside names (behind ts) >>= (λ r. block_body style mark r.0 r.1 r.2)
+  lambda_body true style mark l names ts = block_parameters inside names (behind ts) >>=
+      (λ r. block_body style mark r.0 r.1 r.2)
   lambda_body false style mark l names ts = block_body style mark l names (behind ts)
 
   abbrev pub lambda_by : Option BlockStyle → Bool → ℕ → ParameterNodes → Names → Tokens → Read Node
   lambda_by None bare mark l names ts = Err (length ts)
-  lambda_by (Some style) bare mark l names ts = lambda_body bare style mark l names ts >>= (λ r. Ok (node.lambda r.0.0, r.1, r.2))
+  lambda_by (Some style) bare mark l names ts =
+      lambda_body bare style mark l names ts >>= (λ r. Ok (node.lambda r.0.0, r.1, r.2))
 
   -- what stands behind the arrow of a lambda
   unfoldable pub lambda : Names → Tokens → DoOwner → Read Node
@@ -99,19 +102,23 @@ module _ (inside : Inside) where
   -- a method on the value of an expression in parentheses
   abbrev pub value_head : Names → Tokens → Read HeadNode
   value_head names ts =
-      inside.expression names (behind ts) places.Command owners.Call >>= (λ r. expect_closing wanted.CloseParenthesis r.2 >>= (λ dot.
+      inside.expression names (behind ts) places.Command owners.Call >>=
+      (λ r. expect_closing wanted.CloseParenthesis r.2 >>= (λ dot.
       expect wanted.Dot dot >>= (λ rest. headed (one r.0) r.1 rest)))
 
   -- what a method is defined on, and its name
   unfoldable pub method_head : Names → Tokens → Read HeadNode
-  method_head names ts = if is_open_parenthesis (first ts) then value_head names ts else head_by (singleton_at names ts) names ts
+  method_head names ts = if is_open_parenthesis (first ts) then value_head names ts else head_by (singleton_at names ts)
+      names ts
 
   -- the rest of a method, in a scope of its own
   abbrev pub endless_method : ParameterNodes → Names → Tokens → Read Node
-  endless_method l names ts = inside.argument names (behind ts) owners.Call >>= (λ r. Ok (endless l (place_at ts) r.0, r.1, r.2))
+  endless_method l names ts = inside.argument names (behind ts) owners.Call >>=
+      (λ r. Ok (endless l (place_at ts) r.0, r.1, r.2))
 
   abbrev pub whole_method : HeadNode → ParameterNodes → Names → Tokens → Read Node
-  whole_method h l names ts = body names ts >>= (λ r. defined 0 l r.0 r.1 r.2 >>= (λ d. Ok (method_node h d.0, d.1, d.2)))
+  whole_method h l names ts = body names ts >>=
+      (λ r. defined 0 l r.0 r.1 r.2 >>= (λ d. Ok (method_node h d.0, d.1, d.2)))
 
   abbrev pub method_rest : HeadNode → ParameterNodes → Names → Tokens → Read Node
   method_rest h l names ts = if is_assign (first ts) then endless_method l names ts else whole_method h l names ts
@@ -119,7 +126,8 @@ module _ (inside : Inside) where
   -- what stands behind def
   unfoldable pub define : Names → Tokens → Read Node
   define names ts =
-      method_head names ts >>= (λ h. open_parameters inside [] h.2 >>= (λ l. method_rest h.0 l.0 l.1 l.2 >>= (λ r. Ok (r.0, h.1, r.2))))
+      method_head names ts >>= (λ h. open_parameters inside [] h.2 >>=
+      (λ l. method_rest h.0 l.0 l.1 l.2 >>= (λ r. Ok (r.0, h.1, r.2))))
 
   -- the body of a class or a module, which knows no names
   abbrev pub class_body : Tokens → Result (Node × Tokens) ℕ
@@ -141,12 +149,14 @@ module _ (inside : Inside) where
   -- the superclass of a class, or none
   abbrev pub parent : Names → Tokens → Read Nodes
   parent names ts =
-      if is_less (first ts) then (inside.expression names (behind ts) places.Command owners.Call >>= (λ r. Ok (one r.0, r.1, r.2)))
+      if is_less (first ts) then (inside.expression names (behind ts) places.Command owners.Call >>=
+      (λ r. Ok (one r.0, r.1, r.2)))
       else Ok (none, names, ts)
 
   abbrev pub named_class : Names → Tokens → Read Node
   named_class names ts =
-      path names ts >>= (λ p. parent p.1 p.2 >>= (λ s. separated_body s.2 >>= (λ b. Ok (node.class_node p.0.0 p.0.1 s.0 b.0, s.1, b.1))))
+      path names ts >>= (λ p. parent p.1 p.2 >>=
+      (λ s. separated_body s.2 >>= (λ b. Ok (node.class_node p.0.0 p.0.1 s.0 b.0, s.1, b.1))))
 
   -- what stands behind class
   unfoldable pub class_form : Names → Tokens → Read Node
@@ -154,4 +164,5 @@ module _ (inside : Inside) where
 
   -- what stands behind module; nothing but a new body follows its path
   unfoldable pub module_form : Names → Tokens → Read Node
-  module_form names ts = path names ts >>= (λ p. class_body p.2 >>= (λ b. Ok (node.module_node p.0.0 p.0.1 b.0, p.1, b.1)))
+  module_form names ts = path names ts >>= (λ p. class_body p.2 >>=
+      (λ b. Ok (node.module_node p.0.0 p.0.1 b.0, p.1, b.1)))

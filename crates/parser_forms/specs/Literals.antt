@@ -50,7 +50,8 @@ module _ (inside : Inside) where
   abbrev pub piece_at : Word → Names → Tokens → Read Node
   piece_at words.Piece names ts = Ok (node.piece (bytes_at ts), names, behind ts)
   piece_at words.InterpolationBegin names ts =
-      inside.statements names (behind ts) >>= (λ r. expect wanted.InterpolationEnd r.2 >>= (λ rest. Ok (r.0, r.1, rest)))
+      inside.statements names (behind ts) >>=
+      (λ r. expect wanted.InterpolationEnd r.2 >>= (λ rest. Ok (r.0, r.1, rest)))
   piece_at words.InstanceVariable names ts = leaf_piece (leaf ts) names ts
   piece_at words.GlobalVariable names ts = leaf_piece (leaf ts) names ts
   piece_at (words.Other o) names ts = leaf_piece (leaf ts) names ts
@@ -67,7 +68,8 @@ module _ (inside : Inside) where
   unfoldable pub pieces_from : ℕ → List Node → Names → Tokens → Read (List Node)
   pieces_from zero found names ts = Err 0
   pieces_from (suc n) found names ts =
-      if ends_literal (first ts) then Ok (found, names, ts) else (next_piece found names ts >>= (λ r. pieces_from n r.0 r.1 r.2))
+      if ends_literal (first ts) then Ok (found, names, ts) else
+      (next_piece found names ts >>= (λ r. pieces_from n r.0 r.1 r.2))
 
   abbrev pub pieces : List Node → Names → Tokens → Read (List Node)
   pieces found names ts = pieces_from (length ts + 1) found names ts
@@ -76,13 +78,15 @@ module _ (inside : Inside) where
   abbrev pub string : List Node → Names → Tokens → Read (List Node)
   string found names ts =
       if is_character (first ts) then Ok (with_character found ts, names, behind ts)
-      else (pieces found names (behind ts) >>= (λ r. if is_literal_end (first r.2) then Ok (r.0, r.1, behind r.2) else Err (length r.2)))
+      else (pieces found names (behind ts) >>=
+      (λ r. if is_literal_end (first r.2) then Ok (r.0, r.1, behind r.2) else Err (length r.2)))
 
   -- at most n strings, behind the pieces found
   unfoldable pub strings_from : ℕ → List Node → Names → Tokens → Read (List Node)
   strings_from zero found names ts = Err 0
   strings_from (suc n) found names ts =
-      if begins_string (first ts) then (string found names ts >>= (λ r. strings_from n r.0 r.1 r.2)) else Ok (found, names, ts)
+      if begins_string (first ts) then (string found names ts >>= (λ r. strings_from n r.0 r.1 r.2)) else Ok
+      (found, names, ts)
 
   abbrev pub strings : List Node → Names → Tokens → Read (List Node)
   strings found names ts = strings_from (length ts + 1) found names ts

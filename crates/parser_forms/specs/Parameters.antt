@@ -53,9 +53,21 @@ list_view p = (parameters_view p.0, p.1)
 
 -- a parameter with a mark, with its name
 abbrev pub marked_name : Punctuator → Names → Tokens → Read ParameterNode
-marked_name marks.Star names ts = Ok (rest_of (rests.Named (bytes_at (behind ts))), declared names (bytes_at (behind ts)) true, behind (behind ts))
-marked_name marks.Ampersand names ts = Ok (block_name (bytes_at (behind ts)), declared names (bytes_at (behind ts)) true, behind (behind ts))
-marked_name marks.StarStar names ts = Ok (outside_alone_parameter outsides.DoubleSplat (place_at ts), declared names (bytes_at (behind ts)) true, behind (behind ts))
+marked_name marks.Star names ts = Ok (
+  rest_of (rests.Named (bytes_at (behind ts))),
+  declared names (bytes_at (behind ts)) true,
+  behind (behind ts),
+)
+marked_name marks.Ampersand names ts = Ok (
+  block_name (bytes_at (behind ts)),
+  declared names (bytes_at (behind ts)) true,
+  behind (behind ts),
+)
+marked_name marks.StarStar names ts = Ok (
+  outside_alone_parameter outsides.DoubleSplat (place_at ts),
+  declared names (bytes_at (behind ts)) true,
+  behind (behind ts),
+)
 marked_name _ names ts = Err (length ts)
 
 -- the same without a name
@@ -76,7 +88,8 @@ locals_from zero more names ts = Err 0
 locals_from (suc n) more names ts =
     if more
     then (if is_identifier (first (behind ts))
-    then locals_from n (is_comma_word (first (behind (behind ts)))) (declared names (bytes_at (behind ts)) false) (behind (behind ts))
+    then locals_from n (is_comma_word (first (behind (behind ts)))) (declared names (bytes_at (behind ts)) false)
+    (behind (behind ts))
     else Err (length (behind ts)))
     else Ok (names, ts)
 
@@ -90,7 +103,8 @@ comma_rest p = if p.1 then with_comma p.0 else p.0
 module _ (inside : Inside) where
   abbrev pub with_default : Names → Tokens → Read ParameterNode
   with_default names ts =
-      inside.argument (declared names (bytes_at ts) true) (behind (behind ts)) owners.Call >>= (λ r. Ok (optional (bytes_at ts) r.0, r.1, r.2))
+      inside.argument (declared names (bytes_at ts) true) (behind (behind ts)) owners.Call >>=
+      (λ r. Ok (optional (bytes_at ts) r.0, r.1, r.2))
 
   -- a name, with a default or none
   abbrev pub named : Names → Tokens → Read ParameterNode
@@ -103,14 +117,16 @@ module _ (inside : Inside) where
   keyword names ts =
       let known = declared names (bytes_at ts) true in
       if begins_value (first (behind ts))
-      then (inside.argument known (behind ts) owners.Call >>= (λ r. Ok (outside_parameter (outside_node outsides.KeywordParameter (place_at ts) r.0), r.1, r.2)))
+      then (inside.argument known (behind ts) owners.Call >>=
+      (λ r. Ok (outside_parameter (outside_node outsides.KeywordParameter (place_at ts) r.0), r.1, r.2)))
       else Ok (outside_alone_parameter outsides.KeywordParameter (place_at ts), known, behind ts)
 
   -- a pattern in parentheses
   abbrev pub pattern : Names → Tokens → Read ParameterNode
   pattern names ts =
       inside.targets names no_targets (behind ts) uses.Pattern >>= (λ r.
-      if r.0.several then (expect_closing wanted.CloseParenthesis r.2 >>= (λ rest. Ok (required (list_node r.0.list), r.1, rest))) else Err (length r.2))
+      if r.0.several then (expect_closing wanted.CloseParenthesis r.2 >>=
+      (λ rest. Ok (required (list_node r.0.list), r.1, rest))) else Err (length r.2))
 
   unfoldable pub parameter_at : Word → Names → Tokens → Read ParameterNode
   parameter_at words.Identifier names ts = named names ts
@@ -124,18 +140,23 @@ module _ (inside : Inside) where
   abbrev pub parameter : Names → Tokens → Read ParameterNode
   parameter names ts = parameter_at (first ts) names ts
 
-  abbrev pub parameters_next : (Bool → ParameterNodes → Names → Tokens → Read (ParameterNodes × Bool)) → ParameterNodes → Names → Tokens → Read (ParameterNodes × Bool)
-  parameters_next go found names ts = let comma = is_comma_word (first ts) in go comma found names (if comma then behind ts else ts)
+  abbrev pub parameters_next : (Bool → ParameterNodes → Names → Tokens → Read (ParameterNodes × Bool)) → ParameterNodes
+      → Names → Tokens → Read (ParameterNodes × Bool)
+  parameters_next go found names ts = let comma = is_comma_word (first ts) in
+      go comma found names (if comma then behind ts else ts)
 
-  abbrev pub parameters_turn : (Bool → ParameterNodes → Names → Tokens → Read (ParameterNodes × Bool)) → ParameterNodes → Names → Tokens → Read (ParameterNodes × Bool)
+  abbrev pub parameters_turn : (Bool → ParameterNodes → Names → Tokens → Read (ParameterNodes × Bool)) → ParameterNodes
+      → Names → Tokens → Read (ParameterNodes × Bool)
   parameters_turn go found names ts =
-      parameter names ts >>= (λ r. if may_follow r.0 found then parameters_next go (put_parameter r.0 found) r.1 r.2 else Err (length ts))
+      parameter names ts >>= (λ r. if may_follow r.0 found then parameters_next go (put_parameter r.0 found) r.1 r.2
+      else Err (length ts))
 
   -- at most n parameters, and whether a comma stands behind the last
   unfoldable pub parameters_from : ℕ → Bool → Bool → ParameterNodes → Names → Tokens → Read (ParameterNodes × Bool)
   parameters_from zero more comma found names ts = Err 0
   parameters_from (suc n) more comma found names ts =
-      if more && begins_parameter (first ts) then parameters_turn (λ c. parameters_from n c c) found names ts else Ok ((found, comma), names, ts)
+      if more && begins_parameter (first ts) then parameters_turn (λ c. parameters_from n c c) found names ts else Ok
+      ((found, comma), names, ts)
 
   -- parameters with commas between them
   abbrev pub parameters : Names → Tokens → Read (ParameterNodes × Bool)
@@ -143,7 +164,8 @@ module _ (inside : Inside) where
 
   abbrev pub barred : Names → Tokens → Read ParameterNodes
   barred names ts =
-      parameters names (behind ts) >>= (λ r. block_locals r.1 r.2 >>= (λ l. expect wanted.CloseBar l.1 >>= (λ rest. Ok (comma_rest r.0, l.0, rest))))
+      parameters names (behind ts) >>= (λ r. block_locals r.1 r.2 >>=
+      (λ l. expect wanted.CloseBar l.1 >>= (λ rest. Ok (comma_rest r.0, l.0, rest))))
 
   -- the parameters between bars, or none
   abbrev pub block_parameters : Names → Tokens → Read ParameterNodes
@@ -153,8 +175,10 @@ module _ (inside : Inside) where
   bare_parameters names ts = parameters names ts >>= (λ r. if r.0.1 then Err (length r.2) else Ok (r.0.0, r.1, r.2))
 
   abbrev pub closed_parameters : Names → Tokens → Read ParameterNodes
-  closed_parameters names ts = bare_parameters names (behind ts) >>= (λ r. expect_closing wanted.CloseParenthesis r.2 >>= (λ rest. Ok (r.0, r.1, rest)))
+  closed_parameters names ts = bare_parameters names (behind ts) >>=
+      (λ r. expect_closing wanted.CloseParenthesis r.2 >>= (λ rest. Ok (r.0, r.1, rest)))
 
   -- the parameters of a method or a lambda: in parentheses, or alone
   unfoldable pub open_parameters : Names → Tokens → Read ParameterNodes
-  open_parameters names ts = if is_open_parenthesis (first ts) then closed_parameters names ts else bare_parameters names ts
+  open_parameters names ts = if is_open_parenthesis (first ts) then closed_parameters names ts else bare_parameters
+      names ts

@@ -7,19 +7,19 @@ ghost use Rattle.parser_nodes.specs.Nodes.{boxed_view};
 ghost use Rattle.parser_forms.specs.Reading.{Reads, Shortens};
 ghost use Rattle.parser_forms.specs.Brackets as rules;
 
+use crate::{Inner, Read};
+use parser_ahead::names::Names;
+use parser_ahead::primary::DoOwner;
+use parser_ahead::sections::Compound;
 use parser_form_nodes::sections::{compound_tree, is_whole};
+use parser_nodes::listed::{Listed, yield_tree};
 use parser_tokens::expect::{Wanted, expect_closing};
 use parser_tokens::failure::syntax;
 use parser_tokens::starts::opens_arguments;
 use parser_tokens::tokens::skip;
-use parser_ahead::names::Names;
-use parser_ahead::primary::DoOwner;
-use parser_ahead::sections::Compound;
-use rb_syntax::{Item, Token};
 use parser_tree::{Arguments, Tree, TreeForm};
-use crate::{Inner, Read};
+use rb_syntax::{Item, Token};
 use std::alloc::Global;
-use parser_nodes::listed::{Listed, yield_tree};
 
 /// The arguments behind an opening parenthesis, to behind the closing one.
 pub fn call_arguments<'a, I: Inner>(

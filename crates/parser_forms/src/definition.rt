@@ -11,20 +11,22 @@ ghost use Rattle.parser_forms.specs.Reading.{Reads, Shortens};
 ghost use Rattle.parser_forms.specs.Definitions as rules;
 
 use crate::parameter::{block_parameters, is_assign, is_open_parenthesis, open_parameters};
-use parser_form_nodes::definitions::{MethodHead, class_path, method_name, method_tree, singleton_at};
+use crate::{Inner, Read};
+use parser_ahead::names::Names;
+use parser_ahead::primary::{BlockStyle, DoOwner, Place, lambda_block_at};
+use parser_ahead::sections::Compound;
+use parser_form_nodes::definitions::{
+    MethodHead, class_path, method_name, method_tree, singleton_at,
+};
 use parser_form_nodes::parameters::definition;
 use parser_form_nodes::sections::body_tree;
-use rb_base::Bytes;
 use parser_tokens::expect::{Wanted, expect, expect_closing};
 use parser_tokens::failure::syntax;
 use parser_tokens::tokens::{first, place_at, skip};
 use parser_tokens::word::Word;
-use parser_ahead::names::Names;
-use parser_ahead::primary::{BlockStyle, DoOwner, Place, lambda_block_at};
-use parser_ahead::sections::Compound;
-use rb_syntax::{Outside, Punctuator, Token};
 use parser_tree::{Definition, OptionalParameter, ParameterList, Scope, Tree, TreeForm};
-use crate::{Inner, Read};
+use rb_base::Bytes;
+use rb_syntax::{Outside, Punctuator, Token};
 use std::alloc::{AllocError, Global};
 
 /// Statements, to behind the brace that closes them.

@@ -7,17 +7,17 @@ ghost use Rattle.parser_forms.specs.Reading.{Reads, Shortens};
 ghost use Rattle.parser_forms.specs.Literals as rules;
 ghost use Rattle.parser_forms.specs.Literals.{pieces_view};
 
-use rb_base::Bytes;
+use crate::{Inner, Read};
+use parser_ahead::names::Names;
+use parser_nodes::leaf::leaf;
 use parser_tokens::expect::{Wanted, expect};
 use parser_tokens::failure::syntax;
 use parser_tokens::tokens::{bytes_at, character_at, first, skip};
 use parser_tokens::word::Word;
-use parser_ahead::names::Names;
-use rb_syntax::{Outside, Token};
 use parser_tree::{Piece, Tree};
-use crate::{Inner, Read};
+use rb_base::Bytes;
+use rb_syntax::{Outside, Token};
 use std::alloc::{AllocError, Global};
-use parser_nodes::leaf::leaf;
 
 /// Whether a word ends a literal, or a key in quotes.
 fn ends_literal(word: Word) -> bool

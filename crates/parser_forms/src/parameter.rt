@@ -9,24 +9,24 @@ ghost use Rattle.parser_form_nodes.specs.Parameters.{parameter_view, parameters_
 ghost use Rattle.parser_forms.specs.Reading.{Reads, Shortens};
 ghost use Rattle.parser_forms.specs.Parameters as rules;
 
+use crate::{Inner, Read};
+use parser_ahead::groups::TargetUse;
+use parser_ahead::names::Names;
+use parser_ahead::primary::{DoOwner, is_comma};
 use parser_form_nodes::parameters::{
     AnyParameter, begins_parameter, may_follow, no_parameters, put_parameter, with_comma,
 };
 use parser_form_nodes::targets::Targets;
-use rb_base::Bytes;
+use parser_nodes::nodes::outside_tree;
 use parser_tokens::expect::{Wanted, expect, expect_closing};
 use parser_tokens::failure::{Failure, syntax};
 use parser_tokens::starts::begins_value;
 use parser_tokens::tokens::{bytes_at, first, place_at, skip, skip_if};
 use parser_tokens::word::Word;
-use parser_ahead::groups::TargetUse;
-use parser_ahead::names::Names;
-use parser_ahead::primary::{DoOwner, is_comma};
-use rb_syntax::{Outside, Punctuator, Token};
 use parser_tree::{Parameter, ParameterList, RestParameter, Tree, TreeForm};
-use crate::{Inner, Read};
+use rb_base::Bytes;
+use rb_syntax::{Outside, Punctuator, Token};
 use std::alloc::{AllocError, Global};
-use parser_nodes::nodes::outside_tree;
 
 /// Whether a word is an opening parenthesis.
 pub fn is_open_parenthesis(word: Word) -> bool

@@ -6,17 +6,17 @@ ghost use Rattle.parser_form_nodes.specs.Parameters.{block_view};
 ghost use Rattle.parser_form_nodes.specs.Sections.{sections_view};
 ghost use Rattle.parser_forms.specs.Reading.{Inside, Reads, Shortens};
 
-use parser_form_nodes::sections::Section;
-use parser_form_nodes::targets::Targets;
-use parser_tokens::failure::Failure;
 use parser_ahead::groups::TargetUse;
 use parser_ahead::names::Names;
 use parser_ahead::primary::{BlockStyle, DoOwner, Place};
 use parser_ahead::sections::Compound;
-use rb_syntax::Token;
-use parser_tree::{Definition, Tree};
-use std::alloc::Global;
+use parser_form_nodes::sections::Section;
+use parser_form_nodes::targets::Targets;
 use parser_nodes::listed::{Listed, Phrase};
+use parser_tokens::failure::Failure;
+use parser_tree::{Definition, Tree};
+use rb_syntax::Token;
+use std::alloc::Global;
 
 /// What was read, and the tokens behind it.
 pub type Read<'a, T> = Result<(T, &'a [Token]), Failure>;

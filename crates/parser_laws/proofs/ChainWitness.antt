@@ -24,7 +24,8 @@ unfolding first behind word_of bytes_at place_at prefix_at begins_argument opens
 the_target =
     CalleeTarget owners.Call [] [] first_name equals outsides.SafeNavigation 2 (receiver ∷ []) refl
     (SafeCallee places.Command owners.Call [] [] first_name safe receiver
-    (CalleeAlone places.Command owners.Call [] [] first_name safe (name_callee (codes "a") true) (NameCallee places.Command owners.Call [] first_name refl refl) refl refl)
+    (CalleeAlone places.Command owners.Call [] [] first_name safe (name_callee (codes "a") true)
+    (NameCallee places.Command owners.Call [] first_name refl refl) refl refl)
     refl refl)
 
 the_block : Derives (Block styles.Do block) [] block_begin [] dot
@@ -39,7 +40,8 @@ the_argument =
     Value places.Command owners.Command [] [] digit block_begin (node.integer (pos 1)) refl
     (AllOperators places.Command 13 owners.Command [] [] digit block_begin (node.integer (pos 1))
     (OneOperand places.Command 13 owners.Command [] [] digit block_begin (node.integer (pos 1))
-    (WithPostfixes places.Command owners.Command [] [] digit block_begin (node.integer (pos 1)) refl (Integer places.Command owners.Command [] digit refl) refl))
+    (WithPostfixes places.Command owners.Command [] [] digit block_begin (node.integer (pos 1)) refl
+    (Integer places.Command owners.Command [] digit refl) refl))
     refl)
     refl refl
 
@@ -47,20 +49,24 @@ the_list : Derives (Listing owners.Command list) [] digit [] block_begin
 unfolding first behind word_of
 the_list =
     AllParts owners.Command [] [] digit block_begin list
-    (FirstPart owners.Command [] [] digit block_begin (plain_part (node.integer (pos 1))) (PlainPart places.Command owners.Command [] [] digit block_begin (node.integer (pos 1)) the_argument refl))
+    (FirstPart owners.Command [] [] digit block_begin (plain_part (node.integer (pos 1)))
+    (PlainPart places.Command owners.Command [] [] digit block_begin (node.integer (pos 1)) the_argument refl))
     refl
 
 the_postfixes : Derives (Postfixes owners.Call command value) [] dot [] []
 unfolding first behind word_of bytes_at place_at opens_arguments is_apart
 the_postfixes =
     LastPostfix owners.Call [] [] dot [] command value
-    (MethodPostfix owners.Call [] [] dot [] command value refl refl refl (CalledAlone owners.Call [] [] method refl refl)) refl
+    (MethodPostfix owners.Call [] [] dot [] command value refl refl refl
+    (CalledAlone owners.Call [] [] method refl refl)) refl
 
 the_value : Derives (Command places.Command owners.Call value) [] called_name [] []
 unfolding first behind word_of bytes_at prefix_at begins_argument opens_arguments is_apart
 the_value =
-    CalleeCommand places.Command owners.Call [] [] [] called_name digit [] called value refl refl refl (NameCallee places.Command owners.Call [] called_name refl refl)
-    (CommandPostfixes owners.Call [] [] [] [] digit block_begin dot [] called list block value refl refl the_list refl refl the_block the_postfixes)
+    CalleeCommand places.Command owners.Call [] [] [] called_name digit [] called value refl refl refl
+    (NameCallee places.Command owners.Call [] called_name refl refl)
+    (CommandPostfixes owners.Call [] [] [] [] digit block_begin dot [] called list block value refl refl the_list refl
+    refl the_block the_postfixes)
 
 pub chain_example_derived : Derives (Statements tree) [] tokens [] []
 unfolding first behind word_of separators_from
@@ -71,6 +77,7 @@ chain_example_derived =
     (AllJoined places.Statement owners.Call [] [] tokens [] negation
     (Unjoined places.Statement owners.Call [] [] tokens [] negation
     (Commanded places.Statement owners.Call [] [] tokens [] negation refl
-    (NotAssigned places.Statement owners.Call signs.Plain [] [] [] tokens equals [] target value refl refl the_target refl the_value))) refl)
+    (NotAssigned places.Statement owners.Call signs.Plain [] [] [] tokens equals [] target value refl refl the_target
+    refl the_value))) refl)
     refl)
     refl (NoMore [] [] refl))

@@ -23,18 +23,26 @@ is_given (block_part n) = false
 abbrev pub is_clean : ListNode → Bool
 is_clean l = are_expressions (items_of l.items) && (are_expressions (nodes (map pair_of l.pairs)) && is_none l.block)
 
-pushed : {A : Type 0} (f : A → Node) (xs : List A) (x : A) → are_expressions (nodes (map f (xs ++ x ∷ []))) ≡ true → (are_expressions (nodes (map f xs)) ≡ true) × (is_expression (f x) ≡ true)
+pushed : {A : Type 0} (f : A → Node) (xs : List A) (x : A) → are_expressions (nodes (map f (xs ++ x ∷ []))) ≡ true
+    → (are_expressions (nodes (map f xs)) ≡ true) × (is_expression (f x) ≡ true)
 pushed f [] x h = (refl, (and_parts (is_expression (f x)) true h).0)
 pushed f (y ∷ xs) x h =
     let p = and_parts (is_expression (f y)) (are_expressions (nodes (map f (xs ++ x ∷ [])))) h in
     let q = pushed f xs x p.1 in
     (both (is_expression (f y)) (are_expressions (nodes (map f xs))) p.0 q.0, q.1)
 
-item_pushed : (l : ListNode) (i : Item Node) → (are_expressions (items_of (l.items ++ i ∷ [])) && (are_expressions (nodes (map pair_of l.pairs)) && is_none l.block)) ≡ true → (is_clean l ≡ true) × (is_expression (item_of i) ≡ true)
+item_pushed : (l : ListNode) (i : Item Node) →
+    (are_expressions (items_of (l.items ++ i ∷ [])) &&
+    (are_expressions (nodes (map pair_of l.pairs)) && is_none l.block)) ≡ true → (is_clean l ≡ true)
+    × (is_expression (item_of i) ≡ true)
 item_pushed l i h =
-    let all = and_parts (are_expressions (items_of (l.items ++ i ∷ []))) (are_expressions (nodes (map pair_of l.pairs)) && is_none l.block) h in
-    let q = pushed item_of l.items i all.0 in
-    (both (are_expressions (items_of l.items)) (are_expressions (nodes (map pair_of l.pairs)) && is_none l.block) q.0 all.1, q.1)
+    let all = and_parts (are_expressions (items_of (l.items ++ i ∷ [])))
+    (are_expressions (nodes (map pair_of l.pairs)) && is_none l.block) h in
+    let q = pushed item_of l.items i all.0 in (
+      both (are_expressions (items_of l.items)) (are_expressions (nodes (map pair_of l.pairs)) && is_none l.block) q.0
+          all.1,
+      q.1,
+    )
 
 -- with a part that is put into it a list is clean only if it was, and the part is given
 pub put_clean : (p : PartNode) (l : ListNode) → is_clean (put p l) ≡ true → (is_clean l ≡ true) × (is_given p ≡ true)
@@ -43,36 +51,46 @@ put_clean (plain_part n) l h = item_pushed l (Plain n) h
 put_clean (splat_part n) l h = item_pushed l (Splat n) h
 put_clean (pair_part k v) l h =
     let pair : Pair Node = record { key = k; value = v } in
-    let all = and_parts (are_expressions (items_of l.items)) (are_expressions (nodes (map pair_of (l.pairs ++ pair ∷ []))) && is_none l.block) h in
+    let all = and_parts (are_expressions (items_of l.items))
+    (are_expressions (nodes (map pair_of (l.pairs ++ pair ∷ []))) && is_none l.block) h in
     let pairs = and_parts (are_expressions (nodes (map pair_of (l.pairs ++ pair ∷ [])))) (is_none l.block) all.1 in
     let q = pushed pair_of l.pairs pair pairs.0 in (
-      both (are_expressions (items_of l.items)) (are_expressions (nodes (map pair_of l.pairs)) && is_none l.block) all.0 (both (are_expressions (nodes (map pair_of l.pairs))) (is_none l.block) q.0 pairs.1),
+      both (are_expressions (items_of l.items)) (are_expressions (nodes (map pair_of l.pairs)) && is_none l.block) all.0
+          (both (are_expressions (nodes (map pair_of l.pairs))) (is_none l.block) q.0 pairs.1),
       q.1,
     )
 put_clean (block_part n) l h =
-    let all = and_parts (are_expressions (items_of l.items)) (are_expressions (nodes (map pair_of l.pairs)) && false) h in
+    let all = and_parts (are_expressions (items_of l.items)) (are_expressions (nodes (map pair_of l.pairs)) && false) h
+    in
     differs (sym (and_parts (are_expressions (nodes (map pair_of l.pairs))) false all.1).1)
 
-whole_parts : (is : List (Item Node)) (ps : List (Pair Node)) → are_expressions (items_of (whole_items is ps)) ≡ true → (are_expressions (items_of is) ≡ true) × (are_expressions (nodes (map pair_of ps)) ≡ true)
+whole_parts : (is : List (Item Node)) (ps : List (Pair Node)) → are_expressions (items_of (whole_items is ps)) ≡ true
+    → (are_expressions (items_of is) ≡ true) × (are_expressions (nodes (map pair_of ps)) ≡ true)
 whole_parts is [] h = (h, refl)
 whole_parts is (p ∷ ps) h = pushed item_of is (Plain (node.hash (nodes (map pair_of (p ∷ ps))))) h
 
 -- elements that are expressions
-pub clean_is : (l : ListNode) → is_none l.block ≡ true → are_expressions (items_of (whole_items l.items l.pairs)) ≡ true → is_clean l ≡ true
+pub clean_is : (l : ListNode) → is_none l.block ≡ true → are_expressions (items_of (whole_items l.items l.pairs)) ≡ true
+    → is_clean l ≡ true
 clean_is l none h =
     let p = whole_parts l.items l.pairs h in
-    both (are_expressions (items_of l.items)) (are_expressions (nodes (map pair_of l.pairs)) && is_none l.block) p.0 (both (are_expressions (nodes (map pair_of l.pairs))) (is_none l.block) p.1 none)
+    both (are_expressions (items_of l.items)) (are_expressions (nodes (map pair_of l.pairs)) && is_none l.block) p.0
+    (both (are_expressions (nodes (map pair_of l.pairs))) (is_none l.block) p.1 none)
 
 none_wrong : {A : Type 0} (f : A → Node) (xs : List A) → is_empty xs ≡ true → are_expressions (nodes (map f xs)) ≡ true
 none_wrong f [] h = refl
 none_wrong f (x ∷ xs) h = differs (sym h)
 
 -- pairs alone that are expressions
-pub clean_pairs : (l : ListNode) → is_none l.block ≡ true → is_empty l.items ≡ true → are_expressions (nodes (map pair_of l.pairs)) ≡ true → is_clean l ≡ true
+pub clean_pairs : (l : ListNode) → is_none l.block ≡ true → is_empty l.items ≡ true
+    → are_expressions (nodes (map pair_of l.pairs)) ≡ true → is_clean l ≡ true
 clean_pairs l none alone h =
-    both (are_expressions (items_of l.items)) (are_expressions (nodes (map pair_of l.pairs)) && is_none l.block) (none_wrong item_of l.items alone) (both (are_expressions (nodes (map pair_of l.pairs))) (is_none l.block) h none)
+    both (are_expressions (items_of l.items)) (are_expressions (nodes (map pair_of l.pairs)) && is_none l.block)
+    (none_wrong item_of l.items alone) (both (are_expressions (nodes (map pair_of l.pairs))) (is_none l.block) h
+    none)
 
-right_parts : (is : List (Item Node)) (command : Bool) → is_expression (right_items is command).0 ≡ true → are_expressions (items_of is) ≡ true
+right_parts : (is : List (Item Node)) (command : Bool) → is_expression (right_items is command).0 ≡ true
+    → are_expressions (items_of is) ≡ true
 right_parts [] command h = refl
 right_parts (Plain n ∷ []) command h = both (is_expression n) true h refl
 right_parts (Splat n ∷ []) command h = h
@@ -84,5 +102,7 @@ clean_right l right h =
     let some = and_parts (not (is_empty l.items)) _ right in
     let pairs = and_parts (is_empty l.pairs) _ some.1 in
     let block = and_parts (is_none l.block) (not l.comma) pairs.1 in
-    both (are_expressions (items_of l.items)) (are_expressions (nodes (map pair_of l.pairs)) && is_none l.block) (right_parts l.items l.command h)
-    (both (are_expressions (nodes (map pair_of l.pairs))) (is_none l.block) (none_wrong pair_of l.pairs pairs.0) block.0)
+    both (are_expressions (items_of l.items)) (are_expressions (nodes (map pair_of l.pairs)) && is_none l.block)
+    (right_parts l.items l.command h)
+    (both (are_expressions (nodes (map pair_of l.pairs))) (is_none l.block) (none_wrong pair_of l.pairs pairs.0)
+    block.0)

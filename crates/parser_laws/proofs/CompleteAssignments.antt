@@ -47,33 +47,47 @@ abbrev one_item : Node → ListNode
 one_item n = record { items = Plain n ∷ []; pairs = []; block = none; command = false; comma = false }
 
 -- a list of one value
-list_of_one : (i : Inside) (names known : Names) (ts rest : Tokens) (owner : DoOwner) (n : Node) → phrase i names ts places.Command owner ≡ Ok ((n, sorts.Argument), known, rest) → begins (first ts) ≡ true → part_at ts ≡ parts.Value → 0 < length ts
-    → is_comma_word (first rest) ≡ false → is_arrow_word (first rest) ≡ false → list i names ts owner ≡ Ok (one_item n, known, rest)
+list_of_one : (i : Inside) (names known : Names) (ts rest : Tokens) (owner : DoOwner) (n : Node)
+    → phrase i names ts places.Command owner ≡ Ok ((n, sorts.Argument), known, rest) → begins (first ts) ≡ true
+    → part_at ts ≡ parts.Value → 0 < length ts
+    → is_comma_word (first rest) ≡ false → is_arrow_word (first rest) ≡ false
+    → list i names ts owner ≡ Ok (one_item n, known, rest)
 unfolding next_part part_by
 list_of_one i names known ts rest owner n read h part some comma arrow =
     let first_turn = list_step i (length ts + 1) owner true true nothing_listed names ts (omega arith) in
-    let last : list_from i (length ts + 1 - 1) owner false false (one_item n) known rest ≡ Ok (one_item n, known, rest) =
+    let last : list_from i (length ts + 1 - 1) owner false false (one_item n) known rest ≡ Ok (one_item n, known, rest)
+    =
     list_step i (length ts + 1 - 1) owner false false (one_item n) known rest (omega arith) in
     first_turn ∙ rw (word_begins (first ts) h, part) (rw (read, arrow, comma) last)
 
 -- the value of an assignment
-value_read : (d : ℕ) (place : Place) (owner : DoOwner) (a : Assignment) (names known : Names) (ts rest : Tokens) (n : Node) → 0 < d → phrase (levels (d - 1)) names ts (of_value place) owner ≡ Ok ((n, sorts.Argument), known, rest)
-    → begins (first ts) ≡ true → part_at ts ≡ parts.Value → 0 < length ts → (takes_list a place && goes_on_list (first rest)) ≡ false → assigned_value (levels d) names ts a place owner ≡ Ok ((n, sorts.Argument), known, rest)
-value_read d place owner a names known ts rest n below read h part some alone = by_list a place (takes_list a place) refl read alone
+value_read : (d : ℕ) (place : Place) (owner : DoOwner) (a : Assignment) (names known : Names) (ts rest : Tokens)
+    (n : Node) → 0 < d → phrase (levels (d - 1)) names ts (of_value place) owner ≡ Ok ((n, sorts.Argument), known, rest)
+    → begins (first ts) ≡ true → part_at ts ≡ parts.Value → 0 < length ts
+    → (takes_list a place && goes_on_list (first rest)) ≡ false
+    → assigned_value (levels d) names ts a place owner ≡ Ok ((n, sorts.Argument), known, rest)
+value_read d place owner a names known ts rest n below read h part some alone =
+    by_list a place (takes_list a place) refl read alone
   where
-    by_list : (b : Assignment) (p : Place) (t : Bool) → takes_list b p ≡ t → phrase (levels (d - 1)) names ts (of_value p) owner ≡ Ok ((n, sorts.Argument), known, rest) → (takes_list b p && goes_on_list (first rest)) ≡ false
+    by_list : (b : Assignment) (p : Place) (t : Bool) → takes_list b p ≡ t
+        → phrase (levels (d - 1)) names ts (of_value p) owner ≡ Ok ((n, sorts.Argument), known, rest)
+        → (takes_list b p && goes_on_list (first rest)) ≡ false
         → assigned_value (levels d) names ts b p owner ≡ Ok ((n, sorts.Argument), known, rest)
     by_list b p false takes got single =
-        let same : (levels d).phrase names ts (of_value p) owner ≡ Ok ((n, sorts.Argument), known, rest) = ap (λ (i : Inside). i.phrase names ts (of_value p) owner) (levels_at d below) ∙ got in
+        let same : (levels d).phrase names ts (of_value p) owner ≡ Ok ((n, sorts.Argument), known, rest) =
+        ap (λ (i : Inside). i.phrase names ts (of_value p) owner) (levels_at d below) ∙ got in
         let no_list : phrases.takes_list b p ≡ false = same_takes b p ∙ takes in
         rw (no_list, same) refl
     by_list b p true takes got single =
-        let no_more : (true && goes_on_list (first rest)) ≡ false = subst (λ t. (t && goes_on_list (first rest)) ≡ false) takes single in
+        let no_more : (true && goes_on_list (first rest)) ≡ false =
+        subst (λ t. (t && goes_on_list (first rest)) ≡ false) takes single in
         let parts_of = or_false_parts (is_comma_word (first rest)) (is_arrow_word (first rest)) no_more in
         let command : phrase (levels (d - 1)) names ts places.Command owner ≡ Ok ((n, sorts.Argument), known, rest) =
-        subst (λ q. phrase (levels (d - 1)) names ts q owner ≡ Ok ((n, sorts.Argument), known, rest)) (statement_only b p takes) got in
+        subst (λ q. phrase (levels (d - 1)) names ts q owner ≡ Ok ((n, sorts.Argument), known, rest))
+        (statement_only b p takes) got in
         let same : (levels d).list names ts owner ≡ Ok (one_item n, known, rest) =
-        ap (λ (i : Inside). i.list names ts owner) (levels_at d below) ∙ list_of_one (levels (d - 1)) names known ts rest owner n command h part some parts_of.0 parts_of.1 in
+        ap (λ (i : Inside). i.list names ts owner) (levels_at d below)
+        ∙ list_of_one (levels (d - 1)) names known ts rest owner n command h part some parts_of.0 parts_of.1 in
         let a_list : phrases.takes_list b p ≡ true = same_takes b p ∙ takes in
         rw (a_list, same) refl
 
@@ -82,25 +96,35 @@ value_group places.Statement ts = refl
 value_group places.Command ts = refl
 value_group places.Argument ts = refl
 
-value_calm : (place : Place) (b : Bool) → (allows_command place && b) ≡ false → (allows_command (of_value place) && b) ≡ false
+value_calm : (place : Place) (b : Bool) → (allows_command place && b) ≡ false
+    → (allows_command (of_value place) && b) ≡ false
 value_calm places.Statement b h = h
 value_calm places.Command b h = h
 value_calm places.Argument b h = h
 
-assign_read : (i : Inside) (place : Place) (owner : DoOwner) (a : Assignment) (target : Node) (names known later : Names) (ts rest more : Tokens) (n whole : Node) → assigned_value i names ts a place owner ≡ Ok ((n, sorts.Argument), known, rest)
-    → whole_value i n sorts.Argument known rest owner ≡ Ok (whole, later, more) → assign i target names a ts place owner ≡ Ok ((assignment_node a target whole, sorts.Argument), later, more)
+assign_read : (i : Inside) (place : Place) (owner : DoOwner) (a : Assignment) (target : Node)
+    (names known later : Names) (ts rest more : Tokens) (n whole : Node)
+    → assigned_value i names ts a place owner ≡ Ok ((n, sorts.Argument), known, rest)
+    → whole_value i n sorts.Argument known rest owner ≡ Ok (whole, later, more)
+    → assign i target names a ts place owner ≡ Ok ((assignment_node a target whole, sorts.Argument), later, more)
 unfolding assign
 assign_read i place owner a target names known later ts rest more n whole read all = rw read (rw all refl)
 
-calm_value : (i : Inside) (owner : DoOwner) (names : Names) (ts : Tokens) (n : Node) → is_rescue (modifier_at (first ts)) ≡ false → whole_value i n sorts.Argument names ts owner ≡ Ok (n, names, ts)
-calm_value i owner names ts n calm = let alone : phrases.is_rescue (modifier_at (first ts)) ≡ false = same_rescue (modifier_at (first ts)) ∙ calm in rw alone refl
+calm_value : (i : Inside) (owner : DoOwner) (names : Names) (ts : Tokens) (n : Node)
+    → is_rescue (modifier_at (first ts)) ≡ false → whole_value i n sorts.Argument names ts owner ≡ Ok (n, names, ts)
+calm_value i owner names ts n calm = let alone : phrases.is_rescue (modifier_at (first ts)) ≡ false =
+    same_rescue (modifier_at (first ts)) ∙ calm in rw alone refl
 
-pub from_read : (i : Inside) (place : Place) (owner : DoOwner) (a : Assignment) (o : OperandNode) (names : Names) (ts : Tokens) (result : Read PhraseNode) → is_target o ≡ true → assignment_at (first ts) ≡ Some a
-    → assign i (target_node o) (target_names o names) a (behind ts) place owner ≡ result → phrase_from i o names ts place owner ≡ result
+pub from_read : (i : Inside) (place : Place) (owner : DoOwner) (a : Assignment) (o : OperandNode) (names : Names)
+    (ts : Tokens) (result : Read PhraseNode) → is_target o ≡ true → assignment_at (first ts) ≡ Some a
+    → assign i (target_node o) (target_names o names) a (behind ts) place owner ≡ result
+    → phrase_from i o names ts place owner ≡ result
 unfolding phrase_from
 from_read i place owner a o names ts result target there made = rw (target, there) made
 
-pub phrase_read : (i : Inside) (place : Place) (owner : DoOwner) (o : OperandNode) (names known : Names) (ts rest : Tokens) (result : Read PhraseNode) → start_at place ts ≡ starts.Operand → operand i names ts (allows_command place) owner ≡ Ok (o, known, rest)
+pub phrase_read : (i : Inside) (place : Place) (owner : DoOwner) (o : OperandNode) (names known : Names)
+    (ts rest : Tokens) (result : Read PhraseNode) → start_at place ts ≡ starts.Operand
+    → operand i names ts (allows_command place) owner ≡ Ok (o, known, rest)
     → phrase_from i o known rest place owner ≡ result → phrase i names ts place owner ≡ result
 unfolding phrase_by
 phrase_read i place owner o names known ts rest result started read made = rw started (rw read made)
@@ -116,21 +140,37 @@ modifier_alone w m h = refl
 -- a target that is read where a value stands
 abbrev Assignable : Place → DoOwner → Node → Names → Tokens → Names → Tokens → Type 0
 Assignable place owner x names ts known rest =
-    (length rest < length ts) × ((opens ts && not (is_bang (first ts))) ≡ true) × ((d : ℕ) → length ts ≤ d → ends_target (first rest) ≡ true
-    → (o : OperandNode) × (k : Names) × (operand (levels d) names ts (allows_command place) owner ≡ Ok (o, k, rest)) × (is_target o ≡ true) × (target_node o ≡ x) × (target_names o k ≡ known))
+    (length rest < length ts) × ((opens ts && not (is_bang (first ts))) ≡ true)
+    × ((d : ℕ) → length ts ≤ d → ends_target (first rest) ≡ true
+    → (o : OperandNode) × (k : Names) × (operand (levels d) names ts (allows_command place) owner ≡ Ok (o, k, rest))
+    × (is_target o ≡ true) × (target_node o ≡ x) × (target_names o k ≡ known))
 
-of_target : (place : Place) (owner : DoOwner) (x : Node) (names known : Names) (ts rest : Tokens) → Fact (Target owner x) names ts known rest → Assignable place owner x names ts known rest
-of_target place owner x names known ts rest left = (left.0, left.1, λ d room ends. let t = left.2 d room ends in (t.0, t.1, t.2 (allows_command place), t.3, t.4, t.5))
+of_target : (place : Place) (owner : DoOwner) (x : Node) (names known : Names) (ts rest : Tokens)
+    → Fact (Target owner x) names ts known rest → Assignable place owner x names ts known rest
+of_target place owner x names known ts rest left =
+    (left.0, left.1, λ d room ends. let t = left.2 d room ends in (t.0, t.1, t.2 (allows_command place), t.3, t.4, t.5))
 
-of_inner : (owner : DoOwner) (x : Node) (names known : Names) (ts rest : Tokens) → Fact (InnerTarget owner x) names ts known rest → Assignable places.Argument owner x names ts known rest
-of_inner owner x names known ts rest left = (left.0, left.1, λ d room ends. let t = left.2 d room ends in (t.0, t.1, t.2, t.3, t.4, t.5))
+of_inner : (owner : DoOwner) (x : Node) (names known : Names) (ts rest : Tokens)
+    → Fact (InnerTarget owner x) names ts known rest → Assignable places.Argument owner x names ts known rest
+of_inner owner x names known ts rest left = (
+  left.0,
+  left.1,
+  λ d room ends. let t = left.2 d room ends in
+      (t.0, t.1, t.2, t.3, t.4, t.5),
+)
 
-module _ (place : Place) (owner : DoOwner) (a : Assignment) (names known later : Names) (ts rest more : Tokens) (target n : Node)
-    (left : Assignable place owner target names ts known rest) (lead : Front place ts) (there : assignment_at (first rest) ≡ Some a) (value : Fact (Argument (of_value place) owner n) known (behind rest) later more) (part : part_at (behind rest) ≡ parts.Value) where
+module _ (place : Place) (owner : DoOwner) (a : Assignment) (names known later : Names) (ts rest more : Tokens)
+    (target n : Node)
+    (left : Assignable place owner target names ts known rest) (lead : Front place ts)
+    (there : assignment_at (first rest) ≡ Some a)
+    (value : Fact (Argument (of_value place) owner n) known (behind rest) later more)
+    (part : part_at (behind rest) ≡ parts.Value) where
   -- an assignment whose value is read whole
-  assigned_whole : (last : Names) (tail : Tokens) (whole : Node) → length tail ≤ length more → (takes_list a place && goes_on_list (first more)) ≡ false
+  assigned_whole : (last : Names) (tail : Tokens) (whole : Node) → length tail ≤ length more
+      → (takes_list a place && goes_on_list (first more)) ≡ false
       → ((d : ℕ) → length more < d → whole_value (levels d) n sorts.Argument later more owner ≡ Ok (whole, last, tail))
-      → ((allows_command place && is_some (assignment_at (first tail))) ≡ false → (allows_command (of_value place) && is_some (assignment_at (first more))) ≡ false)
+      → ((allows_command place && is_some (assignment_at (first tail))) ≡ false
+      → (allows_command (of_value place) && is_some (assignment_at (first more))) ≡ false)
       → Fact (Argument place owner (assignment_node a target whole)) names ts last tail
   assigned_whole last tail whole within alone all free =
       let one = word_taken (first rest) rest refl (assignment_word (first rest) a there) in
@@ -142,31 +182,50 @@ module _ (place : Place) (owner : DoOwner) (a : Assignment) (names known later :
         λ d room group none.
             let t = left.2 d room (assignment_ends (first rest) a there) in
             let inner = value.2 (d - 1) (omega arith) (value_group place (behind rest)) (free none) in
-            let right = value_read d place owner a known later (behind rest) more n (omega arith) inner value.1 part (omega arith) alone in
-            let made = assign_read (levels d) place owner a target known later last (behind rest) more tail n whole right (all d (omega arith)) in
-            let moved : assign (levels d) (target_node t.0) (target_names t.0 t.1) a (behind rest) place owner ≡ Ok ((assignment_node a target whole, sorts.Argument), last, tail) =
-            subst (λ k. assign (levels d) (target_node t.0) k a (behind rest) place owner ≡ Ok ((assignment_node a target whole, sorts.Argument), last, tail)) (sym t.5)
-            (subst (λ y. assign (levels d) y known a (behind rest) place owner ≡ Ok ((assignment_node a target whole, sorts.Argument), last, tail)) (sym t.4) made) in
-            phrase_read (levels d) place owner t.0 names t.1 ts rest _ (front_start place ts opening.0 lead (bang_other (first ts) (not_true (is_bang (first ts)) opening.1)) group) t.2
+            let right = value_read d place owner a known later (behind rest) more n (omega arith) inner value.1 part
+            (omega arith) alone in
+            let made = assign_read (levels d) place owner a target known later last (behind rest) more tail n whole
+            right (all d (omega arith)) in
+            let moved : assign (levels d) (target_node t.0) (target_names t.0 t.1) a (behind rest) place owner ≡ Ok
+            ((assignment_node a target whole, sorts.Argument), last, tail) =
+            subst (λ k. assign (levels d) (target_node t.0) k a (behind rest) place owner ≡ Ok
+            ((assignment_node a target whole, sorts.Argument), last, tail)) (sym t.5)
+            (subst (λ y. assign (levels d) y known a (behind rest) place owner ≡ Ok
+            ((assignment_node a target whole, sorts.Argument), last, tail)) (sym t.4) made) in
+            phrase_read (levels d) place owner t.0 names t.1 ts rest _
+            (front_start place ts opening.0 lead (bang_other (first ts) (not_true (is_bang (first ts)) opening.1))
+            group) t.2
             (from_read (levels d) place owner a t.0 t.1 rest _ t.3 there moved),
       )
 
-module _ (place : Place) (owner : DoOwner) (a : Assignment) (names known later : Names) (ts rest more : Tokens) (target n : Node) (left : Assignable place owner target names ts known rest) (lead : Front place ts) (there : assignment_at (first rest) ≡ Some a)
-    (value : Fact (Argument (of_value place) owner n) known (behind rest) later more) (part : part_at (behind rest) ≡ parts.Value) where
-  assigned_calm : is_rescue (modifier_at (first more)) ≡ false → (takes_list a place && goes_on_list (first more)) ≡ false → Fact (Argument place owner (assignment_node a target n)) names ts later more
+module _ (place : Place) (owner : DoOwner) (a : Assignment) (names known later : Names) (ts rest more : Tokens)
+    (target n : Node) (left : Assignable place owner target names ts known rest) (lead : Front place ts)
+    (there : assignment_at (first rest) ≡ Some a)
+    (value : Fact (Argument (of_value place) owner n) known (behind rest) later more)
+    (part : part_at (behind rest) ≡ parts.Value) where
+  assigned_calm : is_rescue (modifier_at (first more)) ≡ false
+      → (takes_list a place && goes_on_list (first more)) ≡ false
+      → Fact (Argument place owner (assignment_node a target n)) names ts later more
   assigned_calm calm alone =
-      assigned_whole place owner a names known later ts rest more target n left lead there value part later more n (omega arith) alone (λ d room. calm_value (levels d) owner later more n calm) (value_calm place (is_some (assignment_at (first more))))
+      assigned_whole place owner a names known later ts rest more target n left lead there value part later more n
+      (omega arith) alone (λ d room. calm_value (levels d) owner later more n calm)
+      (value_calm place (is_some (assignment_at (first more))))
 
-  assigned_rescued : (last : Names) (tail : Tokens) (other : Node) → modifier_at (first more) ≡ Some modifiers.Rescue → Fact (Argument places.Argument owner other) later (behind more) last tail
+  assigned_rescued : (last : Names) (tail : Tokens) (other : Node) → modifier_at (first more) ≡ Some modifiers.Rescue
+      → Fact (Argument places.Argument owner other) later (behind more) last tail
       → Fact (Argument place owner (assignment_node a target (rescued_node n other))) names ts last tail
   assigned_rescued last tail other rescue right =
       let one = word_taken (first more) more refl (modifier_word (first more) modifiers.Rescue rescue) in
       let r = right.0 in
-      let alone : (takes_list a place && goes_on_list (first more)) ≡ false = rw (modifier_alone (first more) modifiers.Rescue rescue) (and_false (takes_list a place)) in
-      let free : (allows_command (of_value place) && is_some (assignment_at (first more))) ≡ false = rw (modifier_free (first more) modifiers.Rescue rescue) (and_false (allows_command (of_value place))) in
-      assigned_whole place owner a names known later ts rest more target n left lead there value part last tail (rescued_node n other) (omega arith) alone
+      let alone : (takes_list a place && goes_on_list (first more)) ≡ false =
+      rw (modifier_alone (first more) modifiers.Rescue rescue) (and_false (takes_list a place)) in
+      let free : (allows_command (of_value place) && is_some (assignment_at (first more))) ≡ false =
+      rw (modifier_free (first more) modifiers.Rescue rescue) (and_false (allows_command (of_value place))) in
+      assigned_whole place owner a names known later ts rest more target n left lead there value part last tail
+      (rescued_node n other) (omega arith) alone
       (λ d room.
-      let read = value_below d (omega arith) later last (behind more) tail owner other (right.2 (d - 1) (omega arith) refl refl) in
+      let read = value_below d (omega arith) later last (behind more) tail owner other
+      (right.2 (d - 1) (omega arith) refl refl) in
       rw (rescue, read) refl)
       (λ none. free)
 
@@ -175,29 +234,49 @@ no_list : (a : Assignment) (b : Bool) → (takes_list a places.Argument && b) �
 no_list signs.Plain b = refl
 no_list (signs.Operation o) b = refl
 
-pub assigned : (place : Place) (owner : DoOwner) (a : Assignment) (names known later : Names) (ts rest more : Tokens) (target n : Node)
-    → Fact (Target owner target) names ts known rest → Front place ts → assignment_at (first rest) ≡ Some a → Fact (Argument (of_value place) owner n) known (behind rest) later more → part_at (behind rest) ≡ parts.Value
+pub assigned : (place : Place) (owner : DoOwner) (a : Assignment) (names known later : Names) (ts rest more : Tokens)
+    (target n : Node)
+    → Fact (Target owner target) names ts known rest → Front place ts → assignment_at (first rest) ≡ Some a
+    → Fact (Argument (of_value place) owner n) known (behind rest) later more → part_at (behind rest) ≡ parts.Value
     → is_rescue (modifier_at (first more)) ≡ false → (takes_list a place && goes_on_list (first more)) ≡ false
     → Fact (Argument place owner (assignment_node a target n)) names ts later more
 assigned place owner a names known later ts rest more target n left lead there value part calm alone =
-    assigned_calm place owner a names known later ts rest more target n (of_target place owner target names known ts rest left) lead there value part calm alone
+    assigned_calm place owner a names known later ts rest more target n
+    (of_target place owner target names known ts rest left) lead there value part calm alone
 
-pub assigned_or : (place : Place) (owner : DoOwner) (a : Assignment) (names known later last : Names) (ts rest more tail : Tokens) (target n other : Node)
-    → Fact (Target owner target) names ts known rest → Front place ts → assignment_at (first rest) ≡ Some a → Fact (Argument (of_value place) owner n) known (behind rest) later more → part_at (behind rest) ≡ parts.Value
-    → modifier_at (first more) ≡ Some modifiers.Rescue → Fact (Argument places.Argument owner other) later (behind more) last tail
+pub assigned_or : (place : Place) (owner : DoOwner) (a : Assignment) (names known later last : Names)
+    (ts rest more tail : Tokens) (target n other : Node)
+    → Fact (Target owner target) names ts known rest → Front place ts → assignment_at (first rest) ≡ Some a
+    → Fact (Argument (of_value place) owner n) known (behind rest) later more → part_at (behind rest) ≡ parts.Value
+    → modifier_at (first more) ≡ Some modifiers.Rescue
+    → Fact (Argument places.Argument owner other) later (behind more) last tail
     → Fact (Argument place owner (assignment_node a target (rescued_node n other))) names ts last tail
-assigned_or place owner a names known later last ts rest more tail target n other left lead there value part rescue right =
-    assigned_rescued place owner a names known later ts rest more target n (of_target place owner target names known ts rest left) lead there value part last tail other rescue right
+assigned_or place owner a names known later last ts rest more tail target n other left lead there value part rescue
+    right =
+    assigned_rescued place owner a names known later ts rest more target n
+    (of_target place owner target names known ts rest left) lead there value part last tail other rescue right
 
-pub inner_assigned : (owner : DoOwner) (a : Assignment) (names known later : Names) (ts rest more : Tokens) (target n : Node)
-    → Fact (InnerTarget owner target) names ts known rest → Front places.Argument ts → assignment_at (first rest) ≡ Some a → Fact (Argument places.Argument owner n) known (behind rest) later more → part_at (behind rest) ≡ parts.Value
-    → is_rescue (modifier_at (first more)) ≡ false → Fact (Argument places.Argument owner (assignment_node a target n)) names ts later more
+pub inner_assigned : (owner : DoOwner) (a : Assignment) (names known later : Names) (ts rest more : Tokens)
+    (target n : Node)
+    → Fact (InnerTarget owner target) names ts known rest → Front places.Argument ts
+    → assignment_at (first rest) ≡ Some a → Fact (Argument places.Argument owner n) known (behind rest) later more
+    → part_at (behind rest) ≡ parts.Value
+    → is_rescue (modifier_at (first more)) ≡ false
+    → Fact (Argument places.Argument owner (assignment_node a target n)) names ts later more
 inner_assigned owner a names known later ts rest more target n left lead there value part calm =
-    assigned_calm places.Argument owner a names known later ts rest more target n (of_inner owner target names known ts rest left) lead there value part calm (no_list a (goes_on_list (first more)))
+    assigned_calm places.Argument owner a names known later ts rest more target n
+    (of_inner owner target names known ts rest left) lead there value part calm
+    (no_list a (goes_on_list (first more)))
 
-pub inner_assigned_or : (owner : DoOwner) (a : Assignment) (names known later last : Names) (ts rest more tail : Tokens) (target n other : Node)
-    → Fact (InnerTarget owner target) names ts known rest → Front places.Argument ts → assignment_at (first rest) ≡ Some a → Fact (Argument places.Argument owner n) known (behind rest) later more → part_at (behind rest) ≡ parts.Value
-    → modifier_at (first more) ≡ Some modifiers.Rescue → Fact (Argument places.Argument owner other) later (behind more) last tail
+pub inner_assigned_or : (owner : DoOwner) (a : Assignment) (names known later last : Names) (ts rest more tail : Tokens)
+    (target n other : Node)
+    → Fact (InnerTarget owner target) names ts known rest → Front places.Argument ts
+    → assignment_at (first rest) ≡ Some a → Fact (Argument places.Argument owner n) known (behind rest) later more
+    → part_at (behind rest) ≡ parts.Value
+    → modifier_at (first more) ≡ Some modifiers.Rescue
+    → Fact (Argument places.Argument owner other) later (behind more) last tail
     → Fact (Argument places.Argument owner (assignment_node a target (rescued_node n other))) names ts last tail
-inner_assigned_or owner a names known later last ts rest more tail target n other left lead there value part rescue right =
-    assigned_rescued places.Argument owner a names known later ts rest more target n (of_inner owner target names known ts rest left) lead there value part last tail other rescue right
+inner_assigned_or owner a names known later last ts rest more tail target n other left lead there value part rescue
+    right =
+    assigned_rescued places.Argument owner a names known later ts rest more target n
+    (of_inner owner target names known ts rest left) lead there value part last tail other rescue right

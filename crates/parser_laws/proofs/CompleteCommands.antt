@@ -47,7 +47,8 @@ use Rattle.parser_laws.proofs.CompleteJumps.{argument_no_block}
 use Rattle.parser_laws.proofs.CompleteAssignments.{assignment_word, value_group, assignment_ends, from_read, phrase_read}
 
 -- what begins a value is no assignment and no comma
-value_mark : (p : Punctuator) → begins_value (words.Mark p) ≡ true → (assignment_at (words.Mark p) ≡ None) × (is_comma_word (words.Mark p) ≡ false)
+value_mark : (p : Punctuator) → begins_value (words.Mark p) ≡ true → (assignment_at (words.Mark p) ≡ None)
+    × (is_comma_word (words.Mark p) ≡ false)
 value_mark marks.Assign h = differs (sym h)
 value_mark marks.AndAndAssign h = differs (sym h)
 value_mark marks.OrOrAssign h = differs (sym h)
@@ -77,7 +78,8 @@ argument_value ts h =
     (and_parts (begins_value (first ts)) _ b.1).0
 
 -- no assignment stands before a block
-block_mark : (takes : Bool) (p : Punctuator) (style : BlockStyle) → block_of takes (words.Mark p) ≡ Some style → assignment_at (words.Mark p) ≡ None
+block_mark : (takes : Bool) (p : Punctuator) (style : BlockStyle) → block_of takes (words.Mark p) ≡ Some style
+    → assignment_at (words.Mark p) ≡ None
 block_mark takes marks.OpenBrace style h = refl
 block_mark takes p style h = differs (sym (ap is_some h))
 
@@ -85,13 +87,19 @@ pub block_word : (takes : Bool) (w : Word) (style : BlockStyle) → block_of tak
 block_word takes (words.Mark p) style h = block_mark takes p style h
 block_word takes w style h = refl
 
-pub list_fact : (owner : DoOwner) (names known : Names) (ts rest : Tokens) (c : CalleeNode) (l : ListNode) → begins_argument ts ≡ true → opens_arguments ts ≡ false → Fact (Listing (in_command owner) l) names ts known rest → block_at owner rest ≡ None
+pub list_fact : (owner : DoOwner) (names known : Names) (ts rest : Tokens) (c : CalleeNode) (l : ListNode)
+    → begins_argument ts ≡ true → opens_arguments ts ≡ false → Fact (Listing (in_command owner) l) names ts known rest
+    → block_at owner rest ≡ None
     → Fact (CommandArguments owner c (call_node c (Some (arguments_node l)) None)) names ts known rest
 unfolding command
-list_fact owner names known ts rest c l begun closed listing unblocked = (listing.0, refl, λ d room. (begun, closed, λ calm. rw (listing.2 d room calm) (rw unblocked refl)))
+list_fact owner names known ts rest c l begun closed listing unblocked =
+    (listing.0, refl, λ d room. (begun, closed, λ calm. rw (listing.2 d room calm) (rw unblocked refl)))
 
-pub block_fact : (owner : DoOwner) (names known later : Names) (ts rest more : Tokens) (c : CalleeNode) (l : ListNode) (b : BlockNode) → begins_argument ts ≡ true → opens_arguments ts ≡ false → Fact (Listing (in_command owner) l) names ts known rest
-    → block_at owner rest ≡ Some styles.Do → is_none l.block ≡ true → Fact (Block styles.Do b) known rest later more → postfix_at (first more) ≡ None
+pub block_fact : (owner : DoOwner) (names known later : Names) (ts rest more : Tokens) (c : CalleeNode) (l : ListNode)
+    (b : BlockNode) → begins_argument ts ≡ true → opens_arguments ts ≡ false
+    → Fact (Listing (in_command owner) l) names ts known rest
+    → block_at owner rest ≡ Some styles.Do → is_none l.block ≡ true → Fact (Block styles.Do b) known rest later more
+    → postfix_at (first more) ≡ None
     → Fact (CommandArguments owner c (call_node c (Some (arguments_node l)) (Some b))) names ts later more
 unfolding command
 block_fact owner names known later ts rest more c l b begun closed listing there alone block ends =
@@ -106,19 +114,25 @@ block_fact owner names known later ts rest more c l b begun closed listing there
         λ calm.
             let read = listing.2 d room (block_word (call_takes owner) (first rest) styles.Do there) in
             let got = block.2 d (omega arith) in
-            let all : chain_within (level_above (levels d)) (length more + 1) false owner (whole made) later more ≡ Ok (whole made, later, more) =
-            chain_step (level_above (levels d)) (length more + 1) false owner (whole made) later more (omega arith) ∙ rw ends refl in
+            let all : chain_within (level_above (levels d)) (length more + 1) false owner (whole made) later more ≡ Ok
+            (whole made, later, more) =
+            chain_step (level_above (levels d)) (length more + 1) false owner (whole made) later more (omega arith)
+            ∙ rw ends refl in
             rw read (rw there (rw alone (rw got (rw all refl)))),
       ),
     )
 
 -- what makes a command of a callee, by the rules a level deeper
-arguments_below : (d : ℕ) (owner : DoOwner) (names known : Names) (ts rest : Tokens) (c : CalleeNode) (n : Node) → 0 < d → Fact (CommandArguments owner c n) names ts known rest → length ts ≤ d - 1 → assignment_at (first rest) ≡ None
+arguments_below : (d : ℕ) (owner : DoOwner) (names known : Names) (ts rest : Tokens) (c : CalleeNode) (n : Node) → 0 < d
+    → Fact (CommandArguments owner c n) names ts known rest → length ts ≤ d - 1 → assignment_at (first rest) ≡ None
     → command (levels d) c names ts owner ≡ Ok ((n, sorts.Command), known, rest)
 arguments_below d owner names known ts rest c n some inner room calm =
-    subst (λ (i : Inside). command i c names ts owner ≡ Ok ((n, sorts.Command), known, rest)) (sym (levels_at d some)) ((inner.2 (d - 1) room).2 calm)
+    subst (λ (i : Inside). command i c names ts owner ≡ Ok ((n, sorts.Command), known, rest)) (sym (levels_at d some))
+    ((inner.2 (d - 1) room).2 calm)
 
-module _ (place : Place) (owner : DoOwner) (names known : Names) (ts rest : Tokens) (c : CalleeNode) (may : allows_command place ≡ true) (bare : prefix_at ts ≡ None) (inner : Fact (Callee place owner c) names ts known rest)
+module _ (place : Place) (owner : DoOwner) (names known : Names) (ts rest : Tokens) (c : CalleeNode)
+    (may : allows_command place ≡ true) (bare : prefix_at ts ≡ None)
+    (inner : Fact (Callee place owner c) names ts known rest)
     (begun : begins_argument rest ≡ true) (closed : opens_arguments rest ≡ false) where
   -- before a list a callee is read alone
   callee_alone : (i : Inside) → suffix i c known rest owner ≡ Ok (callee c, known, rest)
@@ -139,41 +153,63 @@ module _ (place : Place) (owner : DoOwner) (names known : Names) (ts rest : Toke
   unfolding operand
   callee_operand d room = rw bare (callee_chain d room)
 
-  callee_read : (d : ℕ) → length ts ≤ d → operand (levels d) names ts (allows_command place) owner ≡ Ok (callee c, known, rest)
-  callee_read d room = subst (λ b. operand (levels d) names ts b owner ≡ Ok (callee c, known, rest)) (sym may) (callee_operand d room)
+  callee_read : (d : ℕ) → length ts ≤ d → operand (levels d) names ts (allows_command place) owner ≡ Ok
+      (callee c, known, rest)
+  callee_read d room = subst (λ b. operand (levels d) names ts b owner ≡ Ok (callee c, known, rest)) (sym may)
+      (callee_operand d room)
 
   -- a list makes a command of it
-  command_from : (i : Inside) (result : Read PhraseNode) → command i c known rest owner ≡ result → phrase_from i (callee c) known rest place owner ≡ result
+  command_from : (i : Inside) (result : Read PhraseNode) → command i c known rest owner ≡ result
+      → phrase_from i (callee c) known rest place owner ≡ result
   unfolding phrase_from
   command_from i result made =
       let w = value_word (first rest) (argument_value rest begun) in
-      let several : (is_statement place && is_comma_word (first rest)) ≡ false = rw w.1 (and_false (is_statement place)) in
+      let several : (is_statement place && is_comma_word (first rest)) ≡ false =
+      rw w.1 (and_false (is_statement place)) in
       let there : command_or_value i (callee c) known rest place owner ≡ result = rw (may, begun) made in
       elim (cases_Bool (is_target (callee c))) [
         | inl target ↦ rw (target, w.0, several) there
         | inr other ↦ rw other there
       ]
 
-  command_phrase : (d : ℕ) (x : Node) (later : Names) (more : Tokens) → Front place ts → length ts ≤ d → (is_statement place && is_target_group ts) ≡ false → command (levels d) c known rest owner ≡ Ok ((x, sorts.Command), later, more)
+  command_phrase : (d : ℕ) (x : Node) (later : Names) (more : Tokens) → Front place ts → length ts ≤ d
+      → (is_statement place && is_target_group ts) ≡ false
+      → command (levels d) c known rest owner ≡ Ok ((x, sorts.Command), later, more)
       → phrase (levels d) names ts place owner ≡ Ok ((x, sorts.Command), later, more)
   command_phrase d x later more front room group made =
-      let other : first ts ≢ words.Mark marks.Not = λ e. differs (sym (ap is_some (prefix_not ts e)) ∙ ap is_some bare) in
-      phrase_read (levels d) place owner (callee c) names known ts rest _ (operand_start place ts inner.1 (front.1 may other) group) (callee_read d room) (command_from (levels d) _ made)
+      let other : first ts ≢ words.Mark marks.Not =
+      λ e. differs (sym (ap is_some (prefix_not ts e)) ∙ ap is_some bare) in
+      phrase_read (levels d) place owner (callee c) names known ts rest _
+      (operand_start place ts inner.1 (front.1 may other) group) (callee_read d room)
+      (command_from (levels d) _ made)
 
-  command_fact : (x : Node) (later : Names) (more : Tokens) → Front place ts → length more < length ts → ((d : ℕ) → length ts ≤ d → assignment_at (first more) ≡ None → command (levels d) c known rest owner ≡ Ok ((x, sorts.Command), later, more))
+  command_fact : (x : Node) (later : Names) (more : Tokens) → Front place ts → length more < length ts
+      → ((d : ℕ) → length ts ≤ d → assignment_at (first more) ≡ None
+      → command (levels d) c known rest owner ≡ Ok ((x, sorts.Command), later, more))
       → Fact (Command place owner x) names ts later more
-  command_fact x later more front fewer read = (fewer, opens_begins ts inner.1, λ d room. (front.0, λ group calm. command_phrase d x later more front room group (read d room calm)))
+  command_fact x later more front fewer read = (
+    fewer,
+    opens_begins ts inner.1,
+    λ d room.
+        (front.0, λ group calm. command_phrase d x later more front room group (read d room calm)),
+  )
 
-pub callee_command : (place : Place) (owner : DoOwner) (names known later : Names) (ts rest more : Tokens) (c : CalleeNode) (n : Node) → allows_command place ≡ true → prefix_at ts ≡ None → Fact (Callee place owner c) names ts known rest → Front place ts
+pub callee_command : (place : Place) (owner : DoOwner) (names known later : Names) (ts rest more : Tokens)
+    (c : CalleeNode) (n : Node) → allows_command place ≡ true → prefix_at ts ≡ None
+    → Fact (Callee place owner c) names ts known rest → Front place ts
     → Fact (CommandArguments owner c n) known rest later more → Fact (Command place owner n) names ts later more
 callee_command place owner names known later ts rest more c n may bare inner front arguments =
     let r = arguments.2 (length rest) (omega arith) in
     let a = inner.0 in
     let b = arguments.0 in
-    command_fact place owner names known ts rest c may bare inner r.0 r.1 n later more front (omega arith) (λ d room calm. arguments_below d owner known later rest more c n (omega arith) arguments (omega arith) calm)
+    command_fact place owner names known ts rest c may bare inner r.0 r.1 n later more front (omega arith)
+    (λ d room calm. arguments_below d owner known later rest more c n (omega arith) arguments (omega arith) calm)
 
-pub not_command : (place : Place) (owner : DoOwner) (names known later : Names) (ts rest more : Tokens) (c : CalleeNode) (n : Node) → first ts ≡ words.Mark marks.Not → allows_command place ≡ true → prefix_at (behind ts) ≡ None
-    → Fact (Callee places.Command owner c) names (behind ts) known rest → Fact (CommandArguments owner c n) known rest later more → Fact (Command place owner (prefix_node prefixes.Not n)) names ts later more
+pub not_command : (place : Place) (owner : DoOwner) (names known later : Names) (ts rest more : Tokens) (c : CalleeNode)
+    (n : Node) → first ts ≡ words.Mark marks.Not → allows_command place ≡ true → prefix_at (behind ts) ≡ None
+    → Fact (Callee places.Command owner c) names (behind ts) known rest
+    → Fact (CommandArguments owner c n) known rest later more
+    → Fact (Command place owner (prefix_node prefixes.Not n)) names ts later more
 unfolding part_at phrase_by negated
 not_command place owner names known later ts rest more c n is may bare inner arguments =
     let r = arguments.2 (length rest) (omega arith) in
@@ -185,9 +221,11 @@ not_command place owner names known later ts rest more c n is may bare inner arg
       λ d room. (
         rw is refl,
         λ group calm.
-            let got = callee_operand places.Command owner names known (behind ts) rest c refl bare inner r.0 r.1 d (omega arith) in
+            let got = callee_operand places.Command owner names known (behind ts) rest c refl bare inner r.0 r.1 d
+            (omega arith) in
             let made = arguments_below d owner known later rest more c n (omega arith) arguments (omega arith) calm in
-            let from = command_from places.Command owner names known (behind ts) rest c refl bare inner r.0 r.1 (levels d) _ made in
+            let from = command_from places.Command owner names known (behind ts) rest c refl bare inner r.0 r.1
+            (levels d) _ made in
             rw (not_start place ts is group may) (rw got (rw r.0 (rw from refl))),
       ),
     )
@@ -196,45 +234,63 @@ abbrev command_item : Node → ListNode
 command_item n = record { items = Plain n ∷ []; pairs = []; block = none; command = true; comma = false }
 
 -- a list of a command
-list_of_command : (i : Inside) (names known : Names) (ts rest : Tokens) (owner : DoOwner) (n : Node) → phrase i names ts places.Command owner ≡ Ok ((n, sorts.Command), known, rest) → begins (first ts) ≡ true → part_at ts ≡ parts.Value → 0 < length ts
+list_of_command : (i : Inside) (names known : Names) (ts rest : Tokens) (owner : DoOwner) (n : Node)
+    → phrase i names ts places.Command owner ≡ Ok ((n, sorts.Command), known, rest) → begins (first ts) ≡ true
+    → part_at ts ≡ parts.Value → 0 < length ts
     → is_comma_word (first rest) ≡ false → list i names ts owner ≡ Ok (command_item n, known, rest)
 unfolding next_part part_by
 list_of_command i names known ts rest owner n read h part some comma =
     let first_turn = list_step i (length ts + 1) owner true true nothing_listed names ts (omega arith) in
-    let last : list_from i (length ts + 1 - 1) owner false false (command_item n) known rest ≡ Ok (command_item n, known, rest) =
+    let last : list_from i (length ts + 1 - 1) owner false false (command_item n) known rest ≡ Ok
+    (command_item n, known, rest) =
     list_step i (length ts + 1 - 1) owner false false (command_item n) known rest (omega arith) in
     first_turn ∙ rw (word_begins (first ts) h, part) (rw (read, comma) last)
 
 -- a command as the value of an assignment
-value_read : (d : ℕ) (place : Place) (owner : DoOwner) (a : Assignment) (names known : Names) (ts rest : Tokens) (n : Node) → 0 < d → phrase (levels (d - 1)) names ts (of_value place) owner ≡ Ok ((n, sorts.Command), known, rest)
-    → begins (first ts) ≡ true → part_at ts ≡ parts.Value → 0 < length ts → (takes_list a place && is_comma_word (first rest)) ≡ false → assigned_value (levels d) names ts a place owner ≡ Ok ((n, sorts.Command), known, rest)
-value_read d place owner a names known ts rest n below read h part some alone = by_list a place (takes_list a place) refl read alone
+value_read : (d : ℕ) (place : Place) (owner : DoOwner) (a : Assignment) (names known : Names) (ts rest : Tokens)
+    (n : Node) → 0 < d → phrase (levels (d - 1)) names ts (of_value place) owner ≡ Ok ((n, sorts.Command), known, rest)
+    → begins (first ts) ≡ true → part_at ts ≡ parts.Value → 0 < length ts
+    → (takes_list a place && is_comma_word (first rest)) ≡ false
+    → assigned_value (levels d) names ts a place owner ≡ Ok ((n, sorts.Command), known, rest)
+value_read d place owner a names known ts rest n below read h part some alone =
+    by_list a place (takes_list a place) refl read alone
   where
-    by_list : (b : Assignment) (p : Place) (t : Bool) → takes_list b p ≡ t → phrase (levels (d - 1)) names ts (of_value p) owner ≡ Ok ((n, sorts.Command), known, rest) → (takes_list b p && is_comma_word (first rest)) ≡ false
+    by_list : (b : Assignment) (p : Place) (t : Bool) → takes_list b p ≡ t
+        → phrase (levels (d - 1)) names ts (of_value p) owner ≡ Ok ((n, sorts.Command), known, rest)
+        → (takes_list b p && is_comma_word (first rest)) ≡ false
         → assigned_value (levels d) names ts b p owner ≡ Ok ((n, sorts.Command), known, rest)
     by_list b p false takes got single =
-        let same : (levels d).phrase names ts (of_value p) owner ≡ Ok ((n, sorts.Command), known, rest) = ap (λ (i : Inside). i.phrase names ts (of_value p) owner) (levels_at d below) ∙ got in
+        let same : (levels d).phrase names ts (of_value p) owner ≡ Ok ((n, sorts.Command), known, rest) =
+        ap (λ (i : Inside). i.phrase names ts (of_value p) owner) (levels_at d below) ∙ got in
         let no_list : phrases.takes_list b p ≡ false = same_takes b p ∙ takes in
         rw (no_list, same) refl
     by_list b p true takes got single =
-        let no_more : is_comma_word (first rest) ≡ false = subst (λ t. (t && is_comma_word (first rest)) ≡ false) takes single in
+        let no_more : is_comma_word (first rest) ≡ false =
+        subst (λ t. (t && is_comma_word (first rest)) ≡ false) takes single in
         let there : phrase (levels (d - 1)) names ts places.Command owner ≡ Ok ((n, sorts.Command), known, rest) =
-        subst (λ q. phrase (levels (d - 1)) names ts q owner ≡ Ok ((n, sorts.Command), known, rest)) (statement_only b p takes) got in
+        subst (λ q. phrase (levels (d - 1)) names ts q owner ≡ Ok ((n, sorts.Command), known, rest))
+        (statement_only b p takes) got in
         let same : (levels d).list names ts owner ≡ Ok (command_item n, known, rest) =
-        ap (λ (i : Inside). i.list names ts owner) (levels_at d below) ∙ list_of_command (levels (d - 1)) names known ts rest owner n there h part some no_more in
+        ap (λ (i : Inside). i.list names ts owner) (levels_at d below)
+        ∙ list_of_command (levels (d - 1)) names known ts rest owner n there h part some no_more in
         let a_list : phrases.takes_list b p ≡ true = same_takes b p ∙ takes in
         rw (a_list, same) refl
 
-assign_read : (i : Inside) (place : Place) (owner : DoOwner) (a : Assignment) (target : Node) (names known : Names) (ts rest : Tokens) (n : Node) → assigned_value i names ts a place owner ≡ Ok ((n, sorts.Command), known, rest)
+assign_read : (i : Inside) (place : Place) (owner : DoOwner) (a : Assignment) (target : Node) (names known : Names)
+    (ts rest : Tokens) (n : Node) → assigned_value i names ts a place owner ≡ Ok ((n, sorts.Command), known, rest)
     → assign i target names a ts place owner ≡ Ok ((assignment_node a target n, sorts.Command), known, rest)
 unfolding assign
 assign_read i place owner a target names known ts rest n read = rw read refl
 
-module _ (place : Place) (owner : DoOwner) (a : Assignment) (names known later : Names) (ts rest more : Tokens) (target n : Node) (left : Fact (Target owner target) names ts known rest) (there : assignment_at (first rest) ≡ Some a)
-    (value : Fact (Command (of_value place) owner n) known (behind rest) later more) (alone : (takes_list a place && is_comma_word (first more)) ≡ false) where
+module _ (place : Place) (owner : DoOwner) (a : Assignment) (names known later : Names) (ts rest more : Tokens)
+    (target n : Node) (left : Fact (Target owner target) names ts known rest)
+    (there : assignment_at (first rest) ≡ Some a)
+    (value : Fact (Command (of_value place) owner n) known (behind rest) later more)
+    (alone : (takes_list a place && is_comma_word (first more)) ≡ false) where
   -- a target, and the assignment of a command that it begins
   assigned_from : (d : ℕ) → length ts ≤ d → assignment_at (first more) ≡ None
-      → (o : OperandNode) × (k : Names) × ((commands : Bool) → operand (levels d) names ts commands owner ≡ Ok (o, k, rest)) × (is_target o ≡ true)
+      → (o : OperandNode) × (k : Names) × ((commands : Bool)
+      → operand (levels d) names ts commands owner ≡ Ok (o, k, rest)) × (is_target o ≡ true)
       × (phrase_from (levels d) o k rest place owner ≡ Ok ((assignment_node a target n, sorts.Command), later, more))
   assigned_from d room calm =
       let one = word_taken (first rest) rest refl (assignment_word (first rest) a there) in
@@ -242,11 +298,15 @@ module _ (place : Place) (owner : DoOwner) (a : Assignment) (names known later :
       let v = value.0 in
       let t = left.2 d room (assignment_ends (first rest) a there) in
       let inner = value.2 (d - 1) (omega arith) in
-      let right = value_read d place owner a known later (behind rest) more n (omega arith) (inner.1 (value_group place (behind rest)) calm) value.1 inner.0 (omega arith) alone in
+      let right = value_read d place owner a known later (behind rest) more n (omega arith)
+      (inner.1 (value_group place (behind rest)) calm) value.1 inner.0 (omega arith) alone in
       let made = assign_read (levels d) place owner a target known later (behind rest) more n right in
-      let moved : assign (levels d) (target_node t.0) (target_names t.0 t.1) a (behind rest) place owner ≡ Ok ((assignment_node a target n, sorts.Command), later, more) =
-      subst (λ k. assign (levels d) (target_node t.0) k a (behind rest) place owner ≡ Ok ((assignment_node a target n, sorts.Command), later, more)) (sym t.5)
-      (subst (λ y. assign (levels d) y known a (behind rest) place owner ≡ Ok ((assignment_node a target n, sorts.Command), later, more)) (sym t.4) made) in
+      let moved : assign (levels d) (target_node t.0) (target_names t.0 t.1) a (behind rest) place owner ≡ Ok
+      ((assignment_node a target n, sorts.Command), later, more) =
+      subst (λ k. assign (levels d) (target_node t.0) k a (behind rest) place owner ≡ Ok
+      ((assignment_node a target n, sorts.Command), later, more)) (sym t.5)
+      (subst (λ y. assign (levels d) y known a (behind rest) place owner ≡ Ok
+      ((assignment_node a target n, sorts.Command), later, more)) (sym t.4) made) in
       (t.0, t.1, t.2, t.3, from_read (levels d) place owner a t.0 t.1 rest _ t.3 there moved)
 
   pub command_assigned : Front place ts → Fact (Command place owner (assignment_node a target n)) names ts later more
@@ -261,7 +321,9 @@ module _ (place : Place) (owner : DoOwner) (a : Assignment) (names known later :
           lead.0,
           λ group calm.
               let f = assigned_from d room calm in
-              phrase_read (levels d) place owner f.0 names f.1 ts rest _ (front_start place ts opening.0 lead (bang_other (first ts) (not_true (is_bang (first ts)) opening.1)) group) (f.2 (allows_command place)) f.4,
+              phrase_read (levels d) place owner f.0 names f.1 ts rest _
+              (front_start place ts opening.0 lead (bang_other (first ts) (not_true (is_bang (first ts)) opening.1))
+              group) (f.2 (allows_command place)) f.4,
         ),
       )
 
@@ -270,8 +332,10 @@ no_list : (a : Assignment) (b : Bool) → (takes_list a places.Command && b) ≡
 no_list signs.Plain b = refl
 no_list (signs.Operation o) b = refl
 
-pub not_assigned : (place : Place) (owner : DoOwner) (a : Assignment) (names known later : Names) (ts rest more : Tokens) (target n : Node) → first ts ≡ words.Mark marks.Not → allows_command place ≡ true
-    → Fact (Target owner target) names (behind ts) known rest → assignment_at (first rest) ≡ Some a → Fact (Command places.Command owner n) known (behind rest) later more
+pub not_assigned : (place : Place) (owner : DoOwner) (a : Assignment) (names known later : Names)
+    (ts rest more : Tokens) (target n : Node) → first ts ≡ words.Mark marks.Not → allows_command place ≡ true
+    → Fact (Target owner target) names (behind ts) known rest → assignment_at (first rest) ≡ Some a
+    → Fact (Command places.Command owner n) known (behind rest) later more
     → Fact (Command place owner (prefix_node prefixes.Not (assignment_node a target n))) names ts later more
 unfolding part_at phrase_by negated
 not_assigned place owner a names known later ts rest more target n is may left there value =
@@ -284,18 +348,26 @@ not_assigned place owner a names known later ts rest more target n is may left t
       λ d room. (
         rw is refl,
         λ group calm.
-            let f = assigned_from places.Command owner a names known later (behind ts) rest more target n left there value (no_list a (is_comma_word (first more))) d (omega arith) calm in
-            let assigned : is_command_there f.0 rest ≡ true = or_right (begins_command f.0 rest) (is_assigned f.0 rest) (rw (f.3, there) refl) in
+            let f = assigned_from places.Command owner a names known later (behind ts) rest more target n left there
+            value (no_list a (is_comma_word (first more))) d (omega arith) calm in
+            let assigned : is_command_there f.0 rest ≡ true =
+            or_right (begins_command f.0 rest) (is_assigned f.0 rest) (rw (f.3, there) refl) in
             rw (not_start place ts is group may) (rw (f.2 true) (rw assigned (rw f.4 refl))),
       ),
     )
 
-pub commanded : (place : Place) (owner : DoOwner) (names known : Names) (ts rest : Tokens) (n : Node) → (is_statement place && is_target_group ts) ≡ false → Fact (Command place owner n) names ts known rest → Fact (Negation place owner n) names ts known rest
+pub commanded : (place : Place) (owner : DoOwner) (names known : Names) (ts rest : Tokens) (n : Node)
+    → (is_statement place && is_target_group ts) ≡ false → Fact (Command place owner n) names ts known rest
+    → Fact (Negation place owner n) names ts known rest
 unfolding negation
-commanded place owner names known ts rest n group inner =
-    (inner.0, or_left (begins (first ts)) (is_not (first ts)) inner.1, λ d room none. (sorts.Command, refl, rw (head_no_not (first ts) inner.1) ((inner.2 d room).1 group none)))
+commanded place owner names known ts rest n group inner = (
+  inner.0,
+  or_left (begins (first ts)) (is_not (first ts)) inner.1,
+  λ d room none. (sorts.Command, refl, rw (head_no_not (first ts) inner.1) ((inner.2 d room).1 group none)),
+)
 
-pub command_part_fact : (owner : DoOwner) (names known : Names) (ts rest : Tokens) (n : Node) → Fact (Command places.Command owner n) names ts known rest → is_comma_word (first rest) ≡ false
+pub command_part_fact : (owner : DoOwner) (names known : Names) (ts rest : Tokens) (n : Node)
+    → Fact (Command places.Command owner n) names ts known rest → is_comma_word (first rest) ≡ false
     → Fact (Listing owner (put (command_part n) nothing_listed)) names ts known rest
 command_part_fact owner names known ts rest n inner alone =
     let fewer = inner.0 in (

@@ -50,8 +50,10 @@ moved ts rest us h less = subst (λ (x : Tokens). length x ≤ length us) (ap (o
 
 -- then and its like, or do, are tokens
 pub then_within : (w : Word) (ts rest : Tokens) → then_at w ts ≡ Ok rest → length rest ≤ length ts
-then_within words.Newline ts rest h = moved (skip_then_word (first (behind ts)) (behind ts)) rest ts h (skip_then_behind ts)
-then_within words.Semicolon ts rest h = moved (skip_then_word (first (behind ts)) (behind ts)) rest ts h (skip_then_behind ts)
+then_within words.Newline ts rest h = moved (skip_then_word (first (behind ts)) (behind ts)) rest ts h
+    (skip_then_behind ts)
+then_within words.Semicolon ts rest h = moved (skip_then_word (first (behind ts)) (behind ts)) rest ts h
+    (skip_then_behind ts)
 then_within (words.Key keywords.Then) ts rest h = moved (behind ts) rest ts h (behind_within ts)
 then_within w ts rest h = err_is_none (length ts) rest h
 
@@ -62,7 +64,8 @@ do_within (words.Key keywords.Do) ts rest h = moved (behind ts) rest ts h (behin
 do_within w ts rest h = err_is_none (length ts) rest h
 
 -- and no assignment, comma or arrow
-pub then_free : (w : Word) (ts rest : Tokens) → then_at w ts ≡ Ok rest → (assignment_at w ≡ None) × (is_comma_word w ≡ false) × (is_arrow_word w ≡ false)
+pub then_free : (w : Word) (ts rest : Tokens) → then_at w ts ≡ Ok rest → (assignment_at w ≡ None)
+    × (is_comma_word w ≡ false) × (is_arrow_word w ≡ false)
 then_free (words.Mark p) ts rest h = err_is_none (length ts) rest h
 then_free w ts rest h = (refl, refl, refl)
 
@@ -70,7 +73,8 @@ do_free : (w : Word) (ts rest : Tokens) → do_at w ts ≡ Ok rest → assignmen
 do_free (words.Mark p) ts rest h = err_is_none (length ts) rest h
 do_free w ts rest h = refl
 
-pub tested : (names known later : Names) (ts rest body more : Tokens) (t n : Node) → Fact (Expression places.Command owners.Call t) names ts known rest → then_at (first rest) rest ≡ Ok body
+pub tested : (names known later : Names) (ts rest body more : Tokens) (t n : Node)
+    → Fact (Expression places.Command owners.Call t) names ts known rest → then_at (first rest) rest ≡ Ok body
     → Fact (Statements n) known body later more → Fact (Guarded t n) names ts later more
 tested names known later ts rest body more t n test there inner =
     let free = then_free (first rest) rest body there in
@@ -79,7 +83,8 @@ tested names known later ts rest body more t n test there inner =
     let b = inner.0 in
     (omega arith, refl, λ d room. rw (test.2 d room free.0) (rw there (rw (inner.2 d (omega arith)) refl)))
 
-pub looped : (names known later : Names) (ts rest body more : Tokens) (t n : Node) → Fact (Expression places.Command owners.Loop t) names ts known rest → do_at (first rest) rest ≡ Ok body
+pub looped : (names known later : Names) (ts rest body more : Tokens) (t n : Node)
+    → Fact (Expression places.Command owners.Loop t) names ts known rest → do_at (first rest) rest ≡ Ok body
     → Fact (Statements n) known body later more → Fact (Repeated t n) names ts later more
 looped names known later ts rest body more t n test there inner =
     let free = do_free (first rest) rest body there in
@@ -89,18 +94,27 @@ looped names known later ts rest body more t n test there inner =
     (omega arith, refl, λ d room. (known, rest, body, test.2 d room free, there, inner.2 d (omega arith)))
 
 -- a loop with a condition
-loop_read : (i : Inside) (names known : Names) (ts rest : Tokens) (t n : Node) → Reads i (Repeated t n) names ts known rest → loop_section i names ts ≡ Ok (heading kinds.LoopTest (t ∷ []) none n, known, rest)
+loop_read : (i : Inside) (names known : Names) (ts rest : Tokens) (t n : Node)
+    → Reads i (Repeated t n) names ts known rest
+    → loop_section i names ts ≡ Ok (heading kinds.LoopTest (t ∷ []) none n, known, rest)
 loop_read i names known ts rest t n r = rw r.3 (rw r.4 (rw r.5 refl))
 
 pub no_branch : (names : Names) (ts : Tokens) → Fact (Branches []) names ts names ts
-no_branch names ts = (itself_within ts, refl, λ d room. ([], refl, refl, steps_none (levels d) compounds.If kinds.Test names ts))
+no_branch names ts = (
+  itself_within ts,
+  refl,
+  λ d room. ([], refl, refl, steps_none (levels d) compounds.If kinds.Test names ts),
+)
 
-branches_are : (t n : Node) (ss : List SectionNode) (bs : List Node) → map branch_of ss ≡ bs → map branch_of (heading kinds.Test (t ∷ []) none n ∷ ss) ≡ node.branch (condition_node t) n ∷ bs
+branches_are : (t n : Node) (ss : List SectionNode) (bs : List Node) → map branch_of ss ≡ bs
+    → map branch_of (heading kinds.Test (t ∷ []) none n ∷ ss) ≡ node.branch (condition_node t) n ∷ bs
 unfolding branch_of last_of
 branches_are t n ss bs h = ap (λ (xs : List Node). node.branch (condition_node t) n ∷ xs) h
 
-pub more_branches : (names known later : Names) (ts rest more : Tokens) (t n : Node) (bs : List Node) → first ts ≡ words.Key keywords.Elsif → Fact (Guarded t n) names (behind ts) known rest
-    → Fact (Branches bs) known rest later more → Fact (Branches (node.branch (condition_node t) n ∷ bs)) names ts later more
+pub more_branches : (names known later : Names) (ts rest more : Tokens) (t n : Node) (bs : List Node)
+    → first ts ≡ words.Key keywords.Elsif → Fact (Guarded t n) names (behind ts) known rest
+    → Fact (Branches bs) known rest later more
+    → Fact (Branches (node.branch (condition_node t) n ∷ bs)) names ts later more
 unfolding section
 more_branches names known later ts rest more t n bs is one others =
     let a = word_taken (words.Key keywords.Elsif) ts is refl in
@@ -112,18 +126,21 @@ more_branches names known later ts rest more t n bs is one others =
           let r = others.2 d (omega arith) in
           let s : SectionNode = heading kinds.Test (t ∷ []) none n in
           let there : next_section compounds.If kinds.Test (first ts) ≡ Some kinds.Test = rw is refl in
-          let step = steps_one (levels d) compounds.If kinds.Test kinds.Test s names known ts rest there (one.2 d (omega arith)) (omega arith) in (
+          let step = steps_one (levels d) compounds.If kinds.Test kinds.Test s names known ts rest there
+          (one.2 d (omega arith)) (omega arith) in (
             s ∷ r.0,
             branches_are t n r.0 bs r.1,
             r.2,
-            steps_then (levels d) compounds.If kinds.Test kinds.Test kinds.Test (s ∷ []) r.0 names known later ts rest more step r.3,
+            steps_then (levels d) compounds.If kinds.Test kinds.Test kinds.Test (s ∷ []) r.0 names known later ts rest
+                more step r.3,
           ),
     )
 
 pub no_else : (names : Names) (ts : Tokens) → Fact (Otherwise None) names ts names ts
 no_else names ts = (itself_within ts, refl, λ d room form before there. steps_none (levels d) form before names ts)
 
-pub else_fact : (names known : Names) (ts rest : Tokens) (n : Node) → first ts ≡ words.Key keywords.Else → Fact (Statements n) names (behind ts) known rest → Fact (Otherwise (Some n)) names ts known rest
+pub else_fact : (names known : Names) (ts rest : Tokens) (n : Node) → first ts ≡ words.Key keywords.Else
+    → Fact (Statements n) names (behind ts) known rest → Fact (Otherwise (Some n)) names ts known rest
 unfolding section
 else_fact names known ts rest n is inner =
     let a = word_taken (words.Key keywords.Else) ts is refl in
@@ -132,7 +149,8 @@ else_fact names known ts rest n is inner =
       refl,
       λ d room form before there.
           let next : next_section form before (first ts) ≡ Some kinds.Else = ap (next_section form before) is ∙ there in
-          steps_one (levels d) form before kinds.Else (heading kinds.Else [] none n) names known ts rest next (rw (inner.2 d (omega arith)) refl) (omega arith),
+          steps_one (levels d) form before kinds.Else (heading kinds.Else [] none n) names known ts rest next
+          (rw (inner.2 d (omega arith)) refl) (omega arith),
     )
 
 -- a form has a section
@@ -142,10 +160,13 @@ filled s ss = grind arith
 module _ (place : Place) (owner : DoOwner) (names : Names) (ts : Tokens) where
   -- what the sections of a form make
   abbrev pub Made : Compound → Node → Names → Tokens → Type 0
-  Made form n known rest = (d : ℕ) → length (behind ts) ≤ d → (ss : List SectionNode) × (sections (levels d) names form (behind ts) ≡ Ok (ss, known, rest)) × (is_whole form ss ≡ true) × (compound_node form ss ≡ n)
+  Made form n known rest = (d : ℕ) → length (behind ts) ≤ d → (ss : List SectionNode)
+      × (sections (levels d) names form (behind ts) ≡ Ok (ss, known, rest)) × (is_whole form ss ≡ true)
+      × (compound_node form ss ≡ n)
 
   -- a form whose sections are read
-  pub compound_fact : (k : Keyword) (form : Compound) (n : Node) (known : Names) (rest : Tokens) → first ts ≡ words.Key k → is_head (words.Key k) ≡ true → keyword_primary k (behind ts) ≡ primaries.Compound form
+  pub compound_fact : (k : Keyword) (form : Compound) (n : Node) (known : Names) (rest : Tokens)
+      → first ts ≡ words.Key k → is_head (words.Key k) ≡ true → keyword_primary k (behind ts) ≡ primaries.Compound form
       → length rest < length ts → Made form n known rest → Fact (PrimaryRule place owner n) names ts known rest
   unfolding primary_at primary_by compound
   compound_fact k form n known rest is head there shorter made =
@@ -154,13 +175,17 @@ module _ (place : Place) (owner : DoOwner) (names : Names) (ts : Tokens) where
         head_opens ts (subst (λ w. is_head w ≡ true) (sym is) head),
         λ d room. at_once (levels d) place owner names known ts rest n (
             let r = made (d - 1) (omega arith) in
-            let below : (levels d).sections names form (behind ts) ≡ Ok (r.0, known, rest) = ap (λ (i : Inside). i.sections names form (behind ts)) (levels_at d (omega arith)) ∙ r.1 in
+            let below : (levels d).sections names form (behind ts) ≡ Ok (r.0, known, rest) =
+            ap (λ (i : Inside). i.sections names form (behind ts)) (levels_at d (omega arith)) ∙ r.1 in
             rw is (rw there (rw below (rw r.2 (rw r.3 refl))))),
       )
 
-  pub if_fact : (known later latest : Names) (rest more last : Tokens) (t n : Node) (bs : List Node) (o : Option Node) → first ts ≡ words.Key keywords.If → Fact (Guarded t n) names (behind ts) known rest
-      → Fact (Branches bs) known rest later more → Fact (Otherwise o) later more latest last → first last ≡ words.Key keywords.End
-      → Fact (PrimaryRule place owner (node.if_node (nodes (node.branch (condition_node t) n ∷ bs)) (option_node o))) names ts latest (behind last)
+  pub if_fact : (known later latest : Names) (rest more last : Tokens) (t n : Node) (bs : List Node) (o : Option Node)
+      → first ts ≡ words.Key keywords.If → Fact (Guarded t n) names (behind ts) known rest
+      → Fact (Branches bs) known rest later more → Fact (Otherwise o) later more latest last
+      → first last ≡ words.Key keywords.End
+      → Fact (PrimaryRule place owner (node.if_node (nodes (node.branch (condition_node t) n ∷ bs)) (option_node o)))
+      names ts latest (behind last)
   unfolding section if_node
   if_fact known later latest rest more last t n bs o is one others other ends =
       let a = word_taken (words.Key keywords.If) ts is refl in
@@ -175,23 +200,32 @@ module _ (place : Place) (owner : DoOwner) (names : Names) (ts : Tokens) where
       let p = parts_of parts.Else (s ∷ r.0) o (base_last parts.Else (s ∷ r.0) base) in
       let before : before_part parts.Else (s ∷ (r.0 ++ part_sections kinds.Else o)) ≡ s ∷ r.0 = p.0 in
       let behind_it : part_body parts.Else (s ∷ (r.0 ++ part_sections kinds.Else o)) ≡ option_node o = p.1 in
-      let step = steps_then (levels d) compounds.If kinds.Test kinds.Test (behind_part kinds.Test kinds.Else o) r.0 (part_sections kinds.Else o) known later latest rest more last r.3 (other.2 d (omega arith) compounds.If kinds.Test refl) in
-      let whole : is_whole compounds.If (s ∷ (r.0 ++ part_sections kinds.Else o)) ≡ true = rw (filled s (r.0 ++ part_sections kinds.Else o)) refl in
+      let step = steps_then (levels d) compounds.If kinds.Test kinds.Test (behind_part kinds.Test kinds.Else o) r.0
+      (part_sections kinds.Else o) known later latest rest more last r.3
+      (other.2 d (omega arith) compounds.If kinds.Test refl) in
+      let whole : is_whole compounds.If (s ∷ (r.0 ++ part_sections kinds.Else o)) ≡ true =
+      rw (filled s (r.0 ++ part_sections kinds.Else o)) refl in
       let branches : map branch_of (s ∷ r.0) ≡ node.branch (condition_node t) n ∷ bs = branches_are t n r.0 bs r.1 in (
         s ∷ (r.0 ++ part_sections kinds.Else o),
-        sections_read (levels d) compounds.If (behind_part kinds.Test kinds.Else o) s (r.0 ++ part_sections kinds.Else o) names known latest (behind ts) rest last (one.2 d room) step ends,
+        sections_read (levels d) compounds.If (behind_part kinds.Test kinds.Else o) s
+            (r.0 ++ part_sections kinds.Else o) names known latest (behind ts) rest last (one.2 d room) step ends,
         whole,
         rw (before, behind_it) (ap (λ (xs : List Node). node.if_node (nodes xs) (option_node o)) branches),
       ))
 
-  unless_is : (s : SectionNode) (o : Option Node) (t n : Node) → s ≡ heading kinds.Test (t ∷ []) none n → before_part parts.Else (s ∷ part_sections kinds.Else o) ≡ s ∷ [] → part_body parts.Else (s ∷ part_sections kinds.Else o) ≡ option_node o
-      → compound_node compounds.Unless (s ∷ part_sections kinds.Else o) ≡ node.unless_node (condition_node t) n (option_node o)
+  unless_is : (s : SectionNode) (o : Option Node) (t n : Node) → s ≡ heading kinds.Test (t ∷ []) none n
+      → before_part parts.Else (s ∷ part_sections kinds.Else o) ≡ s ∷ []
+      → part_body parts.Else (s ∷ part_sections kinds.Else o) ≡ option_node o
+      → compound_node compounds.Unless (s ∷ part_sections kinds.Else o) ≡ node.unless_node (condition_node t) n
+      (option_node o)
   unfolding unless_node unless_by unless_section last_of
   unless_is s o t n is before behind_it = rw (before, behind_it) (rw is refl)
 
-  pub unless_fact : (known later : Names) (rest more : Tokens) (t n : Node) (o : Option Node) → first ts ≡ words.Key keywords.Unless → Fact (Guarded t n) names (behind ts) known rest
+  pub unless_fact : (known later : Names) (rest more : Tokens) (t n : Node) (o : Option Node)
+      → first ts ≡ words.Key keywords.Unless → Fact (Guarded t n) names (behind ts) known rest
       → Fact (Otherwise o) known rest later more → first more ≡ words.Key keywords.End
-      → Fact (PrimaryRule place owner (node.unless_node (condition_node t) n (option_node o))) names ts later (behind more)
+      → Fact (PrimaryRule place owner (node.unless_node (condition_node t) n (option_node o))) names ts later
+      (behind more)
   unfolding section
   unless_fact known later rest more t n o is one other ends =
       let a = word_taken (words.Key keywords.Unless) ts is refl in
@@ -204,22 +238,28 @@ module _ (place : Place) (owner : DoOwner) (names : Names) (ts : Tokens) where
       let p = parts_of parts.Else (s ∷ []) o (base_last parts.Else (s ∷ []) base) in
       let before : before_part parts.Else (s ∷ part_sections kinds.Else o) ≡ s ∷ [] = p.0 in
       let behind_it : part_body parts.Else (s ∷ part_sections kinds.Else o) ≡ option_node o = p.1 in
-      let whole : is_whole compounds.Unless (s ∷ part_sections kinds.Else o) ≡ true = rw (filled s (part_sections kinds.Else o)) refl in (
+      let whole : is_whole compounds.Unless (s ∷ part_sections kinds.Else o) ≡ true =
+      rw (filled s (part_sections kinds.Else o)) refl in (
         s ∷ part_sections kinds.Else o,
-        sections_read (levels d) compounds.Unless (behind_part kinds.Test kinds.Else o) s (part_sections kinds.Else o) names known later (behind ts) rest more (one.2 d room) (other.2 d (omega arith) compounds.Unless kinds.Test refl) ends,
+        sections_read (levels d) compounds.Unless (behind_part kinds.Test kinds.Else o) s (part_sections kinds.Else o)
+            names known later (behind ts) rest more (one.2 d room)
+            (other.2 d (omega arith) compounds.Unless kinds.Test refl) ends,
         whole,
         unless_is s o t n refl before behind_it,
       ))
 
-  while_is : (t n : Node) → compound_node compounds.While (heading kinds.LoopTest (t ∷ []) none n ∷ []) ≡ node.while_node false false (condition_node t) n
+  while_is : (t n : Node) → compound_node compounds.While
+      (heading kinds.LoopTest (t ∷ []) none n ∷ []) ≡ node.while_node false false (condition_node t) n
   unfolding loop_node loop_by loop_of last_of
   while_is t n = refl
 
-  until_is : (t n : Node) → compound_node compounds.Until (heading kinds.LoopTest (t ∷ []) none n ∷ []) ≡ node.while_node true false (condition_node t) n
+  until_is : (t n : Node) → compound_node compounds.Until
+      (heading kinds.LoopTest (t ∷ []) none n ∷ []) ≡ node.while_node true false (condition_node t) n
   unfolding loop_node loop_by loop_of last_of
   until_is t n = refl
 
-  pub while_fact : (known : Names) (rest : Tokens) (t n : Node) → first ts ≡ words.Key keywords.While → Fact (Repeated t n) names (behind ts) known rest → first rest ≡ words.Key keywords.End
+  pub while_fact : (known : Names) (rest : Tokens) (t n : Node) → first ts ≡ words.Key keywords.While
+      → Fact (Repeated t n) names (behind ts) known rest → first rest ≡ words.Key keywords.End
       → Fact (PrimaryRule place owner (node.while_node false false (condition_node t) n)) names ts known (behind rest)
   unfolding section
   while_fact known rest t n is one ends =
@@ -228,10 +268,17 @@ module _ (place : Place) (owner : DoOwner) (names : Names) (ts : Tokens) where
       let c = one.0 in
       compound_fact keywords.While compounds.While _ known (behind rest) is refl refl (omega arith) (λ d room.
       let s : SectionNode = heading kinds.LoopTest (t ∷ []) none n in
-      let whole : is_whole compounds.While (s ∷ []) ≡ true = refl in
-      (s ∷ [], sections_read (levels d) compounds.While kinds.LoopTest s [] names known known (behind ts) rest rest (loop_read (levels d) names known (behind ts) rest t n (one.2 d room)) (steps_none (levels d) compounds.While kinds.LoopTest known rest) ends, whole, while_is t n))
+      let whole : is_whole compounds.While (s ∷ []) ≡ true = refl in (
+        s ∷ [],
+        sections_read (levels d) compounds.While kinds.LoopTest s [] names known known (behind ts) rest rest
+            (loop_read (levels d) names known (behind ts) rest t n (one.2 d room))
+            (steps_none (levels d) compounds.While kinds.LoopTest known rest) ends,
+        whole,
+        while_is t n,
+      ))
 
-  pub until_fact : (known : Names) (rest : Tokens) (t n : Node) → first ts ≡ words.Key keywords.Until → Fact (Repeated t n) names (behind ts) known rest → first rest ≡ words.Key keywords.End
+  pub until_fact : (known : Names) (rest : Tokens) (t n : Node) → first ts ≡ words.Key keywords.Until
+      → Fact (Repeated t n) names (behind ts) known rest → first rest ≡ words.Key keywords.End
       → Fact (PrimaryRule place owner (node.while_node true false (condition_node t) n)) names ts known (behind rest)
   unfolding section
   until_fact known rest t n is one ends =
@@ -240,5 +287,11 @@ module _ (place : Place) (owner : DoOwner) (names : Names) (ts : Tokens) where
       let c = one.0 in
       compound_fact keywords.Until compounds.Until _ known (behind rest) is refl refl (omega arith) (λ d room.
       let s : SectionNode = heading kinds.LoopTest (t ∷ []) none n in
-      let whole : is_whole compounds.Until (s ∷ []) ≡ true = refl in
-      (s ∷ [], sections_read (levels d) compounds.Until kinds.LoopTest s [] names known known (behind ts) rest rest (loop_read (levels d) names known (behind ts) rest t n (one.2 d room)) (steps_none (levels d) compounds.Until kinds.LoopTest known rest) ends, whole, until_is t n))
+      let whole : is_whole compounds.Until (s ∷ []) ≡ true = refl in (
+        s ∷ [],
+        sections_read (levels d) compounds.Until kinds.LoopTest s [] names known known (behind ts) rest rest
+            (loop_read (levels d) names known (behind ts) rest t n (one.2 d room))
+            (steps_none (levels d) compounds.Until kinds.LoopTest known rest) ends,
+        whole,
+        until_is t n,
+      ))

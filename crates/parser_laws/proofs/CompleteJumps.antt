@@ -36,9 +36,30 @@ record Jumps (w : Word) : Type 0 where
   part : (ts : Tokens) → part_of w ts ≡ parts.Value
 
 key_jumps : (k : Keyword) (j : Jump) → jump_at (words.Key k) ≡ Some j → Jumps (words.Key k)
-key_jumps keywords.Return j h = record { head = refl; some = refl; group = refl; start = λ place ts. refl; part = λ ts. refl }
-key_jumps keywords.Break j h = record { head = refl; some = refl; group = refl; start = λ place ts. refl; part = λ ts. refl }
-key_jumps keywords.Next j h = record { head = refl; some = refl; group = refl; start = λ place ts. refl; part = λ ts. refl }
+key_jumps keywords.Return j h = record {
+  head = refl;
+  some = refl;
+  group = refl;
+  start = λ place ts. refl;
+  part =
+      λ ts. refl;
+}
+key_jumps keywords.Break j h = record {
+  head = refl;
+  some = refl;
+  group = refl;
+  start = λ place ts. refl;
+  part =
+      λ ts. refl;
+}
+key_jumps keywords.Next j h = record {
+  head = refl;
+  some = refl;
+  group = refl;
+  start = λ place ts. refl;
+  part =
+      λ ts. refl;
+}
 key_jumps k j h = differs (sym (ap is_some h))
 
 jumps : (w : Word) (j : Jump) → jump_at w ≡ Some j → Jumps w
@@ -46,36 +67,43 @@ jumps (words.Key k) j h = key_jumps k j h
 jumps w j h = differs (sym (ap is_some h))
 
 -- where a command may stand and no group of targets stands, the first word says what begins
-command_there : (place : Place) (ts : Tokens) (s : Start) → is_target_group ts ≡ false → allows_command place ≡ true → command_start ts ≡ s → other_start place ts ≡ s
+command_there : (place : Place) (ts : Tokens) (s : Start) → is_target_group ts ≡ false → allows_command place ≡ true
+    → command_start ts ≡ s → other_start place ts ≡ s
 command_there place ts s group may start =
     let free : (is_statement place && is_target_group ts) ≡ false = rw group (and_false (is_statement place)) in
     rw free (rw may start)
 
-jump_command : (ts : Tokens) (j : Jump) → jump_at (first ts) ≡ Some j → begins_value (first (behind ts)) ≡ true → command_start ts ≡ starts.Jump j
+jump_command : (ts : Tokens) (j : Jump) → jump_at (first ts) ≡ Some j → begins_value (first (behind ts)) ≡ true
+    → command_start ts ≡ starts.Jump j
 unfolding command_start
 jump_command ts j there begins = rw there (rw begins refl)
 
-jump_there : (place : Place) (ts : Tokens) (j : Jump) → jump_at (first ts) ≡ Some j → allows_command place ≡ true → begins_value (first (behind ts)) ≡ true → start_at place ts ≡ starts.Jump j
+jump_there : (place : Place) (ts : Tokens) (j : Jump) → jump_at (first ts) ≡ Some j → allows_command place ≡ true
+    → begins_value (first (behind ts)) ≡ true → start_at place ts ≡ starts.Jump j
 unfolding start_at
 jump_there place ts j there may begins =
     let w = jumps (first ts) j there in
     w.start place ts ∙ command_there place ts (starts.Jump j) (rw w.group refl) may (jump_command ts j there begins)
 
-yield_command : (ts : Tokens) → first ts ≡ words.Key keywords.Yield → begins_value (first (behind ts)) ≡ true → opens_arguments (behind ts) ≡ false → command_start ts ≡ starts.Yield
+yield_command : (ts : Tokens) → first ts ≡ words.Key keywords.Yield → begins_value (first (behind ts)) ≡ true
+    → opens_arguments (behind ts) ≡ false → command_start ts ≡ starts.Yield
 unfolding command_start
 yield_command ts is begins closed = rw is (rw begins (rw closed refl))
 
-yield_other : (w : Word) (place : Place) (ts : Tokens) → w ≡ words.Key keywords.Yield → start_of w place ts ≡ other_start place ts
+yield_other : (w : Word) (place : Place) (ts : Tokens) → w ≡ words.Key keywords.Yield
+    → start_of w place ts ≡ other_start place ts
 yield_other w place ts e = rw e refl
 
-yield_there : (place : Place) (ts : Tokens) → first ts ≡ words.Key keywords.Yield → allows_command place ≡ true → begins_value (first (behind ts)) ≡ true → opens_arguments (behind ts) ≡ false → start_at place ts ≡ starts.Yield
+yield_there : (place : Place) (ts : Tokens) → first ts ≡ words.Key keywords.Yield → allows_command place ≡ true
+    → begins_value (first (behind ts)) ≡ true → opens_arguments (behind ts) ≡ false → start_at place ts ≡ starts.Yield
 unfolding start_at
 yield_there place ts is may begins closed =
     let same : start_of (first ts) place ts ≡ other_start place ts = yield_other (first ts) place ts is in
     same ∙ command_there place ts starts.Yield (rw is refl) may (yield_command ts is begins closed)
 
 -- no block stands where an argument begins
-word_no_block : (takes : Bool) (w : Word) → not (is_open_brace w) ≡ true → begins_value w ≡ true → block_of takes w ≡ None
+word_no_block : (takes : Bool) (w : Word) → not (is_open_brace w) ≡ true → begins_value w ≡ true
+    → block_of takes w ≡ None
 word_no_block takes (words.Mark marks.OpenBrace) h g = differs (sym h)
 word_no_block takes (words.Key keywords.Do) h g = differs (sym g)
 word_no_block takes w h g = refl
@@ -89,8 +117,11 @@ argument_no_block owner ts h =
     word_no_block (call_takes owner) (first ts) a.0 c.0
 
 module _ (place : Place) (owner : DoOwner) (names : Names) (ts : Tokens) where
-  pub jump_list_fact : (j : Jump) (known : Names) (rest : Tokens) (l : ListNode) → jump_at (first ts) ≡ Some j → allows_command place ≡ true → begins_value (first (behind ts)) ≡ true → Fact (Listing owner l) names (behind ts) known rest
-      → is_none l.block ≡ true → Fact (Command place owner (jump_node j (whole_items l.items l.pairs))) names ts known rest
+  pub jump_list_fact : (j : Jump) (known : Names) (rest : Tokens) (l : ListNode) → jump_at (first ts) ≡ Some j
+      → allows_command place ≡ true → begins_value (first (behind ts)) ≡ true
+      → Fact (Listing owner l) names (behind ts) known rest
+      → is_none l.block ≡ true → Fact (Command place owner (jump_node j (whole_items l.items l.pairs))) names ts known
+      rest
   unfolding part_at phrase_by jump_list
   jump_list_fact j known rest l there may begun inner none =
       let w = jumps (first ts) j there in
@@ -107,8 +138,10 @@ module _ (place : Place) (owner : DoOwner) (names : Names) (ts : Tokens) where
         ),
       )
 
-  pub yield_list_fact : (known : Names) (rest : Tokens) (l : ListNode) → first ts ≡ words.Key keywords.Yield → allows_command place ≡ true → begins_value (first (behind ts)) ≡ true → opens_arguments (behind ts) ≡ false
-      → Fact (Listing (in_command owner) l) names (behind ts) known rest → is_none l.block ≡ true → Fact (Command place owner (node.yield_node (items_of (whole_items l.items l.pairs)))) names ts known rest
+  pub yield_list_fact : (known : Names) (rest : Tokens) (l : ListNode) → first ts ≡ words.Key keywords.Yield
+      → allows_command place ≡ true → begins_value (first (behind ts)) ≡ true → opens_arguments (behind ts) ≡ false
+      → Fact (Listing (in_command owner) l) names (behind ts) known rest → is_none l.block ≡ true
+      → Fact (Command place owner (node.yield_node (items_of (whole_items l.items l.pairs)))) names ts known rest
   unfolding part_at phrase_by jump_list
   yield_list_fact known rest l is may begins closed inner none =
       let one = word_taken (words.Key keywords.Yield) ts is refl in
@@ -119,7 +152,8 @@ module _ (place : Place) (owner : DoOwner) (names : Names) (ts : Tokens) where
           rw is refl,
           λ group free.
               let started = yield_there place ts is may begins closed in
-              let read = list_below d names known (behind ts) rest (in_command owner) l (omega arith) inner (omega arith) free in
+              let read = list_below d names known (behind ts) rest (in_command owner) l (omega arith) inner
+              (omega arith) free in
               rw started (rw read (rw none refl)),
         ),
       )

@@ -25,32 +25,40 @@ use Rattle.parser_laws.specs.Rules.{Statements, Block, MethodParameters, Body, P
 use Rattle.parser_laws.proofs.Results.{differs}
 use Rattle.parser_laws.proofs.Facts.{Fact, levels_at, word_taken, behind_within, at_once}
 
-mark_block : (takes : Bool) (p : Punctuator) (style : BlockStyle) → block_of takes (words.Mark p) ≡ Some style → (begins_parameter (words.Mark p) ≡ false) × (is_open_parenthesis (words.Mark p) ≡ false)
+mark_block : (takes : Bool) (p : Punctuator) (style : BlockStyle) → block_of takes (words.Mark p) ≡ Some style
+    → (begins_parameter (words.Mark p) ≡ false) × (is_open_parenthesis (words.Mark p) ≡ false)
 mark_block takes marks.OpenBrace style h = (refl, refl)
 mark_block takes p style h = differs (sym (ap is_some h))
 
 -- what begins a block begins no parameters
-word_block : (takes : Bool) (w : Word) (style : BlockStyle) → block_of takes w ≡ Some style → (begins_parameter w ≡ false) × (is_open_parenthesis w ≡ false)
+word_block : (takes : Bool) (w : Word) (style : BlockStyle) → block_of takes w ≡ Some style
+    → (begins_parameter w ≡ false) × (is_open_parenthesis w ≡ false)
 word_block takes (words.Mark p) style h = mark_block takes p style h
 word_block takes (words.Key k) style h = (refl, refl)
 word_block takes w style h = differs (sym (ap is_some h))
 
 -- no parameters stand before a block
-none_read : (i : Inside) (names : Names) (ts : Tokens) (owner : DoOwner) (style : BlockStyle) → lambda_block_at owner ts ≡ Some style → open_parameters i names ts ≡ Ok (no_parameters, names, ts)
+none_read : (i : Inside) (names : Names) (ts : Tokens) (owner : DoOwner) (style : BlockStyle)
+    → lambda_block_at owner ts ≡ Some style → open_parameters i names ts ≡ Ok (no_parameters, names, ts)
 unfolding open_parameters
 none_read i names ts owner style there =
     let w = word_block (lambda_takes owner) (first ts) style there in
-    let none : parameters_from i (length ts + 1) true false no_parameters names ts ≡ Ok ((no_parameters, false), names, ts) =
+    let none : parameters_from i (length ts + 1) true false no_parameters names ts ≡ Ok
+    ((no_parameters, false), names, ts) =
     parameters_step i (length ts + 1) true false no_parameters names ts (omega arith) ∙ rw w.0 refl in
     rw w.1 (rw none refl)
 
-lambda_read : (i : Inside) (names known : Names) (ts rest : Tokens) (owner : DoOwner) (style : BlockStyle) (b : BlockNode) → lambda_block_at owner ts ≡ Some style → block i names ts style ≡ Ok (b, known, rest)
+lambda_read : (i : Inside) (names known : Names) (ts rest : Tokens) (owner : DoOwner) (style : BlockStyle)
+    (b : BlockNode) → lambda_block_at owner ts ≡ Some style → block i names ts style ≡ Ok (b, known, rest)
     → lambda i names ts owner ≡ Ok (node.lambda b.0, known, rest)
 unfolding lambda block
-lambda_read i names known ts rest owner style b there read = rw (none_read i names ts owner style there) (rw there (rw read refl))
+lambda_read i names known ts rest owner style b there read =
+    rw (none_read i names ts owner style there) (rw there (rw read refl))
 
-pub lambda_fact : (place : Place) (owner : DoOwner) (style : BlockStyle) (names known : Names) (ts rest : Tokens) (b : BlockNode) → first ts ≡ words.Mark marks.LambdaArrow → lambda_block_at owner (behind ts) ≡ Some style
-    → Fact (Block style b) names (behind ts) known rest → Fact (PrimaryRule place owner (node.lambda b.0)) names ts known rest
+pub lambda_fact : (place : Place) (owner : DoOwner) (style : BlockStyle) (names known : Names) (ts rest : Tokens)
+    (b : BlockNode) → first ts ≡ words.Mark marks.LambdaArrow → lambda_block_at owner (behind ts) ≡ Some style
+    → Fact (Block style b) names (behind ts) known rest
+    → Fact (PrimaryRule place owner (node.lambda b.0)) names ts known rest
 unfolding primary_at primary_by compound
 lambda_fact place owner style names known ts rest b is there inner =
     let one = word_taken (words.Mark marks.LambdaArrow) ts is refl in
@@ -58,16 +66,22 @@ lambda_fact place owner style names known ts rest b is there inner =
       omega arith,
       rw is refl,
       λ d room. at_once (levels d) place owner names known ts rest (node.lambda b.0) (
-          rw is (rw (lambda_read (levels d) names known (behind ts) rest owner style b there (inner.2 d (omega arith))) refl)),
+          rw is (rw (lambda_read (levels d) names known (behind ts) rest owner style b there (inner.2 d (omega arith)))
+          refl)),
     )
 
-module _ (place : Place) (owner : DoOwner) (names known later : Names) (ts rest more : Tokens) (l : ParameterNodes) (n : Node) (is : first ts ≡ words.Mark marks.LambdaArrow) (none : lambda_block_at owner (behind ts) ≡ None)
+module _ (place : Place) (owner : DoOwner) (names known later : Names) (ts rest more : Tokens) (l : ParameterNodes)
+    (n : Node) (is : first ts ≡ words.Mark marks.LambdaArrow) (none : lambda_block_at owner (behind ts) ≡ None)
     (parameters : Fact (MethodParameters l) names (behind ts) known rest) where
-  parameters_read : (d : ℕ) → 0 < d → length (behind ts) ≤ d - 1 → open_parameters (levels d) names (behind ts) ≡ Ok (l, known, rest)
-  parameters_read d some room = subst (λ (i : Inside). open_parameters i names (behind ts) ≡ Ok (l, known, rest)) (sym (levels_at d some)) (parameters.2 (d - 1) room)
+  parameters_read : (d : ℕ) → 0 < d → length (behind ts) ≤ d - 1
+      → open_parameters (levels d) names (behind ts) ≡ Ok (l, known, rest)
+  parameters_read d some room = subst (λ (i : Inside). open_parameters i names (behind ts) ≡ Ok (l, known, rest))
+      (sym (levels_at d some)) (parameters.2 (d - 1) room)
 
-  pub lambda_braces : first rest ≡ words.Mark marks.OpenBrace → Fact (Statements n) known (behind rest) later more → first more ≡ words.Mark marks.CloseBrace
-      → Fact (PrimaryRule place owner (node.lambda (definition_of l (locals_from (length names) later) n))) names ts (take (length names) later) (behind more)
+  pub lambda_braces : first rest ≡ words.Mark marks.OpenBrace → Fact (Statements n) known (behind rest) later more
+      → first more ≡ words.Mark marks.CloseBrace
+      → Fact (PrimaryRule place owner (node.lambda (definition_of l (locals_from (length names) later) n))) names ts
+      (take (length names) later) (behind more)
   unfolding primary_at primary_by compound lambda
   lambda_braces brace inner closing =
       let one_less = word_taken (words.Mark marks.LambdaArrow) ts is refl in
@@ -77,14 +91,17 @@ module _ (place : Place) (owner : DoOwner) (names known later : Names) (ts rest 
       let b = inner.0 in (
         omega arith,
         rw is refl,
-        λ d room. at_once (levels d) place owner names (take (length names) later) ts (behind more) (node.lambda (definition_of l (locals_from (length names) later) n)) (
+        λ d room. at_once (levels d) place owner names (take (length names) later) ts (behind more)
+            (node.lambda (definition_of l (locals_from (length names) later) n)) (
             let below : (levels d).statements known (behind rest) ≡ Ok (n, later, more) =
-            ap (λ (i : Inside). i.statements known (behind rest)) (levels_at d (omega arith)) ∙ inner.2 (d - 1) (omega arith) in
+            ap (λ (i : Inside). i.statements known (behind rest)) (levels_at d (omega arith))
+            ∙ inner.2 (d - 1) (omega arith) in
             rw is (rw (parameters_read d (omega arith) (omega arith)) (rw (none, brace) (rw below (rw closing refl))))),
       )
 
   pub lambda_do : lambda_block_at owner rest ≡ Some styles.Do → Fact (Body n) known (behind rest) later more
-      → Fact (PrimaryRule place owner (node.lambda (definition_of l (locals_from (length names) later) n))) names ts (take (length names) later) more
+      → Fact (PrimaryRule place owner (node.lambda (definition_of l (locals_from (length names) later) n))) names ts
+      (take (length names) later) more
   unfolding primary_at primary_by compound lambda
   lambda_do style inner =
       let one_less = word_taken (words.Mark marks.LambdaArrow) ts is refl in
@@ -93,8 +110,10 @@ module _ (place : Place) (owner : DoOwner) (names known later : Names) (ts rest 
       let b = inner.0 in (
         omega arith,
         rw is refl,
-        λ d room. at_once (levels d) place owner names (take (length names) later) ts more (node.lambda (definition_of l (locals_from (length names) later) n)) (
+        λ d room. at_once (levels d) place owner names (take (length names) later) ts more
+            (node.lambda (definition_of l (locals_from (length names) later) n)) (
             let read : body (levels d) known (behind rest) ≡ Ok (n, later, more) =
-            subst (λ (i : Inside). body i known (behind rest) ≡ Ok (n, later, more)) (sym (levels_at d (omega arith))) (inner.2 (d - 1) (omega arith)) in
+            subst (λ (i : Inside). body i known (behind rest) ≡ Ok (n, later, more)) (sym (levels_at d (omega arith)))
+            (inner.2 (d - 1) (omega arith)) in
             rw is (rw (parameters_read d (omega arith) (omega arith)) (rw (none, style) (rw read refl)))),
       )

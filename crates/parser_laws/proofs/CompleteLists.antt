@@ -28,22 +28,30 @@ use Rattle.parser_laws.proofs.Results.{differs, and_false}
 use Rattle.parser_laws.proofs.Facts.{is_command_part, Fact, word_taken}
 use Rattle.parser_laws.proofs.Heads.{word_begins}
 
-part_group : (alone : Bool) (place : Place) (ts : Tokens) → part_place alone ≡ place → (is_statement place && is_target_group ts) ≡ false
+part_group : (alone : Bool) (place : Place) (ts : Tokens) → part_place alone ≡ place
+    → (is_statement place && is_target_group ts) ≡ false
 part_group true place ts e = subst (λ p. (is_statement p && is_target_group ts) ≡ false) e refl
 part_group false place ts e = subst (λ p. (is_statement p && is_target_group ts) ≡ false) e refl
 
 -- a value as an argument
-argument_of : (d : ℕ) (names known : Names) (ts rest : Tokens) (owner : DoOwner) (n : Node) → Fact (Argument places.Argument owner n) names ts known rest → length ts ≤ d → argument (levels d) names ts owner ≡ Ok (n, known, rest)
+argument_of : (d : ℕ) (names known : Names) (ts rest : Tokens) (owner : DoOwner) (n : Node)
+    → Fact (Argument places.Argument owner n) names ts known rest → length ts ≤ d
+    → argument (levels d) names ts owner ≡ Ok (n, known, rest)
 argument_of d names known ts rest owner n inner room = rw (inner.2 d room refl refl) refl
 
 module _ (place : Place) (owner : DoOwner) (names : Names) (ts : Tokens) where
   -- a value where a part stands
-  part_value : (d : ℕ) (known : Names) (rest : Tokens) (n : Node) → Fact (Argument place owner n) names ts known rest → length ts ≤ d → (allows_command place && is_some (assignment_at (first rest))) ≡ false
-      → (alone : Bool) → part_place alone ≡ place → phrase (levels d) names ts (part_place alone) owner ≡ Ok ((n, sorts.Argument), known, rest)
+  part_value : (d : ℕ) (known : Names) (rest : Tokens) (n : Node) → Fact (Argument place owner n) names ts known rest
+      → length ts ≤ d → (allows_command place && is_some (assignment_at (first rest))) ≡ false
+      → (alone : Bool) → part_place alone ≡ place
+      → phrase (levels d) names ts (part_place alone) owner ≡ Ok ((n, sorts.Argument), known, rest)
   part_value d known rest n inner room calm alone e =
-      subst (λ q. phrase (levels d) names ts q owner ≡ Ok ((n, sorts.Argument), known, rest)) (sym e) (inner.2 d room (part_group alone place ts e) calm)
+      subst (λ q. phrase (levels d) names ts q owner ≡ Ok ((n, sorts.Argument), known, rest)) (sym e)
+      (inner.2 d room (part_group alone place ts e) calm)
 
-  pub plain_fact : (known : Names) (rest : Tokens) (n : Node) → Fact (Argument place owner n) names ts known rest → part_at ts ≡ parts.Value → is_arrow_word (first rest) ≡ false → Fact (Part place owner (plain_part n)) names ts known rest
+  pub plain_fact : (known : Names) (rest : Tokens) (n : Node) → Fact (Argument place owner n) names ts known rest
+      → part_at ts ≡ parts.Value → is_arrow_word (first rest) ≡ false
+      → Fact (Part place owner (plain_part n)) names ts known rest
   unfolding part_by
   plain_fact known rest n inner value arrow = (
     inner.0,
@@ -56,8 +64,11 @@ module _ (place : Place) (owner : DoOwner) (names : Names) (ts : Tokens) where
     ),
   )
 
-  pub pair_fact : (known later : Names) (rest more : Tokens) (key n : Node) → Fact (Argument place owner key) names ts known rest → part_at ts ≡ parts.Value → first rest ≡ words.Mark marks.Arrow
-      → Fact (Argument places.Argument owner n) known (behind rest) later more → Fact (Part place owner (pair_part key n)) names ts later more
+  pub pair_fact : (known later : Names) (rest more : Tokens) (key n : Node)
+      → Fact (Argument place owner key) names ts known rest → part_at ts ≡ parts.Value
+      → first rest ≡ words.Mark marks.Arrow
+      → Fact (Argument places.Argument owner n) known (behind rest) later more
+      → Fact (Part place owner (pair_part key n)) names ts later more
   unfolding part_by
   pair_fact known later rest more key n inner one_value there value =
       let one = word_taken (words.Mark marks.Arrow) rest there refl in
@@ -68,14 +79,16 @@ module _ (place : Place) (owner : DoOwner) (names : Names) (ts : Tokens) where
         λ d room. (
           refl,
           λ calm alone e.
-              let still : (allows_command place && is_some (assignment_at (first rest))) ≡ false = rw there (and_false (allows_command place)) in
+              let still : (allows_command place && is_some (assignment_at (first rest))) ≡ false =
+              rw there (and_false (allows_command place)) in
               let read = part_value d known rest key inner room still alone e in
               let right = argument_of d known later (behind rest) more owner n value (omega arith) in
               rw (one_value, read) (rw there (rw right refl)),
         ),
       )
 
-  pub label_fact : (known : Names) (rest : Tokens) (n : Node) → first ts ≡ words.Label → Fact (Argument places.Argument owner n) names (behind ts) known rest
+  pub label_fact : (known : Names) (rest : Tokens) (n : Node) → first ts ≡ words.Label
+      → Fact (Argument places.Argument owner n) names (behind ts) known rest
       → Fact (Part place owner (pair_part (node.symbol (bytes_at ts)) n)) names ts known rest
   unfolding part_by part_at
   label_fact known rest n is inner =
@@ -83,11 +96,19 @@ module _ (place : Place) (owner : DoOwner) (names : Names) (ts : Tokens) where
       let fewer = inner.0 in (
         omega arith,
         rw is refl,
-        λ d room. (refl, λ calm alone e. let right = argument_of d names known (behind ts) rest owner n inner (omega arith) in rw is (rw right refl)),
+        λ d room. (
+          refl,
+          λ calm alone e. let right =
+              argument_of d names known (behind ts) rest owner n inner (omega arith) in rw is (rw right refl),
+        ),
       )
 
-  pub quoted_fact : (known later : Names) (rest more : Tokens) (ns : List Node) (n : Node) → first ts ≡ words.StringBegin → is_quoted_key ts ≡ true → Fact (Pieces ns) names (behind ts) known rest → first rest ≡ words.Other outsides.QuotedLabel
-      → Fact (Argument places.Argument owner n) known (behind rest) later more → Fact (Part place owner (pair_part (outside_node outsides.QuotedLabel (place_at rest) (node.text (nodes ns))) n)) names ts later more
+  pub quoted_fact : (known later : Names) (rest more : Tokens) (ns : List Node) (n : Node)
+      → first ts ≡ words.StringBegin → is_quoted_key ts ≡ true → Fact (Pieces ns) names (behind ts) known rest
+      → first rest ≡ words.Other outsides.QuotedLabel
+      → Fact (Argument places.Argument owner n) known (behind rest) later more
+      → Fact (Part place owner (pair_part (outside_node outsides.QuotedLabel (place_at rest) (node.text (nodes ns)))
+      n)) names ts later more
   unfolding part_by part_at
   quoted_fact known later rest more ns n is key inner closing value =
       let one = word_taken words.StringBegin ts is refl in
@@ -99,41 +120,60 @@ module _ (place : Place) (owner : DoOwner) (names : Names) (ts : Tokens) where
         λ d room. (
           refl,
           λ calm alone e.
-              let read : pieces_from (levels d) (length (behind ts) + 1) [] names (behind ts) ≡ Ok (ns, known, rest) = inner.2 d (omega arith) (length (behind ts) + 1) [] (omega arith) in
+              let read : pieces_from (levels d) (length (behind ts) + 1) [] names (behind ts) ≡ Ok (ns, known, rest) =
+              inner.2 d (omega arith) (length (behind ts) + 1) [] (omega arith) in
               let right = argument_of d known later (behind rest) more owner n value (omega arith) in
               rw (is, key) (rw read (rw closing (rw right refl))),
         ),
       )
 
-  pub splat_fact : (known : Names) (rest : Tokens) (n : Node) → first ts ≡ words.Mark marks.Star → Fact (Argument places.Argument owner n) names (behind ts) known rest → Fact (Part place owner (splat_part n)) names ts known rest
+  pub splat_fact : (known : Names) (rest : Tokens) (n : Node) → first ts ≡ words.Mark marks.Star
+      → Fact (Argument places.Argument owner n) names (behind ts) known rest
+      → Fact (Part place owner (splat_part n)) names ts known rest
   unfolding part_by part_at
   splat_fact known rest n is inner =
       let one = word_taken (words.Mark marks.Star) ts is refl in
       let fewer = inner.0 in (
         omega arith,
         rw is refl,
-        λ d room. (refl, λ calm alone e. let right = argument_of d names known (behind ts) rest owner n inner (omega arith) in rw is (rw right refl)),
+        λ d room. (
+          refl,
+          λ calm alone e. let right =
+              argument_of d names known (behind ts) rest owner n inner (omega arith) in rw is (rw right refl),
+        ),
       )
 
-  pub double_splat_fact : (known : Names) (rest : Tokens) (n : Node) → first ts ≡ words.Mark marks.StarStar → Fact (Argument places.Argument owner n) names (behind ts) known rest
-      → Fact (Part place owner (pair_part (outside_node outsides.DoubleSplat (place_at ts) n) node.nil)) names ts known rest
+  pub double_splat_fact : (known : Names) (rest : Tokens) (n : Node) → first ts ≡ words.Mark marks.StarStar
+      → Fact (Argument places.Argument owner n) names (behind ts) known rest
+      → Fact (Part place owner (pair_part (outside_node outsides.DoubleSplat (place_at ts) n) node.nil)) names ts known
+      rest
   unfolding part_by part_at
   double_splat_fact known rest n is inner =
       let one = word_taken (words.Mark marks.StarStar) ts is refl in
       let fewer = inner.0 in (
         omega arith,
         rw is refl,
-        λ d room. (refl, λ calm alone e. let right = argument_of d names known (behind ts) rest owner n inner (omega arith) in rw is (rw right refl)),
+        λ d room. (
+          refl,
+          λ calm alone e. let right =
+              argument_of d names known (behind ts) rest owner n inner (omega arith) in rw is (rw right refl),
+        ),
       )
 
-  pub block_fact : (known : Names) (rest : Tokens) (n : Node) → first ts ≡ words.Mark marks.Ampersand → Fact (Argument places.Argument owner n) names (behind ts) known rest → Fact (Part place owner (block_part n)) names ts known rest
+  pub block_fact : (known : Names) (rest : Tokens) (n : Node) → first ts ≡ words.Mark marks.Ampersand
+      → Fact (Argument places.Argument owner n) names (behind ts) known rest
+      → Fact (Part place owner (block_part n)) names ts known rest
   unfolding part_by part_at
   block_fact known rest n is inner =
       let one = word_taken (words.Mark marks.Ampersand) ts is refl in
       let fewer = inner.0 in (
         omega arith,
         rw is refl,
-        λ d room. (refl, λ calm alone e. let right = argument_of d names known (behind ts) rest owner n inner (omega arith) in rw is (rw right refl)),
+        λ d room. (
+          refl,
+          λ calm alone e. let right =
+              argument_of d names known (behind ts) rest owner n inner (omega arith) in rw is (rw right refl),
+        ),
       )
 
 -- a part behind the others, without regard to the comma before it
@@ -151,7 +191,8 @@ put_keeps (splat_part n) l = refl
 put_keeps (pair_part k v) l = refl
 put_keeps (block_part n) l = refl
 
-pub put_comma : (p : PartNode) (l : ListNode) (c : Bool) → with_comma c (put p (with_comma true l)) ≡ with_comma c (put p l)
+pub put_comma : (p : PartNode) (l : ListNode) (c : Bool)
+    → with_comma c (put p (with_comma true l)) ≡ with_comma c (put p l)
 put_comma (command_part n) l c = refl
 put_comma (plain_part n) l c = refl
 put_comma (splat_part n) l c = refl
@@ -176,22 +217,30 @@ pub no_comma : (l : ListNode) → l.comma ≡ false → with_comma false l ≡ l
 no_comma l h = ap (λ b. with_comma b l) (sym h)
 
 -- a part, and the comma behind it
-next_read : (i : Inside) (alone : Bool) (found : ListNode) (names known : Names) (ts rest : Tokens) (owner : DoOwner) (p : PartNode) → part i alone names ts owner ≡ Ok (p, known, rest) → may_follow p found ≡ true → (put p found).command ≡ false
-    → next_part i alone found names ts owner ≡ Ok (with_comma (is_comma_word (first rest)) (put p found), known, skip_if (is_comma_word (first rest)) rest)
+next_read : (i : Inside) (alone : Bool) (found : ListNode) (names known : Names) (ts rest : Tokens) (owner : DoOwner)
+    (p : PartNode) → part i alone names ts owner ≡ Ok (p, known, rest) → may_follow p found ≡ true
+    → (put p found).command ≡ false
+    → next_part i alone found names ts owner ≡ Ok
+    (with_comma (is_comma_word (first rest)) (put p found), known, skip_if (is_comma_word (first rest)) rest)
 unfolding next_part
 next_read i alone found names known ts rest owner p read follows plain =
-    let free : (is_comma_word (first rest) && (put p found).command) ≡ false = rw plain (and_false (is_comma_word (first rest))) in
+    let free : (is_comma_word (first rest) && (put p found).command) ≡ false =
+    rw plain (and_false (is_comma_word (first rest))) in
     rw read (rw follows (rw free refl))
 
 -- a turn of the list
-turn : (i : Inside) (n : ℕ) (alone : Bool) (found : ListNode) (names known : Names) (ts rest : Tokens) (owner : DoOwner) (p : PartNode) → 0 < n → begins_value (first ts) ≡ true → part i alone names ts owner ≡ Ok (p, known, rest)
+turn : (i : Inside) (n : ℕ) (alone : Bool) (found : ListNode) (names known : Names) (ts rest : Tokens) (owner : DoOwner)
+    (p : PartNode) → 0 < n → begins_value (first ts) ≡ true → part i alone names ts owner ≡ Ok (p, known, rest)
     → may_follow p found ≡ true → (put p found).command ≡ false
-    → list_from i n owner alone true found names ts ≡ list_from i (n - 1) owner false (is_comma_word (first rest)) (with_comma (is_comma_word (first rest)) (put p found)) known (skip_if (is_comma_word (first rest)) rest)
+    → list_from i n owner alone true found names ts ≡ list_from i (n - 1) owner false (is_comma_word (first rest))
+    (with_comma (is_comma_word (first rest)) (put p found)) known (skip_if (is_comma_word (first rest)) rest)
 turn i n alone found names known ts rest owner p some begins read follows plain =
     let made = next_read i alone found names known ts rest owner p read follows plain in
     list_step i n owner alone true found names ts some ∙ rw begins (rw made refl)
 
-pub first_part : (owner : DoOwner) (names known : Names) (ts rest : Tokens) (p : PartNode) → Fact (Part places.Command owner p) names ts known rest → Fact (Parts owner (put p nothing_listed)) names ts known rest
+pub first_part : (owner : DoOwner) (names known : Names) (ts rest : Tokens) (p : PartNode)
+    → Fact (Part places.Command owner p) names ts known rest
+    → Fact (Parts owner (put p nothing_listed)) names ts known rest
 first_part owner names known ts rest p inner =
     let l = inner.0 in (
       l,
@@ -202,13 +251,20 @@ first_part owner names known ts rest p inner =
             plain,
             put_keeps p nothing_listed,
             λ none n enough.
-                let calm : (allows_command places.Command && is_some (assignment_at (first rest))) ≡ false = rw none refl in
-                (n - 1, omega arith, turn (levels d) n true nothing_listed names known ts rest owner p (omega arith) inner.1 (r.1 calm true refl) (first_follows p) plain),
+                let calm : (allows_command places.Command && is_some (assignment_at (first rest))) ≡ false =
+                rw none refl in (
+                  n - 1,
+                  omega arith,
+                  turn (levels d) n true nothing_listed names known ts rest owner p (omega arith)
+                      inner.1 (r.1 calm true refl) (first_follows p) plain,
+                ),
           ),
     )
 
-pub next_fact : (owner : DoOwner) (names known later : Names) (ts rest more : Tokens) (p : PartNode) (l : ListNode) → Fact (Parts owner l) names ts known rest → first rest ≡ words.Mark marks.Comma
-    → Fact (Part places.Argument owner p) known (behind rest) later more → may_follow p l ≡ true → Fact (Parts owner (put p l)) names ts later more
+pub next_fact : (owner : DoOwner) (names known later : Names) (ts rest more : Tokens) (p : PartNode) (l : ListNode)
+    → Fact (Parts owner l) names ts known rest → first rest ≡ words.Mark marks.Comma
+    → Fact (Part places.Argument owner p) known (behind rest) later more → may_follow p l ≡ true
+    → Fact (Parts owner (put p l)) names ts later more
 next_fact owner names known later ts rest more p l before there inner follows =
     let one = word_taken (words.Mark marks.Comma) rest there refl in
     let b = before.0 in
@@ -224,18 +280,31 @@ next_fact owner names known later ts rest more p l before there inner follows =
                 let t = f.2 (rw there refl) n enough in
                 let some = t.1 in
                 let comma : is_comma_word (first rest) ≡ true = rw there refl in
-                let behind_comma : list_from (levels d) n owner true true nothing_listed names ts ≡ list_from (levels d) t.0 owner false true (with_comma true l) known (behind rest) =
-                subst (λ c. list_from (levels d) n owner true true nothing_listed names ts ≡ list_from (levels d) t.0 owner false c (with_comma c l) known (skip_if c rest)) comma t.2 in
-                let made = turn (levels d) t.0 false (with_comma true l) known later (behind rest) more owner p (omega arith) inner.1 (g.1 refl false refl) (follow_comma p l ∙ follows) (put_command p (with_comma true l) g.0 ∙ f.0) in
-                let same = ap (λ (x : ListNode). list_from (levels d) (t.0 - 1) owner false (is_comma_word (first more)) x later (skip_if (is_comma_word (first more)) more)) (put_comma p l (is_comma_word (first more))) in
+                let behind_comma : list_from (levels d) n owner true true nothing_listed names ts ≡ list_from (levels d)
+                t.0 owner false true (with_comma true l) known (behind rest) =
+                subst (λ c. list_from (levels d) n owner true true nothing_listed names ts ≡ list_from (levels d) t.0
+                owner false c (with_comma c l) known (skip_if c rest)) comma t.2 in
+                let made = turn (levels d) t.0 false (with_comma true l) known later (behind rest) more owner p
+                (omega arith) inner.1 (g.1 refl false refl) (follow_comma p l ∙ follows)
+                (put_command p (with_comma true l) g.0 ∙ f.0) in
+                let same = ap (λ (x : ListNode). list_from (levels d) (t.0 - 1) owner false (is_comma_word (first more))
+                x later (skip_if (is_comma_word (first more)) more)) (put_comma p l (is_comma_word (first more))) in
                 (t.0 - 1, omega arith, behind_comma ∙ made ∙ same),
           ),
     )
 
-pub no_part : (owner : DoOwner) (names : Names) (ts : Tokens) → begins_value (first ts) ≡ false → Fact (Listing owner nothing_listed) names ts names ts
-no_part owner names ts none = (omega arith, refl, λ d room calm. list_step (levels d) (length ts + 1) owner true true nothing_listed names ts (omega arith) ∙ rw none refl)
+pub no_part : (owner : DoOwner) (names : Names) (ts : Tokens) → begins_value (first ts) ≡ false
+    → Fact (Listing owner nothing_listed) names ts names ts
+no_part owner names ts none = (
+  omega arith,
+  refl,
+  λ d room calm. list_step (levels d) (length ts + 1) owner true true nothing_listed names ts (omega arith)
+      ∙ rw none refl,
+)
 
-pub all_parts : (owner : DoOwner) (names known : Names) (ts rest : Tokens) (l : ListNode) → Fact (Parts owner l) names ts known rest → is_comma_word (first rest) ≡ false → Fact (Listing owner l) names ts known rest
+pub all_parts : (owner : DoOwner) (names known : Names) (ts rest : Tokens) (l : ListNode)
+    → Fact (Parts owner l) names ts known rest → is_comma_word (first rest) ≡ false
+    → Fact (Listing owner l) names ts known rest
 all_parts owner names known ts rest l inner ends =
     let b = inner.0 in (
       omega arith,
@@ -244,12 +313,17 @@ all_parts owner names known ts rest l inner ends =
           let f = inner.2 d room in
           let t = f.2 none (length ts + 1) (omega arith) in
           let some = t.1 in
-          let read : list_from (levels d) (length ts + 1) owner true true nothing_listed names ts ≡ list_from (levels d) t.0 owner false false (with_comma false l) known rest =
-          subst (λ c. list_from (levels d) (length ts + 1) owner true true nothing_listed names ts ≡ list_from (levels d) t.0 owner false c (with_comma c l) known (skip_if c rest)) ends t.2 in
-          read ∙ list_step (levels d) t.0 owner false false (with_comma false l) known rest (omega arith) ∙ ap (λ (x : ListNode). Ok (x, known, rest)) (no_comma l f.1),
+          let read : list_from (levels d) (length ts + 1) owner true true nothing_listed names ts ≡ list_from (levels d)
+          t.0 owner false false (with_comma false l) known rest =
+          subst (λ c. list_from (levels d) (length ts + 1) owner true true nothing_listed names ts ≡ list_from
+          (levels d) t.0 owner false c (with_comma c l) known (skip_if c rest)) ends t.2 in
+          read ∙ list_step (levels d) t.0 owner false false (with_comma false l) known rest (omega arith)
+          ∙ ap (λ (x : ListNode). Ok (x, known, rest)) (no_comma l f.1),
     )
 
-pub last_comma : (owner : DoOwner) (names known : Names) (ts rest : Tokens) (l : ListNode) → Fact (Parts owner l) names ts known rest → first rest ≡ words.Mark marks.Comma → begins_value (first (behind rest)) ≡ false
+pub last_comma : (owner : DoOwner) (names known : Names) (ts rest : Tokens) (l : ListNode)
+    → Fact (Parts owner l) names ts known rest → first rest ≡ words.Mark marks.Comma
+    → begins_value (first (behind rest)) ≡ false
     → Fact (Listing owner (with_comma true l)) names ts known (behind rest)
 last_comma owner names known ts rest l inner there ends =
     let b = inner.0 in
@@ -261,7 +335,10 @@ last_comma owner names known ts rest l inner there ends =
           let t = f.2 (rw there refl) (length ts + 1) (omega arith) in
           let some = t.1 in
           let comma : is_comma_word (first rest) ≡ true = rw there refl in
-          let read : list_from (levels d) (length ts + 1) owner true true nothing_listed names ts ≡ list_from (levels d) t.0 owner false true (with_comma true l) known (behind rest) =
-          subst (λ c. list_from (levels d) (length ts + 1) owner true true nothing_listed names ts ≡ list_from (levels d) t.0 owner false c (with_comma c l) known (skip_if c rest)) comma t.2 in
-          read ∙ list_step (levels d) t.0 owner false true (with_comma true l) known (behind rest) (omega arith) ∙ rw ends refl,
+          let read : list_from (levels d) (length ts + 1) owner true true nothing_listed names ts ≡ list_from (levels d)
+          t.0 owner false true (with_comma true l) known (behind rest) =
+          subst (λ c. list_from (levels d) (length ts + 1) owner true true nothing_listed names ts ≡ list_from
+          (levels d) t.0 owner false c (with_comma c l) known (skip_if c rest)) comma t.2 in
+          read ∙ list_step (levels d) t.0 owner false true (with_comma true l) known (behind rest) (omega arith)
+          ∙ rw ends refl,
     )

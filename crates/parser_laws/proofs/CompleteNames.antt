@@ -29,18 +29,24 @@ none_there None h = refl
 none_there (Some x) h = differs (sym h)
 
 module _ (place : Place) (owner : DoOwner) (ts : Tokens) (h : is_alone place owner ts ≡ true) where
-  alone_parts : (opens_arguments ts ≡ false) × (block_at owner ts ≡ None) × ((allows_command place && begins_argument ts) ≡ false)
+  alone_parts : (opens_arguments ts ≡ false) × (block_at owner ts ≡ None)
+      × ((allows_command place && begins_argument ts) ≡ false)
   alone_parts =
-      let p = and_parts (not (opens_arguments ts)) (is_blockless owner ts && not (allows_command place && begins_argument ts)) h in
-      let q = and_parts (is_blockless owner ts) (not (allows_command place && begins_argument ts)) p.1 in
-      (not_true (opens_arguments ts) p.0, none_there (block_at owner ts) q.0, not_true (allows_command place && begins_argument ts) q.1)
+      let p = and_parts (not (opens_arguments ts))
+      (is_blockless owner ts && not (allows_command place && begins_argument ts)) h in
+      let q = and_parts (is_blockless owner ts) (not (allows_command place && begins_argument ts)) p.1 in (
+        not_true (opens_arguments ts) p.0,
+        none_there (block_at owner ts) q.0,
+        not_true (allows_command place && begins_argument ts) q.1,
+      )
 
   -- a callee alone
   pub alone_read : (i : Inside) (c : CalleeNode) (names : Names) → suffix i c names ts owner ≡ Ok (callee c, names, ts)
   unfolding suffix
   alone_read i c names = rw (alone_parts.0, alone_parts.1) refl
 
-  pub alone_settled : (c : CalleeNode) → (is_target (callee c) && takes_target place (first ts)) ≡ false → Settled (callee c) place ts
+  pub alone_settled : (c : CalleeNode) → (is_target (callee c) && takes_target place (first ts)) ≡ false
+      → Settled (callee c) place ts
   alone_settled c free = (alone_parts.2, free)
 
 pub name_head : (w : Word) → is_name_word w ≡ true → is_head w ≡ true
@@ -64,9 +70,15 @@ opened_word ts h = by_word (first ts) (and_parts (is_open_parenthesis (first ts)
     by_word w g = differs (sym g)
 
 -- a name before arguments in parentheses is called
-pub name_primary : (names : Names) (ts : Tokens) (w : Word) → first ts ≡ w → is_name_word w ≡ true → opens_arguments (behind ts) ≡ true → primary_at names ts ≡ primaries.Name
+pub name_primary : (names : Names) (ts : Tokens) (w : Word) → first ts ≡ w → is_name_word w ≡ true
+    → opens_arguments (behind ts) ≡ true → primary_at names ts ≡ primaries.Name
 unfolding primary_at
-name_primary names ts words.Identifier there h opened = elim (cases_Bool (is_known (bytes_at ts) names)) [ inl known ↦ rw (there, known, opened) refl | inr other ↦ rw (there, other) refl ]
+name_primary names ts words.Identifier there h opened =
+    elim (cases_Bool (is_known (bytes_at ts) names)) [
+      | inl known ↦ rw (there, known, opened) refl
+      | inr other ↦
+          rw (there, other) refl
+    ]
 name_primary names ts words.Constant there h opened = rw (there, opened) refl
 name_primary names ts words.MethodName there h opened = rw there refl
 name_primary names ts w there h opened = differs (sym h)
@@ -75,37 +87,46 @@ pub same_constant : (w : Word) → operands.is_constant w ≡ is_constant w
 same_constant words.Constant = refl
 same_constant w = refl
 
-module _ (i : Inside) (n : Node) (names : Names) (ts : Tokens) (owner : DoOwner) (is : is_name_word (first (behind ts)) ≡ true) where
+module _ (i : Inside) (n : Node) (names : Names) (ts : Tokens) (owner : DoOwner)
+    (is : is_name_word (first (behind ts)) ≡ true) where
   -- a name behind . is a method
-  pub dot_named : postfixed i n postfixes.Dot names ts owner ≡ suffix i (method_callee n (bytes_at (behind ts)) false) names (behind (behind ts)) owner
+  pub dot_named : postfixed i n postfixes.Dot names ts owner ≡ suffix i (method_callee n (bytes_at (behind ts)) false)
+      names (behind (behind ts)) owner
   unfolding postfixed
   dot_named = let plain = name_plain (first (behind ts)) is in rw (plain.0, plain.1, is) refl
 
   -- so it is behind &.
-  pub safe_named : postfixed i n postfixes.Safe names ts owner ≡ suffix i (outside_callee outsides.SafeNavigation (place_at ts) (n ∷ [])) names (behind (behind ts)) owner
+  pub safe_named : postfixed i n postfixes.Safe names ts owner ≡ suffix i
+      (outside_callee outsides.SafeNavigation (place_at ts) (n ∷ [])) names (behind (behind ts)) owner
   unfolding postfixed
   safe_named = let plain = name_plain (first (behind ts)) is in rw (plain.0, plain.1, is) refl
 
   -- and behind ::, but for a constant without a parenthesis behind it
   pub scope_named : (is_constant (first (behind ts)) && not (opens_arguments (behind (behind ts)))) ≡ false
-      → postfixed i n postfixes.Scope names ts owner ≡ suffix i (method_callee n (bytes_at (behind ts)) true) names (behind (behind ts)) owner
+      → postfixed i n postfixes.Scope names ts owner ≡ suffix i (method_callee n (bytes_at (behind ts)) true) names
+      (behind (behind ts)) owner
   unfolding postfixed
   scope_named other =
       let plain = name_plain (first (behind ts)) is in
       let none : (operands.is_constant (first (behind ts)) && not (opens_arguments (behind (behind ts)))) ≡ false =
-      subst (λ b. (b && not (opens_arguments (behind (behind ts)))) ≡ false) (sym (same_constant (first (behind ts)))) other in
+      subst (λ b. (b && not (opens_arguments (behind (behind ts)))) ≡ false) (sym (same_constant (first (behind ts))))
+      other in
       rw (plain.1, is) (rw none refl)
 
-module _ (i : Inside) (n : Node) (names : Names) (ts : Tokens) (owner : DoOwner) (is : first (behind ts) ≡ words.Other outsides.NonAsciiName) where
-  dot_outside : postfixed i n postfixes.Dot names ts owner ≡ suffix i (outside_callee outsides.NonAsciiName (place_at (behind ts)) (n ∷ [])) names (behind (behind ts)) owner
+module _ (i : Inside) (n : Node) (names : Names) (ts : Tokens) (owner : DoOwner)
+    (is : first (behind ts) ≡ words.Other outsides.NonAsciiName) where
+  dot_outside : postfixed i n postfixes.Dot names ts owner ≡ suffix i
+      (outside_callee outsides.NonAsciiName (place_at (behind ts)) (n ∷ [])) names (behind (behind ts)) owner
   unfolding postfixed
   dot_outside = rw is refl
 
-  safe_outside : postfixed i n postfixes.Safe names ts owner ≡ suffix i (outside_callee outsides.NonAsciiName (place_at (behind ts)) (n ∷ [])) names (behind (behind ts)) owner
+  safe_outside : postfixed i n postfixes.Safe names ts owner ≡ suffix i
+      (outside_callee outsides.NonAsciiName (place_at (behind ts)) (n ∷ [])) names (behind (behind ts)) owner
   unfolding postfixed
   safe_outside = rw is refl
 
-  scope_outside : postfixed i n postfixes.Scope names ts owner ≡ suffix i (outside_callee outsides.NonAsciiName (place_at (behind ts)) (n ∷ [])) names (behind (behind ts)) owner
+  scope_outside : postfixed i n postfixes.Scope names ts owner ≡ suffix i
+      (outside_callee outsides.NonAsciiName (place_at (behind ts)) (n ∷ [])) names (behind (behind ts)) owner
   unfolding postfixed
   scope_outside = rw is refl
 
@@ -114,15 +135,39 @@ pub record Joins (w : Word) : Type 0 where
   pub mark : Postfix
   pub there : postfix_at w ≡ Some mark
   pub some : is_finish w ≡ false
-  pub named : (i : Inside) (n : Node) (names : Names) (ts : Tokens) (owner : DoOwner) → is_name_word (first (behind ts)) ≡ true → joins_constant w (behind ts) ≡ false
-      → postfixed i n mark names ts owner ≡ suffix i (method_behind w n (bytes_at (behind ts)) (place_at ts)) names (behind (behind ts)) owner
-  pub outside : (i : Inside) (n : Node) (names : Names) (ts : Tokens) (owner : DoOwner) → first (behind ts) ≡ words.Other outsides.NonAsciiName
-      → postfixed i n mark names ts owner ≡ suffix i (outside_callee outsides.NonAsciiName (place_at (behind ts)) (n ∷ [])) names (behind (behind ts)) owner
+  pub named : (i : Inside) (n : Node) (names : Names) (ts : Tokens) (owner : DoOwner)
+      → is_name_word (first (behind ts)) ≡ true → joins_constant w (behind ts) ≡ false
+      → postfixed i n mark names ts owner ≡ suffix i (method_behind w n (bytes_at (behind ts)) (place_at ts)) names
+      (behind (behind ts)) owner
+  pub outside : (i : Inside) (n : Node) (names : Names) (ts : Tokens) (owner : DoOwner)
+      → first (behind ts) ≡ words.Other outsides.NonAsciiName
+      → postfixed i n mark names ts owner ≡ suffix i
+      (outside_callee outsides.NonAsciiName (place_at (behind ts)) (n ∷ [])) names (behind (behind ts)) owner
 
 mark_joins : (p : Punctuator) → joins_name (words.Mark p) ≡ true → Joins (words.Mark p)
-mark_joins marks.Dot h = record { mark = postfixes.Dot; there = refl; some = refl; named = λ i n names ts owner is other. dot_named i n names ts owner is; outside = dot_outside }
-mark_joins marks.AmpersandDot h = record { mark = postfixes.Safe; there = refl; some = refl; named = λ i n names ts owner is other. safe_named i n names ts owner is; outside = safe_outside }
-mark_joins marks.ColonColon h = record { mark = postfixes.Scope; there = refl; some = refl; named = scope_named; outside = scope_outside }
+mark_joins marks.Dot h = record {
+  mark = postfixes.Dot;
+  there = refl;
+  some = refl;
+  named =
+      λ i n names ts owner is other. dot_named i n names ts owner is;
+  outside = dot_outside;
+}
+mark_joins marks.AmpersandDot h = record {
+  mark = postfixes.Safe;
+  there = refl;
+  some = refl;
+  named =
+      λ i n names ts owner is other. safe_named i n names ts owner is;
+  outside = safe_outside;
+}
+mark_joins marks.ColonColon h = record {
+  mark = postfixes.Scope;
+  there = refl;
+  some = refl;
+  named = scope_named;
+  outside = scope_outside;
+}
 mark_joins p h = differs (sym h)
 
 pub joins : (w : Word) → joins_name w ≡ true → Joins w

@@ -42,12 +42,20 @@ module _ (names : Names) (ts : Tokens) where
   abbrev Two : ParameterNode → Type 0
   Two p = Fact (Parameter p) names ts (declared names (bytes_at (behind ts)) true) (behind (behind ts))
 
-  pub required_parameter : first ts ≡ words.Identifier → assignment_at (first (behind ts)) ≡ None → Fact (Parameter (required (node.name_parameter (bytes_at ts)))) names ts (declared names (bytes_at ts) true) (behind ts)
+  pub required_parameter : first ts ≡ words.Identifier → assignment_at (first (behind ts)) ≡ None
+      → Fact (Parameter (required (node.name_parameter (bytes_at ts)))) names ts (declared names (bytes_at ts) true)
+      (behind ts)
   unfolding parameter_at
-  required_parameter is alone = (word_taken words.Identifier ts is refl, rw is refl, λ d room. rw is (rw (no_default (first (behind ts)) alone) refl))
+  required_parameter is alone = (
+    word_taken words.Identifier ts is refl,
+    rw is refl,
+    λ d room. rw is (rw (no_default (first (behind ts)) alone) refl),
+  )
 
-  pub optional_parameter : (known : Names) (rest : Tokens) (n : Node) → first ts ≡ words.Identifier → first (behind ts) ≡ words.Mark marks.Assign
-      → Fact (Argument places.Argument owners.Call n) (declared names (bytes_at ts) true) (behind (behind ts)) known rest → Fact (Parameter (optional (bytes_at ts) n)) names ts known rest
+  pub optional_parameter : (known : Names) (rest : Tokens) (n : Node) → first ts ≡ words.Identifier
+      → first (behind ts) ≡ words.Mark marks.Assign
+      → Fact (Argument places.Argument owners.Call n) (declared names (bytes_at ts) true) (behind (behind ts)) known
+      rest → Fact (Parameter (optional (bytes_at ts) n)) names ts known rest
   unfolding parameter_at
   optional_parameter known rest n is assigned inner =
       let one = word_taken words.Identifier ts is refl in
@@ -61,41 +69,67 @@ module _ (names : Names) (ts : Tokens) where
       let two = behind_within (behind ts) in
       omega arith
 
-  pub rest_parameter : first ts ≡ words.Mark marks.Star → first (behind ts) ≡ words.Identifier → Two (rest_of (rests.Named (bytes_at (behind ts))))
+  pub rest_parameter : first ts ≡ words.Mark marks.Star → first (behind ts) ≡ words.Identifier
+      → Two (rest_of (rests.Named (bytes_at (behind ts))))
   unfolding parameter_at
   rest_parameter is named = (two_taken (words.Mark marks.Star) is refl, rw is refl, λ d room. rw is (rw named refl))
 
-  pub unnamed_rest : first ts ≡ words.Mark marks.Star → is_identifier (first (behind ts)) ≡ false → Fact (Parameter (rest_of rests.Unnamed)) names ts names (behind ts)
+  pub unnamed_rest : first ts ≡ words.Mark marks.Star → is_identifier (first (behind ts)) ≡ false
+      → Fact (Parameter (rest_of rests.Unnamed)) names ts names (behind ts)
   unfolding parameter_at
-  unnamed_rest is unnamed = (word_taken (words.Mark marks.Star) ts is refl, rw is refl, λ d room. rw is (rw (same_identifier (first (behind ts)) unnamed) refl))
+  unnamed_rest is unnamed = (
+    word_taken (words.Mark marks.Star) ts is refl,
+    rw is refl,
+    λ d room. rw is (rw (same_identifier (first (behind ts)) unnamed) refl),
+  )
 
-  pub block_parameter : first ts ≡ words.Mark marks.Ampersand → first (behind ts) ≡ words.Identifier → Two (block_name (bytes_at (behind ts)))
+  pub block_parameter : first ts ≡ words.Mark marks.Ampersand → first (behind ts) ≡ words.Identifier
+      → Two (block_name (bytes_at (behind ts)))
   unfolding parameter_at
-  block_parameter is named = (two_taken (words.Mark marks.Ampersand) is refl, rw is refl, λ d room. rw is (rw named refl))
+  block_parameter is named = (
+    two_taken (words.Mark marks.Ampersand) is refl,
+    rw is refl,
+    λ d room. rw is (rw named refl),
+  )
 
-  pub keyword_rest : first ts ≡ words.Mark marks.StarStar → first (behind ts) ≡ words.Identifier → Two (outside_parameter (node.outside outsides.DoubleSplat (place_at ts) none))
+  pub keyword_rest : first ts ≡ words.Mark marks.StarStar → first (behind ts) ≡ words.Identifier
+      → Two (outside_parameter (node.outside outsides.DoubleSplat (place_at ts) none))
   unfolding parameter_at
   keyword_rest is named = (two_taken (words.Mark marks.StarStar) is refl, rw is refl, λ d room. rw is (rw named refl))
 
   pub unnamed_keyword_rest : first ts ≡ words.Mark marks.StarStar → is_identifier (first (behind ts)) ≡ false
-      → Fact (Parameter (outside_parameter (node.outside outsides.DoubleSplat (place_at ts) none))) names ts names (behind ts)
+      → Fact (Parameter (outside_parameter (node.outside outsides.DoubleSplat (place_at ts) none))) names ts names
+      (behind ts)
   unfolding parameter_at
-  unnamed_keyword_rest is unnamed = (word_taken (words.Mark marks.StarStar) ts is refl, rw is refl, λ d room. rw is (rw (same_identifier (first (behind ts)) unnamed) refl))
+  unnamed_keyword_rest is unnamed = (
+    word_taken (words.Mark marks.StarStar) ts is refl,
+    rw is refl,
+    λ d room. rw is (rw (same_identifier (first (behind ts)) unnamed) refl),
+  )
 
   pub keyword_parameter : first ts ≡ words.Label → begins_value (first (behind ts)) ≡ false
-      → Fact (Parameter (outside_parameter (node.outside outsides.KeywordParameter (place_at ts) none))) names ts (declared names (bytes_at ts) true) (behind ts)
+      → Fact (Parameter (outside_parameter (node.outside outsides.KeywordParameter (place_at ts) none))) names ts
+      (declared names (bytes_at ts) true) (behind ts)
   unfolding parameter_at
   keyword_parameter is alone = (word_taken words.Label ts is refl, rw is refl, λ d room. rw is (rw alone refl))
 
-  pub keyword_default : (known : Names) (rest : Tokens) (n : Node) → first ts ≡ words.Label → Fact (Argument places.Argument owners.Call n) (declared names (bytes_at ts) true) (behind ts) known rest
-      → Fact (Parameter (outside_parameter (outside_node outsides.KeywordParameter (place_at ts) n))) names ts known rest
+  pub keyword_default : (known : Names) (rest : Tokens) (n : Node) → first ts ≡ words.Label
+      → Fact (Argument places.Argument owners.Call n) (declared names (bytes_at ts) true) (behind ts) known rest
+      → Fact (Parameter (outside_parameter (outside_node outsides.KeywordParameter (place_at ts) n))) names ts known
+      rest
   unfolding parameter_at
   keyword_default known rest n is inner =
       let one = word_taken words.Label ts is refl in
-      let fewer = inner.0 in
-      (omega arith, rw is refl, λ d room. rw is (rw (word_begins (first (behind ts)) inner.1) (rw (inner.2 d (omega arith) refl refl) refl)))
+      let fewer = inner.0 in (
+        omega arith,
+        rw is refl,
+        λ d room. rw is
+            (rw (word_begins (first (behind ts)) inner.1) (rw (inner.2 d (omega arith) refl refl) refl)),
+      )
 
-  pub non_ascii_parameter : first ts ≡ words.Other outsides.NonAsciiName → Fact (Parameter (outside_parameter (node.outside outsides.NonAsciiName (place_at ts) none))) names ts names (behind ts)
+  pub non_ascii_parameter : first ts ≡ words.Other outsides.NonAsciiName
+      → Fact (Parameter (outside_parameter (node.outside outsides.NonAsciiName (place_at ts) none))) names ts names
+      (behind ts)
   unfolding parameter_at
   non_ascii_parameter is = (word_taken (words.Other outsides.NonAsciiName) ts is refl, rw is refl, λ d room. rw is refl)
 
@@ -108,12 +142,16 @@ first_follows (block_name x) = refl
 first_follows (outside_parameter n) = refl
 
 -- a parameter that may follow those that were found
-parameter_turn : (i : Inside) (n : ℕ) (comma : Bool) (l : ParameterNodes) (p : ParameterNode) (names known : Names) (ts rest : Tokens) → 0 < n → begins_parameter (first ts) ≡ true → parameter i names ts ≡ Ok (p, known, rest)
+parameter_turn : (i : Inside) (n : ℕ) (comma : Bool) (l : ParameterNodes) (p : ParameterNode) (names known : Names)
+    (ts rest : Tokens) → 0 < n → begins_parameter (first ts) ≡ true → parameter i names ts ≡ Ok (p, known, rest)
     → may_follow p l ≡ true → parameters_from i n true comma l names ts
-    ≡ parameters_from i (n - 1) (is_comma_word (first rest)) (is_comma_word (first rest)) (put_parameter p l) known (skip_if (is_comma_word (first rest)) rest)
-parameter_turn i n comma l p names known ts rest some begins read follows = parameters_step i n true comma l names ts some ∙ rw begins (rw read (rw follows refl))
+    ≡ parameters_from i (n - 1) (is_comma_word (first rest)) (is_comma_word (first rest)) (put_parameter p l) known
+    (skip_if (is_comma_word (first rest)) rest)
+parameter_turn i n comma l p names known ts rest some begins read follows =
+    parameters_step i n true comma l names ts some ∙ rw begins (rw read (rw follows refl))
 
-pub one_parameter : (names known : Names) (ts rest : Tokens) (p : ParameterNode) → Fact (Parameter p) names ts known rest → Fact (ParameterList (put_parameter p no_parameters)) names ts known rest
+pub one_parameter : (names known : Names) (ts rest : Tokens) (p : ParameterNode)
+    → Fact (Parameter p) names ts known rest → Fact (ParameterList (put_parameter p no_parameters)) names ts known rest
 one_parameter names known ts rest p inner =
     let fewer = inner.0 in (
       fewer,
@@ -121,7 +159,8 @@ one_parameter names known ts rest p inner =
       λ d room n enough. (
         n - 1,
         omega arith,
-        parameter_turn (level_above (levels d)) n false no_parameters p names known ts rest (omega arith) inner.1 (inner.2 d room) (first_follows p),
+        parameter_turn (level_above (levels d)) n false no_parameters p names known ts rest (omega arith) inner.1
+            (inner.2 d room) (first_follows p),
       ),
     )
 
@@ -129,8 +168,10 @@ comma_word : (w : Word) → is_comma_word w ≡ true → is_finish w ≡ false
 comma_word words.Finish h = differs (sym h)
 comma_word w h = refl
 
-pub more_parameters : (names known later : Names) (ts rest more : Tokens) (l : ParameterNodes) (p : ParameterNode) → Fact (ParameterList l) names ts known rest → is_comma_word (first rest) ≡ true
-    → Fact (Parameter p) known (behind rest) later more → may_follow p l ≡ true → Fact (ParameterList (put_parameter p l)) names ts later more
+pub more_parameters : (names known later : Names) (ts rest more : Tokens) (l : ParameterNodes) (p : ParameterNode)
+    → Fact (ParameterList l) names ts known rest → is_comma_word (first rest) ≡ true
+    → Fact (Parameter p) known (behind rest) later more → may_follow p l ≡ true
+    → Fact (ParameterList (put_parameter p l)) names ts later more
 more_parameters names known later ts rest more l p before comma one follows =
     let a = before.0 in
     let b = word_taken (first rest) rest refl (comma_word (first rest) comma) in
@@ -140,11 +181,14 @@ more_parameters names known later ts rest more l p before comma one follows =
       λ d room n enough.
           let f = before.2 d room n enough in
           let some = f.1 in
-          let turned = parameter_turn (level_above (levels d)) f.0 true l p known later (behind rest) more (omega arith) one.1 (one.2 d (omega arith)) follows in
+          let turned = parameter_turn (level_above (levels d)) f.0 true l p known later (behind rest) more (omega arith)
+          one.1 (one.2 d (omega arith)) follows in
           (f.0 - 1, omega arith, f.2 ∙ rw comma turned),
     )
 
-pub all_parameters : (names known : Names) (ts rest : Tokens) (l : ParameterNodes) → Fact (ParameterList l) names ts known rest → is_comma_word (first rest) ≡ false → Fact (Parameters l) names ts known rest
+pub all_parameters : (names known : Names) (ts rest : Tokens) (l : ParameterNodes)
+    → Fact (ParameterList l) names ts known rest → is_comma_word (first rest) ≡ false
+    → Fact (Parameters l) names ts known rest
 all_parameters names known ts rest l inner ends =
     let fewer = inner.0 in (
       omega arith,
@@ -155,9 +199,14 @@ all_parameters names known ts rest l inner ends =
           f.2 ∙ rw ends (parameters_step (level_above (levels d)) f.0 false false l known rest (omega arith)),
     )
 
-pub no_parameters_fact : (names : Names) (ts : Tokens) → begins_parameter (first ts) ≡ false → Fact (Parameters no_parameters) names ts names ts
-no_parameters_fact names ts other =
-    (itself_within ts, refl, λ d room. parameters_step (level_above (levels d)) (length ts + 1) true false no_parameters names ts (omega arith) ∙ rw other refl)
+pub no_parameters_fact : (names : Names) (ts : Tokens) → begins_parameter (first ts) ≡ false
+    → Fact (Parameters no_parameters) names ts names ts
+no_parameters_fact names ts other = (
+  itself_within ts,
+  refl,
+  λ d room. parameters_step (level_above (levels d)) (length ts + 1) true false no_parameters
+      names ts (omega arith) ∙ rw other refl,
+)
 
 newlines_within : (n : ℕ) (ts : Tokens) → length (newlines_from n ts) ≤ length ts
 unfolding newlines_from
@@ -170,8 +219,10 @@ newlines_within (suc n) ts =
 pub newlines_skipped : (ts : Tokens) → length (skip_newlines ts) ≤ length ts
 newlines_skipped ts = newlines_within (length ts) ts
 
-pub closed_parameters : (names known : Names) (ts rest : Tokens) (l : ParameterNodes) → first ts ≡ words.Mark marks.OpenParenthesis → Fact (Parameters l) names (behind ts) known rest
-    → first (skip_newlines rest) ≡ words.Mark marks.CloseParenthesis → Fact (MethodParameters l) names ts known (behind (skip_newlines rest))
+pub closed_parameters : (names known : Names) (ts rest : Tokens) (l : ParameterNodes)
+    → first ts ≡ words.Mark marks.OpenParenthesis → Fact (Parameters l) names (behind ts) known rest
+    → first (skip_newlines rest) ≡ words.Mark marks.CloseParenthesis
+    → Fact (MethodParameters l) names ts known (behind (skip_newlines rest))
 unfolding open_parameters
 closed_parameters names known ts rest l is inner closing =
     let one = word_taken (words.Mark marks.OpenParenthesis) ts is refl in
@@ -180,6 +231,8 @@ closed_parameters names known ts rest l is inner closing =
     let fewer = inner.0 in
     (omega arith, refl, λ d room. rw is (rw (inner.2 d (omega arith)) (rw closing refl)))
 
-pub bare_parameters : (names known : Names) (ts rest : Tokens) (l : ParameterNodes) → is_open_parenthesis (first ts) ≡ false → Fact (Parameters l) names ts known rest → Fact (MethodParameters l) names ts known rest
+pub bare_parameters : (names known : Names) (ts rest : Tokens) (l : ParameterNodes)
+    → is_open_parenthesis (first ts) ≡ false → Fact (Parameters l) names ts known rest
+    → Fact (MethodParameters l) names ts known rest
 unfolding open_parameters
 bare_parameters names known ts rest l other inner = (inner.0, refl, λ d room. rw other (rw (inner.2 d room) refl))

@@ -31,8 +31,13 @@ module _ (place : Place) (owner : DoOwner) (names : Names) (ts : Tokens) where
   abbrev pub Alone : Node → Type 0
   Alone n = Fact (PrimaryRule place owner n) names ts names (behind ts)
 
-  pub word_fact : (w : Word) (n : Node) → first ts ≡ w → is_head w ≡ true → ((i : Inside) → primary i names ts owner ≡ Ok (whole n, names, behind ts)) → Alone n
-  word_fact w n there h read = (word_taken w ts there (head_not_finish w h), head_opens ts (subst (λ x. is_head x ≡ true) (sym there) h), λ d room. at_once (levels d) place owner names names ts (behind ts) n (read (levels d)))
+  pub word_fact : (w : Word) (n : Node) → first ts ≡ w → is_head w ≡ true
+      → ((i : Inside) → primary i names ts owner ≡ Ok (whole n, names, behind ts)) → Alone n
+  word_fact w n there h read = (
+    word_taken w ts there (head_not_finish w h),
+    head_opens ts (subst (λ x. is_head x ≡ true) (sym there) h),
+    λ d room. at_once (levels d) place owner names names ts (behind ts) n (read (levels d)),
+  )
 
   pub nil : first ts ≡ words.Key keywords.Nil → Alone node.nil
   unfolding primary_at primary_by compound leaf
@@ -70,18 +75,26 @@ module _ (place : Place) (owner : DoOwner) (names : Names) (ts : Tokens) where
   unfolding primary_at primary_by compound leaf
   constant is closed = word_fact _ _ is refl (λ i. rw (is, closed) (rw is refl))
 
-  pub local : first ts ≡ words.Identifier → is_known (bytes_at ts) names ≡ true → opens_arguments (behind ts) ≡ false → Alone (node.local (bytes_at ts))
+  pub local : first ts ≡ words.Identifier → is_known (bytes_at ts) names ≡ true → opens_arguments (behind ts) ≡ false
+      → Alone (node.local (bytes_at ts))
   unfolding primary_at primary_by compound leaf
   local is known closed = word_fact _ _ is refl (λ i. rw (is, known, closed) refl)
 
-  pub negative : first ts ≡ words.Mark marks.Minus → is_sign (behind ts) ≡ true → Fact (PrimaryRule place owner (negative_node (integer_at (behind ts)) (place_at ts))) names ts names (behind (behind ts))
+  pub negative : first ts ≡ words.Mark marks.Minus → is_sign (behind ts) ≡ true
+      → Fact (PrimaryRule place owner (negative_node (integer_at (behind ts)) (place_at ts))) names ts names
+      (behind (behind ts))
   unfolding primary_at primary_by compound leaf
   negative is signed =
       let one = word_taken (words.Mark marks.Minus) ts is refl in
-      let two : length (behind (behind ts)) ≤ length (behind ts) = behind_within (behind ts) in
-      (omega arith, rw is refl, λ d room. at_once (levels d) place owner names names ts (behind (behind ts)) (negative_node (integer_at (behind ts)) (place_at ts)) (rw is (rw (is, signed) refl)))
+      let two : length (behind (behind ts)) ≤ length (behind ts) = behind_within (behind ts) in (
+        omega arith,
+        rw is refl,
+        λ d room. at_once (levels d) place owner names names ts (behind (behind ts))
+            (negative_node (integer_at (behind ts)) (place_at ts)) (rw is (rw (is, signed) refl)),
+      )
 
-  pub group : (known : Names) (rest : Tokens) (n : Node) → first ts ≡ words.Mark marks.OpenParenthesis → Fact (Statements n) names (behind ts) known rest → first rest ≡ words.Mark marks.CloseParenthesis
+  pub group : (known : Names) (rest : Tokens) (n : Node) → first ts ≡ words.Mark marks.OpenParenthesis
+      → Fact (Statements n) names (behind ts) known rest → first rest ≡ words.Mark marks.CloseParenthesis
       → Fact (PrimaryRule place owner n) names ts known (behind rest)
   unfolding primary_at primary_by compound leaf
   group known rest n is inner closing =
@@ -92,12 +105,15 @@ module _ (place : Place) (owner : DoOwner) (names : Names) (ts : Tokens) where
         rw is refl,
         λ d room.
             let below : (levels d).statements names (behind ts) ≡ Ok (n, known, rest) =
-            ap (λ (i : Inside). i.statements names (behind ts)) (levels_at d (omega arith)) ∙ inner.2 (d - 1) (omega arith) in
+            ap (λ (i : Inside). i.statements names (behind ts)) (levels_at d (omega arith))
+            ∙ inner.2 (d - 1) (omega arith) in
             at_once (levels d) place owner names known ts (behind rest) n (rw (is, below, closing) refl),
       )
 
-  pub defined_group : (known : Names) (rest : Tokens) (n : Node) → first ts ≡ words.Key keywords.Defined → first (behind ts) ≡ words.Mark marks.OpenParenthesis
-      → Fact (Expression places.Command owners.Call n) names (behind (behind ts)) known rest → first (skip_newlines rest) ≡ words.Mark marks.CloseParenthesis
+  pub defined_group : (known : Names) (rest : Tokens) (n : Node) → first ts ≡ words.Key keywords.Defined
+      → first (behind ts) ≡ words.Mark marks.OpenParenthesis
+      → Fact (Expression places.Command owners.Call n) names (behind (behind ts)) known rest
+      → first (skip_newlines rest) ≡ words.Mark marks.CloseParenthesis
       → Fact (PrimaryRule place owner (node.defined n)) names ts known (behind (skip_newlines rest))
   unfolding primary_at primary_by compound
   defined_group known rest n is opened inner closing =
@@ -109,7 +125,11 @@ module _ (place : Place) (owner : DoOwner) (names : Names) (ts : Tokens) where
         omega arith,
         rw (is, opened) refl,
         λ d room.
-            let below : (levels d).expression names (behind (behind ts)) places.Command owners.Call ≡ Ok (n, known, rest) =
-            ap (λ (i : Inside). i.expression names (behind (behind ts)) places.Command owners.Call) (levels_at d (omega arith)) ∙ inner.2 (d - 1) (omega arith) (newline_calm (words.Mark marks.CloseParenthesis) refl (length rest) rest closing) in
-            at_once (levels d) place owner names known ts (behind (skip_newlines rest)) (node.defined n) (rw (is, opened, below, closing) refl),
+            let below : (levels d).expression names (behind (behind ts)) places.Command owners.Call ≡ Ok
+            (n, known, rest) =
+            ap (λ (i : Inside). i.expression names (behind (behind ts)) places.Command owners.Call)
+            (levels_at d (omega arith)) ∙ inner.2 (d - 1) (omega arith)
+            (newline_calm (words.Mark marks.CloseParenthesis) refl (length rest) rest closing) in
+            at_once (levels d) place owner names known ts (behind (skip_newlines rest)) (node.defined n)
+            (rw (is, opened, below, closing) refl),
       )

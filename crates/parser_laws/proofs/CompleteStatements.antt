@@ -67,12 +67,19 @@ skip_within (suc n) ts =
 pub skipped : (ts : Tokens) → length (skip_separators ts) ≤ length ts
 skipped ts = skip_within (length ts) ts
 
-pub unjoined : (place : Place) (owner : DoOwner) (names known : Names) (ts rest : Tokens) (n : Node) → Fact (Negation place owner n) names ts known rest → Fact (Joined place owner n) names ts known rest
-unjoined place owner names known ts rest n inner =
-    (inner.0, inner.1, λ d room none. let r = inner.2 d room none in ((n, r.0), known, rest, r.2, r.1, λ m more. (m, more, refl)))
+pub unjoined : (place : Place) (owner : DoOwner) (names known : Names) (ts rest : Tokens) (n : Node)
+    → Fact (Negation place owner n) names ts known rest → Fact (Joined place owner n) names ts known rest
+unjoined place owner names known ts rest n inner = (
+  inner.0,
+  inner.1,
+  λ d room none. let r = inner.2 d room none in
+      ((n, r.0), known, rest, r.2, r.1, λ m more. (m, more, refl)),
+)
 
-pub junctioned : (place : Place) (owner : DoOwner) (j : Junction) (names known later : Names) (ts rest more : Tokens) (a b : Node)
-    → Fact (Joined place owner a) names ts known rest → junction_at (first rest) ≡ Some j → Fact (Negation places.Command owner b) known (behind rest) later more
+pub junctioned : (place : Place) (owner : DoOwner) (j : Junction) (names known later : Names) (ts rest more : Tokens)
+    (a b : Node)
+    → Fact (Joined place owner a) names ts known rest → junction_at (first rest) ≡ Some j
+    → Fact (Negation places.Command owner b) known (behind rest) later more
     → Fact (Joined place owner (junction_node j a b)) names ts later more
 unfolding junction_with
 junctioned place owner j names known later ts rest more a b left there right =
@@ -93,13 +100,16 @@ junctioned place owner j names known later ts rest more a b left there right =
                 let t = f.5 n enough in
                 let some = t.1 in
                 let step = junctions_step (levels d) t.0 owner a known rest (omega arith) in
-                let turned : junctions_turn (levels d) (junction_at (first rest)) (junctions_from (levels d) (t.0 - 1) owner) a known rest owner
+                let turned : junctions_turn (levels d) (junction_at (first rest))
+                (junctions_from (levels d) (t.0 - 1) owner) a known rest owner
                 ≡ junctions_from (levels d) (t.0 - 1) owner (junction_node j a b) later more = rw (there, g.2) refl in
                 (t.0 - 1, omega arith, t.2 ∙ step ∙ turned),
           ),
     )
 
-pub all_joined : (place : Place) (owner : DoOwner) (names known : Names) (ts rest : Tokens) (n : Node) → Fact (Joined place owner n) names ts known rest → junction_at (first rest) ≡ None → Fact (Expression place owner n) names ts known rest
+pub all_joined : (place : Place) (owner : DoOwner) (names known : Names) (ts rest : Tokens) (n : Node)
+    → Fact (Joined place owner n) names ts known rest → junction_at (first rest) ≡ None
+    → Fact (Expression place owner n) names ts known rest
 unfolding expression
 all_joined place owner names known ts rest n inner ends = (
   inner.0,
@@ -108,20 +118,34 @@ all_joined place owner names known ts rest n inner ends = (
       let f = inner.2 d room none in
       let t = f.5 (length f.2 + 1) (omega arith) in
       let some = t.1 in
-      let last : junctions_from (levels d) (length f.2 + 1) owner f.0.0 f.1 f.2 ≡ Ok (n, known, rest) = t.2 ∙ junctions_step (levels d) t.0 owner n known rest (omega arith) ∙ rw ends refl in
+      let last : junctions_from (levels d) (length f.2 + 1) owner f.0.0 f.1 f.2 ≡ Ok (n, known, rest) = t.2
+      ∙ junctions_step (levels d) t.0 owner n known rest (omega arith) ∙ rw ends refl in
       rw (f.3, f.4) last,
 )
 
-pub plain : (names known : Names) (ts rest : Tokens) (n : Node) → Fact (Expression places.Statement owners.Call n) names ts known rest → Fact (Base n) names ts known rest
+pub plain : (names known : Names) (ts rest : Tokens) (n : Node)
+    → Fact (Expression places.Statement owners.Call n) names ts known rest → Fact (Base n) names ts known rest
 unfolding base_by
-plain names known ts rest n inner = (inner.0, refl, λ d room none. rw (head_expression (first ts) inner.1) (inner.2 d room none))
+plain names known ts rest n inner = (
+  inner.0,
+  refl,
+  λ d room none. rw (head_expression (first ts) inner.1) (inner.2 d room none),
+)
 
-pub unmodified : (names known : Names) (ts rest : Tokens) (n : Node) → Fact (Base n) names ts known rest → Fact (Modified n) names ts known rest
-unmodified names known ts rest n inner = (inner.0, inner.1, λ d room none. (n, known, rest, inner.2 d room none, λ m more. (m, more, refl)))
+pub unmodified : (names known : Names) (ts rest : Tokens) (n : Node) → Fact (Base n) names ts known rest
+    → Fact (Modified n) names ts known rest
+unmodified names known ts rest n inner = (
+  inner.0,
+  inner.1,
+  λ d room none. (n, known, rest, inner.2 d room none, λ m more. (m, more, refl)),
+)
 
-module _ (m : Modifier) (names known later : Names) (ts rest more : Tokens) (n part : Node) (left : Fact (Modified n) names ts known rest) (there : modifier_at (first rest) ≡ Some m) where
+module _ (m : Modifier) (names known later : Names) (ts rest more : Tokens) (n part : Node)
+    (left : Fact (Modified n) names ts known rest) (there : modifier_at (first rest) ≡ Some m) where
   -- behind a modifier stands a part of the statement
-  behind_modifier : length more < length rest → ((d : ℕ) → length rest ≤ d → assignment_at (first more) ≡ None → modifier_part (levels d) m known (behind rest) ≡ Ok (part, later, more))
+  behind_modifier : length more < length rest
+      → ((d : ℕ) → length rest ≤ d → assignment_at (first more) ≡ None
+      → modifier_part (levels d) m known (behind rest) ≡ Ok (part, later, more))
       → Fact (Modified (modified_node m n part)) names ts later more
   unfolding modified
   behind_modifier fewer read =
@@ -139,33 +163,43 @@ module _ (m : Modifier) (names known later : Names) (ts rest more : Tokens) (n p
                   let t = f.4 k enough in
                   let some = t.1 in
                   let step = modifiers_step (levels d) t.0 n known rest (omega arith) in
-                  let turned : modifiers_turn (levels d) (modifier_at (first rest)) (modifiers_from (levels d) (t.0 - 1)) n known rest ≡ modifiers_from (levels d) (t.0 - 1) (modified_node m n part) later more = rw (there, got) refl in
+                  let turned : modifiers_turn (levels d) (modifier_at (first rest))
+                  (modifiers_from (levels d) (t.0 - 1)) n known rest ≡ modifiers_from (levels d) (t.0 - 1)
+                  (modified_node m n part) later more = rw (there, got) refl in
                   (t.0 - 1, omega arith, t.2 ∙ step ∙ turned),
             ),
       )
 
-test_part : (i : Inside) (m : Modifier) (names : Names) (ts : Tokens) → is_rescue (Some m) ≡ false → modifier_part i m names ts ≡ expression i names ts places.Command owners.Call
+test_part : (i : Inside) (m : Modifier) (names : Names) (ts : Tokens) → is_rescue (Some m) ≡ false
+    → modifier_part i m names ts ≡ expression i names ts places.Command owners.Call
 test_part i kinds.If names ts h = refl
 test_part i kinds.Unless names ts h = refl
 test_part i kinds.While names ts h = refl
 test_part i kinds.Until names ts h = refl
 test_part i kinds.Rescue names ts h = differs h
 
-pub tested : (m : Modifier) (names known later : Names) (ts rest more : Tokens) (n test : Node) → Fact (Modified n) names ts known rest → modifier_at (first rest) ≡ Some m → is_rescue (Some m) ≡ false
-    → Fact (Expression places.Command owners.Call test) known (behind rest) later more → Fact (Modified (modified_node m n test)) names ts later more
+pub tested : (m : Modifier) (names known later : Names) (ts rest more : Tokens) (n test : Node)
+    → Fact (Modified n) names ts known rest → modifier_at (first rest) ≡ Some m → is_rescue (Some m) ≡ false
+    → Fact (Expression places.Command owners.Call test) known (behind rest) later more
+    → Fact (Modified (modified_node m n test)) names ts later more
 tested m names known later ts rest more n test left there plain right =
     let one = word_taken (first rest) rest refl (modifier_word (first rest) m there) in
     let r = right.0 in
-    behind_modifier m names known later ts rest more n test left there (omega arith) (λ d room none. test_part (levels d) m known (behind rest) plain ∙ right.2 d (omega arith) none)
+    behind_modifier m names known later ts rest more n test left there (omega arith)
+    (λ d room none. test_part (levels d) m known (behind rest) plain ∙ right.2 d (omega arith) none)
 
-pub rescued : (names known later : Names) (ts rest more : Tokens) (n other : Node) → Fact (Modified n) names ts known rest → modifier_at (first rest) ≡ Some kinds.Rescue → Fact (Base other) known (behind rest) later more
+pub rescued : (names known later : Names) (ts rest more : Tokens) (n other : Node)
+    → Fact (Modified n) names ts known rest → modifier_at (first rest) ≡ Some kinds.Rescue
+    → Fact (Base other) known (behind rest) later more
     → Fact (Modified (rescued_node n other)) names ts later more
 rescued names known later ts rest more n other left there right =
     let one = word_taken (first rest) rest refl (modifier_word (first rest) kinds.Rescue there) in
     let r = right.0 in
-    behind_modifier kinds.Rescue names known later ts rest more n other left there (omega arith) (λ d room none. right.2 d (omega arith) none)
+    behind_modifier kinds.Rescue names known later ts rest more n other left there (omega arith)
+    (λ d room none. right.2 d (omega arith) none)
 
-pub with_modifiers : (names known : Names) (ts rest : Tokens) (n : Node) → Fact (Modified n) names ts known rest → modifier_at (first rest) ≡ None → Fact (Statement n) names ts known rest
+pub with_modifiers : (names known : Names) (ts rest : Tokens) (n : Node) → Fact (Modified n) names ts known rest
+    → modifier_at (first rest) ≡ None → Fact (Statement n) names ts known rest
 unfolding statement
 with_modifiers names known ts rest n inner ends = (
   inner.0,
@@ -174,16 +208,24 @@ with_modifiers names known ts rest n inner ends = (
       let f = inner.2 d room none in
       let t = f.4 (length f.2 + 1) (omega arith) in
       let some = t.1 in
-      let last : modifiers_from (levels d) (length f.2 + 1) f.0 f.1 f.2 ≡ Ok (n, known, rest) = t.2 ∙ modifiers_step (levels d) t.0 n known rest (omega arith) ∙ rw ends refl in
+      let last : modifiers_from (levels d) (length f.2 + 1) f.0 f.1 f.2 ≡ Ok (n, known, rest) = t.2
+      ∙ modifiers_step (levels d) t.0 n known rest (omega arith) ∙ rw ends refl in
       rw f.3 last,
 )
 
-pub no_more : (names : Names) (ts : Tokens) → ends_statements (first ts) ≡ true → Fact (StatementList []) names ts names ts
-no_more names ts ends =
-    (omega arith, refl, λ d room n found enough. statements_step (levels d) n found names ts (omega arith) ∙ rw (ends, append_none found) refl)
+pub no_more : (names : Names) (ts : Tokens) → ends_statements (first ts) ≡ true
+    → Fact (StatementList []) names ts names ts
+no_more names ts ends = (
+  omega arith,
+  refl,
+  λ d room n found enough. statements_step (levels d) n found names ts (omega arith)
+      ∙ rw (ends, append_none found) refl,
+)
 
-pub one_more : (names known later : Names) (ts rest more : Tokens) (n : Node) (ns : List Node) → ends_statements (first ts) ≡ false → Fact (Statement n) names ts known rest → ends_statement (first rest) ≡ true
-    → Fact (StatementList ns) known (skip_separators rest) later more → Fact (StatementList (n ∷ ns)) names ts later more
+pub one_more : (names known later : Names) (ts rest more : Tokens) (n : Node) (ns : List Node)
+    → ends_statements (first ts) ≡ false → Fact (Statement n) names ts known rest → ends_statement (first rest) ≡ true
+    → Fact (StatementList ns) known (skip_separators rest) later more
+    → Fact (StatementList (n ∷ ns)) names ts later more
 unfolding with_statement separated
 one_more names known later ts rest more n ns goes_on one ends others =
     let s = skipped rest in
@@ -193,12 +235,17 @@ one_more names known later ts rest more n ns goes_on one ends others =
       refl,
       λ d room m found enough.
           let here = one.2 d room (ends_free (first rest) ends) in
-          let tail : statements_from (levels d) (m - 1) (found ++ n ∷ []) known (skip_separators rest) ≡ Ok ((found ++ n ∷ []) ++ ns, later, more) = others.2 d (omega arith) (m - 1) (found ++ n ∷ []) (omega arith) in
+          let tail : statements_from (levels d) (m - 1) (found ++ n ∷ []) known (skip_separators rest) ≡ Ok
+          ((found ++ n ∷ []) ++ ns, later, more) =
+          others.2 d (omega arith) (m - 1) (found ++ n ∷ []) (omega arith) in
           let same : (found ++ n ∷ []) ++ ns ≡ found ++ n ∷ ns = append_more found n ns in
-          statements_step (levels d) m found names ts (omega arith) ∙ rw (goes_on, here, ends) (tail ∙ ap (λ (all : List Node). Ok (all, later, more)) same),
+          statements_step (levels d) m found names ts (omega arith)
+          ∙ rw (goes_on, here, ends) (tail ∙ ap (λ (all : List Node). Ok (all, later, more)) same),
     )
 
-pub separated_fact : (names known : Names) (ts rest : Tokens) (ns : List Node) → Fact (StatementList ns) names (skip_separators ts) known rest → Fact (Statements (node.statements (nodes ns))) names ts known rest
+pub separated_fact : (names known : Names) (ts rest : Tokens) (ns : List Node)
+    → Fact (StatementList ns) names (skip_separators ts) known rest
+    → Fact (Statements (node.statements (nodes ns))) names ts known rest
 unfolding statements
 separated_fact names known ts rest ns inner =
     let s = skipped ts in
@@ -206,6 +253,7 @@ separated_fact names known ts rest ns inner =
       omega arith,
       refl,
       λ d room.
-          let read : statements_from (levels d) (length (skip_separators ts) + 1) [] names (skip_separators ts) ≡ Ok (ns, known, rest) = inner.2 d (omega arith) (length (skip_separators ts) + 1) [] (omega arith) in
+          let read : statements_from (levels d) (length (skip_separators ts) + 1) [] names (skip_separators ts) ≡ Ok
+          (ns, known, rest) = inner.2 d (omega arith) (length (skip_separators ts) + 1) [] (omega arith) in
           rw read refl,
     )

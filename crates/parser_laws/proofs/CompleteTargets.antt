@@ -88,17 +88,20 @@ no_prefix words.GlobalVariable ts there h = rw there refl
 no_prefix (words.Other o) ts there h = rw there refl
 no_prefix w ts there h = differs (sym h)
 
-chain_read : (i : Inside) (owner : DoOwner) (names : Names) (ts : Tokens) (o : OperandNode) → primary i names ts owner ≡ Ok (o, names, behind ts) → postfix_at (first (behind ts)) ≡ None
+chain_read : (i : Inside) (owner : DoOwner) (names : Names) (ts : Tokens) (o : OperandNode)
+    → primary i names ts owner ≡ Ok (o, names, behind ts) → postfix_at (first (behind ts)) ≡ None
     → (commands : Bool) → chain i names ts commands owner ≡ Ok (o, names, behind ts)
 unfolding chain
 chain_read i owner names ts o read ends commands =
     let more = chain_step i (length (behind ts) + 1) commands owner o names (behind ts) (omega arith) in
     rw read (more ∙ rw (never_continues o (behind ts) commands ends) refl)
 
-operand_read : (i : Inside) (owner : DoOwner) (names : Names) (ts : Tokens) (w : Word) (o : OperandNode) → first ts ≡ w → is_variable w ≡ true → primary i names ts owner ≡ Ok (o, names, behind ts) → postfix_at (first (behind ts)) ≡ None
+operand_read : (i : Inside) (owner : DoOwner) (names : Names) (ts : Tokens) (w : Word) (o : OperandNode) → first ts ≡ w
+    → is_variable w ≡ true → primary i names ts owner ≡ Ok (o, names, behind ts) → postfix_at (first (behind ts)) ≡ None
     → (commands : Bool) → operand i names ts commands owner ≡ Ok (o, names, behind ts)
 unfolding operand
-operand_read i owner names ts w o there h read ends commands = rw (no_prefix w ts there h) (chain_read i owner names ts o read ends commands)
+operand_read i owner names ts w o there h read ends commands =
+    rw (no_prefix w ts there h) (chain_read i owner names ts o read ends commands)
 
 is_shorter : (w : Word) (ts : Tokens) → first ts ≡ w → is_variable w ≡ true → length (behind ts) < length ts
 is_shorter words.Identifier ts there h = word_taken words.Identifier ts there refl
@@ -117,40 +120,89 @@ variable_opens ts h = both (opens ts) _ (head_opens ts (variable_head (first ts)
 
 module _ (owner : DoOwner) (names : Names) (ts : Tokens) where
   target_fact : (w : Word) (n : Node) (known : Names) → first ts ≡ w → is_variable w ≡ true
-      → ((i : Inside) → Stops (first (behind ts)) → (o : OperandNode) × (primary i names ts owner ≡ Ok (o, names, behind ts)) × (is_target o ≡ true) × (target_node o ≡ n) × (target_names o names ≡ known))
+      → ((i : Inside) → Stops (first (behind ts)) → (o : OperandNode)
+      × (primary i names ts owner ≡ Ok (o, names, behind ts)) × (is_target o ≡ true) × (target_node o ≡ n)
+      × (target_names o names ≡ known))
       → Fact (Target owner n) names ts known (behind ts)
   target_fact w n known there h read = (
     is_shorter w ts there h,
     variable_opens ts (subst (λ x. is_variable x ≡ true) (sym there) h),
     λ d room ends.
         let s = stops (first (behind ts)) ends in
-        let r = read (levels d) s in
-        (r.0, names, operand_read (levels d) owner names ts w r.0 there h r.1 s.postfix, r.2, r.3, r.4, chain_read (levels d) owner names ts r.0 r.1 s.postfix),
+        let r = read (levels d) s in (
+          r.0,
+          names,
+          operand_read (levels d) owner names ts w r.0 there h r.1 s.postfix,
+          r.2,
+          r.3,
+          r.4,
+          chain_read (levels d) owner names ts r.0 r.1 s.postfix,
+        ),
   )
 
-  pub instance_target : first ts ≡ words.InstanceVariable → Fact (Target owner (node.instance_variable (bytes_at ts))) names ts names (behind ts)
+  pub instance_target : first ts ≡ words.InstanceVariable
+      → Fact (Target owner (node.instance_variable (bytes_at ts))) names ts names (behind ts)
   unfolding primary_at primary_by compound leaf shape
-  instance_target is = target_fact _ _ _ is refl (λ i s. (whole (node.instance_variable (bytes_at ts)), rw is (rw is refl), refl, refl, refl))
+  instance_target is = target_fact _ _ _ is refl
+      (λ i s. (whole (node.instance_variable (bytes_at ts)), rw is (rw is refl), refl, refl, refl))
 
-  pub global_target : first ts ≡ words.GlobalVariable → Fact (Target owner (node.global_variable (bytes_at ts))) names ts names (behind ts)
+  pub global_target : first ts ≡ words.GlobalVariable
+      → Fact (Target owner (node.global_variable (bytes_at ts))) names ts names (behind ts)
   unfolding primary_at primary_by compound leaf shape
-  global_target is = target_fact _ _ _ is refl (λ i s. (whole (node.global_variable (bytes_at ts)), rw is (rw is refl), refl, refl, refl))
+  global_target is = target_fact _ _ _ is refl
+      (λ i s. (whole (node.global_variable (bytes_at ts)), rw is (rw is refl), refl, refl, refl))
 
-  pub constant_target : first ts ≡ words.Constant → Fact (Target owner (node.constant (bytes_at ts))) names ts names (behind ts)
+  pub constant_target : first ts ≡ words.Constant
+      → Fact (Target owner (node.constant (bytes_at ts))) names ts names (behind ts)
   unfolding primary_at primary_by compound leaf shape
-  constant_target is = target_fact _ _ _ is refl (λ i s. (whole (node.constant (bytes_at ts)), rw (is, no_arguments (behind ts) s.parenthesis) (rw is refl), refl, refl, refl))
+  constant_target is = target_fact _ _ _ is refl
+      (λ i s. (
+        whole (node.constant (bytes_at ts)),
+        rw (is, no_arguments (behind ts) s.parenthesis) (rw is refl),
+        refl,
+        refl,
+        refl,
+      ))
 
-  pub local_target : first ts ≡ words.Identifier → Fact (Target owner (node.local (bytes_at ts))) names ts (learned names (bytes_at ts)) (behind ts)
+  pub local_target : first ts ≡ words.Identifier
+      → Fact (Target owner (node.local (bytes_at ts))) names ts (learned names (bytes_at ts)) (behind ts)
   unfolding primary_at primary_by suffix shape
   local_target is = target_fact _ _ _ is refl (λ i s. elim (cases_Bool (is_known (bytes_at ts) names)) [
-    | inl known ↦ (whole (node.local (bytes_at ts)), rw (is, known, no_arguments (behind ts) s.parenthesis) refl, refl, refl, rw known refl)
-    | inr other ↦ (callee (name_callee (bytes_at ts) true), rw (is, other) (rw (no_arguments (behind ts) s.parenthesis, s.block (call_takes owner), is) refl), refl, refl, rw other refl)
+    | inl known ↦ (
+      whole (node.local (bytes_at ts)),
+      rw (is, known, no_arguments (behind ts) s.parenthesis) refl,
+      refl,
+      refl,
+      rw known refl,
+    )
+    | inr other ↦ (
+      callee (name_callee (bytes_at ts) true),
+      rw (is, other) (rw (no_arguments (behind ts) s.parenthesis, s.block (call_takes owner), is) refl),
+      refl,
+      refl,
+      rw other refl,
+    )
   ])
 
-  pub outside_target : (o : Outside) → first ts ≡ words.Other o → is_outside_variable o ≡ true → Fact (Target owner (bare o (place_at ts))) names ts names (behind ts)
+  pub outside_target : (o : Outside) → first ts ≡ words.Other o → is_outside_variable o ≡ true
+      → Fact (Target owner (bare o (place_at ts))) names ts names (behind ts)
   unfolding primary_at primary_by compound leaf shape
-  outside_target outsides.ClassVariable is h = target_fact _ _ _ is refl (λ i s. (whole (bare outsides.ClassVariable (place_at ts)), rw is (rw is refl), refl, refl, refl))
-  outside_target outsides.SpecialGlobal is h = target_fact _ _ _ is refl (λ i s. (whole (bare outsides.SpecialGlobal (place_at ts)), rw is (rw is refl), refl, refl, refl))
+  outside_target outsides.ClassVariable is h =
+      target_fact _ _ _ is refl (λ i s. (
+        whole (bare outsides.ClassVariable (place_at ts)),
+        rw is (rw is refl),
+        refl,
+        refl,
+        refl,
+      ))
+  outside_target outsides.SpecialGlobal is h =
+      target_fact _ _ _ is refl (λ i s. (
+        whole (bare outsides.SpecialGlobal (place_at ts)),
+        rw is (rw is refl),
+        refl,
+        refl,
+        refl,
+      ))
   outside_target o is h = differs (sym h)
 
 no_prefix_bang : (ts : Tokens) → prefix_at ts ≡ None → not (is_bang (first ts)) ≡ true
@@ -182,45 +234,57 @@ place_whole (callee c) n same is = differs (sym (subst (λ m. is_place m ≡ tru
     by_callee super_callee = refl
     by_callee (outside_callee o at es) = refl
 
-module _ (place : Place) (owner : DoOwner) (names known : Names) (ts rest : Tokens) (none : prefix_at ts ≡ None) (commands : Bool) (within : Within commands place) (d : ℕ) (room : length ts ≤ d) (ends : ends_target (first rest) ≡ true) where
+module _ (place : Place) (owner : DoOwner) (names known : Names) (ts rest : Tokens) (none : prefix_at ts ≡ None)
+    (commands : Bool) (within : Within commands place) (d : ℕ) (room : length ts ≤ d)
+    (ends : ends_target (first rest) ≡ true) where
   -- an index or a constant of a value
   place_read : (n : Node) → is_place n ≡ true → Fact (Primary place owner n) names ts known rest
-      → (operand (levels d) names ts commands owner ≡ Ok (whole n, known, rest)) × (chain (levels d) names ts commands owner ≡ Ok (whole n, known, rest))
+      → (operand (levels d) names ts commands owner ≡ Ok (whole n, known, rest))
+      × (chain (levels d) names ts commands owner ≡ Ok (whole n, known, rest))
   unfolding operand
   place_read n is inner =
       let s = stops (first rest) ends in
       let r = inner.2 d room in
       let chained : chain (levels d) names ts commands owner ≡ Ok (whole n, known, rest) =
-      subst (λ (o : OperandNode). chain (levels d) names ts commands owner ≡ Ok (o, known, rest)) (place_whole r.4 n r.5 is) (chain_ends (levels d) place n names known ts rest owner commands within r s.postfix) in
+      subst (λ (o : OperandNode). chain (levels d) names ts commands owner ≡ Ok (o, known, rest))
+      (place_whole r.4 n r.5 is) (chain_ends (levels d) place n names known ts rest owner commands within r
+      s.postfix) in
       (rw none chained, chained)
 
   -- what is called
   callee_read : (c : CalleeNode) → Fact (Callee place owner c) names ts known rest
-      → (operand (levels d) names ts commands owner ≡ Ok (callee c, known, rest)) × (chain (levels d) names ts commands owner ≡ Ok (callee c, known, rest))
+      → (operand (levels d) names ts commands owner ≡ Ok (callee c, known, rest))
+      × (chain (levels d) names ts commands owner ≡ Ok (callee c, known, rest))
   unfolding operand chain suffix
   callee_read c inner =
       let s = stops (first rest) ends in
-      let alone : suffix (levels d) c known rest owner ≡ Ok (callee c, known, rest) = rw (no_arguments rest s.parenthesis, s.block (call_takes owner)) refl in
+      let alone : suffix (levels d) c known rest owner ≡ Ok (callee c, known, rest) =
+      rw (no_arguments rest s.parenthesis, s.block (call_takes owner)) refl in
       let r = inner.2 d room (callee c) known rest (omega arith) alone in
       let t = r.4 (length r.2 + 1) (omega arith) in
       let some = t.1 in
       let all : chain_within (levels d) (length r.2 + 1) commands owner r.0 r.1 r.2 ≡ Ok (callee c, known, rest) =
-      t.2 commands within ∙ chain_step (levels d) t.0 commands owner (callee c) known rest (omega arith) ∙ rw (never_continues (callee c) rest commands s.postfix) refl in
+      t.2 commands within ∙ chain_step (levels d) t.0 commands owner (callee c) known rest (omega arith)
+      ∙ rw (never_continues (callee c) rest commands s.postfix) refl in
       let chained : chain (levels d) names ts commands owner ≡ Ok (callee c, known, rest) = rw r.3 all in
       (rw none chained, chained)
 
-pub postfix_target : (owner : DoOwner) (names known : Names) (ts rest : Tokens) (n : Node) → is_place n ≡ true → prefix_at ts ≡ None → Fact (Primary places.Command owner n) names ts known rest → Fact (Target owner n) names ts known rest
+pub postfix_target : (owner : DoOwner) (names known : Names) (ts rest : Tokens) (n : Node) → is_place n ≡ true
+    → prefix_at ts ≡ None → Fact (Primary places.Command owner n) names ts known rest
+    → Fact (Target owner n) names ts known rest
 postfix_target owner names known ts rest n is none inner = (
   inner.0,
   both (opens ts) _ inner.1 (no_prefix_bang ts none),
   λ d room ends. (
     whole n,
     known,
-    λ commands. (place_read places.Command owner names known ts rest none commands (λ h. refl) d room ends n is inner).0,
+    λ commands. (place_read places.Command owner names known ts rest none commands (λ h. refl) d room ends n is
+        inner).0,
     place_target n is,
     refl,
     refl,
-    λ commands. (place_read places.Command owner names known ts rest none commands (λ h. refl) d room ends n is inner).1,
+    λ commands. (place_read places.Command owner names known ts rest none commands (λ h. refl) d room ends n is
+        inner).1,
   ),
 )
 
@@ -228,7 +292,9 @@ postfix_target owner names known ts rest n is none inner = (
 none_asked : Within false places.Argument
 none_asked h = differs (sym h)
 
-pub postfix_inner_target : (owner : DoOwner) (names known : Names) (ts rest : Tokens) (n : Node) → is_place n ≡ true → prefix_at ts ≡ None → Fact (Primary places.Argument owner n) names ts known rest → Fact (InnerTarget owner n) names ts known rest
+pub postfix_inner_target : (owner : DoOwner) (names known : Names) (ts rest : Tokens) (n : Node) → is_place n ≡ true
+    → prefix_at ts ≡ None → Fact (Primary places.Argument owner n) names ts known rest
+    → Fact (InnerTarget owner n) names ts known rest
 postfix_inner_target owner names known ts rest n is none inner = (
   inner.0,
   both (opens ts) _ inner.1 (no_prefix_bang ts none),
@@ -237,7 +303,8 @@ postfix_inner_target owner names known ts rest n is none inner = (
       (whole n, known, r.0, place_target n is, refl, refl, r.1),
 )
 
-pub callee_inner_target : (owner : DoOwner) (names known : Names) (ts rest : Tokens) (c : CalleeNode) → prefix_at ts ≡ None → Fact (Callee places.Argument owner c) names ts known rest → is_target (callee c) ≡ true
+pub callee_inner_target : (owner : DoOwner) (names known : Names) (ts rest : Tokens) (c : CalleeNode)
+    → prefix_at ts ≡ None → Fact (Callee places.Argument owner c) names ts known rest → is_target (callee c) ≡ true
     → Fact (InnerTarget owner (target_node (callee c))) names ts (target_names (callee c) known) rest
 callee_inner_target owner names known ts rest c none inner target = (
   inner.0,
@@ -247,11 +314,14 @@ callee_inner_target owner names known ts rest c none inner target = (
       (callee c, known, r.0, target, refl, refl, r.1),
 )
 
-pub any_target : (owner : DoOwner) (names known : Names) (ts rest : Tokens) (n : Node) → Fact (Target owner n) names ts known rest → Fact (InnerTarget owner n) names ts known rest
-any_target owner names known ts rest n inner = (inner.0, inner.1, λ d room ends. let t = inner.2 d room ends in (t.0, t.1, t.2 false, t.3, t.4, t.5, t.6 false))
+pub any_target : (owner : DoOwner) (names known : Names) (ts rest : Tokens) (n : Node)
+    → Fact (Target owner n) names ts known rest → Fact (InnerTarget owner n) names ts known rest
+any_target owner names known ts rest n inner =
+    (inner.0, inner.1, λ d room ends. let t = inner.2 d room ends in (t.0, t.1, t.2 false, t.3, t.4, t.5, t.6 false))
 
 -- what is called, and may be assigned to
-called_target : (owner : DoOwner) (names known : Names) (ts rest : Tokens) (c : CalleeNode) → prefix_at ts ≡ None → Fact (Callee places.Command owner c) names ts known rest → is_target (callee c) ≡ true
+called_target : (owner : DoOwner) (names known : Names) (ts rest : Tokens) (c : CalleeNode) → prefix_at ts ≡ None
+    → Fact (Callee places.Command owner c) names ts known rest → is_target (callee c) ≡ true
     → Fact (Target owner (target_node (callee c))) names ts (target_names (callee c) known) rest
 called_target owner names known ts rest c none inner target = (
   inner.0,
@@ -267,28 +337,39 @@ called_target owner names known ts rest c none inner target = (
   ),
 )
 
-pub method_target : (owner : DoOwner) (names known : Names) (ts rest : Tokens) (n : Node) → prefix_at ts ≡ None → Fact (Primary places.Command owner n) names ts known rest → first rest ≡ words.Mark marks.Dot → is_name_word (first (behind rest)) ≡ true
-    → Fact (Target owner (node.call (one n) (bytes_at (behind rest)) node.none node.none)) names ts known (behind (behind rest))
+pub method_target : (owner : DoOwner) (names known : Names) (ts rest : Tokens) (n : Node) → prefix_at ts ≡ None
+    → Fact (Primary places.Command owner n) names ts known rest → first rest ≡ words.Mark marks.Dot
+    → is_name_word (first (behind rest)) ≡ true
+    → Fact (Target owner (node.call (one n) (bytes_at (behind rest)) node.none node.none)) names ts known
+    (behind (behind rest))
 method_target owner names known ts rest n none inner there is =
-    called_target owner names known ts (behind (behind rest)) (method_callee n (bytes_at (behind rest)) false) none (method_fact places.Command owner names known ts rest n inner is there) refl
+    called_target owner names known ts (behind (behind rest)) (method_callee n (bytes_at (behind rest)) false) none
+    (method_fact places.Command owner names known ts rest n inner is there) refl
 
-pub callee_target : (owner : DoOwner) (names known : Names) (ts rest : Tokens) (o : Outside) (at : ℕ) (ns : List Node) → prefix_at ts ≡ None → Fact (Callee places.Command owner (outside_callee o at ns)) names ts known rest
+pub callee_target : (owner : DoOwner) (names known : Names) (ts rest : Tokens) (o : Outside) (at : ℕ) (ns : List Node)
+    → prefix_at ts ≡ None → Fact (Callee places.Command owner (outside_callee o at ns)) names ts known rest
     → Fact (Target owner (node.outside o at (nodes ns))) names ts known rest
-callee_target owner names known ts rest o at ns none inner = called_target owner names known ts rest (outside_callee o at ns) none inner refl
+callee_target owner names known ts rest o at ns none inner =
+    called_target owner names known ts rest (outside_callee o at ns) none inner refl
 
 -- what is called alone as the operand of an operator, before an assignment
-pub callee_operand : (loosest : ℕ) (owner : DoOwner) (a : Assignment) (names known : Names) (ts rest : Tokens) (c : CalleeNode) → is_inner loosest ≡ true → prefix_at ts ≡ None → Fact (Callee places.Argument owner c) names ts known rest
-    → assignment_at (first rest) ≡ Some a → Fact (Operators places.Argument loosest owner (call_node c None None)) names ts known rest
+pub callee_operand : (loosest : ℕ) (owner : DoOwner) (a : Assignment) (names known : Names) (ts rest : Tokens)
+    (c : CalleeNode) → is_inner loosest ≡ true → prefix_at ts ≡ None
+    → Fact (Callee places.Argument owner c) names ts known rest
+    → assignment_at (first rest) ≡ Some a → Fact (Operators places.Argument loosest owner (call_node c None None)) names
+    ts known rest
 callee_operand loosest owner a names known ts rest c within none inner there = (
   inner.0,
   inner.1,
   λ d room.
-      let ends : ends_target (first rest) ≡ true = or_left (is_some (assignment_at (first rest))) _ (ap is_some there) in (
+      let ends : ends_target (first rest) ≡ true =
+      or_left (is_some (assignment_at (first rest))) _ (ap is_some there) in (
         callee c,
         known,
         rest,
         (
-          λ commands calm. (callee_read places.Argument owner names known ts rest none commands calm d room ends c inner).0,
+          λ commands calm. (callee_read places.Argument owner names known ts rest none commands calm d room ends c
+              inner).0,
           λ bang. differs (sym (ap is_some (prefix_not ts bang)) ∙ ap is_some none),
           λ begins. differs (sym (subst (λ b. (false || not b) ≡ true) within begins)),
           inl (refl, refl),

@@ -58,7 +58,8 @@ unfolding infix_at
 infix_free l (words.Mark p) h = infix_mark_free l p h
 infix_free l w h = (refl, refl)
 
-question_false : (i : Inside) (w : Word) (test : Node) (names : Names) (ts : Tokens) (owner : DoOwner) → is_question w ≡ false → question_at i w test names ts owner ≡ Ok (test, names, ts)
+question_false : (i : Inside) (w : Word) (test : Node) (names : Names) (ts : Tokens) (owner : DoOwner)
+    → is_question w ≡ false → question_at i w test names ts owner ≡ Ok (test, names, ts)
 question_false i (words.Mark marks.Question) test names ts owner h = differs h
 question_false i w test names ts owner h = refl
 
@@ -89,21 +90,26 @@ unfolding shape
 not_is_no_target n = refl
 
 -- where no command begins, a value does
-no_command : (i : Inside) (o : OperandNode) (names : Names) (ts : Tokens) (place : Place) (owner : DoOwner) → may_command place o ts ≡ false → command_or_value i o names ts place owner ≡ value_phrase i o names ts owner
+no_command : (i : Inside) (o : OperandNode) (names : Names) (ts : Tokens) (place : Place) (owner : DoOwner)
+    → may_command place o ts ≡ false → command_or_value i o names ts place owner ≡ value_phrase i o names ts owner
 no_command i (whole n) names ts place owner calm = refl
 no_command i (callee c) names ts place owner calm = rw calm refl
 
-module _ (i : Inside) (owner : DoOwner) (m : OperandNode) (k : Names) (mid : Tokens) (x : Node) (known : Names) (rest : Tokens) (y : Node) (later : Names) (left : Tokens)
-    (all : (n : ℕ) → length mid < n → operators_from i n 13 owner (operand_node m) k mid ≡ Ok (x, known, rest)) (asked : question_at i (first rest) x known rest owner ≡ Ok (y, later, left)) where
+module _ (i : Inside) (owner : DoOwner) (m : OperandNode) (k : Names) (mid : Tokens) (x : Node) (known : Names)
+    (rest : Tokens) (y : Node) (later : Names) (left : Tokens)
+    (all : (n : ℕ) → length mid < n → operators_from i n 13 owner (operand_node m) k mid ≡ Ok (x, known, rest))
+    (asked : question_at i (first rest) x known rest owner ≡ Ok (y, later, left)) where
   value_read : value_phrase i m k mid owner ≡ Ok ((y, sorts.Argument), later, left)
   unfolding value_from
   value_read = rw (all (length mid + 1) (omega arith), asked) refl
 
-  from_read : (place : Place) → (is_target m ≡ true → (assignment_at (first mid) ≡ None) × ((is_statement place && is_comma_word (first mid)) ≡ false)) → may_command place m mid ≡ false
+  from_read : (place : Place) → (is_target m ≡ true → (assignment_at (first mid) ≡ None)
+      × ((is_statement place && is_comma_word (first mid)) ≡ false)) → may_command place m mid ≡ false
       → phrase_from i m k mid place owner ≡ Ok ((y, sorts.Argument), later, left)
   unfolding phrase_from
   from_read place free calm =
-      let plain : command_or_value i m k mid place owner ≡ Ok ((y, sorts.Argument), later, left) = no_command i m k mid place owner calm ∙ value_read in
+      let plain : command_or_value i m k mid place owner ≡ Ok ((y, sorts.Argument), later, left) =
+      no_command i m k mid place owner calm ∙ value_read in
       elim (cases_Bool (is_target m)) [
         | inl target ↦ let f = free target in rw (target, f.0, f.1) plain
         | inr other ↦ rw other plain
@@ -114,58 +120,84 @@ settled_may : (o : OperandNode) (place : Place) (ts : Tokens) → Settled o plac
 settled_may (whole n) place ts s = and_false (allows_command place)
 settled_may (callee c) place ts s = s.0
 
-taken_parts : (place : Place) (w : Word) → takes_target place w ≡ false → (assignment_at w ≡ None) × ((is_statement place && is_comma_word w) ≡ false)
+taken_parts : (place : Place) (w : Word) → takes_target place w ≡ false → (assignment_at w ≡ None)
+    × ((is_statement place && is_comma_word w) ≡ false)
 taken_parts place w h =
     let parts = or_false_parts (is_some (assignment_at w)) (is_statement place && is_comma_word w) h in
     (none_of (assignment_at w) parts.0, parts.1)
 
 -- the first operand is no target by the word behind it
-free_target : (place : Place) (m : OperandNode) (x : Node) (mid rest : Tokens) → ((x ≡ operand_node m) × (rest ≡ mid)) ⊎ (is_some (infix_at 13 (first mid)) ≡ true) → Settled m place mid → is_taken place x (first rest) ≡ false
-    → is_target m ≡ true → (assignment_at (first mid) ≡ None) × ((is_statement place && is_comma_word (first mid)) ≡ false)
-free_target place (callee c) x mid rest led s free target = taken_parts place (first mid) (true_and (is_target (callee c)) (takes_target place (first mid)) target s.1)
+free_target : (place : Place) (m : OperandNode) (x : Node) (mid rest : Tokens) → ((x ≡ operand_node m) × (rest ≡ mid))
+    ⊎ (is_some (infix_at 13 (first mid)) ≡ true) → Settled m place mid → is_taken place x (first rest) ≡ false
+    → is_target m ≡ true → (assignment_at (first mid) ≡ None)
+    × ((is_statement place && is_comma_word (first mid)) ≡ false)
+free_target place (callee c) x mid rest led s free target =
+    taken_parts place (first mid) (true_and (is_target (callee c)) (takes_target place (first mid)) target s.1)
 free_target place (whole n) x mid rest (inl same) s free target =
-    let free_there : is_taken place n (first mid) ≡ false = subst (λ (y : Node). is_taken place y (first mid) ≡ false) same.0 (subst (λ (q : Tokens). is_taken place x (first q) ≡ false) same.1 free) in
+    let free_there : is_taken place n (first mid) ≡ false =
+    subst (λ (y : Node). is_taken place y (first mid) ≡ false) same.0
+    (subst (λ (q : Tokens). is_taken place x (first q) ≡ false) same.1 free) in
     taken_parts place (first mid) (true_and (is_target (whole n)) (takes_target place (first mid)) target free_there)
 free_target place (whole n) x mid rest (inr behind_it) s free target =
     let parts = infix_free 13 (first mid) behind_it in
     (parts.0, rw parts.1 (and_false (is_statement place)))
 
 -- no assignment stands behind the first operand
-no_assignment : (m : OperandNode) (x : Node) (mid rest : Tokens) → ((x ≡ operand_node m) × (rest ≡ mid)) ⊎ (is_some (infix_at 13 (first mid)) ≡ true) → is_some (assignment_at (first rest)) ≡ false → assignment_at (first mid) ≡ None
-no_assignment m x mid rest (inl same) none = none_of (assignment_at (first mid)) (subst (λ (q : Tokens). is_some (assignment_at (first q)) ≡ false) same.1 none)
+no_assignment : (m : OperandNode) (x : Node) (mid rest : Tokens) → ((x ≡ operand_node m) × (rest ≡ mid))
+    ⊎ (is_some (infix_at 13 (first mid)) ≡ true) → is_some (assignment_at (first rest)) ≡ false
+    → assignment_at (first mid) ≡ None
+no_assignment m x mid rest (inl same) none = none_of (assignment_at (first mid))
+    (subst (λ (q : Tokens). is_some (assignment_at (first q)) ≡ false) same.1 none)
 no_assignment m x mid rest (inr behind_it) none = (infix_free 13 (first mid) behind_it).0
 
-not_there : (o : OperandNode) (mid : Tokens) → begins_command o mid ≡ false → assignment_at (first mid) ≡ None → is_command_there o mid ≡ false
+not_there : (o : OperandNode) (mid : Tokens) → begins_command o mid ≡ false → assignment_at (first mid) ≡ None
+    → is_command_there o mid ≡ false
 not_there o mid calm none = rw (calm, none) (and_false (is_target o))
 
-module _ (i : Inside) (place : Place) (owner : DoOwner) (names known : Names) (ts rest : Tokens) (x : Node) (y : Node) (later : Names) (left : Tokens)
-    (r : Reads i (Operation place 13 owner x) names ts known rest) (asked : question_at i (first rest) x known rest owner ≡ Ok (y, later, left)) where
-  operand_way : is_taken place x (first rest) ≡ false → operand_phrase i names ts place owner ≡ Ok ((y, sorts.Argument), later, left)
+module _ (i : Inside) (place : Place) (owner : DoOwner) (names known : Names) (ts rest : Tokens) (x : Node) (y : Node)
+    (later : Names) (left : Tokens)
+    (r : Reads i (Operation place 13 owner x) names ts known rest)
+    (asked : question_at i (first rest) x known rest owner ≡ Ok (y, later, left)) where
+  operand_way : is_taken place x (first rest) ≡ false
+      → operand_phrase i names ts place owner ≡ Ok ((y, sorts.Argument), later, left)
   operand_way free =
       let settled : Settled r.0 place r.2 = r.3.2 (or_right (allows_command place) _ refl) in
-      rw (r.3.0 (allows_command place) (λ h. h)) (from_read i owner r.0 r.1 r.2 x known rest y later left r.4 asked place (free_target place r.0 x r.2 rest r.3.3 settled free) (settled_may r.0 place r.2 settled))
+      rw (r.3.0 (allows_command place) (λ h. h))
+      (from_read i owner r.0 r.1 r.2 x known rest y later left r.4 asked place
+      (free_target place r.0 x r.2 rest r.3.3 settled free) (settled_may r.0 place r.2 settled))
 
-  negated_way : allows_command place ≡ true → first ts ≡ words.Mark marks.Not → is_some (assignment_at (first rest)) ≡ false → negated i names (behind ts) owner ≡ Ok ((y, sorts.Argument), later, left)
+  negated_way : allows_command place ≡ true → first ts ≡ words.Mark marks.Not
+      → is_some (assignment_at (first rest)) ≡ false
+      → negated i names (behind ts) owner ≡ Ok ((y, sorts.Argument), later, left)
   unfolding negated
   negated_way may bang none =
       let n = r.3.1 bang in
       let got = n.2 may in
       let plain = not_there n.0 r.2 got.1 (no_assignment r.0 x r.2 rest r.3.3 none) in
-      let all : (k : ℕ) → length r.2 < k → operators_from i k 13 owner (prefix_node prefixes.Not (operand_node n.0)) r.1 r.2 ≡ Ok (x, known, rest) =
-      λ k enough. subst (λ (m : Node). operators_from i k 13 owner m r.1 r.2 ≡ Ok (x, known, rest)) n.1 (r.4 k enough) in
-      let there : phrase_from i (whole (prefix_node prefixes.Not (operand_node n.0))) r.1 r.2 places.Argument owner ≡ Ok ((y, sorts.Argument), later, left) =
-      from_read i owner (whole (prefix_node prefixes.Not (operand_node n.0))) r.1 r.2 x known rest y later left all asked places.Argument
-      (λ target. clash (is_target (whole (prefix_node prefixes.Not (operand_node n.0)))) target (not_is_no_target (operand_node n.0))) refl in
+      let all : (k : ℕ) → length r.2 < k → operators_from i k 13 owner (prefix_node prefixes.Not (operand_node n.0)) r.1
+      r.2 ≡ Ok (x, known, rest) =
+      λ k enough. subst (λ (m : Node). operators_from i k 13 owner m r.1 r.2 ≡ Ok (x, known, rest)) n.1 (r.4 k enough)
+      in
+      let there : phrase_from i (whole (prefix_node prefixes.Not (operand_node n.0))) r.1 r.2 places.Argument owner ≡ Ok
+      ((y, sorts.Argument), later, left) =
+      from_read i owner (whole (prefix_node prefixes.Not (operand_node n.0))) r.1 r.2 x known rest y later left all
+      asked places.Argument
+      (λ target. clash (is_target (whole (prefix_node prefixes.Not (operand_node n.0)))) target
+      (not_is_no_target (operand_node n.0))) refl in
       rw (got.0, plain) there
 
-  start_way : opens ts ≡ true → Front place ts → is_taken place x (first rest) ≡ false → (is_statement place && is_target_group ts) ≡ false → (allows_command place && is_some (assignment_at (first rest))) ≡ false
+  start_way : opens ts ≡ true → Front place ts → is_taken place x (first rest) ≡ false
+      → (is_statement place && is_target_group ts) ≡ false
+      → (allows_command place && is_some (assignment_at (first rest))) ≡ false
       → phrase i names ts place owner ≡ Ok ((y, sorts.Argument), later, left)
   unfolding phrase_by
   start_way h front free group none = by_bang (bang_is (first ts))
     where
-      by_place : (p : Place) → p ≡ place → first ts ≡ words.Mark marks.Not → phrase i names ts place owner ≡ Ok ((y, sorts.Argument), later, left)
+      by_place : (p : Place) → p ≡ place → first ts ≡ words.Mark marks.Not
+          → phrase i names ts place owner ≡ Ok ((y, sorts.Argument), later, left)
       by_place places.Argument same bang =
-          let started : start_at place ts ≡ starts.Operand = subst (λ p. start_at p ts ≡ starts.Operand) same (plain_start ts h) in
+          let started : start_at place ts ≡ starts.Operand =
+          subst (λ p. start_at p ts ≡ starts.Operand) same (plain_start ts h) in
           rw started (operand_way free)
       by_place places.Command same bang =
           let may : allows_command place ≡ true = subst (λ p. allows_command p ≡ true) same refl in
@@ -174,16 +206,20 @@ module _ (i : Inside) (place : Place) (owner : DoOwner) (names known : Names) (t
           let may : allows_command place ≡ true = subst (λ p. allows_command p ≡ true) same refl in
           rw (not_start place ts bang group may) (negated_way may bang (true_and (allows_command place) _ may none))
 
-      by_bang : (first ts ≡ words.Mark marks.Not) ⊎ (first ts ≢ words.Mark marks.Not) → phrase i names ts place owner ≡ Ok ((y, sorts.Argument), later, left)
+      by_bang : (first ts ≡ words.Mark marks.Not) ⊎ (first ts ≢ words.Mark marks.Not)
+          → phrase i names ts place owner ≡ Ok ((y, sorts.Argument), later, left)
       by_bang (inl bang) = by_place place refl bang
       by_bang (inr other) = rw (front_start place ts h front other group) (operand_way free)
 
-pub value : (place : Place) (owner : DoOwner) (names known : Names) (ts rest : Tokens) (n : Node) → Fact (Operation place 13 owner n) names ts known rest → Front place ts → is_question (first rest) ≡ false → is_taken place n (first rest) ≡ false
+pub value : (place : Place) (owner : DoOwner) (names known : Names) (ts rest : Tokens) (n : Node)
+    → Fact (Operation place 13 owner n) names ts known rest → Front place ts → is_question (first rest) ≡ false
+    → is_taken place n (first rest) ≡ false
     → Fact (Argument place owner n) names ts known rest
 value place owner names known ts rest n inner front calm free = (
   inner.0,
   opens_begins ts inner.1,
-  λ d room group none. start_way (levels d) place owner names known ts rest n n known rest (inner.2 d room) (question_false (levels d) (first rest) n known rest owner calm) inner.1 front free group none,
+  λ d room group none. start_way (levels d) place owner names known ts rest n n known rest (inner.2 d room)
+      (question_false (levels d) (first rest) n known rest owner calm) inner.1 front free group none,
 )
 
 -- no question mark makes a target of what stands before it
@@ -191,11 +227,14 @@ asked_free : (place : Place) (n : Node) (w : Word) → w ≡ words.Mark marks.Qu
 asked_free place n w asks = rw (asks, and_false (is_statement place)) (and_false (is_target (whole n)))
 
 -- a value that the rules a level deeper read
-pub value_below : (d : ℕ) → 0 < d → (names known : Names) (ts rest : Tokens) (owner : DoOwner) (n : Node) → phrase (levels (d - 1)) names ts places.Argument owner ≡ Ok ((n, sorts.Argument), known, rest)
+pub value_below : (d : ℕ) → 0 < d → (names known : Names) (ts rest : Tokens) (owner : DoOwner) (n : Node)
+    → phrase (levels (d - 1)) names ts places.Argument owner ≡ Ok ((n, sorts.Argument), known, rest)
     → (levels d).argument names ts owner ≡ Ok (n, known, rest)
-value_below d some names known ts rest owner n read = ap (λ (i : Inside). i.argument names ts owner) (levels_at d some) ∙ rw read refl
+value_below d some names known ts rest owner n read = ap (λ (i : Inside). i.argument names ts owner) (levels_at d some)
+    ∙ rw read refl
 
-pub conditional : (place : Place) (owner : DoOwner) (names known later last : Names) (ts rest more left : Tokens) (n a b : Node)
+pub conditional : (place : Place) (owner : DoOwner) (names known later last : Names) (ts rest more left : Tokens)
+    (n a b : Node)
     → Fact (Operation place 13 owner n) names ts known rest → Front place ts → first rest ≡ words.Mark marks.Question
     → Fact (Argument places.Argument owner a) known (behind rest) later more → first more ≡ words.Mark marks.Colon
     → Fact (Argument places.Argument owner b) later (behind more) last left
@@ -209,15 +248,22 @@ conditional place owner names known later last ts rest more left n a b test fron
       omega arith,
       opens_begins ts test.1,
       λ d room group none.
-          let chosen = value_below d (omega arith) known later (behind rest) more owner a (first_one.2 (d - 1) (omega arith) refl refl) in
-          let other = value_below d (omega arith) later last (behind more) left owner b (second_one.2 (d - 1) (omega arith) refl refl) in
-          let asked : question_at (levels d) (first rest) n known rest owner ≡ Ok (choice_node n a b, last, left) = rw (asks, chosen, parts, other) refl in
-          let calm : (allows_command place && is_some (assignment_at (first rest))) ≡ false = rw asks (and_false (allows_command place)) in
-          start_way (levels d) place owner names known ts rest n (choice_node n a b) last left (test.2 d room) asked test.1 front (asked_free place n (first rest) asks) group calm,
+          let chosen = value_below d (omega arith) known later (behind rest) more owner a
+          (first_one.2 (d - 1) (omega arith) refl refl) in
+          let other = value_below d (omega arith) later last (behind more) left owner b
+          (second_one.2 (d - 1) (omega arith) refl refl) in
+          let asked : question_at (levels d) (first rest) n known rest owner ≡ Ok (choice_node n a b, last, left) =
+          rw (asks, chosen, parts, other) refl in
+          let calm : (allows_command place && is_some (assignment_at (first rest))) ≡ false =
+          rw asks (and_false (allows_command place)) in
+          start_way (levels d) place owner names known ts rest n (choice_node n a b) last left (test.2 d room) asked
+          test.1 front (asked_free place n (first rest) asks) group calm,
     )
 
-pub defined_value : (place : Place) (owner : DoOwner) (names known : Names) (ts rest : Tokens) (n : Node) → first ts ≡ words.Key keywords.Defined → is_open_parenthesis (first (behind ts)) ≡ false
-    → Fact (Argument places.Argument owner n) names (behind ts) known rest → Fact (Argument place owner (node.defined n)) names ts known rest
+pub defined_value : (place : Place) (owner : DoOwner) (names known : Names) (ts rest : Tokens) (n : Node)
+    → first ts ≡ words.Key keywords.Defined → is_open_parenthesis (first (behind ts)) ≡ false
+    → Fact (Argument places.Argument owner n) names (behind ts) known rest
+    → Fact (Argument place owner (node.defined n)) names ts known rest
 unfolding start_at phrase_by
 defined_value place owner names known ts rest n is closed inner =
     let one = word_taken (words.Key keywords.Defined) ts is refl in
@@ -225,22 +271,26 @@ defined_value place owner names known ts rest n is closed inner =
       omega arith,
       rw is refl,
       λ d room group none.
-          let read = value_below d (omega arith) names known (behind ts) rest owner n (inner.2 (d - 1) (omega arith) refl refl) in
+          let read = value_below d (omega arith) names known (behind ts) rest owner n
+          (inner.2 (d - 1) (omega arith) refl refl) in
           rw (is, closed) (rw read refl),
     )
 
-pub unnegated : (place : Place) (owner : DoOwner) (names known : Names) (ts rest : Tokens) (n : Node) → (is_statement place && is_target_group ts) ≡ false → Fact (Argument place owner n) names ts known rest
+pub unnegated : (place : Place) (owner : DoOwner) (names known : Names) (ts rest : Tokens) (n : Node)
+    → (is_statement place && is_target_group ts) ≡ false → Fact (Argument place owner n) names ts known rest
     → Fact (Negation place owner n) names ts known rest
 unfolding negation
 unnegated place owner names known ts rest n group inner = (
   inner.0,
   or_left (begins (first ts)) (is_not (first ts)) inner.1,
   λ d room none.
-      let calm : (allows_command place && is_some (assignment_at (first rest))) ≡ false = rw none (and_false (allows_command place)) in
+      let calm : (allows_command place && is_some (assignment_at (first rest))) ≡ false =
+      rw none (and_false (allows_command place)) in
       (sorts.Argument, refl, rw (head_no_not (first ts) inner.1) (inner.2 d room group calm)),
 )
 
-pub negated_fact : (place : Place) (owner : DoOwner) (names known : Names) (ts rest : Tokens) (n : Node) → first ts ≡ words.Key keywords.Not → Fact (Negation places.Command owner n) names (behind ts) known rest
+pub negated_fact : (place : Place) (owner : DoOwner) (names known : Names) (ts rest : Tokens) (n : Node)
+    → first ts ≡ words.Key keywords.Not → Fact (Negation places.Command owner n) names (behind ts) known rest
     → Fact (Negation place owner (node.not_node n)) names ts known rest
 unfolding negation
 negated_fact place owner names known ts rest n is inner =

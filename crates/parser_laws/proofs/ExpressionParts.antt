@@ -26,7 +26,8 @@ pub prefix_part : (o : Prefix) (n : Node) → is_expression (prefix_node o n) �
 prefix_part prefixes.Not n h = h
 prefix_part (prefixes.Operation o) n h = h
 
-pub infix_parts : (o : Infix) (at : ℕ) (a b : Node) → is_expression (infix_node o at a b) ≡ true → (is_expression a ≡ true) × (is_expression b ≡ true)
+pub infix_parts : (o : Infix) (at : ℕ) (a b : Node) → is_expression (infix_node o at a b) ≡ true
+    → (is_expression a ≡ true) × (is_expression b ≡ true)
 infix_parts (infixes.Operation o) at a b h = and_parts (is_expression a) (is_expression b) h
 infix_parts infixes.And at a b h = and_parts (is_expression a) (is_expression b) h
 infix_parts infixes.Or at a b h = and_parts (is_expression a) (is_expression b) h
@@ -35,11 +36,13 @@ infix_parts infixes.RangeExclusive at a b h = and_parts (is_expression a) (is_ex
 infix_parts infixes.Match at a b h = clash false h refl
 infix_parts infixes.Ambiguous at a b h = clash false h refl
 
-pub junction_parts : (j : Junction) (a b : Node) → is_expression (junction_node j a b) ≡ true → (is_expression a ≡ true) × (is_expression b ≡ true)
+pub junction_parts : (j : Junction) (a b : Node) → is_expression (junction_node j a b) ≡ true → (is_expression a ≡ true)
+    × (is_expression b ≡ true)
 junction_parts junctions_of.And a b h = and_parts (is_expression a) (is_expression b) h
 junction_parts junctions_of.Or a b h = and_parts (is_expression a) (is_expression b) h
 
-pub assignment_parts : (a : Assignment) (t e : Node) → is_expression (assignment_node a t e) ≡ true → (is_assignable t ≡ true) × (is_expression e ≡ true)
+pub assignment_parts : (a : Assignment) (t e : Node) → is_expression (assignment_node a t e) ≡ true
+    → (is_assignable t ≡ true) × (is_expression e ≡ true)
 assignment_parts signs.Plain t e h = and_parts (is_assignable t) (is_expression e) h
 assignment_parts (signs.Operation o) t e h = and_parts (is_assignable t) (is_expression e) h
 
@@ -56,10 +59,12 @@ condition_same n = by_shape (shape n)
 condition_is : (n : Node) → is_expression (condition_node n) ≡ true → is_expression n ≡ true
 condition_is n h = subst (λ m. is_expression m ≡ true) (condition_same n h) h
 
-pub choice_parts : (test a b : Node) → is_expression (choice_node test a b) ≡ true → (is_expression test ≡ true) × (is_expression a ≡ true) × (is_expression b ≡ true)
+pub choice_parts : (test a b : Node) → is_expression (choice_node test a b) ≡ true → (is_expression test ≡ true)
+    × (is_expression a ≡ true) × (is_expression b ≡ true)
 choice_parts test a b h =
     let all = and_parts (is_bare b && true) _ h in
-    let branches = and_parts ((is_bare a && (is_expression (condition_node test) && is_expression a)) && true) (is_expression b && true) all.1 in
+    let branches = and_parts ((is_bare a && (is_expression (condition_node test) && is_expression a)) && true)
+    (is_expression b && true) all.1 in
     let branch = and_parts (is_bare a && (is_expression (condition_node test) && is_expression a)) true branches.0 in
     let chosen = and_parts (is_bare a) (is_expression (condition_node test) && is_expression a) branch.0 in
     let tested = and_parts (is_expression (condition_node test)) (is_expression a) chosen.1 in
@@ -69,21 +74,27 @@ choice_parts test a b h =
 -- what stands before a modifier and behind it
 pub modified_parts : (m : Modifier) (body part : Node) → is_expression (modified_node m body part) ≡ true → (is_expression body ≡ true) × (is_expression part ≡ true)
 modified_parts kinds.If body part h =
-    let branch = and_parts (is_bare body && (is_expression (condition_node part) && is_expression body)) true (and_parts (is_expression (node.branch (condition_node part) body) && true) true h).0 in
-    let tested = and_parts (is_expression (condition_node part)) (is_expression body) (and_parts (is_bare body) _ branch.0).1 in
+    let branch = and_parts (is_bare body && (is_expression (condition_node part) && is_expression body)) true
+    (and_parts (is_expression (node.branch (condition_node part) body) && true) true h).0 in
+    let tested = and_parts (is_expression (condition_node part)) (is_expression body)
+    (and_parts (is_bare body) _ branch.0).1 in
     (tested.1, condition_is part tested.0)
 modified_parts kinds.Unless body part h =
-    let tested = and_parts (is_expression (condition_node part)) (is_expression body) (and_parts (is_bare body && true) _ h).1 in
+    let tested = and_parts (is_expression (condition_node part)) (is_expression body)
+    (and_parts (is_bare body && true) _ h).1 in
     (tested.1, condition_is part tested.0)
 modified_parts kinds.While body part h =
-    let tested = and_parts (is_expression (condition_node part)) (is_expression body) (and_parts (is_bare body) _ h).1 in
+    let tested = and_parts (is_expression (condition_node part)) (is_expression body) (and_parts (is_bare body) _ h).1
+    in
     (tested.1, condition_is part tested.0)
 modified_parts kinds.Until body part h =
-    let tested = and_parts (is_expression (condition_node part)) (is_expression body) (and_parts (is_bare body) _ h).1 in
+    let tested = and_parts (is_expression (condition_node part)) (is_expression body) (and_parts (is_bare body) _ h).1
+    in
     (tested.1, condition_is part tested.0)
 modified_parts kinds.Rescue body part h = and_parts (is_expression body) (is_expression part) h
 
-pub pieces_parts : (ns ms : List Node) → are_pieces (nodes (ns ++ ms)) ≡ true → (are_pieces (nodes ns) ≡ true) × (are_pieces (nodes ms) ≡ true)
+pub pieces_parts : (ns ms : List Node) → are_pieces (nodes (ns ++ ms)) ≡ true → (are_pieces (nodes ns) ≡ true)
+    × (are_pieces (nodes ms) ≡ true)
 pieces_parts [] ms h = (refl, h)
 pieces_parts (n ∷ ns) ms h =
     let p = and_parts (is_piece n) (are_pieces (nodes (ns ++ ms))) h in

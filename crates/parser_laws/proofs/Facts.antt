@@ -248,19 +248,23 @@ Within commands place = commands ≡ true → allows_command place ≡ true
 -- a name alone begins neither a command nor an assignment
 abbrev pub Settled : OperandNode → Place → Tokens → Type 0
 Settled (whole n) place ts = Unit {0}
-Settled (callee c) place ts = ((allows_command place && begins_argument ts) ≡ false) × ((is_target (callee c) && takes_target place (first ts)) ≡ false)
+Settled (callee c) place ts = ((allows_command place && begins_argument ts) ≡ false)
+    × ((is_target (callee c) && takes_target place (first ts)) ≡ false)
 
 -- behind ! stands an operand, which begins no command
 abbrev pub Nots : Inside → Place → DoOwner → Node → Names → Tokens → Names → Tokens → Type 0
 Nots i place owner x names ts known rest = first ts ≡ words.Mark marks.Not →
     (o : OperandNode) × (x ≡ prefix_node prefixes.Not (operand_node o))
-    × (allows_command place ≡ true → (operand i names (behind ts) true owner ≡ Ok (o, known, rest)) × (begins_command o rest ≡ false))
+    × (allows_command place ≡ true → (operand i names (behind ts) true owner ≡ Ok (o, known, rest))
+    × (begins_command o rest ≡ false))
 
 -- the first operand, which is all or has an operator behind it; where a value begins, it begins no assignment
 abbrev pub Leads : Inside → Place → ℕ → DoOwner → OperandNode → Names → Tokens → Node → Names → Tokens → Tokens → Type 0
 Leads i place loosest owner m known mid x names ts rest =
-    ((commands : Bool) → Within commands place → operand i names ts commands owner ≡ Ok (m, known, mid)) × Nots i place owner (operand_node m) names ts known mid
-    × ((allows_command place || not (is_inner loosest)) ≡ true → Settled m place mid) × (((x ≡ operand_node m) × (rest ≡ mid)) ⊎ (is_some (infix_at loosest (first mid)) ≡ true))
+    ((commands : Bool) → Within commands place → operand i names ts commands owner ≡ Ok (m, known, mid))
+    × Nots i place owner (operand_node m) names ts known mid
+    × ((allows_command place || not (is_inner loosest)) ≡ true → Settled m place mid)
+    × (((x ≡ operand_node m) × (rest ≡ mid)) ⊎ (is_some (infix_at loosest (first mid)) ≡ true))
 
 -- a list of values, and whether a comma stands behind them
 abbrev pub listed : List Node → Bool → ListNode
@@ -274,7 +278,8 @@ is_command_part _ = false
 abbrev pub Grows : Inside → DoOwner → ListNode → Names → Tokens → Names → Tokens → Bool → Type 0
 Grows i owner l names ts known rest comma =
     (n : ℕ) → length ts < n → (m : ℕ) × (length rest < m)
-    × (list_from i n owner true true nothing_listed names ts ≡ list_from i m owner false comma (with_comma comma l) known (skip_if comma rest))
+    × (list_from i n owner true true nothing_listed names ts ≡ list_from i m owner false comma (with_comma comma l)
+    known (skip_if comma rest))
 
 -- a subject in a heading, or none
 abbrev pub subjects : Option Node → List Node
@@ -284,115 +289,173 @@ subjects (Some n) = n ∷ []
 -- what the rules read
 abbrev pub Reads : Inside → Rule → Names → Tokens → Names → Tokens → Type 0
 Reads i (Statements x) names ts known rest = statements i names ts ≡ Ok (x, known, rest)
-Reads i (StatementList ns) names ts known rest = (n : ℕ) (found : List Node) → length ts < n → statements_from i n found names ts ≡ Ok (found ++ ns, known, rest)
-Reads i (Statement x) names ts known rest = assignment_at (first rest) ≡ None → statement i names ts ≡ Ok (x, known, rest)
+Reads i (StatementList ns) names ts known rest = (n : ℕ) (found : List Node) → length ts < n
+    → statements_from i n found names ts ≡ Ok (found ++ ns, known, rest)
+Reads i (Statement x) names ts known rest = assignment_at (first rest) ≡ None
+    → statement i names ts ≡ Ok (x, known, rest)
 Reads i (Modified x) names ts known rest = assignment_at (first rest) ≡ None →
     (p : Node) × (k : Names) × (mid : Tokens) × (base i names ts ≡ Ok (p, k, mid))
-    × ((n : ℕ) → length mid < n → (m : ℕ) × (length rest < m) × (modifiers_from i n p k mid ≡ modifiers_from i m x known rest))
+    × ((n : ℕ) → length mid < n → (m : ℕ) × (length rest < m)
+    × (modifiers_from i n p k mid ≡ modifiers_from i m x known rest))
 Reads i (Base x) names ts known rest = assignment_at (first rest) ≡ None → base i names ts ≡ Ok (x, known, rest)
-Reads i (Expression place owner x) names ts known rest = assignment_at (first rest) ≡ None → expression i names ts place owner ≡ Ok (x, known, rest)
+Reads i (Expression place owner x) names ts known rest = assignment_at (first rest) ≡ None
+    → expression i names ts place owner ≡ Ok (x, known, rest)
 Reads i (Joined place owner x) names ts known rest = assignment_at (first rest) ≡ None →
-    (p : PhraseNode) × (k : Names) × (mid : Tokens) × (negation i names ts place owner ≡ Ok (p, k, mid)) × (is_statement_sort p.1 ≡ false)
-    × ((n : ℕ) → length mid < n → (m : ℕ) × (length rest < m) × (junctions_from i n owner p.0 k mid ≡ junctions_from i m owner x known rest))
-Reads i (Negation place owner x) names ts known rest = assignment_at (first rest) ≡ None → (s : Sort) × (is_statement_sort s ≡ false) × (negation i names ts place owner ≡ Ok ((x, s), known, rest))
+    (p : PhraseNode) × (k : Names) × (mid : Tokens) × (negation i names ts place owner ≡ Ok (p, k, mid))
+    × (is_statement_sort p.1 ≡ false)
+    × ((n : ℕ) → length mid < n → (m : ℕ) × (length rest < m)
+    × (junctions_from i n owner p.0 k mid ≡ junctions_from i m owner x known rest))
+Reads i (Negation place owner x) names ts known rest = assignment_at (first rest) ≡ None → (s : Sort)
+    × (is_statement_sort s ≡ false) × (negation i names ts place owner ≡ Ok ((x, s), known, rest))
 Reads i (Argument place owner x) names ts known rest =
-    (is_statement place && is_target_group ts) ≡ false → (allows_command place && is_some (assignment_at (first rest))) ≡ false → phrase i names ts place owner ≡ Ok ((x, sorts.Argument), known, rest)
+    (is_statement place && is_target_group ts) ≡ false
+    → (allows_command place && is_some (assignment_at (first rest))) ≡ false
+    → phrase i names ts place owner ≡ Ok ((x, sorts.Argument), known, rest)
 Reads i (Operation place loosest owner x) names ts known rest =
     (m : OperandNode) × (k : Names) × (mid : Tokens) × Leads i place loosest owner m k mid x names ts rest
     × ((n : ℕ) → length mid < n → operators_from i n loosest owner (operand_node m) k mid ≡ Ok (x, known, rest))
 Reads i (Operators place loosest owner x) names ts known rest =
     (m : OperandNode) × (k : Names) × (mid : Tokens) × Leads i place loosest owner m k mid x names ts rest
-    × ((n : ℕ) → length mid < n → (l : ℕ) × (length rest < l) × (operators_from i n loosest owner (operand_node m) k mid ≡ operators_from i l loosest owner x known rest))
+    × ((n : ℕ) → length mid < n → (l : ℕ) × (length rest < l)
+    × (operators_from i n loosest owner (operand_node m) k mid ≡ operators_from i l loosest owner x known rest))
 Reads i (Operand place owner x) names ts known rest =
-    (o : OperandNode) × (operand_node o ≡ x) × Settled o place rest × ((commands : Bool) → Within commands place → operand i names ts commands owner ≡ Ok (o, known, rest))
+    (o : OperandNode) × (operand_node o ≡ x) × Settled o place rest
+    × ((commands : Bool) → Within commands place → operand i names ts commands owner ≡ Ok (o, known, rest))
     × Nots i place owner x names ts known rest
 Reads i (Primary place owner x) names ts known rest =
-    (m : OperandNode) × (k : Names) × (mid : Tokens) × (primary i names ts owner ≡ Ok (m, k, mid)) × (o : OperandNode) × (operand_node o ≡ x) × Settled o place rest
-    × ((n : ℕ) → length mid < n → (l : ℕ) × (length rest < l) × ((commands : Bool) → Within commands place → chain_within i n commands owner m k mid ≡ chain_within i l commands owner o known rest))
-Reads i (Values place ns) names ts known rest = assignment_at (first rest) ≡ None → (alone : Bool) → part_place alone ≡ place
-    → (n : ℕ) (found : List Node) (before : Bool) → length ts < n → (comma : Bool) × (list_from i n owners.Call alone true (listed found before) names ts ≡ Ok (listed (found ++ ns) comma, known, rest))
+    (m : OperandNode) × (k : Names) × (mid : Tokens) × (primary i names ts owner ≡ Ok (m, k, mid)) × (o : OperandNode)
+    × (operand_node o ≡ x) × Settled o place rest
+    × ((n : ℕ) → length mid < n → (l : ℕ) × (length rest < l)
+    × ((commands : Bool) → Within commands place
+    → chain_within i n commands owner m k mid ≡ chain_within i l commands owner o known rest))
+Reads i (Values place ns) names ts known rest = assignment_at (first rest) ≡ None → (alone : Bool)
+    → part_place alone ≡ place
+    → (n : ℕ) (found : List Node) (before : Bool) → length ts < n → (comma : Bool)
+    × (list_from i n owners.Call alone true (listed found before) names ts ≡ Ok
+    (listed (found ++ ns) comma, known, rest))
 Reads i (Target owner x) names ts known rest =
-    ends_target (first rest) ≡ true → (o : OperandNode) × (k : Names) × ((commands : Bool) → operand i names ts commands owner ≡ Ok (o, k, rest))
-    × (is_target o ≡ true) × (target_node o ≡ x) × (target_names o k ≡ known) × ((commands : Bool) → chain i names ts commands owner ≡ Ok (o, k, rest))
+    ends_target (first rest) ≡ true → (o : OperandNode) × (k : Names)
+    × ((commands : Bool) → operand i names ts commands owner ≡ Ok (o, k, rest))
+    × (is_target o ≡ true) × (target_node o ≡ x) × (target_names o k ≡ known)
+    × ((commands : Bool) → chain i names ts commands owner ≡ Ok (o, k, rest))
 Reads i (InnerTarget owner x) names ts known rest =
-    ends_target (first rest) ≡ true → (o : OperandNode) × (k : Names) × (operand i names ts false owner ≡ Ok (o, k, rest))
-    × (is_target o ≡ true) × (target_node o ≡ x) × (target_names o k ≡ known) × (chain i names ts false owner ≡ Ok (o, k, rest))
+    ends_target (first rest) ≡ true → (o : OperandNode) × (k : Names)
+    × (operand i names ts false owner ≡ Ok (o, k, rest))
+    × (is_target o ≡ true) × (target_node o ≡ x) × (target_names o k ≡ known)
+    × (chain i names ts false owner ≡ Ok (o, k, rest))
 Reads i (Elements xs) names ts known rest = (found : List Name) → elements_from found ts ≡ Some (found ++ xs, rest)
 Reads i (Piece x) names ts known rest = piece i names ts ≡ Ok (x, known, rest)
-Reads i (Pieces ns) names ts known rest = (n : ℕ) (found : List Node) → length ts < n → pieces_from i n found names ts ≡ Ok (found ++ ns, known, rest)
+Reads i (Pieces ns) names ts known rest = (n : ℕ) (found : List Node) → length ts < n
+    → pieces_from i n found names ts ≡ Ok (found ++ ns, known, rest)
 Reads i (Quoted ns) names ts known rest = (found : List Node) → string i found names ts ≡ Ok (found ++ ns, known, rest)
 Reads i (Strings ns) names ts known rest =
-    (found : List Node) → (one : List Node) × (k : Names) × (mid : Tokens) × (length mid < length ts) × (string i found names ts ≡ Ok (one, k, mid))
+    (found : List Node) → (one : List Node) × (k : Names) × (mid : Tokens) × (length mid < length ts)
+    × (string i found names ts ≡ Ok (one, k, mid))
     × ((n : ℕ) → length mid < n → strings_from i n one k mid ≡ Ok (found ++ ns, known, rest))
 Reads i (Part place owner p) names ts known rest =
     (is_command_part p ≡ false)
-    × ((allows_command place && is_some (assignment_at (first rest))) ≡ false → (alone : Bool) → part_place alone ≡ place → part i alone names ts owner ≡ Ok (p, known, rest))
+    × ((allows_command place && is_some (assignment_at (first rest))) ≡ false → (alone : Bool)
+    → part_place alone ≡ place → part i alone names ts owner ≡ Ok (p, known, rest))
 Reads i (Parts owner l) names ts known rest =
-    (l.command ≡ false) × (l.comma ≡ false) × (assignment_at (first rest) ≡ None → Grows i owner l names ts known rest (is_comma_word (first rest)))
-Reads i (Listing owner l) names ts known rest = assignment_at (first rest) ≡ None → list i names ts owner ≡ Ok (l, known, rest)
-Reads i (OneTarget t) names ts known rest = ends_targets (first rest) ≡ true → target i uses.Assignment names ts ≡ Ok (t, known, rest)
-Reads i (Targets ms all) names ts known rest = (n : ℕ) → length ts < n → targets_from i n uses.Assignment true ms names ts ≡ Ok (all, known, rest)
-Reads i (MethodNames xs) names ts known rest = (known ≡ names) × ((found : List Name) → undef_from found ts ≡ Ok (node.undef_node (found ++ xs), rest))
-Reads i (Guarded t n) names ts known rest = test_section i names ts ≡ Ok (heading kinds.Test (t ∷ []) none n, known, rest)
+    (l.command ≡ false) × (l.comma ≡ false) ×
+    (assignment_at (first rest) ≡ None → Grows i owner l names ts known rest (is_comma_word (first rest)))
+Reads i (Listing owner l) names ts known rest = assignment_at (first rest) ≡ None
+    → list i names ts owner ≡ Ok (l, known, rest)
+Reads i (OneTarget t) names ts known rest = ends_targets (first rest) ≡ true
+    → target i uses.Assignment names ts ≡ Ok (t, known, rest)
+Reads i (Targets ms all) names ts known rest = (n : ℕ) → length ts < n
+    → targets_from i n uses.Assignment true ms names ts ≡ Ok (all, known, rest)
+Reads i (MethodNames xs) names ts known rest = (known ≡ names)
+    × ((found : List Name) → undef_from found ts ≡ Ok (node.undef_node (found ++ xs), rest))
+Reads i (Guarded t n) names ts known rest = test_section i names ts ≡ Ok
+    (heading kinds.Test (t ∷ []) none n, known, rest)
 Reads i (Repeated t n) names ts known rest =
-    (k : Names) × (mid : Tokens) × (inner : Tokens) × (expression i names ts places.Command owners.Loop ≡ Ok (t, k, mid)) × (do_at (first mid) mid ≡ Ok inner) × (statements i k inner ≡ Ok (n, known, rest))
+    (k : Names) × (mid : Tokens) × (inner : Tokens)
+    × (expression i names ts places.Command owners.Loop ≡ Ok (t, k, mid)) × (do_at (first mid) mid ≡ Ok inner)
+    × (statements i k inner ≡ Ok (n, known, rest))
 Reads i (LoopTargets xs) names ts known rest =
-    first rest ≡ words.Key keywords.In → (is_empty xs ≡ false) × ((found : TargetsNode) → found.list.star ≡ false → (n : ℕ) → length ts < n
-    → (t : TargetsNode) × (targets_from i n uses.For true found names ts ≡ Ok (t, known, rest)) × (t.list.before ≡ found.list.before ++ xs))
+    first rest ≡ words.Key keywords.In → (is_empty xs ≡ false)
+    × ((found : TargetsNode) → found.list.star ≡ false → (n : ℕ) → length ts < n
+    → (t : TargetsNode) × (targets_from i n uses.For true found names ts ≡ Ok (t, known, rest))
+    × (t.list.before ≡ found.list.before ++ xs))
 Reads i (Branches bs) names ts known rest =
-    (ss : List SectionNode) × (map branch_of ss ≡ bs) × (all_base ss ≡ true) × Steps i compounds.If kinds.Test kinds.Test ss names ts known rest
+    (ss : List SectionNode) × (map branch_of ss ≡ bs) × (all_base ss ≡ true)
+    × Steps i compounds.If kinds.Test kinds.Test ss names ts known rest
 Reads i (Otherwise o) names ts known rest =
     (form : Compound) (before : SectionKind) → next_section form before (words.Key keywords.Else) ≡ Some kinds.Else
     → Steps i form before (behind_part before kinds.Else o) (part_sections kinds.Else o) names ts known rest
 Reads i (Subject s) names ts known rest = subject_section i names ts ≡ Ok (subject (subjects s), known, rest)
 Reads i (Clauses ws) names ts known rest =
-    (before : SectionKind) → takes_clause before ≡ true → (k : SectionKind) × (s : SectionNode) × (ss : List SectionNode) × (takes_case_else k ≡ true)
-    × (map when_of (s ∷ ss) ≡ ws) × (all_base (s ∷ ss) ≡ true) × Steps i compounds.Case before k (s ∷ ss) names ts known rest
+    (before : SectionKind) → takes_clause before ≡ true → (k : SectionKind) × (s : SectionNode)
+    × (ss : List SectionNode) × (takes_case_else k ≡ true)
+    × (map when_of (s ∷ ss) ≡ ws) × (all_base (s ∷ ss) ≡ true)
+    × Steps i compounds.Case before k (s ∷ ss) names ts known rest
 Reads i (Clause w) names ts known rest =
-    (k : SectionKind) × (s : SectionNode) × (takes_case_else k ≡ true) × ((before : SectionKind) → takes_clause before ≡ true → next_section compounds.Case before (first ts) ≡ Some k)
+    (k : SectionKind) × (s : SectionNode) × (takes_case_else k ≡ true)
+    × ((before : SectionKind) → takes_clause before ≡ true → next_section compounds.Case before (first ts) ≡ Some k)
     × (section i k (place_at ts) names (behind ts) ≡ Ok (s, known, rest)) × (when_of s ≡ w) × (is_base s.kind ≡ true)
 Reads i (WhenValues vs) names ts known rest =
-    (v : Node) × (k : Names) × (mid : Tokens) × (length mid < length ts) × (value_test i names ts ≡ Ok (v, k, mid)) × (is_empty vs ≡ false)
-    × (is_comma_word (first rest) ≡ false → (n : ℕ) (found : List Node) → length mid < n → tests_from i n (found ++ v ∷ []) k mid ≡ Ok (found ++ vs, known, rest))
+    (v : Node) × (k : Names) × (mid : Tokens) × (length mid < length ts) × (value_test i names ts ≡ Ok (v, k, mid))
+    × (is_empty vs ≡ false)
+    × (is_comma_word (first rest) ≡ false → (n : ℕ) (found : List Node) → length mid < n
+    → tests_from i n (found ++ v ∷ []) k mid ≡ Ok (found ++ vs, known, rest))
 Reads i (ValueTest n) names ts known rest = value_test i names ts ≡ Ok (n, known, rest)
 Reads i (Classes vs) names ts known rest = is_comma_word (first rest) ≡ false → tests i names ts ≡ Ok (vs, known, rest)
 Reads i (RescueClauses cs) names ts known rest =
-    (before : SectionKind) → takes_rescue before ≡ true → (k : SectionKind) × (ss : List SectionNode) × (takes_rescue k ≡ true)
+    (before : SectionKind) → takes_rescue before ≡ true → (k : SectionKind) × (ss : List SectionNode)
+    × (takes_rescue k ≡ true)
     × (map rescue_of ss ≡ cs) × (all_base ss ≡ true) × Steps i compounds.Body before k ss names ts known rest
 Reads i (RescueClause c) names ts known rest =
-    (s : SectionNode) × (first ts ≡ words.Key keywords.Rescue) × (section i kinds.Rescue (place_at ts) names (behind ts) ≡ Ok (s, known, rest))
+    (s : SectionNode) × (first ts ≡ words.Key keywords.Rescue)
+    × (section i kinds.Rescue (place_at ts) names (behind ts) ≡ Ok (s, known, rest))
     × (rescue_of s ≡ c) × (is_base s.kind ≡ true)
 Reads i (Ensured e) names ts known rest =
-    (before : SectionKind) → takes_ensure before ≡ true → Steps i compounds.Body before (behind_part before kinds.Ensure e) (part_sections kinds.Ensure e) names ts known rest
+    (before : SectionKind) → takes_ensure before ≡ true
+    → Steps i compounds.Body before (behind_part before kinds.Ensure e) (part_sections kinds.Ensure e) names ts
+    known rest
 Reads i (Handlers cs o e) names ts known rest =
     (k : SectionKind) × (ss : List SectionNode) × (map rescue_of ss ≡ cs) × (all_base ss ≡ true)
-    × Steps i compounds.Body kinds.Plain k ((ss ++ part_sections kinds.Else o) ++ part_sections kinds.Ensure e) names ts known rest
+    × Steps i compounds.Body kinds.Plain k ((ss ++ part_sections kinds.Else o) ++ part_sections kinds.Ensure e) names ts
+    known rest
 Reads i (Parameter p) names ts known rest = parameter (level_above i) names ts ≡ Ok (p, known, rest)
 Reads i (ParameterList l) names ts known rest =
-    (n : ℕ) → length ts < n → (m : ℕ) × (length rest < m) × (parameters_from (level_above i) n true false no_parameters names ts
-    ≡ parameters_from (level_above i) m (is_comma_word (first rest)) (is_comma_word (first rest)) l known (skip_if (is_comma_word (first rest)) rest))
+    (n : ℕ) → length ts < n → (m : ℕ) × (length rest < m)
+    × (parameters_from (level_above i) n true false no_parameters names ts
+    ≡ parameters_from (level_above i) m (is_comma_word (first rest)) (is_comma_word (first rest)) l known
+    (skip_if (is_comma_word (first rest)) rest))
 Reads i (Parameters l) names ts known rest = parameters (level_above i) names ts ≡ Ok ((l, false), known, rest)
 Reads i (MethodParameters l) names ts known rest = open_parameters (level_above i) names ts ≡ Ok (l, known, rest)
 Reads i (BlockParameters l) names ts known rest = block_parameters (level_above i) names ts ≡ Ok (l, known, rest)
-Reads i (BarredParameters l) names ts known rest = (comma : Bool) × (k : ParameterNodes) × (parameters (level_above i) names ts ≡ Ok ((k, comma), known, rest)) × (comma_rest (k, comma) ≡ l)
+Reads i (BarredParameters l) names ts known rest = (comma : Bool) × (k : ParameterNodes)
+    × (parameters (level_above i) names ts ≡ Ok ((k, comma), known, rest)) × (comma_rest (k, comma) ≡ l)
 Reads i BarredLocals names ts known rest = block_locals names ts ≡ Ok (known, rest)
 Reads i BlockLocals names ts known rest = (n : ℕ) → length ts < n → locals_from n true names ts ≡ Ok (known, rest)
 Reads i (Block style b) names ts known rest = block i names ts style ≡ Ok (b, known, rest)
 Reads i (Callee place owner c) names ts known rest =
-    (o : OperandNode) (later : Names) (more : Tokens) → length more ≤ length rest → suffix i c known rest owner ≡ Ok (o, later, more)
+    (o : OperandNode) (later : Names) (more : Tokens) → length more ≤ length rest
+    → suffix i c known rest owner ≡ Ok (o, later, more)
     → (m : OperandNode) × (k : Names) × (mid : Tokens) × (primary i names ts owner ≡ Ok (m, k, mid))
-    × ((n : ℕ) → length mid < n → (l : ℕ) × (length more < l) × ((commands : Bool) → Within commands place → chain_within i n commands owner m k mid ≡ chain_within i l commands owner o later more))
+    × ((n : ℕ) → length mid < n → (l : ℕ) × (length more < l)
+    × ((commands : Bool) → Within commands place
+    → chain_within i n commands owner m k mid ≡ chain_within i l commands owner o later more))
 Reads i (CommandArguments owner c x) names ts known rest =
-    (begins_argument ts ≡ true) × (opens_arguments ts ≡ false) × (assignment_at (first rest) ≡ None → command (level_above i) c names ts owner ≡ Ok ((x, sorts.Command), known, rest))
+    (begins_argument ts ≡ true) × (opens_arguments ts ≡ false)
+    × (assignment_at (first rest) ≡ None → command (level_above i) c names ts owner ≡ Ok
+    ((x, sorts.Command), known, rest))
 Reads i (Command place owner x) names ts known rest =
-    (part_at ts ≡ parts.Value) × ((is_statement place && is_target_group ts) ≡ false → assignment_at (first rest) ≡ None → phrase i names ts place owner ≡ Ok ((x, sorts.Command), known, rest))
-Reads i (Called owner c x) names ts known rest = (o : OperandNode) × (operand_node o ≡ x) × (suffix (level_above i) c names ts owner ≡ Ok (o, known, rest))
+    (part_at ts ≡ parts.Value) × ((is_statement place && is_target_group ts) ≡ false → assignment_at (first rest) ≡ None
+    → phrase i names ts place owner ≡ Ok ((x, sorts.Command), known, rest))
+Reads i (Called owner c x) names ts known rest = (o : OperandNode) × (operand_node o ≡ x)
+    × (suffix (level_above i) c names ts owner ≡ Ok (o, known, rest))
 Reads i (OnePostfix owner n x) names ts known rest =
-    (p : Postfix) × (postfix_at (first ts) ≡ Some p) × (o : OperandNode) × (operand_node o ≡ x) × (postfixed (level_above i) n p names ts owner ≡ Ok (o, known, rest))
+    (p : Postfix) × (postfix_at (first ts) ≡ Some p) × (o : OperandNode) × (operand_node o ≡ x)
+    × (postfixed (level_above i) n p names ts owner ≡ Ok (o, known, rest))
 Reads i (Postfixes owner n x) names ts known rest =
     (o : OperandNode) × (operand_node o ≡ x)
-    × ((m : OperandNode) → operand_node m ≡ n → (k : ℕ) → length ts < k → chain_within (level_above i) k false owner m names ts ≡ Ok (o, known, rest))
-Reads i (Pattern found t) names ts known rest = (n : ℕ) → length ts < n → targets_from i n uses.Pattern true found names ts ≡ Ok (t, known, rest)
+    × ((m : OperandNode) → operand_node m ≡ n → (k : ℕ) → length ts < k
+    → chain_within (level_above i) k false owner m names ts ≡ Ok (o, known, rest))
+Reads i (Pattern found t) names ts known rest = (n : ℕ) → length ts < n
+    → targets_from i n uses.Pattern true found names ts ≡ Ok (t, known, rest)
 Reads i (PatternTarget x) names ts known rest = target i uses.Pattern names ts ≡ Ok (x, known, rest)
 Reads i (PatternName x) names ts known rest = alone i uses.Pattern names ts ≡ Ok (x, known, rest)
 Reads i (MethodHead h) names ts known rest = method_head (level_above i) names ts ≡ Ok (h, known, rest)
@@ -400,11 +463,14 @@ Reads i (ClassPath s x) names ts known rest = path (level_above i) names ts ≡ 
 Reads i (Body n) names ts known rest = body (level_above i) names ts ≡ Ok (n, known, rest)
 
 abbrev pub Fact : Rule → Names → Tokens → Names → Tokens → Type 0
-Fact r names ts known rest = Takes r ts rest × (heads r ts ≡ true) × ((d : ℕ) → length ts ≤ d → Reads (levels d) r names ts known rest)
+Fact r names ts known rest = Takes r ts rest × (heads r ts ≡ true)
+    × ((d : ℕ) → length ts ≤ d → Reads (levels d) r names ts known rest)
 
 -- a primary without postfixes
-pub at_once : (i : Inside) (place : Place) (owner : DoOwner) (names known : Names) (ts rest : Tokens) (x : Node) → primary i names ts owner ≡ Ok (whole x, known, rest) → Reads i (Primary place owner x) names ts known rest
-at_once i place owner names known ts rest x read = (whole x, known, rest, read, whole x, refl, tt, λ m more. (m, more, λ commands within. refl))
+pub at_once : (i : Inside) (place : Place) (owner : DoOwner) (names known : Names) (ts rest : Tokens) (x : Node)
+    → primary i names ts owner ≡ Ok (whole x, known, rest) → Reads i (Primary place owner x) names ts known rest
+at_once i place owner names known ts rest x read =
+    (whole x, known, rest, read, whole x, refl, tt, λ m more. (m, more, λ commands within. refl))
 
 -- the level below
 pub levels_at : (d : ℕ) → 0 < d → levels d ≡ level_above (levels (d - 1))
@@ -416,13 +482,15 @@ is_finish words.Finish = true
 is_finish _ = false
 
 pub word_taken : (w : Word) (ts : Tokens) → first ts ≡ w → is_finish w ≡ false → length (behind ts) < length ts
-word_taken w ts there other = behind_shorter ts (λ (e : first ts ≡ words.Finish). clash (is_finish w) (ap is_finish (sym there ∙ e)) other)
+word_taken w ts there other = behind_shorter ts
+    (λ (e : first ts ≡ words.Finish). clash (is_finish w) (ap is_finish (sym there ∙ e)) other)
 
 pub behind_within : (ts : Tokens) → length (behind ts) ≤ length ts
 unfolding behind
 behind_within [] = omega arith
 behind_within (t ∷ ts) = omega arith
 
-pub skip_one : (b : Bool) (ts us vs : Tokens) → length us ≤ length ts → length vs ≤ length ts → length (if b then us else vs) ≤ length ts
+pub skip_one : (b : Bool) (ts us vs : Tokens) → length us ≤ length ts → length vs ≤ length ts
+    → length (if b then us else vs) ≤ length ts
 skip_one true ts us vs h g = h
 skip_one false ts us vs h g = g

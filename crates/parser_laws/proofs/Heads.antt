@@ -44,11 +44,13 @@ pub head_begins : (w : Word) → is_head w ≡ true → begins w ≡ true
 head_begins w h = or_left (is_head w) (is_defined w) h
 
 -- a word that begins an operand, or defined? before a parenthesis
-opening : (ts : Tokens) → opens ts ≡ true → (is_head (first ts) ≡ true) ⊎ ((first ts ≡ words.Key keywords.Defined) × (is_open_parenthesis (first (behind ts)) ≡ true))
+opening : (ts : Tokens) → opens ts ≡ true → (is_head (first ts) ≡ true)
+    ⊎ ((first ts ≡ words.Key keywords.Defined) × (is_open_parenthesis (first (behind ts)) ≡ true))
 opening ts h =
     elim (or_cases (is_head (first ts)) (is_defined (first ts) && is_open_parenthesis (first (behind ts))) h) [
       | inl head ↦ inl head
-      | inr both_there ↦ let p = and_parts (is_defined (first ts)) (is_open_parenthesis (first (behind ts))) both_there in inr (the_defined (first ts) p.0, p.1)
+      | inr both_there ↦ let p = and_parts (is_defined (first ts)) (is_open_parenthesis (first (behind ts))) both_there
+          in inr (the_defined (first ts) p.0, p.1)
     ]
 
 pub opens_begins : (ts : Tokens) → opens ts ≡ true → begins (first ts) ≡ true
@@ -66,34 +68,40 @@ pub head_no_not : (w : Word) → begins w ≡ true → is_not w ≡ false
 head_no_not (words.Key k) h = key_no_not k h
 head_no_not w h = refl
 
-key_expression : (k : Keyword) → (begins (words.Key k) || (is_not (words.Key k) || is_star (words.Key k))) ≡ true → statement_start (words.Key k) ≡ beginnings.Expression
+key_expression : (k : Keyword) → (begins (words.Key k) || (is_not (words.Key k) || is_star (words.Key k))) ≡ true
+    → statement_start (words.Key k) ≡ beginnings.Expression
 key_expression keywords.Alias h = differs (sym h)
 key_expression keywords.Undef h = differs (sym h)
 key_expression keywords.BeginBlock h = differs (sym h)
 key_expression keywords.EndBlock h = differs (sym h)
 key_expression k h = refl
 
-pub head_expression : (w : Word) → (begins w || (is_not w || is_star w)) ≡ true → statement_start w ≡ beginnings.Expression
+pub head_expression : (w : Word) → (begins w || (is_not w || is_star w)) ≡ true
+    → statement_start w ≡ beginnings.Expression
 head_expression (words.Key k) h = key_expression k h
 head_expression w h = refl
 
-yield_alone : (b c : Bool) → (b && not c) ≡ false → (if b then (if c then starts.Operand else starts.Yield) else starts.Operand) ≡ starts.Operand
+yield_alone : (b c : Bool) → (b && not c) ≡ false
+    → (if b then (if c then starts.Operand else starts.Yield) else starts.Operand) ≡ starts.Operand
 yield_alone true true h = refl
 yield_alone true false h = differs h
 yield_alone false c h = refl
 
-key_start : (k : Keyword) (ts : Tokens) → is_jump (words.Key k) ts ≡ false → command_or_jump (jump_at (words.Key k)) (words.Key k) ts ≡ starts.Operand
+key_start : (k : Keyword) (ts : Tokens) → is_jump (words.Key k) ts ≡ false
+    → command_or_jump (jump_at (words.Key k)) (words.Key k) ts ≡ starts.Operand
 key_start keywords.Return ts h = rw h refl
 key_start keywords.Break ts h = rw h refl
 key_start keywords.Next ts h = rw h refl
 key_start keywords.Yield ts h = yield_alone (begins_value (first ts)) (opens_arguments ts) h
 key_start k ts h = refl
 
-mark_start : (p : Punctuator) (ts : Tokens) → words.Mark p ≢ words.Mark marks.Not → command_or_jump (jump_at (words.Mark p)) (words.Mark p) ts ≡ starts.Operand
+mark_start : (p : Punctuator) (ts : Tokens) → words.Mark p ≢ words.Mark marks.Not
+    → command_or_jump (jump_at (words.Mark p)) (words.Mark p) ts ≡ starts.Operand
 mark_start marks.Not ts other = absurd (other refl)
 mark_start p ts other = refl
 
-word_start : (w : Word) (ts : Tokens) → is_jump w ts ≡ false → w ≢ words.Mark marks.Not → command_or_jump (jump_at w) w ts ≡ starts.Operand
+word_start : (w : Word) (ts : Tokens) → is_jump w ts ≡ false → w ≢ words.Mark marks.Not
+    → command_or_jump (jump_at w) w ts ≡ starts.Operand
 word_start (words.Key k) ts h other = key_start k ts h
 word_start (words.Mark p) ts h other = mark_start p ts other
 word_start w ts h other = refl
@@ -112,16 +120,22 @@ word_part w ts h = refl
 
 -- what begins a value is no key, and where a command may stand and it doesn't begin with ! no jump takes what is behind it
 abbrev pub Front : Place → Tokens → Type 0
-Front place ts = (part_at ts ≡ parts.Value) × (allows_command place ≡ true → first ts ≢ words.Mark marks.Not → command_start ts ≡ starts.Operand)
+Front place ts = (part_at ts ≡ parts.Value) ×
+    (allows_command place ≡ true → first ts ≢ words.Mark marks.Not → command_start ts ≡ starts.Operand)
 
 pub calm_part : (ts : Tokens) → is_calm (first ts) ≡ true → part_at ts ≡ parts.Value
 unfolding part_at
 calm_part ts h = word_part (first ts) ts h
 
 -- what begins a value, with no jump and its list
-pub jump_front : (place : Place) (ts : Tokens) → part_at ts ≡ parts.Value → begins_jump place ts ≡ false → Front place ts
+pub jump_front : (place : Place) (ts : Tokens) → part_at ts ≡ parts.Value → begins_jump place ts ≡ false
+    → Front place ts
 unfolding command_start
-jump_front place ts part none = (part, λ may other. word_start (first ts) (behind ts) (subst (λ b. (b && is_jump (first ts) (behind ts)) ≡ false) may none) other)
+jump_front place ts part none = (
+  part,
+  λ may other. word_start (first ts) (behind ts)
+      (subst (λ b. (b && is_jump (first ts) (behind ts)) ≡ false) may none) other,
+)
 
 pub variable_calm : (w : Word) → is_variable w ≡ true → is_calm w ≡ true
 variable_calm words.Identifier h = refl
@@ -207,30 +221,36 @@ word_begins words.WordsBegin h = refl
 word_begins words.SymbolsBegin h = refl
 word_begins w h = differs (sym h)
 
-by_tests : (b c : Bool) (s : Start) → b ≡ false → s ≡ starts.Operand → (if b then starts.Targets else (if c then s else starts.Operand)) ≡ starts.Operand
+by_tests : (b c : Bool) (s : Start) → b ≡ false → s ≡ starts.Operand
+    → (if b then starts.Targets else (if c then s else starts.Operand)) ≡ starts.Operand
 by_tests true c s h e = differs h
 by_tests false true s h e = e
 by_tests false false s h e = refl
 
-operand_other : (place : Place) (ts : Tokens) → command_start ts ≡ starts.Operand → (is_statement place && is_target_group ts) ≡ false → other_start place ts ≡ starts.Operand
+operand_other : (place : Place) (ts : Tokens) → command_start ts ≡ starts.Operand
+    → (is_statement place && is_target_group ts) ≡ false → other_start place ts ≡ starts.Operand
 operand_other place ts start free =
     by_tests (is_statement place && is_target_group ts) (allows_command place) (command_start ts) free start
 
-key_of : (k : Keyword) (place : Place) (ts : Tokens) → is_head (words.Key k) ≡ true → start_of (words.Key k) place ts ≡ other_start place ts
+key_of : (k : Keyword) (place : Place) (ts : Tokens) → is_head (words.Key k) ≡ true
+    → start_of (words.Key k) place ts ≡ other_start place ts
 key_of keywords.Defined place ts h = differs (sym h)
 key_of k place ts h = refl
 
-mark_of : (p : Punctuator) (place : Place) (ts : Tokens) → is_head (words.Mark p) ≡ true → start_of (words.Mark p) place ts ≡ other_start place ts
+mark_of : (p : Punctuator) (place : Place) (ts : Tokens) → is_head (words.Mark p) ≡ true
+    → start_of (words.Mark p) place ts ≡ other_start place ts
 mark_of marks.Star place ts h = differs (sym h)
 mark_of p place ts h = refl
 
-start_is_other : (w : Word) (place : Place) (ts : Tokens) → is_head w ≡ true → start_of w place ts ≡ other_start place ts
+start_is_other : (w : Word) (place : Place) (ts : Tokens) → is_head w ≡ true
+    → start_of w place ts ≡ other_start place ts
 start_is_other (words.Key k) place ts h = key_of k place ts h
 start_is_other (words.Mark p) place ts h = mark_of p place ts h
 start_is_other w place ts h = refl
 
 -- a value in which no jump takes what is behind it begins with an operand
-pub operand_start : (place : Place) (ts : Tokens) → opens ts ≡ true → command_start ts ≡ starts.Operand → (is_statement place && is_target_group ts) ≡ false → start_at place ts ≡ starts.Operand
+pub operand_start : (place : Place) (ts : Tokens) → opens ts ≡ true → command_start ts ≡ starts.Operand
+    → (is_statement place && is_target_group ts) ≡ false → start_at place ts ≡ starts.Operand
 unfolding start_at
 operand_start place ts h start free =
     elim (opening ts h) [
@@ -238,7 +258,8 @@ operand_start place ts h start free =
       | inr defined ↦ rw (defined.0, defined.1) refl
     ]
 
-bang_tests : (b c : Bool) (s : Start) → b ≡ false → c ≡ true → s ≡ starts.Not → (if b then starts.Targets else (if c then s else starts.Operand)) ≡ starts.Not
+bang_tests : (b c : Bool) (s : Start) → b ≡ false → c ≡ true → s ≡ starts.Not
+    → (if b then starts.Targets else (if c then s else starts.Operand)) ≡ starts.Not
 bang_tests true c s h e f = differs h
 bang_tests false true s h e f = f
 bang_tests false false s h e f = differs (sym e)
@@ -247,24 +268,32 @@ bang_word : (w : Word) (ts : Tokens) → w ≡ words.Mark marks.Not → command_
 bang_word w ts e = rw e refl
 
 -- with ! begins a negation where a command may stand
-pub not_start : (place : Place) (ts : Tokens) → first ts ≡ words.Mark marks.Not → (is_statement place && is_target_group ts) ≡ false → allows_command place ≡ true → start_at place ts ≡ starts.Not
+pub not_start : (place : Place) (ts : Tokens) → first ts ≡ words.Mark marks.Not
+    → (is_statement place && is_target_group ts) ≡ false → allows_command place ≡ true → start_at place ts ≡ starts.Not
 unfolding start_at command_start
 not_start place ts there free may =
     start_is_other (first ts) place ts (subst (λ w. is_head w ≡ true) (sym there) refl)
-    ∙ bang_tests (is_statement place && is_target_group ts) (allows_command place) (command_start ts) free may (bang_word (first ts) (behind ts) there)
+    ∙ bang_tests (is_statement place && is_target_group ts) (allows_command place) (command_start ts) free may
+    (bang_word (first ts) (behind ts) there)
 
 -- an operand begins a value where no command may stand, with ! too
 pub plain_start : (ts : Tokens) → opens ts ≡ true → start_at places.Argument ts ≡ starts.Operand
 unfolding start_at
-plain_start ts h = elim (opening ts h) [ inl head ↦ start_is_other (first ts) places.Argument ts head | inr defined ↦ rw (defined.0, defined.1) refl ]
+plain_start ts h = elim (opening ts h) [
+  | inl head ↦ start_is_other (first ts) places.Argument ts head
+  | inr defined ↦
+      rw (defined.0, defined.1) refl
+]
 
 -- what begins a value, and doesn't begin with !, begins with an operand
-pub front_start : (place : Place) (ts : Tokens) → opens ts ≡ true → Front place ts → first ts ≢ words.Mark marks.Not → (is_statement place && is_target_group ts) ≡ false → start_at place ts ≡ starts.Operand
+pub front_start : (place : Place) (ts : Tokens) → opens ts ≡ true → Front place ts → first ts ≢ words.Mark marks.Not
+    → (is_statement place && is_target_group ts) ≡ false → start_at place ts ≡ starts.Operand
 front_start places.Argument ts h front other free = plain_start ts h
 front_start places.Command ts h front other free = operand_start places.Command ts h (front.1 refl other) free
 front_start places.Statement ts h front other free = operand_start places.Statement ts h (front.1 refl other) free
 
-is_prefix_mark : (p : Punctuator) (ts : Tokens) (o : Prefix) → prefix_of (words.Mark p) ts ≡ Some o → is_calm (words.Mark p) ≡ true
+is_prefix_mark : (p : Punctuator) (ts : Tokens) (o : Prefix) → prefix_of (words.Mark p) ts ≡ Some o
+    → is_calm (words.Mark p) ≡ true
 is_prefix_mark marks.Not ts o h = refl
 is_prefix_mark marks.Tilde ts o h = refl
 is_prefix_mark marks.Plus ts o h = refl

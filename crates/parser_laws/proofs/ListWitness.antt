@@ -18,12 +18,14 @@ use Rattle.parser_laws.specs.ListExample.{bracket_end, digit, second_comma, stri
 
 the_pieces : Derives (Pieces (node.piece (codes "x") ∷ [])) known letter known string_end
 unfolding first behind word_of bytes_at
-the_pieces = OnePiece known known known letter string_end string_end (node.piece (codes "x")) [] (BytesPiece known letter refl) (NoPiece known string_end refl)
+the_pieces = OnePiece known known known letter string_end string_end (node.piece (codes "x")) []
+    (BytesPiece known letter refl) (NoPiece known string_end refl)
 
 the_strings : Derives (Strings (node.piece (codes "x") ∷ [])) known string known second_comma
 unfolding first behind word_of
 the_strings =
-    LastString known known string second_comma (node.piece (codes "x") ∷ []) (StringLiteral known known string string_end (node.piece (codes "x") ∷ []) refl the_pieces refl) refl
+    LastString known known string second_comma (node.piece (codes "x") ∷ [])
+    (StringLiteral known known string string_end (node.piece (codes "x") ∷ []) refl the_pieces refl) refl
 
 the_text : Derives (Argument places.Command owners.Call text) known string known second_comma
 unfolding first word_of infix_at prefix_at shape literal_step literal_end
@@ -32,7 +34,8 @@ the_text =
     (AllOperators places.Command 13 owners.Call known known string second_comma text
     (OneOperand places.Command 13 owners.Call known known string second_comma text
     (WithPostfixes places.Command owners.Call known known string second_comma text refl
-    (Text places.Command owners.Call known known string second_comma (node.piece (codes "x") ∷ []) refl the_strings) refl))
+    (Text places.Command owners.Call known known string second_comma (node.piece (codes "x") ∷ []) refl the_strings)
+    refl))
     refl)
     refl refl
 
@@ -42,7 +45,8 @@ the_digit =
     Value places.Argument owners.Call known known digit bracket_end (node.integer (pos 1)) refl
     (AllOperators places.Argument 13 owners.Call known known digit bracket_end (node.integer (pos 1))
     (OneOperand places.Argument 13 owners.Call known known digit bracket_end (node.integer (pos 1))
-    (WithPostfixes places.Argument owners.Call known known digit bracket_end (node.integer (pos 1)) refl (Integer places.Argument owners.Call known digit refl) refl))
+    (WithPostfixes places.Argument owners.Call known known digit bracket_end (node.integer (pos 1)) refl
+    (Integer places.Argument owners.Call known digit refl) refl))
     refl)
     refl refl
 
@@ -56,8 +60,10 @@ the_elements : Derives (Listing owners.Call two_listed) known string known brack
 unfolding first behind word_of
 the_elements =
     AllParts owners.Call known known string bracket_end two_listed
-    (NextPart owners.Call known known known string second_comma bracket_end (plain_part (node.integer (pos 1))) one_listed
-    (FirstPart owners.Call known known string second_comma (plain_part text) (PlainPart places.Command owners.Call known known string second_comma text the_text refl))
+    (NextPart owners.Call known known known string second_comma bracket_end (plain_part (node.integer (pos 1)))
+    one_listed
+    (FirstPart owners.Call known known string second_comma (plain_part text)
+    (PlainPart places.Command owners.Call known known string second_comma text the_text refl))
     refl
     (PlainPart places.Argument owners.Call known known digit bracket_end (node.integer (pos 1)) the_digit refl)
     refl)
@@ -81,7 +87,8 @@ the_list : Derives (Listing owners.Call right_side) known bracket known []
 unfolding first word_of
 the_list =
     AllParts owners.Call known known bracket [] right_side
-    (FirstPart owners.Call known known bracket [] (plain_part array) (PlainPart places.Command owners.Call known known bracket [] array the_array refl))
+    (FirstPart owners.Call known known bracket [] (plain_part array)
+    (PlainPart places.Command owners.Call known known bracket [] array the_array refl))
     refl
 
 abbrev first_target : TargetsNode
@@ -94,18 +101,23 @@ the_targets : Derives (Targets first_target both_targets) one_known star known e
 unfolding first behind word_of bytes_at
 the_targets =
     LastTarget one_known known star equals (star_target (Some (node.local (codes "b")))) first_target
-    (StarTarget one_known known star equals (node.local (codes "b")) refl (AnyTarget owners.Call one_known known second_name equals (node.local (codes "b")) (LocalTarget owners.Call one_known second_name refl)))
+    (StarTarget one_known known star equals (node.local (codes "b")) refl
+    (AnyTarget owners.Call one_known known second_name equals (node.local (codes "b"))
+    (LocalTarget owners.Call one_known second_name refl)))
     refl refl refl
 
 the_assignment : Derives (Expression places.Statement owners.Call assignment) [] tokens known []
 unfolding first behind word_of bytes_at
 the_assignment =
-    SeveralAssigned owners.Call [] one_known known known tokens comma equals [] (node.local (codes "a")) both_targets right_side refl refl (LocalTarget owners.Call [] tokens refl) refl the_targets refl refl the_list refl
+    SeveralAssigned owners.Call [] one_known known known tokens comma equals [] (node.local (codes "a")) both_targets
+    right_side refl refl (LocalTarget owners.Call [] tokens refl) refl the_targets refl refl the_list refl
 
 the_statement : Derives (Statement assignment) [] tokens known []
 unfolding first word_of
-the_statement = WithModifiers [] known tokens [] assignment (Unmodified [] known tokens [] assignment (Plain [] known tokens [] assignment the_assignment)) refl
+the_statement = WithModifiers [] known tokens [] assignment
+    (Unmodified [] known tokens [] assignment (Plain [] known tokens [] assignment the_assignment)) refl
 
 pub list_example_derived : Derives (Statements tree) [] tokens known []
 unfolding first behind word_of separators_from
-list_example_derived = Separated [] known tokens [] (assignment ∷ []) (OneMore [] known known tokens [] [] assignment [] refl the_statement refl (NoMore known [] refl))
+list_example_derived = Separated [] known tokens [] (assignment ∷ [])
+    (OneMore [] known known tokens [] [] assignment [] refl the_statement refl (NoMore known [] refl))

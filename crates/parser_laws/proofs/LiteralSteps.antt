@@ -75,7 +75,8 @@ some_open : (n : ℕ) → 0 < n → nat_eq n 0 ≡ false
 some_open n some = grind arith
 
 -- behind a word with which a literal stays open
-steps : (ts : Tokens) (n m : ℕ) → 0 < length ts → literal_step (first ts) n ≡ m → 0 < m → literal_end n ts ≡ literal_end m (behind ts)
+steps : (ts : Tokens) (n m : ℕ) → 0 < length ts → literal_step (first ts) n ≡ m → 0 < m
+    → literal_end n ts ≡ literal_end m (behind ts)
 steps ts n m some step still =
     literal_more n ts some (ap (λ k. nat_eq k 0) step ∙ some_open m still) ∙ ap (λ k. literal_end k (behind ts)) step
 
@@ -88,21 +89,26 @@ pub passes_word : (w : Word) (ts : Tokens) → first ts ≡ w → keeps w ≡ tr
 passes_word w ts is h = passes ts (ap keeps is ∙ h)
 
 -- behind the first and the last word of a literal
-pub enters : (w : Word) (ts : Tokens) (n : ℕ) → first ts ≡ w → begins_literal w ≡ true → is_finish w ≡ false → literal_end n ts ≡ literal_end (n + 1) (behind ts)
+pub enters : (w : Word) (ts : Tokens) (n : ℕ) → first ts ≡ w → begins_literal w ≡ true → is_finish w ≡ false
+    → literal_end n ts ≡ literal_end (n + 1) (behind ts)
 enters w ts n is begins other =
     let taken = word_taken w ts is other in
     steps ts n (n + 1) (omega arith) (ap (λ v. literal_step v n) is ∙ begun_count w n begins) (omega arith)
 
-pub leaves : (ts : Tokens) (n : ℕ) → first ts ≡ words.LiteralEnd → 0 < n → literal_end (n + 1) ts ≡ literal_end n (behind ts)
+pub leaves : (ts : Tokens) (n : ℕ) → first ts ≡ words.LiteralEnd → 0 < n
+    → literal_end (n + 1) ts ≡ literal_end n (behind ts)
 leaves ts n is some =
     let taken = word_taken words.LiteralEnd ts is refl in
     steps ts (n + 1) n (omega arith) (ap (λ v. literal_step v (n + 1)) is ∙ ended_count n) some
 
-pub encloses : (w : Word) (ts rest : Tokens) → first ts ≡ w → begins_literal w ≡ true → is_finish w ≡ false → first rest ≡ words.LiteralEnd → Closes (behind ts) rest → Closes ts (behind rest)
-encloses w ts rest is begins other closing inner n some = enters w ts n is begins other ∙ inner (n + 1) (omega arith) ∙ leaves rest n closing some
+pub encloses : (w : Word) (ts rest : Tokens) → first ts ≡ w → begins_literal w ≡ true → is_finish w ≡ false
+    → first rest ≡ words.LiteralEnd → Closes (behind ts) rest → Closes ts (behind rest)
+encloses w ts rest is begins other closing inner n some = enters w ts n is begins other ∙ inner (n + 1) (omega arith)
+    ∙ leaves rest n closing some
 
 -- a string that ends with the end of a literal is no key
-pub string_is_no_key : (ts rest : Tokens) → first ts ≡ words.StringBegin → first rest ≡ words.LiteralEnd → Closes (behind ts) rest → is_quoted_key ts ≡ false
+pub string_is_no_key : (ts rest : Tokens) → first ts ≡ words.StringBegin → first rest ≡ words.LiteralEnd
+    → Closes (behind ts) rest → is_quoted_key ts ≡ false
 string_is_no_key ts rest is closing inner =
     let last = word_taken words.LiteralEnd rest closing refl in
     let one : literal_end 0 ts ≡ literal_end 1 (behind ts) = enters words.StringBegin ts 0 is refl refl in
@@ -160,7 +166,8 @@ pub assignment_keeps : (w : Word) (a : Assignment) → assignment_at w ≡ Some 
 assignment_keeps (words.Mark p) a h = refl
 assignment_keeps w a h = differs (sym (ap is_some h))
 
-other_keeps : (loosest : ℕ) (x : Outside) (o : Infix) → infix_at loosest (words.Other x) ≡ Some o → keeps (words.Other x) ≡ true
+other_keeps : (loosest : ℕ) (x : Outside) (o : Infix) → infix_at loosest (words.Other x) ≡ Some o
+    → keeps (words.Other x) ≡ true
 unfolding infix_at
 other_keeps loosest outsides.QuotedLabel o h = differs (sym (ap is_some h))
 other_keeps loosest x o h = refl

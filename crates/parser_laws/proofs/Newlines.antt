@@ -23,11 +23,13 @@ newline_word (words.Mark p) h = differs (sym h)
 newline_word w h = refl
 
 -- before newlines and a word that is no assignment stands none
-pub newline_calm : (w : Word) → assignment_at w ≡ None → (n : ℕ) (ts : Tokens) → first (newlines_from n ts) ≡ w → assignment_at (first ts) ≡ None
+pub newline_calm : (w : Word) → assignment_at w ≡ None → (n : ℕ) (ts : Tokens) → first (newlines_from n ts) ≡ w
+    → assignment_at (first ts) ≡ None
 unfolding newlines_from
 newline_calm w free zero ts h = rw h free
 newline_calm w free (suc n) ts h = by_newline (is_newline (first ts)) refl h
   where
-    by_newline : (b : Bool) → is_newline (first ts) ≡ b → first (if b then newlines_from n (behind ts) else ts) ≡ w → assignment_at (first ts) ≡ None
+    by_newline : (b : Bool) → is_newline (first ts) ≡ b → first (if b then newlines_from n (behind ts) else ts) ≡ w
+        → assignment_at (first ts) ≡ None
     by_newline true there g = newline_word (first ts) there
     by_newline false there g = rw g free

@@ -102,10 +102,12 @@ put_lost (splat_part n) l some may =
     let free = and_parts (is_none l.block) _ follows.1 in
     let items = not_empty (is_empty l.items) (is_empty l.pairs) (is_none l.block) some free.1 free.0 in
     lost_items _ (is_empty l.pairs) (is_none l.block) _ (longer l.items (Splat n) items) (more_items l.items (Splat n))
-put_lost (pair_part k v) l some may = lost_pairs (is_single l.items) _ (is_none l.block) (is_empty l.items) (more_pairs l.pairs (record { key = k; value = v }))
+put_lost (pair_part k v) l some may = lost_pairs (is_single l.items) _ (is_none l.block) (is_empty l.items)
+    (more_pairs l.pairs (record { key = k; value = v }))
 put_lost (block_part n) l some may = lost_block (is_single l.items) (is_empty l.pairs) (is_empty l.items)
 
-single_items : (is : List (Item Node)) (command : Bool) → is_statement_sort (right_items is command).1 ≡ false → is_single is ≡ true
+single_items : (is : List (Item Node)) (command : Bool) → is_statement_sort (right_items is command).1 ≡ false
+    → is_single is ≡ true
 single_items [] command h = differs h
 single_items (Plain n ∷ []) command h = refl
 single_items (Splat n ∷ []) command h = differs h
@@ -117,7 +119,8 @@ sole l right plain =
     let some = and_parts (not (is_empty l.items)) _ right in
     let pairs = and_parts (is_empty l.pairs) _ some.1 in
     let block = and_parts (is_none l.block) (not l.comma) pairs.1 in
-    both (is_single l.items) _ (single_items l.items l.command plain) (both (is_empty l.pairs) (is_none l.block) pairs.0 block.0)
+    both (is_single l.items) _ (single_items l.items l.command plain)
+    (both (is_empty l.pairs) (is_none l.block) pairs.0 block.0)
 
 not_comma : (l : ListNode) → is_right_side l ≡ true → l.comma ≡ false
 not_comma l right =
@@ -137,58 +140,78 @@ not_true false h is = differs (sym is)
 -- what a plain part is derived as; no part is a command
 abbrev PartValue : PartNode → Place → DoOwner → Names → Tokens → Names → Tokens → Type 0
 PartValue (command_part n) place owner names ts known rest = ⊥
-PartValue (plain_part n) place owner names ts known rest = Derives (Argument place owner n) names ts known rest × (is_arrow_word (first rest) ≡ false)
+PartValue (plain_part n) place owner names ts known rest = Derives (Argument place owner n) names ts known rest
+    × (is_arrow_word (first rest) ≡ false)
 PartValue (splat_part n) place owner names ts known rest = Unit {0}
 PartValue (pair_part k v) place owner names ts known rest = Unit {0}
 PartValue (block_part n) place owner names ts known rest = Unit {0}
 
 -- the one value of a list
 abbrev ListValue : ListNode → DoOwner → Names → Tokens → Names → Tokens → Type 0
-ListValue l owner names ts known rest = (n : Node) × (l.items ≡ Plain n ∷ []) × Derives (Argument places.Command owner n) names ts known rest × (is_arrow_word (first rest) ≡ false)
+ListValue l owner names ts known rest = (n : Node) × (l.items ≡ Plain n ∷ [])
+    × Derives (Argument places.Command owner n) names ts known rest × (is_arrow_word (first rest) ≡ false)
 
 -- What is said of a derivation: where a list is one item, it is a value, or a command.
 abbrev Sole : Rule → Names → Tokens → Names → Tokens → Type 0
 Sole (Part place owner p) names ts known rest = PartValue p place owner names ts known rest
-Sole (Parts owner l) names ts known rest = (is_filled l ≡ true) × (l.command ≡ false) × (is_sole l ≡ true → ListValue l owner names ts known rest)
+Sole (Parts owner l) names ts known rest = (is_filled l ≡ true) × (l.command ≡ false)
+    × (is_sole l ≡ true → ListValue l owner names ts known rest)
 Sole (Listing owner l) names ts known rest =
-    l.comma ≡ false → is_sole l ≡ true → is_expression (right_side l).0 ≡ true → (l.command ≡ false) × ListValue l owner names ts known rest × (is_comma_word (first rest) ≡ false)
+    l.comma ≡ false → is_sole l ≡ true → is_expression (right_side l).0 ≡ true → (l.command ≡ false)
+    × ListValue l owner names ts known rest × (is_comma_word (first rest) ≡ false)
 Sole r names ts known rest = Unit {0}
 
-first_sole : (owner : DoOwner) (names : Names) (ts : Tokens) (known : Names) (rest : Tokens) (p : PartNode) → PartValue p places.Command owner names ts known rest → Sole (Parts owner (put p nothing_listed)) names ts known rest
+first_sole : (owner : DoOwner) (names : Names) (ts : Tokens) (known : Names) (rest : Tokens) (p : PartNode)
+    → PartValue p places.Command owner names ts known rest
+    → Sole (Parts owner (put p nothing_listed)) names ts known rest
 first_sole owner names ts known rest (command_part n) v = absurd v
 first_sole owner names ts known rest (plain_part n) v = (refl, refl, λ one. (n, refl, v.0, v.1))
 first_sole owner names ts known rest (splat_part n) v = (refl, refl, λ one. differs (sym one))
 first_sole owner names ts known rest (pair_part k w) v = (refl, refl, λ one. differs (sym one))
 first_sole owner names ts known rest (block_part n) v = (refl, refl, λ one. differs (sym one))
 
-no_command : (place : Place) (owner : DoOwner) (names : Names) (ts : Tokens) (known : Names) (rest : Tokens) (p : PartNode) (l : ListNode) → PartValue p place owner names ts known rest → (put p l).command ≡ l.command
+no_command : (place : Place) (owner : DoOwner) (names : Names) (ts : Tokens) (known : Names) (rest : Tokens)
+    (p : PartNode) (l : ListNode) → PartValue p place owner names ts known rest → (put p l).command ≡ l.command
 no_command place owner names ts known rest (command_part n) l v = absurd v
 no_command place owner names ts known rest (plain_part n) l v = refl
 no_command place owner names ts known rest (splat_part n) l v = refl
 no_command place owner names ts known rest (pair_part k w) l v = refl
 no_command place owner names ts known rest (block_part n) l v = refl
 
-sole_of : (r : Rule) (names : Names) (ts : Tokens) (known : Names) (rest : Tokens) → Derives r names ts known rest → Sole r names ts known rest
+sole_of : (r : Rule) (names : Names) (ts : Tokens) (known : Names) (rest : Tokens) → Derives r names ts known rest
+    → Sole r names ts known rest
 sole_of _ _ _ _ _ (grammar.PlainPart place owner names known ts rest n d arrow) = (d, arrow)
-sole_of _ _ _ _ _ (grammar.FirstPart owner names known ts rest p d) = first_sole owner names ts known rest p (sole_of _ _ _ _ _ d)
+sole_of _ _ _ _ _ (grammar.FirstPart owner names known ts rest p d) =
+    first_sole owner names ts known rest p (sole_of _ _ _ _ _ d)
 sole_of _ _ _ _ _ (grammar.NextPart owner names known later ts rest more p l before there d follows) =
     let b = sole_of _ _ _ _ _ before in
-    let lost = and_parts (not (is_sole (put p l))) (is_filled (put p l)) (put_lost p l b.0 follows) in
-    (lost.1, no_command places.Argument owner known (behind rest) later more p l (sole_of _ _ _ _ _ d) ∙ b.1, λ one. absurd (not_true (is_sole (put p l)) lost.0 one))
+    let lost = and_parts (not (is_sole (put p l))) (is_filled (put p l)) (put_lost p l b.0 follows) in (
+      lost.1,
+      no_command places.Argument owner known (behind rest) later more p l (sole_of _ _ _ _ _ d) ∙ b.1,
+      λ one. absurd (not_true (is_sole (put p l)) lost.0 one),
+    )
 sole_of _ _ _ _ _ (grammar.NoPart owner names ts none) = λ flat one is. differs (sym one)
-sole_of _ _ _ _ _ (grammar.AllParts owner names known ts rest l d ends) = λ flat one is. let s = sole_of _ _ _ _ _ d in (s.1, s.2 one, ends)
+sole_of _ _ _ _ _ (grammar.AllParts owner names known ts rest l d ends) = λ flat one is. let s = sole_of _ _ _ _ _ d in
+    (s.1, s.2 one, ends)
 sole_of _ _ _ _ _ (grammar.LastComma owner names known ts rest l d there ends) = λ flat one is. differs flat
-sole_of _ _ _ _ _ (grammar.CommandPart owner names known ts rest n d ends) = λ flat one is. clash (is_expression n) is (no_expression places.Command owner names known ts rest n d)
+sole_of _ _ _ _ _ (grammar.CommandPart owner names known ts rest n d ends) =
+    λ flat one is. clash (is_expression n) is (no_expression places.Command owner names known ts rest n d)
 sole_of _ _ _ _ _ d = tt
 
 -- a right side that is no statement, and an expression, is a value
-pub one_value : (names : Names) (ts : Tokens) (owner : DoOwner) (l : ListNode) (known : Names) (rest : Tokens) → Derives (Listing owner l) names ts known rest → is_right_side l ≡ true → is_statement_sort (right_side l).1 ≡ false
-    → is_expression (right_side l).0 ≡ true → ((right_side l).1 ≡ sorts.Argument) × Derives (Argument places.Command owner (right_side l).0) names ts known rest × (goes_on_list (first rest) ≡ false)
+pub one_value : (names : Names) (ts : Tokens) (owner : DoOwner) (l : ListNode) (known : Names) (rest : Tokens)
+    → Derives (Listing owner l) names ts known rest → is_right_side l ≡ true
+    → is_statement_sort (right_side l).1 ≡ false
+    → is_expression (right_side l).0 ≡ true → ((right_side l).1 ≡ sorts.Argument)
+    × Derives (Argument places.Command owner (right_side l).0) names ts known rest
+    × (goes_on_list (first rest) ≡ false)
 one_value names ts owner l known rest d right plain is =
     let s = sole_of _ _ _ _ _ d (not_comma l right) (sole l right plain) is in
     let v = s.1 in
-    let made : right_side l ≡ (v.0, sorts.Argument) = ap (λ (items : List (Item Node)). right_items items l.command) v.1 ∙ ap (λ b. right_items (Plain v.0 ∷ []) b) s.0 in (
+    let made : right_side l ≡ (v.0, sorts.Argument) = ap (λ (items : List (Item Node)). right_items items l.command) v.1
+    ∙ ap (λ b. right_items (Plain v.0 ∷ []) b) s.0 in (
       ap (λ (x : PhraseNode). x.1) made,
-      subst (λ n. Derives (Argument places.Command owner n) names ts known rest) (sym (ap (λ (x : PhraseNode). x.0) made)) v.2,
+      subst (λ n. Derives (Argument places.Command owner n) names ts known rest)
+          (sym (ap (λ (x : PhraseNode). x.0) made)) v.2,
       rw (s.2, v.3) refl,
     )

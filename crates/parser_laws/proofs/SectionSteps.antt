@@ -26,9 +26,11 @@ differs : {A : Type 0} → true ≡ false → A
 differs h = absurd (cc)
 
 -- sections are read behind those that were found, from one of a kind up to one of another
-abbrev pub Steps : Inside → Compound → SectionKind → SectionKind → List SectionNode → Names → Tokens → Names → Tokens → Type 0
+abbrev pub Steps : Inside → Compound → SectionKind → SectionKind → List SectionNode → Names → Tokens → Names → Tokens
+    → Type 0
 Steps i form before k ss names ts known rest =
-    (n : ℕ) (found : List SectionNode) → length ts < n → (m : ℕ) × (length rest < m) × (sections_from i n form before found names ts ≡ sections_from i m form k (found ++ ss) known rest)
+    (n : ℕ) (found : List SectionNode) → length ts < n → (m : ℕ) × (length rest < m)
+    × (sections_from i n form before found names ts ≡ sections_from i m form k (found ++ ss) known rest)
 
 -- a section with no heading, or none
 abbrev pub part_sections : SectionKind → Option Node → List SectionNode
@@ -59,21 +61,33 @@ all_base (s ∷ ss) = is_base s.kind && all_base ss
 
 module _ (i : Inside) (form : Compound) where
   pub steps_none : (k : SectionKind) (names : Names) (ts : Tokens) → Steps i form k k [] names ts names ts
-  steps_none k names ts n found room = (n, room, ap (λ (ss : List SectionNode). sections_from i n form k ss names ts) (sym (append-nil found)))
+  steps_none k names ts n found room = (
+    n,
+    room,
+    ap (λ (ss : List SectionNode). sections_from i n form k ss names ts) (sym (append-nil found)),
+  )
 
-  pub steps_one : (before k : SectionKind) (s : SectionNode) (names known : Names) (ts rest : Tokens) → next_section form before (first ts) ≡ Some k
-      → section i k (place_at ts) names (behind ts) ≡ Ok (s, known, rest) → length rest < length ts → Steps i form before k (s ∷ []) names ts known rest
+  pub steps_one : (before k : SectionKind) (s : SectionNode) (names known : Names) (ts rest : Tokens)
+      → next_section form before (first ts) ≡ Some k
+      → section i k (place_at ts) names (behind ts) ≡ Ok (s, known, rest) → length rest < length ts
+      → Steps i form before k (s ∷ []) names ts known rest
   unfolding with_section
   steps_one before k s names known ts rest there read shorter n found room =
-      let turned : sections_turn i (next_section form before (first ts)) (sections_from i (n - 1) form) found names ts ≡ sections_from i (n - 1) form k (found ++ s ∷ []) known rest = rw (there, read) refl in
+      let turned : sections_turn i (next_section form before (first ts)) (sections_from i (n - 1) form) found names
+      ts ≡ sections_from i (n - 1) form k (found ++ s ∷ []) known rest = rw (there, read) refl in
       (n - 1, omega arith, sections_step i n form before found names ts (omega arith) ∙ turned)
 
   pub steps_then : (a b c : SectionKind) (xs ys : List SectionNode) (names known later : Names) (ts rest more : Tokens)
-      → Steps i form a b xs names ts known rest → Steps i form b c ys known rest later more → Steps i form a c (xs ++ ys) names ts later more
+      → Steps i form a b xs names ts known rest → Steps i form b c ys known rest later more
+      → Steps i form a c (xs ++ ys) names ts later more
   steps_then a b c xs ys names known later ts rest more before others n found room =
       let l = before n found room in
-      let r = others l.0 (found ++ xs) l.1 in
-      (r.0, r.1, l.2 ∙ r.2 ∙ ap (λ (ss : List SectionNode). sections_from i r.0 form c ss later more) (append_assoc found xs ys))
+      let r = others l.0 (found ++ xs) l.1 in (
+        r.0,
+        r.1,
+        l.2 ∙ r.2 ∙ ap (λ (ss : List SectionNode). sections_from i r.0 form c ss later more)
+            (append_assoc found xs ys),
+      )
 
   -- no section begins with end
   end_stops : (f : Compound) (k : SectionKind) → next_section f k (words.Key keywords.End) ≡ None
@@ -86,15 +100,19 @@ module _ (i : Inside) (form : Compound) where
   end_stops compounds.Body k = refl
 
   -- the first section, those behind it, and end
-  pub sections_read : (k : SectionKind) (s : SectionNode) (ss : List SectionNode) (names known later : Names) (ts rest more : Tokens) → section i (first_section form) 0 names ts ≡ Ok (s, known, rest)
-      → Steps i form (first_section form) k ss known rest later more → first more ≡ words.Key keywords.End → sections i names form ts ≡ Ok (s ∷ ss, later, behind more)
+  pub sections_read : (k : SectionKind) (s : SectionNode) (ss : List SectionNode) (names known later : Names)
+      (ts rest more : Tokens) → section i (first_section form) 0 names ts ≡ Ok (s, known, rest)
+      → Steps i form (first_section form) k ss known rest later more → first more ≡ words.Key keywords.End
+      → sections i names form ts ≡ Ok (s ∷ ss, later, behind more)
   unfolding section_list with_section
   sections_read k s ss names known later ts rest more read steps ends =
       let t = steps (length rest + 1) (s ∷ []) (omega arith) in
       let some = t.1 in
       let stops : next_section form k (first more) ≡ None = ap (next_section form k) ends ∙ end_stops form k in
-      let stopped : sections_turn i (next_section form k (first more)) (sections_from i (t.0 - 1) form) (s ∷ ss) later more ≡ Ok (s ∷ ss, later, more) = rw stops refl in
-      let last : sections_from i (length rest + 1) form (first_section form) (s ∷ []) known rest ≡ Ok (s ∷ ss, later, more) =
+      let stopped : sections_turn i (next_section form k (first more)) (sections_from i (t.0 - 1) form) (s ∷ ss) later
+      more ≡ Ok (s ∷ ss, later, more) = rw stops refl in
+      let last : sections_from i (length rest + 1) form (first_section form) (s ∷ []) known rest ≡ Ok
+      (s ∷ ss, later, more) =
       t.2 ∙ sections_step i t.0 form k (s ∷ ss) later more (omega arith) ∙ stopped in
       let ended : expect wanted.End more ≡ Ok (behind more) = rw ends refl in
       rw (read, last, ended) refl
@@ -123,11 +141,13 @@ body_none : (p : LastPart) (o : Option SectionNode) → has_part p o ≡ false �
 body_none p None h = refl
 body_none p (Some s) h = rw h refl
 
-part_none : (p : LastPart) (ss : List SectionNode) → has_part p (last_of ss) ≡ false → (before_part p ss ≡ ss) × (part_body p ss ≡ node.none)
+part_none : (p : LastPart) (ss : List SectionNode) → has_part p (last_of ss) ≡ false → (before_part p ss ≡ ss)
+    × (part_body p ss ≡ node.none)
 unfolding before_part part_body
 part_none p ss h = (rw h refl, body_none p (last_of ss) h)
 
-part_there : (p : LastPart) (ss : List SectionNode) (s : SectionNode) → is_part p s.kind ≡ true → (before_part p (ss ++ s ∷ []) ≡ ss) × (part_body p (ss ++ s ∷ []) ≡ one s.body)
+part_there : (p : LastPart) (ss : List SectionNode) (s : SectionNode) → is_part p s.kind ≡ true
+    → (before_part p (ss ++ s ∷ []) ≡ ss) × (part_body p (ss ++ s ∷ []) ≡ one s.body)
 unfolding before_part part_body
 part_there p ss s h = (rw (last_of_push ss s) (rw h (before_last_push ss s)), rw (last_of_push ss s) (rw h refl))
 
@@ -137,7 +157,8 @@ kind_of parts.Ensure = kinds.Ensure
 
 -- the sections before the last part, and its body
 pub parts_of : (p : LastPart) (ss : List SectionNode) (o : Option Node) → has_part p (last_of ss) ≡ false
-    → (before_part p (ss ++ part_sections (kind_of p) o) ≡ ss) × (part_body p (ss ++ part_sections (kind_of p) o) ≡ option_node o)
+    → (before_part p (ss ++ part_sections (kind_of p) o) ≡ ss)
+    × (part_body p (ss ++ part_sections (kind_of p) o) ≡ option_node o)
 unfolding is_part
 parts_of p ss None h =
     let alone = part_none p ss h in

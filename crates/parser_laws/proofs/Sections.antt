@@ -49,11 +49,13 @@ filled : (ss : List SectionNode) → opens ss ≡ true → is_filled ss ≡ true
 filled [] h = h
 filled (s ∷ ss) h = refl
 
-alone_stays : (s : SectionNode) (b : Bool) → is_part parts.Else s.kind ≡ b → not b ≡ true → is_filled (if b then [] else (s ∷ [])) ≡ true
+alone_stays : (s : SectionNode) (b : Bool) → is_part parts.Else s.kind ≡ b → not b ≡ true
+    → is_filled (if b then [] else (s ∷ [])) ≡ true
 alone_stays s true there h = h
 alone_stays s false there h = refl
 
-many_stay : (s t : SectionNode) (ss : List SectionNode) (b : Bool) → is_filled (if b then before_last (s ∷ t ∷ ss) else (s ∷ t ∷ ss)) ≡ true
+many_stay : (s t : SectionNode) (ss : List SectionNode) (b : Bool)
+    → is_filled (if b then before_last (s ∷ t ∷ ss) else (s ∷ t ∷ ss)) ≡ true
 unfolding before_last
 many_stay s t ss true = refl
 many_stay s t ss false = refl
@@ -72,15 +74,18 @@ abbrev grouped : List SectionNode → Bool
 grouped [] = true
 grouped (s ∷ ss) = is_group s.body && grouped ss
 
-grouped_more : (found : List SectionNode) (s : SectionNode) → grouped found ≡ true → is_group s.body ≡ true → grouped (found ++ s ∷ []) ≡ true
+grouped_more : (found : List SectionNode) (s : SectionNode) → grouped found ≡ true → is_group s.body ≡ true
+    → grouped (found ++ s ∷ []) ≡ true
 grouped_more [] s h g = both (is_group s.body) true g refl
-grouped_more (t ∷ ts) s h g = let p = and_parts (is_group t.body) (grouped ts) h in both (is_group t.body) _ p.0 (grouped_more ts s p.1 g)
+grouped_more (t ∷ ts) s h g = let p = and_parts (is_group t.body) (grouped ts) h in
+    both (is_group t.body) _ p.0 (grouped_more ts s p.1 g)
 
 grouped_last : (ss : List SectionNode) → grouped ss ≡ true → grouped (before_last ss) ≡ true
 unfolding before_last
 grouped_last [] h = refl
 grouped_last (s ∷ []) h = refl
-grouped_last (s ∷ t ∷ ss) h = let p = and_parts (is_group s.body) (grouped (t ∷ ss)) h in both (is_group s.body) _ p.0 (grouped_last (t ∷ ss) p.1)
+grouped_last (s ∷ t ∷ ss) h = let p = and_parts (is_group s.body) (grouped (t ∷ ss)) h in
+    both (is_group s.body) _ p.0 (grouped_last (t ∷ ss) p.1)
 
 grouped_before : (ss : List SectionNode) → grouped ss ≡ true → grouped (before_part parts.Else ss) ≡ true
 unfolding before_part
@@ -97,20 +102,23 @@ not_bare n h = by_test (is_bare n) h
     by_test true g = sym g
     by_test false g = refl
 
-branches_none : (ss : List SectionNode) (o : Nodes) → grouped ss ≡ true → is_expression (node.if_node (nodes (map branch_of ss)) o) ≡ false
+branches_none : (ss : List SectionNode) (o : Nodes) → grouped ss ≡ true
+    → is_expression (node.if_node (nodes (map branch_of ss)) o) ≡ false
 unfolding branch_of
 branches_none [] o h = refl
 branches_none (s ∷ ss) o h =
     let bare = not_bare s.body (and_parts (is_group s.body) (grouped ss) h).0 in
     rw bare (and_false (is_none (nodes (map branch_of ss)) && is_other o))
 
-unless_none : (ss : List SectionNode) (o : Nodes) → is_filled ss ≡ true → grouped ss ≡ true → is_expression (unless_by (last_of ss) o) ≡ false
+unless_none : (ss : List SectionNode) (o : Nodes) → is_filled ss ≡ true → grouped ss ≡ true
+    → is_expression (unless_by (last_of ss) o) ≡ false
 unfolding last_of unless_by unless_section
 unless_none [] o h g = clash false h refl
 unless_none (s ∷ []) o h g = let bare = not_bare s.body (and_parts (is_group s.body) true g).0 in rw bare refl
 unless_none (s ∷ t ∷ ss) o h g = unless_none (t ∷ ss) o refl (and_parts (is_group s.body) (grouped (t ∷ ss)) g).1
 
-loop_none : (until : Bool) (ss : List SectionNode) → is_filled ss ≡ true → grouped ss ≡ true → is_expression (loop_by until (last_of ss)) ≡ false
+loop_none : (until : Bool) (ss : List SectionNode) → is_filled ss ≡ true → grouped ss ≡ true
+    → is_expression (loop_by until (last_of ss)) ≡ false
 unfolding last_of loop_by loop_of
 loop_none until [] h g = clash false h refl
 loop_none until (s ∷ []) h g = let bare = not_bare s.body (and_parts (is_group s.body) true g).0 in rw bare refl
@@ -122,7 +130,8 @@ for_none [] h = clash false h refl
 for_none (s ∷ []) h = refl
 for_none (s ∷ t ∷ ss) h = for_none (t ∷ ss) refl
 
-case_none : (ss : List SectionNode) (rest : List SectionNode) (o : Nodes) → is_filled ss ≡ true → is_expression (case_by (first_of ss) rest o) ≡ false
+case_none : (ss : List SectionNode) (rest : List SectionNode) (o : Nodes) → is_filled ss ≡ true
+    → is_expression (case_by (first_of ss) rest o) ≡ false
 unfolding first_of case_by case_section
 case_none [] rest o h = clash false h refl
 case_none (s ∷ ss) rest o h = refl
@@ -138,15 +147,22 @@ kept compound ss = opens ss && (is_case compound || grouped ss)
 kept_opens : (compound : Compound) (ss : List SectionNode) → kept compound ss ≡ true → opens ss ≡ true
 kept_opens compound ss h = (and_parts (opens ss) (is_case compound || grouped ss) h).0
 
-compound_none : (compound : Compound) (ss : List SectionNode) → kept compound ss ≡ true → is_expression (compound_node compound ss) ≡ false
+compound_none : (compound : Compound) (ss : List SectionNode) → kept compound ss ≡ true
+    → is_expression (compound_node compound ss) ≡ false
 unfolding if_node unless_node loop_node for_node case_node rescued_body
-compound_none compounds.If ss h = branches_none (before_part parts.Else ss) (part_body parts.Else ss) (grouped_before ss (and_parts (opens ss) (grouped ss) h).1)
+compound_none compounds.If ss h = branches_none (before_part parts.Else ss) (part_body parts.Else ss)
+    (grouped_before ss (and_parts (opens ss) (grouped ss) h).1)
 compound_none compounds.Unless ss h =
-    unless_none (before_part parts.Else ss) (part_body parts.Else ss) (filled_before ss (kept_opens compounds.Unless ss h)) (grouped_before ss (and_parts (opens ss) (grouped ss) h).1)
-compound_none compounds.While ss h = loop_none false ss (filled ss (kept_opens compounds.While ss h)) (and_parts (opens ss) (grouped ss) h).1
-compound_none compounds.Until ss h = loop_none true ss (filled ss (kept_opens compounds.Until ss h)) (and_parts (opens ss) (grouped ss) h).1
+    unless_none (before_part parts.Else ss) (part_body parts.Else ss)
+    (filled_before ss (kept_opens compounds.Unless ss h))
+    (grouped_before ss (and_parts (opens ss) (grouped ss) h).1)
+compound_none compounds.While ss h = loop_none false ss (filled ss (kept_opens compounds.While ss h))
+    (and_parts (opens ss) (grouped ss) h).1
+compound_none compounds.Until ss h = loop_none true ss (filled ss (kept_opens compounds.Until ss h))
+    (and_parts (opens ss) (grouped ss) h).1
 compound_none compounds.For ss h = for_none ss (filled ss (kept_opens compounds.For ss h))
-compound_none compounds.Case ss h = case_none (before_part parts.Else ss) (rest_of (before_part parts.Else ss)) (part_body parts.Else ss) (filled_before ss (kept_opens compounds.Case ss h))
+compound_none compounds.Case ss h = case_none (before_part parts.Else ss) (rest_of (before_part parts.Else ss))
+    (part_body parts.Else ss) (filled_before ss (kept_opens compounds.Case ss h))
 compound_none compounds.Body ss h = refl
 
 abbrev is_subject : SectionKind → Bool
@@ -182,7 +198,8 @@ body_key before keywords.Else = when_none (takes_rescue before) kinds.Else refl
 body_key before keywords.Ensure = when_none (takes_ensure before) kinds.Ensure refl
 body_key before k = refl
 
-next_key : (compound : Compound) (before : SectionKind) (k : Keyword) → is_some_subject (next_of compound before k) ≡ false
+next_key : (compound : Compound) (before : SectionKind) (k : Keyword)
+    → is_some_subject (next_of compound before k) ≡ false
 next_key compounds.If before k = if_key before k
 next_key compounds.Unless before k = unless_key before k
 next_key compounds.Case before k = case_key before k
@@ -192,7 +209,8 @@ next_key compounds.Until before k = refl
 next_key compounds.For before k = refl
 
 -- no subject stands behind another section
-next_none : (compound : Compound) (before : SectionKind) (w : Word) → is_some_subject (next_section compound before w) ≡ false
+next_none : (compound : Compound) (before : SectionKind) (w : Word)
+    → is_some_subject (next_section compound before w) ≡ false
 next_none compound before (words.Key k) = next_key compound before k
 next_none compound before w = refl
 
@@ -216,49 +234,62 @@ or_false : (a b : Bool) → a ≡ false → (a || b) ≡ true → b ≡ true
 or_false true b f h = differs f
 or_false false b f h = h
 
-first_kept : (compound : Compound) (k : SectionKind) (s : SectionNode) → is_part parts.Else k ≡ false → made k s ≡ true → kept compound (s ∷ []) ≡ true
+first_kept : (compound : Compound) (k : SectionKind) (s : SectionNode) → is_part parts.Else k ≡ false → made k s ≡ true
+    → kept compound (s ∷ []) ≡ true
 first_kept compound k s other h =
     let p = and_parts (is_group s.body) _ h in
-    both (starts s) _ (or_false (is_part parts.Else k) (starts s) other p.1) (or_true (is_case compound) _ (both (is_group s.body) true p.0 refl))
+    both (starts s) _ (or_false (is_part parts.Else k) (starts s) other p.1)
+    (or_true (is_case compound) _ (both (is_group s.body) true p.0 refl))
 
-more_kept : (compound : Compound) (k : SectionKind) (found : List SectionNode) (s : SectionNode) → kept compound found ≡ true → made k s ≡ true → kept compound (found ++ s ∷ []) ≡ true
+more_kept : (compound : Compound) (k : SectionKind) (found : List SectionNode) (s : SectionNode)
+    → kept compound found ≡ true → made k s ≡ true → kept compound (found ++ s ∷ []) ≡ true
 more_kept compound k found s h m =
     let p = and_parts (opens found) (is_case compound || grouped found) h in
     let group = (and_parts (is_group s.body) _ m).0 in
-    both (opens (found ++ s ∷ [])) _ (opens_more found s p.0) (or_more (is_case compound) (grouped found) (grouped (found ++ s ∷ [])) (λ g. grouped_more found s g group) p.1)
+    both (opens (found ++ s ∷ [])) _ (opens_more found s p.0)
+    (or_more (is_case compound) (grouped found) (grouped (found ++ s ∷ [])) (λ g. grouped_more found s g group) p.1)
 
 module _ (i : Inside) where
   pub statements_group : (names : Names) (ts : Tokens) → Always is_group (statements i names ts)
   unfolding statements
-  statements_group names ts = always_bind is_group (statement_list i names (skip_separators ts)) _ (λ r. always_ok is_group (node.statements (nodes r.0)) r.1 r.2 refl)
+  statements_group names ts = always_bind is_group (statement_list i names (skip_separators ts)) _
+      (λ r. always_ok is_group (node.statements (nodes r.0)) r.1 r.2 refl)
 
-  sectioned_made : (k : SectionKind) (heads : List Node) (target : Nodes) (names : Names) (ts : Tokens) → Always (made k) (sectioned i k heads target names ts)
+  sectioned_made : (k : SectionKind) (heads : List Node) (target : Nodes) (names : Names) (ts : Tokens)
+      → Always (made k) (sectioned i k heads target names ts)
   sectioned_made k heads target names ts =
       always_after (made k) (statements i names ts) _ (λ n l m h.
-      always_ok (made k) (heading k heads target n) l m (both (is_group n) _ (statements_group names ts n l m h) (or_not (is_part parts.Else k))))
+      always_ok (made k) (heading k heads target n) l m
+      (both (is_group n) _ (statements_group names ts n l m h) (or_not (is_part parts.Else k))))
 
   when_made : (k : SectionKind) (at : ℕ) (names : Names) (ts : Tokens) → Always (made k) (when_section i k at names ts)
   when_made k at names ts =
-      always_bind (made k) (tests i names ts) _ (λ r. always_if (made k) (is_empty r.0) _ _ (always_error (made k) (length r.2))
+      always_bind (made k) (tests i names ts) _
+      (λ r. always_if (made k) (is_empty r.0) _ _ (always_error (made k) (length r.2))
       (always_bind (made k) (then_at (first r.2) r.2) _ (λ rest. sectioned_made k _ none r.1 rest)))
 
-  section_made : (k : SectionKind) (at : ℕ) (names : Names) (ts : Tokens) → is_subject k ≡ false → Always (made k) (section i k at names ts)
+  section_made : (k : SectionKind) (at : ℕ) (names : Names) (ts : Tokens) → is_subject k ≡ false
+      → Always (made k) (section i k at names ts)
   unfolding section
   section_made kinds.Test at names ts h =
       always_bind (made kinds.Test) (expression i names ts places.Command owners.Call) _ (λ r.
       always_bind (made kinds.Test) (then_at (first r.2) r.2) _ (λ rest. sectioned_made kinds.Test _ none r.1 rest))
   section_made kinds.LoopTest at names ts h =
       always_bind (made kinds.LoopTest) (expression i names ts places.Command owners.Loop) _ (λ r.
-      always_bind (made kinds.LoopTest) (do_at (first r.2) r.2) _ (λ rest. sectioned_made kinds.LoopTest _ none r.1 rest))
+      always_bind (made kinds.LoopTest) (do_at (first r.2) r.2) _
+      (λ rest. sectioned_made kinds.LoopTest _ none r.1 rest))
   section_made kinds.Walk at names ts h =
-      always_bind (made kinds.Walk) (targets i names no_targets ts uses.For) _ (λ t. always_if (made kinds.Walk) (is_empty t.0.list.before) _ _ (always_error (made kinds.Walk) (length t.2))
+      always_bind (made kinds.Walk) (targets i names no_targets ts uses.For) _
+      (λ t. always_if (made kinds.Walk) (is_empty t.0.list.before) _ _ (always_error (made kinds.Walk) (length t.2))
       (always_bind (made kinds.Walk) (expect wanted.In t.2) _ (λ rest.
-      always_bind (made kinds.Walk) (expression i t.1 rest places.Command owners.Loop) _ (λ r. always_bind (made kinds.Walk) (do_at (first r.2) r.2) _ (λ m. sectioned_made kinds.Walk _ _ r.1 m)))))
+      always_bind (made kinds.Walk) (expression i t.1 rest places.Command owners.Loop) _
+      (λ r. always_bind (made kinds.Walk) (do_at (first r.2) r.2) _ (λ m. sectioned_made kinds.Walk _ _ r.1 m)))))
   section_made kinds.Subject at names ts h = differs h
   section_made kinds.When at names ts h = when_made kinds.When at names ts
   section_made kinds.Pattern at names ts h = when_made kinds.Pattern at names ts
   section_made kinds.Rescue at names ts h =
-      always_bind (made kinds.Rescue) (tests i names ts) _ (λ r. always_bind (made kinds.Rescue) (rescue_target i r.1 r.2) _ (λ t.
+      always_bind (made kinds.Rescue) (tests i names ts) _
+      (λ r. always_bind (made kinds.Rescue) (rescue_target i r.1 r.2) _ (λ t.
       always_bind (made kinds.Rescue) (then_at (first t.2) t.2) _ (λ rest. sectioned_made kinds.Rescue _ _ t.1 rest)))
   section_made kinds.Plain at names ts h = sectioned_made kinds.Plain [] none names ts
   section_made kinds.Else at names ts h = sectioned_made kinds.Else [] none names ts
@@ -268,16 +299,21 @@ module _ (i : Inside) where
   abbrev alone : Compound → SectionNode → Bool
   alone compound s = kept compound (s ∷ [])
 
-  first_alone : (compound : Compound) (k : SectionKind) (names : Names) (ts : Tokens) → is_part parts.Else k ≡ false → is_subject k ≡ false → Always (alone compound) (section i k 0 names ts)
-  first_alone compound k names ts other plain s known rest h = first_kept compound k s other (section_made k 0 names ts plain s known rest h)
+  first_alone : (compound : Compound) (k : SectionKind) (names : Names) (ts : Tokens) → is_part parts.Else k ≡ false
+      → is_subject k ≡ false → Always (alone compound) (section i k 0 names ts)
+  first_alone compound k names ts other plain s known rest h =
+      first_kept compound k s other (section_made k 0 names ts plain s known rest h)
 
   subject_alone : (names : Names) (ts : Tokens) → Always (alone compounds.Case) (section i kinds.Subject 0 names ts)
   unfolding section is_part
   subject_alone names ts =
-      always_if (alone compounds.Case) (ends_subject (first ts)) _ _ (always_ok (alone compounds.Case) _ names (skip_separators ts) refl)
-      (always_bind (alone compounds.Case) (expression i names ts places.Command owners.Call) _ (λ r. always_ok (alone compounds.Case) _ r.1 (skip_separators r.2) refl))
+      always_if (alone compounds.Case) (ends_subject (first ts)) _ _
+      (always_ok (alone compounds.Case) _ names (skip_separators ts) refl)
+      (always_bind (alone compounds.Case) (expression i names ts places.Command owners.Call) _
+      (λ r. always_ok (alone compounds.Case) _ r.1 (skip_separators r.2) refl))
 
-  section_alone : (compound : Compound) (names : Names) (ts : Tokens) → Always (alone compound) (section i (first_section compound) 0 names ts)
+  section_alone : (compound : Compound) (names : Names) (ts : Tokens)
+      → Always (alone compound) (section i (first_section compound) 0 names ts)
   unfolding is_part
   section_alone compounds.If names ts = first_alone compounds.If kinds.Test names ts refl refl
   section_alone compounds.Unless names ts = first_alone compounds.Unless kinds.Test names ts refl refl
@@ -287,31 +323,41 @@ module _ (i : Inside) where
   section_alone compounds.Case names ts = subject_alone names ts
   section_alone compounds.Body names ts = first_alone compounds.Body kinds.Plain names ts refl refl
 
-  turn_kept : (n : ℕ) (compound : Compound) (k : Option SectionKind) (found : List SectionNode) (names : Names) (ts : Tokens) → is_some_subject k ≡ false
-      → ((j : SectionKind) (more : List SectionNode) (l : Names) (m : Tokens) → kept compound more ≡ true → Always (kept compound) (sections_from i n compound j more l m)) → kept compound found ≡ true
+  turn_kept : (n : ℕ) (compound : Compound) (k : Option SectionKind) (found : List SectionNode) (names : Names)
+      (ts : Tokens) → is_some_subject k ≡ false
+      → ((j : SectionKind) (more : List SectionNode) (l : Names) (m : Tokens) → kept compound more ≡ true
+      → Always (kept compound) (sections_from i n compound j more l m)) → kept compound found ≡ true
       → Always (kept compound) (sections_turn i k (sections_from i n compound) found names ts)
   unfolding with_section
   turn_kept n compound None found names ts plain again h = always_ok (kept compound) found names ts h
   turn_kept n compound (Some k) found names ts plain again h =
       always_after (kept compound) (with_section i k (place_at ts) found names (behind ts)) _ (λ x l m e.
       again k x l m (always_after (kept compound) (section i k (place_at ts) names (behind ts)) _ (λ s p q f.
-      always_ok (kept compound) _ p q (more_kept compound k found s h (section_made k (place_at ts) names (behind ts) plain s p q f))) x l m e))
+      always_ok (kept compound) _ p q (more_kept compound k found s h
+      (section_made k (place_at ts) names (behind ts) plain s p q f))) x l m e))
 
-  from_kept : (n : ℕ) (compound : Compound) (before : SectionKind) (found : List SectionNode) (names : Names) (ts : Tokens) → kept compound found ≡ true → Always (kept compound) (sections_from i n compound before found names ts)
+  from_kept : (n : ℕ) (compound : Compound) (before : SectionKind) (found : List SectionNode) (names : Names)
+      (ts : Tokens) → kept compound found ≡ true
+      → Always (kept compound) (sections_from i n compound before found names ts)
   unfolding sections_from
   from_kept zero compound before found names ts h = always_error (kept compound) 0
   from_kept (suc n) compound before found names ts h =
-      turn_kept n compound (next_section compound before (first ts)) found names ts (next_none compound before (first ts)) (λ j more l m e. from_kept n compound j more l m e) h
+      turn_kept n compound (next_section compound before (first ts)) found names ts
+      (next_none compound before (first ts)) (λ j more l m e. from_kept n compound j more l m e) h
 
-  list_kept : (names : Names) (compound : Compound) (ts : Tokens) → Always (kept compound) (section_list i names compound ts)
+  list_kept : (names : Names) (compound : Compound) (ts : Tokens)
+      → Always (kept compound) (section_list i names compound ts)
   unfolding section_list with_section
   list_kept names compound ts =
       always_after (kept compound) (with_section i (first_section compound) 0 [] names ts) _ (λ x l m e.
       from_kept (length m + 1) compound (first_section compound) x l m
-      (always_after (kept compound) (section i (first_section compound) 0 names ts) _ (λ s k q f. always_ok (kept compound) _ k q (section_alone compound names ts s k q f)) x l m e))
+      (always_after (kept compound) (section i (first_section compound) 0 names ts) _
+      (λ s k q f. always_ok (kept compound) _ k q (section_alone compound names ts s k q f)) x l m e))
 
   -- the sections that are read make no expression
-  pub sections_none : (names known : Names) (ts rest : Tokens) (compound : Compound) (ss : List SectionNode) → sections i names compound ts ≡ Ok (ss, known, rest) → is_expression (compound_node compound ss) ≡ false
+  pub sections_none : (names known : Names) (ts rest : Tokens) (compound : Compound) (ss : List SectionNode)
+      → sections i names compound ts ≡ Ok (ss, known, rest) → is_expression (compound_node compound ss) ≡ false
   sections_none names known ts rest compound ss h =
       compound_none compound ss (always_after (kept compound) (section_list i names compound ts) _ (λ x k m e.
-      always_bind (kept compound) (expect wanted.End m) _ (λ last. always_ok (kept compound) x k last (list_kept names compound ts x k m e))) ss known rest h)
+      always_bind (kept compound) (expect wanted.End m) _
+      (λ last. always_ok (kept compound) x k last (list_kept names compound ts x k m e))) ss known rest h)

@@ -28,9 +28,12 @@ above : (i : Inside) → IsSound i → IsSound (level_above i)
 above i sound = record {
   statements = statements_sound i sound;
   grouped = λ names known ts rest n h. not_bare n (statements_group i names ts n known rest h);
-  expression = λ names known ts rest owner n h is. expression_sound i owner sound places.Command names ts n known rest h is;
-  negation = λ names known ts rest owner n s h is. value_negation_sound i sound places.Command owner names ts refl (n, s) known rest h is;
-  phrase = λ names known ts rest place owner x h plain is. value_phrase_sound i sound place owner names ts plain x known rest h is;
+  expression = λ names known ts rest owner n h is. expression_sound i owner sound places.Command names ts n known rest h
+      is;
+  negation = λ names known ts rest owner n s h is. value_negation_sound i sound places.Command owner names ts refl
+      (n, s) known rest h is;
+  phrase = λ names known ts rest place owner x h plain is. value_phrase_sound i sound place owner names ts plain x known
+      rest h is;
   argument = argument_sound i sound;
   operation = operation_sound i sound;
   listing = λ names known ts rest owner l h clean. listing_sound i sound owner names ts l known rest h clean;

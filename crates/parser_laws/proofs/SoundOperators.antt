@@ -42,17 +42,21 @@ infix_is_no_target infixes.Ambiguous at a b = refl
 
 module _ (i : Inside) (loosest : ℕ) (owner : DoOwner) where
   turn_never : (o : Option Infix) (go : Node → Names → Tokens → Read Node) (left : Node) (names : Names) (ts : Tokens)
-      → ((x : Node) (k : Names) (m : Tokens) → is_expression x ≡ false → Never itself (go x k m)) → is_expression left ≡ false → Never itself (operators_turn i o go left names ts owner)
+      → ((x : Node) (k : Names) (m : Tokens) → is_expression x ≡ false → Never itself (go x k m))
+      → is_expression left ≡ false → Never itself (operators_turn i o go left names ts owner)
   turn_never None go left names ts again other = never_ok itself left names ts other
   turn_never (Some o) go left names ts again other =
       never_bind itself (i.operation names (behind ts) (right_level o) owner) _ (λ r.
-      never_if itself (clashes o (first r.2)) _ _ (never_error itself (length r.2)) (again _ r.1 r.2 (infix_never o (place_at ts) left r.0 other)))
+      never_if itself (clashes o (first r.2)) _ _ (never_error itself (length r.2))
+      (again _ r.1 r.2 (infix_never o (place_at ts) left r.0 other)))
 
-  pub operators_never : (n : ℕ) (left : Node) (names : Names) (ts : Tokens) → is_expression left ≡ false → Never itself (operators_from i n loosest owner left names ts)
+  pub operators_never : (n : ℕ) (left : Node) (names : Names) (ts : Tokens) → is_expression left ≡ false
+      → Never itself (operators_from i n loosest owner left names ts)
   unfolding operators_from
   operators_never zero left names ts other = never_error itself 0
   operators_never (suc n) left names ts other =
-      turn_never (infix_at loosest (first ts)) (operators_from i n loosest owner) left names ts (λ x k m no. operators_never n x k m no) other
+      turn_never (infix_at loosest (first ts)) (operators_from i n loosest owner) left names ts
+      (λ x k m no. operators_never n x k m no) other
 
   -- what was read is what stood there, or no target
   abbrev pub Kept : Node → Tokens → Node → Tokens → Type 0
@@ -60,16 +64,23 @@ module _ (i : Inside) (loosest : ℕ) (owner : DoOwner) where
 
   module _ (sound : IsSound i) (place : Place) (before : Names) (start : Tokens) where
     abbrev pub SoundTail : Node → Tokens → Node → Names → Tokens → Type 0
-    SoundTail left ts x known rest = Derives (Operation place loosest owner x) before start known rest × Kept left ts x rest
+    SoundTail left ts x known rest = Derives (Operation place loosest owner x) before start known rest
+        × Kept left ts x rest
 
-    turn_sound : (n : ℕ) (o : Option Infix) (left : Node) (names : Names) (ts : Tokens) (x : Node) (known : Names) (rest : Tokens)
-        → ((y : Node) (k : Names) (m : Tokens) → Derives (Operators place loosest owner y) before start k m → operators_from i n loosest owner y k m ≡ Ok (x, known, rest) → SoundTail y m x known rest)
+    turn_sound : (n : ℕ) (o : Option Infix) (left : Node) (names : Names) (ts : Tokens) (x : Node) (known : Names)
+        (rest : Tokens)
+        → ((y : Node) (k : Names) (m : Tokens) → Derives (Operators place loosest owner y) before start k m
+        → operators_from i n loosest owner y k m ≡ Ok (x, known, rest) → SoundTail y m x known rest)
         → infix_at loosest (first ts) ≡ o → Derives (Operators place loosest owner left) before start names ts
-        → operators_turn i o (operators_from i n loosest owner) left names ts owner ≡ Ok (x, known, rest) → is_expression x ≡ true → SoundTail left ts x known rest
+        → operators_turn i o (operators_from i n loosest owner) left names ts owner ≡ Ok (x, known, rest)
+        → is_expression x ≡ true → SoundTail left ts x known rest
     turn_sound n None left names ts x known rest again there derived h is =
         let e = read_same left x names known ts rest h in
-        let d = AllOperators place loosest owner before names start ts left derived there in
-        (carry (λ (y : Node) (k : Names) (m : Tokens). Derives (Operation place loosest owner y) before start k m) left x names known ts rest h d, inl (sym e.0, sym e.2))
+        let d = AllOperators place loosest owner before names start ts left derived there in (
+          carry (λ (y : Node) (k : Names) (m : Tokens). Derives (Operation place loosest owner y) before start k m) left
+              x names known ts rest h d,
+          inl (sym e.0, sym e.2),
+        )
     turn_sound n (Some o) left names ts x known rest again there derived h is =
         let r = bind_ok (i.operation names (behind ts) (right_level o) owner) _ (x, known, rest) h in
         let c = else_ok (clashes o (first r.0.2)) _ (length r.0.2) (x, known, rest) r.2 in
@@ -77,12 +88,15 @@ module _ (i : Inside) (loosest : ℕ) (owner : DoOwner) where
         elim (cases_Bool (is_expression joined)) [
           | inl whole_is ↦
               let parts = infix_parts o (place_at ts) left r.0.0 whole_is in
-              let right = sound.operation names r.0.1 (behind ts) r.0.2 places.Argument (right_level o) owner r.0.0 r.1 parts.1 in
-              let d = Infixed place loosest owner o before names r.0.1 start ts r.0.2 left r.0.0 derived there right c.0 in
+              let right = sound.operation names r.0.1 (behind ts) r.0.2 places.Argument (right_level o) owner r.0.0 r.1
+              parts.1 in
+              let d = Infixed place loosest owner o before names r.0.1 start ts r.0.2 left r.0.0 derived there right c.0
+              in
               let tail = again joined r.0.1 r.0.2 d c.1 in (
                 tail.0,
                 elim tail.1 [
-                  | inl kept ↦ inr (subst (λ y. is_target (whole y) ≡ false) (sym kept.0) (infix_is_no_target o (place_at ts) left r.0.0))
+                  | inl kept ↦ inr (subst (λ y. is_target (whole y) ≡ false) (sym kept.0)
+                      (infix_is_no_target o (place_at ts) left r.0.0))
                   | inr none ↦ inr none
                 ],
               )
@@ -90,14 +104,19 @@ module _ (i : Inside) (loosest : ℕ) (owner : DoOwner) where
         ]
 
     pub tail_sound : (n : ℕ) (left : Node) (names : Names) (ts : Tokens) (x : Node) (known : Names) (rest : Tokens)
-        → Derives (Operators place loosest owner left) before start names ts → operators_from i n loosest owner left names ts ≡ Ok (x, known, rest) → is_expression x ≡ true → SoundTail left ts x known rest
+        → Derives (Operators place loosest owner left) before start names ts
+        → operators_from i n loosest owner left names ts ≡ Ok (x, known, rest) → is_expression x ≡ true
+        → SoundTail left ts x known rest
     unfolding operators_from
     tail_sound zero left names ts x known rest derived h is = err_is_none 0 (x, known, rest) h
     tail_sound (suc n) left names ts x known rest derived h is =
-        turn_sound n (infix_at loosest (first ts)) left names ts x known rest (λ y k m d e. tail_sound n y k m x known rest d e is) refl derived h is
+        turn_sound n (infix_at loosest (first ts)) left names ts x known rest
+        (λ y k m d e. tail_sound n y k m x known rest d e is) refl derived h is
 
 module _ (i : Inside) (sound : IsSound i) where
-  pub operation_sound : (names known : Names) (ts rest : Tokens) (place : Place) (loosest : ℕ) (owner : DoOwner) (n : Node) → operation i names ts loosest owner ≡ Ok (n, known, rest) → is_expression n ≡ true → Derives (Operation place loosest owner n) names ts known rest
+  pub operation_sound : (names known : Names) (ts rest : Tokens) (place : Place) (loosest : ℕ) (owner : DoOwner)
+      (n : Node) → operation i names ts loosest owner ≡ Ok (n, known, rest) → is_expression n ≡ true
+      → Derives (Operation place loosest owner n) names ts known rest
   unfolding operation
   operation_sound names known ts rest place loosest owner n h is =
       let r = bind_ok (operand i names ts false owner) _ (n, known, rest) h in
@@ -105,8 +124,11 @@ module _ (i : Inside) (sound : IsSound i) where
         | inl there ↦
             let o = operand_sound i sound place owner names ts false r.0.0 r.0.1 r.0.2 r.1 there in
             let tail : operators_from i (length r.0.2 + 1) loosest owner o.0 r.0.1 r.0.2 ≡ Ok (n, known, rest) =
-            subst (λ p. operators_from i (length r.0.2 + 1) loosest owner (operand_node p) r.0.1 r.0.2 ≡ Ok (n, known, rest)) o.1 r.2 in
+            subst (λ p. operators_from i (length r.0.2 + 1) loosest owner (operand_node p) r.0.1 r.0.2 ≡ Ok
+            (n, known, rest)) o.1 r.2 in
             let one = OneOperand place loosest owner names r.0.1 ts r.0.2 o.0 o.2 in
-            (tail_sound i loosest owner sound place names ts (length r.0.2 + 1) o.0 r.0.1 r.0.2 n known rest one tail is).0
-        | inr other ↦ absurd (operators_never i loosest owner (length r.0.2 + 1) (operand_node r.0.0) r.0.1 r.0.2 other n known rest r.2 is)
+            (tail_sound i loosest owner sound place names ts (length r.0.2 + 1) o.0 r.0.1 r.0.2 n known rest one tail
+            is).0
+        | inr other ↦ absurd (operators_never i loosest owner (length r.0.2 + 1) (operand_node r.0.0) r.0.1 r.0.2 other
+            n known rest r.2 is)
       ]

@@ -75,17 +75,20 @@ or_false : (b : Bool) → b ≡ false → (false || b) ≡ false
 or_false true h = h
 or_false false h = h
 
-module _ (i : Inside) (sound : IsSound i) (place : Place) (owner : DoOwner) (before : Names) (start : Tokens) (jump : begins_jump place start ≡ false) where
+module _ (i : Inside) (sound : IsSound i) (place : Place) (owner : DoOwner) (before : Names) (start : Tokens)
+    (jump : begins_jump place start ≡ false) where
   abbrev Argued : PhraseNode → Names → Tokens → Type 0
   Argued x known rest = (x.1 ≡ sorts.Argument) × Derives (Argument place owner x.0) before start known rest
 
   -- a value, or an assignment of several where a statement may stand
   abbrev SoundValue : PhraseNode → Names → Tokens → Type 0
   SoundValue x known rest =
-      Argued x known rest ⊎ ((x.1 ≡ sorts.Statement) × (place ≡ places.Statement) × (is_target_group start ≡ false → Derives (Expression places.Statement owner x.0) before start known rest))
+      Argued x known rest ⊎ ((x.1 ≡ sorts.Statement) × (place ≡ places.Statement)
+      × (is_target_group start ≡ false → Derives (Expression places.Statement owner x.0) before start known rest))
 
   abbrev Goal : Read PhraseNode → Type 0
-  Goal read = (x : PhraseNode) (known : Names) (rest : Tokens) → read ≡ Ok (x, known, rest) → is_expression x.0 ≡ true → SoundValue x known rest
+  Goal read = (x : PhraseNode) (known : Names) (rest : Tokens) → read ≡ Ok (x, known, rest) → is_expression x.0 ≡ true
+      → SoundValue x known rest
 
   goal_never : (read : Read PhraseNode) → Never its_node read → Goal read
   goal_never read never x known rest h is = absurd (never x known rest h is)
@@ -94,48 +97,67 @@ module _ (i : Inside) (sound : IsSound i) (place : Place) (owner : DoOwner) (bef
   goal_if true r s f g = f
   goal_if false r s f g = g
 
-  value_goal : (left : Node) (names : Names) (ts : Tokens) → Derives (Operand place owner left) before start names ts → is_taken place left (first ts) ≡ false
-      → (x : PhraseNode) (known : Names) (rest : Tokens) → value_phrase i (whole left) names ts owner ≡ Ok (x, known, rest) → is_expression x.0 ≡ true → Argued x known rest
+  value_goal : (left : Node) (names : Names) (ts : Tokens) → Derives (Operand place owner left) before start names ts
+      → is_taken place left (first ts) ≡ false
+      → (x : PhraseNode) (known : Names) (rest : Tokens)
+      → value_phrase i (whole left) names ts owner ≡ Ok (x, known, rest) → is_expression x.0 ≡ true
+      → Argued x known rest
   value_goal left names ts derived free x known rest h is =
       let r = bind_ok (value_from i left names ts owner) _ (x, known, rest) h in
       let e = read_same (r.0.0, sorts.Argument) x r.0.1 known r.0.2 rest r.2 in
       let there : is_expression r.0.0 ≡ true = subst (λ y. is_expression y.0 ≡ true) (sym e.0) is in
-      let d = value_sound i owner sound place before start jump left names ts r.0.0 r.0.1 r.0.2 derived free r.1 there in
+      let d = value_sound i owner sound place before start jump left names ts r.0.0 r.0.1 r.0.2 derived free r.1 there
+      in
       carry Argued (r.0.0, sorts.Argument) x r.0.1 known r.0.2 rest r.2 (refl, d)
 
   -- what an operand that was read begins
   abbrev Begun : OperandNode → Names → Tokens → Bool → Type 0
   Begun o names ts commands = operand i before start commands owner ≡ Ok (o, names, ts)
 
-  from_value : (commands : Bool) (o : OperandNode) (names : Names) (ts : Tokens) → Begun o names ts commands → (is_target o && takes_target place (first ts)) ≡ false → Goal (value_phrase i o names ts owner)
+  from_value : (commands : Bool) (o : OperandNode) (names : Names) (ts : Tokens) → Begun o names ts commands
+      → (is_target o && takes_target place (first ts)) ≡ false → Goal (value_phrase i o names ts owner)
   from_value commands o names ts begun free x known rest h is =
       elim (cases_Bool (is_expression (operand_node o))) [
         | inl there ↦
             let p = operand_sound i sound place owner before start commands o names ts begun there in
-            let untaken : is_taken place p.0 (first ts) ≡ false = subst (λ q. (is_target q && takes_target place (first ts)) ≡ false) p.1 free in
-            inl (value_goal p.0 names ts p.2 untaken x known rest (subst (λ q. value_phrase i q names ts owner ≡ Ok (x, known, rest)) p.1 h) is)
+            let untaken : is_taken place p.0 (first ts) ≡ false =
+            subst (λ q. (is_target q && takes_target place (first ts)) ≡ false) p.1 free in
+            inl (value_goal p.0 names ts p.2 untaken x known rest
+            (subst (λ q. value_phrase i q names ts owner ≡ Ok (x, known, rest)) p.1 h) is)
         | inr other ↦ absurd (value_phrase_never i o names ts owner other x known rest h is)
       ]
 
-  from_operand : (commands : Bool) (o : OperandNode) (names : Names) (ts : Tokens) → Begun o names ts commands → (is_target o && takes_target place (first ts)) ≡ false → Goal (command_or_value i o names ts place owner)
+  from_operand : (commands : Bool) (o : OperandNode) (names : Names) (ts : Tokens) → Begun o names ts commands
+      → (is_target o && takes_target place (first ts)) ≡ false → Goal (command_or_value i o names ts place owner)
   from_operand commands (callee c) names ts begun free =
-      goal_if (may_command place (callee c) ts) _ _ (goal_never _ (command_never i c names ts owner)) (from_value commands (callee c) names ts begun free)
+      goal_if (may_command place (callee c) ts) _ _ (goal_never _ (command_never i c names ts owner))
+      (from_value commands (callee c) names ts begun free)
   from_operand commands (whole n) names ts begun free = from_value commands (whole n) names ts begun free
 
-  from_assignment : (commands : Bool) (a : Assignment) (o : OperandNode) (names : Names) (ts : Tokens) → Begun o names ts commands → is_target o ≡ true → assignment_at (first ts) ≡ Some a
+  from_assignment : (commands : Bool) (a : Assignment) (o : OperandNode) (names : Names) (ts : Tokens)
+      → Begun o names ts commands → is_target o ≡ true → assignment_at (first ts) ≡ Some a
       → Goal (assign i (target_node o) (target_names o names) a (behind ts) place owner)
   from_assignment commands a o names ts begun target there x known rest h is =
-      let assigned = assign_target i sound a place owner (target_node o) (target_names o names) (behind ts) x known rest h is in
+      let assigned = assign_target i sound a place owner (target_node o) (target_names o names) (behind ts) x known rest
+      h is in
       let t = target_sound i sound owner before start commands o names ts begun target assigned in
       elim (cases_Bool (is_statement_sort x.1)) [
         | inl stated ↦
-            let here = assigns_several i sound a place owner (target_node o) (target_names o names) (behind ts) x known rest h stated is in
-            inr (here.0, here.1, λ free. lists_derived i sound a place owner (target_node o) before start (target_names o names) ts t there jump x known rest free h stated is)
+            let here = assigns_several i sound a place owner (target_node o) (target_names o names) (behind ts) x known
+            rest h stated is in
+            inr (
+              here.0,
+              here.1,
+              λ free. lists_derived i sound a place owner (target_node o) before start
+                  (target_names o names) ts t there jump x known rest free h stated is,
+            )
         | inr plain ↦
-            let p = assign_parts i sound a place owner (target_node o) (target_names o names) (behind ts) x known rest h plain is in
+            let p = assign_parts i sound a place owner (target_node o) (target_names o names) (behind ts) x known rest h
+            plain is in
             inl (
               assign_sort i sound a place owner (target_node o) (target_names o names) (behind ts) x known rest p,
-              assign_derived i sound a place owner (target_node o) before start (target_names o names) ts t there jump x known rest p,
+              assign_derived i sound a place owner (target_node o) before start (target_names o names) ts t there jump x
+                  known rest p,
             )
       ]
 
@@ -145,11 +167,14 @@ module _ (i : Inside) (sound : IsSound i) (place : Place) (owner : DoOwner) (bef
     by_several true there t a = goal_never _ (several_never i o names ts owner)
     by_several false there t a = from_operand commands o names ts begun (rw (t, a, there) refl)
 
-    by_assignment : (a : Option Assignment) → assignment_at (first ts) ≡ a → is_target o ≡ true → Goal (target_phrase i a o names ts place owner)
+    by_assignment : (a : Option Assignment) → assignment_at (first ts) ≡ a → is_target o ≡ true
+        → Goal (target_phrase i a o names ts place owner)
     by_assignment (Some a) there t = from_assignment commands a o names ts begun t there
     by_assignment None there t = by_several (begins_several place ts) refl t there
 
-    by_target : (b : Bool) → is_target o ≡ b → Goal (if b then target_phrase i (assignment_at (first ts)) o names ts place owner else command_or_value i o names ts place owner)
+    by_target : (b : Bool) → is_target o ≡ b → Goal
+        (if b then target_phrase i (assignment_at (first ts)) o names ts place owner else command_or_value i o names ts
+        place owner)
     by_target true t = by_assignment (assignment_at (first ts)) refl t
     by_target false t = from_operand commands o names ts begun (rw t refl)
 
@@ -160,27 +185,34 @@ module _ (i : Inside) (sound : IsSound i) (place : Place) (owner : DoOwner) (bef
 module _ (i : Inside) (sound : IsSound i) (place : Place) (owner : DoOwner) (names : Names) (ts : Tokens) where
   -- an assignment of several values, where a statement may stand
   abbrev Several : PhraseNode → Names → Tokens → Type 0
-  Several x known rest = (x.1 ≡ sorts.Statement) × (place ≡ places.Statement) × Derives (Expression places.Statement owner x.0) names ts known rest
+  Several x known rest = (x.1 ≡ sorts.Statement) × (place ≡ places.Statement)
+      × Derives (Expression places.Statement owner x.0) names ts known rest
 
   abbrev pub SoundPhrase : PhraseNode → Names → Tokens → Type 0
-  SoundPhrase x known rest = ((x.1 ≡ sorts.Argument) × ((is_statement place && is_target_group ts) ≡ false) × Derives (Argument place owner x.0) names ts known rest) ⊎ Several x known rest
+  SoundPhrase x known rest = ((x.1 ≡ sorts.Argument) × ((is_statement place && is_target_group ts) ≡ false)
+      × Derives (Argument place owner x.0) names ts known rest) ⊎ Several x known rest
 
   abbrev pub SoundNegation : PhraseNode → Names → Tokens → Type 0
-  SoundNegation x known rest = ((is_statement_sort x.1 ≡ false) × Derives (Negation place owner x.0) names ts known rest) ⊎ Several x known rest
+  SoundNegation x known rest = ((is_statement_sort x.1 ≡ false)
+      × Derives (Negation place owner x.0) names ts known rest) ⊎ Several x known rest
 
   abbrev NegationGoal : Read PhraseNode → Type 0
-  NegationGoal read = (x : PhraseNode) (known : Names) (rest : Tokens) → read ≡ Ok (x, known, rest) → is_expression x.0 ≡ true → SoundNegation x known rest
+  NegationGoal read = (x : PhraseNode) (known : Names) (rest : Tokens) → read ≡ Ok (x, known, rest)
+      → is_expression x.0 ≡ true → SoundNegation x known rest
 
   abbrev Phrase : Read PhraseNode → Type 0
-  Phrase read = (x : PhraseNode) (known : Names) (rest : Tokens) → read ≡ Ok (x, known, rest) → is_expression x.0 ≡ true → SoundPhrase x known rest
+  Phrase read = (x : PhraseNode) (known : Names) (rest : Tokens) → read ≡ Ok (x, known, rest) → is_expression x.0 ≡ true
+      → SoundPhrase x known rest
 
   never_phrase : (read : Read PhraseNode) → Never its_node read → Phrase read
   never_phrase read never x known rest h is = absurd (never x known rest h is)
 
-  with_operand : (is_statement place && is_target_group ts) ≡ false → begins_jump place ts ≡ false → Phrase (operand_phrase i names ts place owner)
+  with_operand : (is_statement place && is_target_group ts) ≡ false → begins_jump place ts ≡ false
+      → Phrase (operand_phrase i names ts place owner)
   with_operand free jump x known rest h is =
       let r = bind_ok (operand i names ts (allows_command place) owner) _ (x, known, rest) h in
-      elim (from_goal i sound place owner names ts jump (allows_command place) r.0.0 r.0.1 r.0.2 r.1 x known rest r.2 is) [
+      elim (from_goal i sound place owner names ts jump (allows_command place) r.0.0 r.0.1 r.0.2 r.1 x known rest r.2
+      is) [
         | inl v ↦ inl (v.0, free, v.1)
         | inr s ↦ inr (s.0, s.1, s.2 (subst (λ p. (is_statement p && is_target_group ts) ≡ false) s.1 free))
       ]
@@ -191,36 +223,47 @@ module _ (i : Inside) (sound : IsSound i) (place : Place) (owner : DoOwner) (nam
       let r = bind_ok (operand i names (behind ts) true owner) _ (x, known, rest) h in
       by_command (is_command_there r.0.0 r.0.2) r.0.0 r.0.1 r.0.2 r.1 r.2
     where
-      commanded : (o : OperandNode) (k : Names) (m : Tokens) → negated_command i o k m owner ≡ Ok (x, known, rest) → SoundPhrase x known rest
+      commanded : (o : OperandNode) (k : Names) (m : Tokens) → negated_command i o k m owner ≡ Ok (x, known, rest)
+          → SoundPhrase x known rest
       commanded o k m read =
           let p = bind_ok (phrase_from i o k m places.Command owner) _ (x, known, rest) read in
           let c = then_ok (is_command p.0.0.1) _ (length p.0.2) (x, known, rest) p.2 in
           let e = read_same (prefix_node prefixes.Not p.0.0.0, sorts.Command) x p.0.1 known p.0.2 rest c.1 in
-          absurd (none_of_phrase i sound o k m places.Command owner p.0.0 p.0.1 p.0.2 p.1 c.0 (subst (λ (y : PhraseNode). is_expression y.0 ≡ true) (sym e.0) is))
+          absurd (none_of_phrase i sound o k m places.Command owner p.0.0 p.0.1 p.0.2 p.1 c.0
+          (subst (λ (y : PhraseNode). is_expression y.0 ≡ true) (sym e.0) is))
 
-      by_command : (b : Bool) (o : OperandNode) (k : Names) (m : Tokens) → operand i names (behind ts) true owner ≡ Ok (o, k, m)
-          → (if b then negated_command i o k m owner else negated_operand i o k m owner) ≡ Ok (x, known, rest) → SoundPhrase x known rest
+      by_command : (b : Bool) (o : OperandNode) (k : Names) (m : Tokens)
+          → operand i names (behind ts) true owner ≡ Ok (o, k, m)
+          → (if b then negated_command i o k m owner else negated_operand i o k m owner) ≡ Ok (x, known, rest)
+          → SoundPhrase x known rest
       by_command true o k m got read = commanded o k m read
       by_command false o k m got read =
           elim (cases_Bool (is_expression (operand_node o))) [
             | inl inner ↦
                 let p = operand_sound i sound (of_value place) owner names (behind ts) true o k m got inner in
-                let one = AllOperators (of_value place) 1 owner names k (behind ts) m p.0 (OneOperand (of_value place) 1 owner names k (behind ts) m p.0 p.2) (none_so_tight (first m)) in
+                let one = AllOperators (of_value place) 1 owner names k (behind ts) m p.0
+                (OneOperand (of_value place) 1 owner names k (behind ts) m p.0 p.2) (none_so_tight (first m)) in
                 let d = Prefixed place owner prefixes.Not names k ts m p.0 (prefix_not ts there) one in
                 let again : value_phrase i (whole (prefix_node prefixes.Not p.0)) k m owner ≡ Ok (x, known, rest) =
-                subst (λ q. value_phrase i (whole (prefix_node prefixes.Not (operand_node q))) k m owner ≡ Ok (x, known, rest)) p.1 read in
-                let v = value_goal i sound place owner names ts (no_jump place ts there) (prefix_node prefixes.Not p.0) k m d (not_is_free place p.0 (first m)) x known rest again is in
+                subst (λ q. value_phrase i (whole (prefix_node prefixes.Not (operand_node q))) k m owner ≡ Ok
+                (x, known, rest)) p.1 read in
+                let v = value_goal i sound place owner names ts (no_jump place ts there) (prefix_node prefixes.Not p.0)
+                k m d (not_is_free place p.0 (first m)) x known rest again is in
                 inl (v.0, no_group place ts there, v.1)
-            | inr other ↦ absurd (value_phrase_never i (whole (prefix_node prefixes.Not (operand_node o))) k m owner other x known rest read is)
+            | inr other ↦ absurd (value_phrase_never i (whole (prefix_node prefixes.Not (operand_node o))) k m owner
+                other x known rest read is)
           ]
 
-  with_defined : (first ts ≡ words.Key keywords.Defined) × (is_open_parenthesis (first (behind ts)) ≡ false) → Phrase (defined i names (behind ts) owner)
+  with_defined : (first ts ≡ words.Key keywords.Defined) × (is_open_parenthesis (first (behind ts)) ≡ false)
+      → Phrase (defined i names (behind ts) owner)
   with_defined there x known rest h is =
       let r = bind_ok (i.argument names (behind ts) owner) _ (x, known, rest) h in
       let e = read_same (node.defined r.0.0, sorts.Argument) x r.0.1 known r.0.2 rest r.2 in
       let part : is_expression r.0.0 ≡ true = subst (λ (y : PhraseNode). is_expression y.0 ≡ true) (sym e.0) is in
-      let d = DefinedValue place owner names r.0.1 ts r.0.2 r.0.0 there.0 there.1 (sound.argument names r.0.1 (behind ts) r.0.2 owner r.0.0 r.1 part) in
-      carry SoundPhrase (node.defined r.0.0, sorts.Argument) x r.0.1 known r.0.2 rest r.2 (inl (refl, defined_alone place ts there.0, d))
+      let d = DefinedValue place owner names r.0.1 ts r.0.2 r.0.0 there.0 there.1
+      (sound.argument names r.0.1 (behind ts) r.0.2 owner r.0.0 r.1 part) in
+      carry SoundPhrase (node.defined r.0.0, sorts.Argument) x r.0.1 known r.0.2 rest r.2
+      (inl (refl, defined_alone place ts there.0, d))
 
   by_start : (s : Start) → start_at place ts ≡ s → Phrase (phrase_by i s names ts place owner)
   unfolding phrase_by
@@ -235,11 +278,13 @@ module _ (i : Inside) (sound : IsSound i) (place : Place) (owner : DoOwner) (nam
   phrase_sound = by_start (start_at place ts) refl
 
   by_not : (b : Bool) → is_not (first ts) ≡ b
-      → NegationGoal (if b then (i.negation names (behind ts) places.Command owner >>= (λ r. Ok ((prefix_node prefixes.Not r.0.0, sorts.Command), r.1, r.2))) else phrase i names ts place owner)
+      → NegationGoal (if b then (i.negation names (behind ts) places.Command owner >>=
+      (λ r. Ok ((prefix_node prefixes.Not r.0.0, sorts.Command), r.1, r.2))) else phrase i names ts place owner)
   by_not true there x known rest h is =
       let r = bind_ok (i.negation names (behind ts) places.Command owner) _ (x, known, rest) h in
       let e = read_same (prefix_node prefixes.Not r.0.0.0, sorts.Command) x r.0.1 known r.0.2 rest r.2 in
-      let inner = sound.negation names r.0.1 (behind ts) r.0.2 owner r.0.0.0 r.0.0.1 r.1 (subst (λ (y : PhraseNode). is_expression y.0 ≡ true) (sym e.0) is) in
+      let inner = sound.negation names r.0.1 (behind ts) r.0.2 owner r.0.0.0 r.0.0.1 r.1
+      (subst (λ (y : PhraseNode). is_expression y.0 ≡ true) (sym e.0) is) in
       let d = Negated place owner names r.0.1 ts r.0.2 r.0.0.0 (is_the_not (first ts) there) inner in
       carry SoundNegation (prefix_node prefixes.Not r.0.0.0, sorts.Command) x r.0.1 known r.0.2 rest r.2 (inl (refl, d))
   by_not false there x known rest h is =
@@ -253,20 +298,31 @@ module _ (i : Inside) (sound : IsSound i) (place : Place) (owner : DoOwner) (nam
   negation_sound = by_not (is_not (first ts)) refl
 
 -- where no statement may stand, a value alone is read
-module _ (i : Inside) (sound : IsSound i) (place : Place) (owner : DoOwner) (names : Names) (ts : Tokens) (plain : is_statement place ≡ false) where
+module _ (i : Inside) (sound : IsSound i) (place : Place) (owner : DoOwner) (names : Names) (ts : Tokens)
+    (plain : is_statement place ≡ false) where
   not_several : {A : Type 0} → place ≡ places.Statement → A
   not_several there = differs (sym (ap is_statement there) ∙ plain)
 
-  pub value_phrase_sound : (x : PhraseNode) (known : Names) (rest : Tokens) → phrase i names ts place owner ≡ Ok (x, known, rest) → is_expression x.0 ≡ true → (x.1 ≡ sorts.Argument) × Derives (Argument place owner x.0) names ts known rest
-  value_phrase_sound x known rest h is = elim (phrase_sound i sound place owner names ts x known rest h is) [ inl p ↦ (p.0, p.2) | inr s ↦ not_several s.1 ]
+  pub value_phrase_sound : (x : PhraseNode) (known : Names) (rest : Tokens)
+      → phrase i names ts place owner ≡ Ok (x, known, rest) → is_expression x.0 ≡ true → (x.1 ≡ sorts.Argument)
+      × Derives (Argument place owner x.0) names ts known rest
+  value_phrase_sound x known rest h is = elim
+      (phrase_sound i sound place owner names ts x known rest h is) [ inl p ↦ (p.0, p.2) | inr s ↦ not_several s.1 ]
 
-  pub value_negation_sound : (x : PhraseNode) (known : Names) (rest : Tokens) → negation i names ts place owner ≡ Ok (x, known, rest) → is_expression x.0 ≡ true → Derives (Negation place owner x.0) names ts known rest
-  value_negation_sound x known rest h is = elim (negation_sound i sound place owner names ts x known rest h is) [ inl p ↦ p.1 | inr s ↦ not_several s.1 ]
+  pub value_negation_sound : (x : PhraseNode) (known : Names) (rest : Tokens)
+      → negation i names ts place owner ≡ Ok (x, known, rest) → is_expression x.0 ≡ true
+      → Derives (Negation place owner x.0) names ts known rest
+  value_negation_sound x known rest h is = elim
+      (negation_sound i sound place owner names ts x known rest h is) [ inl p ↦ p.1 | inr s ↦ not_several s.1 ]
 
 module _ (i : Inside) (sound : IsSound i) where
-  pub argument_sound : (names known : Names) (ts rest : Tokens) (owner : DoOwner) (n : Node) → argument i names ts owner ≡ Ok (n, known, rest) → is_expression n ≡ true → Derives (Argument places.Argument owner n) names ts known rest
+  pub argument_sound : (names known : Names) (ts rest : Tokens) (owner : DoOwner) (n : Node)
+      → argument i names ts owner ≡ Ok (n, known, rest) → is_expression n ≡ true
+      → Derives (Argument places.Argument owner n) names ts known rest
   argument_sound names known ts rest owner n h is =
       let r = bind_ok (phrase i names ts places.Argument owner) _ (n, known, rest) h in
       let e = read_same r.0.0.0 n r.0.1 known r.0.2 rest r.2 in
-      let s = value_phrase_sound i sound places.Argument owner names ts refl r.0.0 r.0.1 r.0.2 r.1 (subst (λ x. is_expression x ≡ true) (sym e.0) is) in
-      carry (λ (x : Node) (k : Names) (m : Tokens). Derives (Argument places.Argument owner x) names ts k m) r.0.0.0 n r.0.1 known r.0.2 rest r.2 s.1
+      let s = value_phrase_sound i sound places.Argument owner names ts refl r.0.0 r.0.1 r.0.2 r.1
+      (subst (λ x. is_expression x ≡ true) (sym e.0) is) in
+      carry (λ (x : Node) (k : Names) (m : Tokens). Derives (Argument places.Argument owner x) names ts k m) r.0.0.0 n
+      r.0.1 known r.0.2 rest r.2 s.1

@@ -42,16 +42,21 @@ choice_none test a b other =
     ]
 
 module _ (i : Inside) (owner : DoOwner) where
-  choice_never : (test : Node) (names : Names) (ts : Tokens) → is_expression test ≡ false → Never itself (choice i test names ts owner)
+  choice_never : (test : Node) (names : Names) (ts : Tokens) → is_expression test ≡ false
+      → Never itself (choice i test names ts owner)
   choice_never test names ts no_expression =
-      never_bind itself (i.argument names ts owner) _ (λ chosen. never_bind itself (expect wanted.Colon chosen.2) _ (λ rest.
-      never_bind itself (i.argument chosen.1 rest owner) _ (λ other. never_ok itself _ other.1 other.2 (choice_none test chosen.0 other.0 no_expression))))
+      never_bind itself (i.argument names ts owner) _
+      (λ chosen. never_bind itself (expect wanted.Colon chosen.2) _ (λ rest.
+      never_bind itself (i.argument chosen.1 rest owner) _
+      (λ other. never_ok itself _ other.1 other.2 (choice_none test chosen.0 other.0 no_expression))))
 
-  question_never : (w : Word) (test : Node) (names : Names) (ts : Tokens) → is_expression test ≡ false → Never itself (question_at i w test names ts owner)
+  question_never : (w : Word) (test : Node) (names : Names) (ts : Tokens) → is_expression test ≡ false
+      → Never itself (question_at i w test names ts owner)
   question_never (words.Mark marks.Question) test names ts other = choice_never test names (behind ts) other
   question_never w test names ts other = never_ok itself test names ts other
 
-  pub value_never : (left : Node) (names : Names) (ts : Tokens) → is_expression left ≡ false → Never itself (value_from i left names ts owner)
+  pub value_never : (left : Node) (names : Names) (ts : Tokens) → is_expression left ≡ false
+      → Never itself (value_from i left names ts owner)
   unfolding value_from
   value_never left names ts other =
       never_after itself (operators i left names ts 13 owner) _ (λ x k m h.
@@ -60,11 +65,13 @@ module _ (i : Inside) (owner : DoOwner) where
         | inr other_is ↦ other_is
       ]))
 
-  module _ (sound : IsSound i) (place : Place) (before : Names) (start : Tokens) (jump : begins_jump place start ≡ false) where
+  module _ (sound : IsSound i) (place : Place) (before : Names) (start : Tokens)
+      (jump : begins_jump place start ≡ false) where
     abbrev Sound : Node → Names → Tokens → Type 0
     Sound x known rest = Derives (Argument place owner x) before start known rest
 
-    choice_sound : (test : Node) (names : Names) (ts : Tokens) (x : Node) (known : Names) (rest : Tokens) → Derives (Operation place 13 owner test) before start names ts → first ts ≡ words.Mark marks.Question
+    choice_sound : (test : Node) (names : Names) (ts : Tokens) (x : Node) (known : Names) (rest : Tokens)
+        → Derives (Operation place 13 owner test) before start names ts → first ts ≡ words.Mark marks.Question
         → choice i test names (behind ts) owner ≡ Ok (x, known, rest) → is_expression x ≡ true → Sound x known rest
     choice_sound test names ts x known rest derived asks h is =
         let a = bind_ok (i.argument names (behind ts) owner) _ (x, known, rest) h in
@@ -75,13 +82,18 @@ module _ (i : Inside) (owner : DoOwner) where
         let parts = choice_parts test a.0.0 b.0.0 (subst (λ y. is_expression y ≡ true) (sym e.0) is) in
         let chosen = sound.argument names a.0.1 (behind ts) a.0.2 owner a.0.0 a.1 parts.1 in
         let last : behind a.0.2 ≡ c.0 = ok_is w.1 in
-        let other = subst (λ (m : Tokens). Derives (Argument places.Argument owner b.0.0) a.0.1 m b.0.1 b.0.2) (sym last) (sound.argument a.0.1 b.0.1 c.0 b.0.2 owner b.0.0 b.1 parts.2) in
-        let d = Conditional place owner before names a.0.1 b.0.1 start ts a.0.2 b.0.2 test a.0.0 b.0.0 jump derived asks chosen (a_colon (first a.0.2) w.0) other in
+        let other = subst (λ (m : Tokens). Derives (Argument places.Argument owner b.0.0) a.0.1 m b.0.1 b.0.2)
+        (sym last) (sound.argument a.0.1 b.0.1 c.0 b.0.2 owner b.0.0 b.1 parts.2) in
+        let d = Conditional place owner before names a.0.1 b.0.1 start ts a.0.2 b.0.2 test a.0.0 b.0.0 jump derived asks
+        chosen (a_colon (first a.0.2) w.0) other in
         carry Sound (choice_node test a.0.0 b.0.0) x b.0.1 known b.0.2 rest b.2 d
 
-    question_sound : (w : Word) (test : Node) (names : Names) (ts : Tokens) (x : Node) (known : Names) (rest : Tokens) → first ts ≡ w → Derives (Operation place 13 owner test) before start names ts → is_taken place test (first ts) ≡ false
+    question_sound : (w : Word) (test : Node) (names : Names) (ts : Tokens) (x : Node) (known : Names) (rest : Tokens)
+        → first ts ≡ w → Derives (Operation place 13 owner test) before start names ts
+        → is_taken place test (first ts) ≡ false
         → question_at i w test names ts owner ≡ Ok (x, known, rest) → is_expression x ≡ true → Sound x known rest
-    question_sound (words.Mark marks.Question) test names ts x known rest there derived free h is = choice_sound test names ts x known rest derived there h is
+    question_sound (words.Mark marks.Question) test names ts x known rest there derived free h is =
+        choice_sound test names ts x known rest derived there h is
     question_sound w test names ts x known rest there derived free h is =
         let calm : is_question (first ts) ≡ false = rw there refl in
         carry Sound test x names known ts rest h (Value place owner before names start ts test jump derived calm free)
@@ -96,9 +108,11 @@ module _ (i : Inside) (owner : DoOwner) where
         elim (cases_Bool (is_expression r.0.0)) [
           | inl there ↦
               let one = OneOperand place 13 owner before names start ts left derived in
-              let tail = tail_sound i 13 owner sound place before start (length ts + 1) left names ts r.0.0 r.0.1 r.0.2 one r.1 there in
+              let tail = tail_sound i 13 owner sound place before start (length ts + 1) left names ts r.0.0 r.0.1 r.0.2
+              one r.1 there in
               let untaken : is_taken place r.0.0 (first r.0.2) ≡ false = elim tail.1 [
-                | inl kept ↦ subst (λ y. is_taken place y (first r.0.2) ≡ false) (sym kept.0) (subst (λ m. is_taken place left (first m) ≡ false) (sym kept.1) free)
+                | inl kept ↦ subst (λ y. is_taken place y (first r.0.2) ≡ false) (sym kept.0)
+                    (subst (λ m. is_taken place left (first m) ≡ false) (sym kept.1) free)
                 | inr other ↦ rw other refl
               ] in
               question_sound (first r.0.2) r.0.0 r.0.1 r.0.2 x known rest refl tail.0 untaken r.2 is

@@ -26,7 +26,8 @@ the_value =
     Value places.Command owners.Call known known one [] (node.integer (pos 1)) refl
     (AllOperators places.Command 13 owners.Call known known one [] (node.integer (pos 1))
     (OneOperand places.Command 13 owners.Call known known one [] (node.integer (pos 1))
-    (WithPostfixes places.Command owners.Call known known one [] (node.integer (pos 1)) refl (Integer places.Command owners.Call known one refl) refl))
+    (WithPostfixes places.Command owners.Call known known one [] (node.integer (pos 1)) refl
+    (Integer places.Command owners.Call known one refl) refl))
     refl)
     refl refl
 
@@ -43,40 +44,53 @@ the_statement =
     (AllJoined places.Statement owners.Call [] known tokens [] assignment
     (Unjoined places.Statement owners.Call [] known tokens [] assignment
     (Unnegated places.Statement owners.Call [] known tokens [] assignment refl
-    (Assigned places.Statement owners.Call signs.Plain [] known known tokens equals_one [] (node.local (codes "x")) (node.integer (pos 1)) refl the_target refl the_value refl refl)))
+    (Assigned places.Statement owners.Call signs.Plain [] known known tokens equals_one [] (node.local (codes "x"))
+    (node.integer (pos 1)) refl the_target refl the_value refl refl)))
     refl)))
     refl
 
 pub example_derived : Derives (Statements tree) [] tokens known []
 unfolding first behind word_of separators_from
-example_derived = Separated [] known tokens [] (assignment ∷ []) (OneMore [] known known tokens [] [] assignment [] refl the_statement refl (NoMore known [] refl))
+example_derived = Separated [] known tokens [] (assignment ∷ [])
+    (OneMore [] known known tokens [] [] assignment [] refl the_statement refl (NoMore known [] refl))
 
 -- a primary alone is an expression
-pub alone : (place : Place) (owner : DoOwner) (names known : Names) (ts rest : Tokens) (n : Node) → prefix_at ts ≡ None → Derives (Primary place owner n) names ts known rest → postfix_at (first rest) ≡ None
-    → infix_at 13 (first rest) ≡ None → is_question (first rest) ≡ false → is_taken place n (first rest) ≡ false → (is_statement place && is_target_group ts) ≡ false → begins_jump place ts ≡ false → junction_at (first rest) ≡ None
+pub alone : (place : Place) (owner : DoOwner) (names known : Names) (ts rest : Tokens) (n : Node) → prefix_at ts ≡ None
+    → Derives (Primary place owner n) names ts known rest → postfix_at (first rest) ≡ None
+    → infix_at 13 (first rest) ≡ None → is_question (first rest) ≡ false → is_taken place n (first rest) ≡ false
+    → (is_statement place && is_target_group ts) ≡ false → begins_jump place ts ≡ false
+    → junction_at (first rest) ≡ None
     → Derives (Expression place owner n) names ts known rest
 alone place owner names known ts rest n no_prefix primary no_postfix no_infix question taken group jump no_junction =
     AllJoined place owner names known ts rest n
     (Unjoined place owner names known ts rest n
     (Unnegated place owner names known ts rest n group
     (Value place owner names known ts rest n jump
-    (AllOperators place 13 owner names known ts rest n (OneOperand place 13 owner names known ts rest n (WithPostfixes place owner names known ts rest n no_prefix primary no_postfix)) no_infix)
+    (AllOperators place 13 owner names known ts rest n
+    (OneOperand place 13 owner names known ts rest n
+    (WithPostfixes place owner names known ts rest n no_prefix primary no_postfix)) no_infix)
     question taken)))
     no_junction
 
 -- an expression alone is a statement
-pub whole_statement : (names known : Names) (ts rest : Tokens) (n : Node) → Derives (Expression places.Statement owners.Call n) names ts known rest → modifier_at (first rest) ≡ None → Derives (Statement n) names ts known rest
-whole_statement names known ts rest n expression ends = WithModifiers names known ts rest n (Unmodified names known ts rest n (Plain names known ts rest n expression)) ends
+pub whole_statement : (names known : Names) (ts rest : Tokens) (n : Node)
+    → Derives (Expression places.Statement owners.Call n) names ts known rest → modifier_at (first rest) ≡ None
+    → Derives (Statement n) names ts known rest
+whole_statement names known ts rest n expression ends =
+    WithModifiers names known ts rest n (Unmodified names known ts rest n (Plain names known ts rest n expression)) ends
 
 the_test : Derives (Expression places.Command owners.Call (node.local (codes "a"))) inner test inner then_ends
 unfolding first behind word_of bytes_at infix_at prefix_at opens_arguments shape
-the_test = alone places.Command owners.Call inner inner test then_ends (node.local (codes "a")) refl (Local places.Command owners.Call inner test refl refl refl) refl refl refl refl refl refl refl
+the_test = alone places.Command owners.Call inner inner test then_ends (node.local (codes "a")) refl
+    (Local places.Command owners.Call inner test refl refl refl) refl refl refl refl refl refl refl
 
 the_branch : Derives (Primary places.Statement owners.Call branch) inner body inner ends_method
 unfolding first behind word_of separators_from shape
 the_branch =
-    If places.Statement owners.Call inner inner inner inner body ends_if ends_if ends_if (node.local (codes "a")) (node.statements none) [] None refl
-    (GuardedBy inner inner inner test then_ends ends_if ends_if (node.local (codes "a")) (node.statements none) the_test refl (Separated inner inner ends_if ends_if [] (NoMore inner ends_if refl)))
+    If places.Statement owners.Call inner inner inner inner body ends_if ends_if ends_if (node.local (codes "a"))
+    (node.statements none) [] None refl
+    (GuardedBy inner inner inner test then_ends ends_if ends_if (node.local (codes "a")) (node.statements none) the_test
+    refl (Separated inner inner ends_if ends_if [] (NoMore inner ends_if refl)))
     (NoBranch inner ends_if) (NoElse inner ends_if) refl
 
 the_body : Derives (Body (node.statements (nodes (branch ∷ [])))) inner body inner []
@@ -85,7 +99,9 @@ the_body =
     PlainBody inner inner body ends_method (node.statements (nodes (branch ∷ [])))
     (Separated inner inner body ends_method (branch ∷ [])
     (OneMore inner inner inner body ends_method ends_method branch [] refl
-    (whole_statement inner inner body ends_method branch (alone places.Statement owners.Call inner inner body ends_method branch refl the_branch refl refl refl refl refl refl refl) refl)
+    (whole_statement inner inner body ends_method branch
+    (alone places.Statement owners.Call inner inner body ends_method branch refl the_branch refl refl refl refl refl
+    refl refl) refl)
     refl (NoMore inner ends_method refl)))
     refl
 
@@ -96,12 +112,15 @@ the_parameters : Derives (MethodParameters the_list) [] opens inner body
 unfolding first behind word_of bytes_at newlines_from
 the_parameters =
     ClosedParameters [] inner opens closes the_list refl
-    (AllParameters [] inner parameter closes the_list (OneParameter [] inner parameter closes (required (node.name_parameter (codes "a"))) (RequiredParameter [] parameter refl refl)) refl) refl
+    (AllParameters [] inner parameter closes the_list
+    (OneParameter [] inner parameter closes (required (node.name_parameter (codes "a")))
+    (RequiredParameter [] parameter refl refl)) refl) refl
 
 the_method : Derives (Primary places.Statement owners.Call method) [] method_tokens [] []
 unfolding first behind word_of bytes_at singleton_at
 the_method =
-    Define places.Statement owners.Call [] [] inner inner method_tokens opens body [] (head_of none name None) the_list (node.statements (nodes (branch ∷ []))) refl
+    Define places.Statement owners.Call [] [] inner inner method_tokens opens body [] (head_of none name None) the_list
+    (node.statements (nodes (branch ∷ []))) refl
     (PlainHead [] name None refl refl) the_parameters refl the_body
 
 pub method_derived : Derives (Statements method_tree) [] method_tokens [] []
@@ -109,5 +128,7 @@ unfolding first behind word_of separators_from infix_at prefix_at shape
 method_derived =
     Separated [] [] method_tokens [] (method ∷ [])
     (OneMore [] [] [] method_tokens [] [] method [] refl
-    (whole_statement [] [] method_tokens [] method (alone places.Statement owners.Call [] [] method_tokens [] method refl the_method refl refl refl refl refl refl refl) refl)
+    (whole_statement [] [] method_tokens [] method
+    (alone places.Statement owners.Call [] [] method_tokens [] method refl the_method refl refl refl refl refl refl
+    refl) refl)
     refl (NoMore [] [] refl))

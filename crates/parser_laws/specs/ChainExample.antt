@@ -13,37 +13,46 @@ use Rattle.parser_laws.specs.Derives.{Tokens}
 
 -- the tokens from each of them on, the last first
 abbrev pub last_name : Tokens
-last_name = record { kind = kinds.Identifier (codes "c"); at = 19; space = false; line_start = false; value = true } ∷ []
+last_name = record { kind = kinds.Identifier (codes "c"); at = 19; space = false; line_start = false; value = true } ∷
+    []
 
 abbrev pub dot : Tokens
-dot = record { kind = kinds.Punctuator marks.Dot; at = 18; space = false; line_start = false; value = false } ∷ last_name
+dot = record { kind = kinds.Punctuator marks.Dot; at = 18; space = false; line_start = false; value = false } ∷
+    last_name
 
 abbrev pub block_end : Tokens
 block_end = record { kind = kinds.Keyword keywords.End; at = 15; space = true; line_start = false; value = false } ∷ dot
 
 abbrev pub block_begin : Tokens
-block_begin = record { kind = kinds.Keyword keywords.Do; at = 12; space = true; line_start = false; value = false } ∷ block_end
+block_begin = record { kind = kinds.Keyword keywords.Do; at = 12; space = true; line_start = false; value = false } ∷
+    block_end
 
 abbrev pub digit : Tokens
 digit = record { kind = kinds.Integer 1; at = 10; space = true; line_start = false; value = true } ∷ block_begin
 
 abbrev pub called_name : Tokens
-called_name = record { kind = kinds.Identifier (codes "f"); at = 8; space = true; line_start = false; value = true } ∷ digit
+called_name = record { kind = kinds.Identifier (codes "f"); at = 8; space = true; line_start = false; value = true } ∷
+    digit
 
 abbrev pub equals : Tokens
-equals = record { kind = kinds.Punctuator marks.Assign; at = 6; space = true; line_start = false; value = false } ∷ called_name
+equals = record { kind = kinds.Punctuator marks.Assign; at = 6; space = true; line_start = false; value = false } ∷
+    called_name
 
 abbrev pub method_name : Tokens
-method_name = record { kind = kinds.Identifier (codes "b"); at = 4; space = false; line_start = false; value = true } ∷ equals
+method_name = record { kind = kinds.Identifier (codes "b"); at = 4; space = false; line_start = false; value = true } ∷
+    equals
 
 abbrev pub safe : Tokens
-safe = record { kind = kinds.Punctuator marks.AmpersandDot; at = 2; space = false; line_start = false; value = false } ∷ method_name
+safe = record { kind = kinds.Punctuator marks.AmpersandDot; at = 2; space = false; line_start = false; value = false } ∷
+    method_name
 
 abbrev pub first_name : Tokens
-first_name = record { kind = kinds.Identifier (codes "a"); at = 1; space = false; line_start = false; value = true } ∷ safe
+first_name = record { kind = kinds.Identifier (codes "a"); at = 1; space = false; line_start = false; value = true } ∷
+    safe
 
 abbrev pub tokens : Tokens
-tokens = record { kind = kinds.Punctuator marks.Not; at = 0; space = false; line_start = true; value = true } ∷ first_name
+tokens = record { kind = kinds.Punctuator marks.Not; at = 0; space = false; line_start = true; value = true } ∷
+    first_name
 
 abbrev pub receiver : Node
 receiver = call_node (name_callee (codes "a") true) None None

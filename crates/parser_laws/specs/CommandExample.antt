@@ -16,19 +16,24 @@ abbrev pub block_end : Tokens
 block_end = record { kind = kinds.Keyword keywords.End; at = 13; space = true; line_start = false; value = false } ∷ []
 
 abbrev pub used : Tokens
-used = record { kind = kinds.Identifier (codes "x"); at = 11; space = true; line_start = false; value = true } ∷ block_end
+used = record { kind = kinds.Identifier (codes "x"); at = 11; space = true; line_start = false; value = true } ∷
+    block_end
 
 abbrev pub close_bar : Tokens
-close_bar = record { kind = kinds.Punctuator marks.CloseBar; at = 9; space = false; line_start = false; value = false } ∷ used
+close_bar = record { kind = kinds.Punctuator marks.CloseBar; at = 9; space = false; line_start = false; value = false }
+    ∷ used
 
 abbrev pub parameter : Tokens
-parameter = record { kind = kinds.Identifier (codes "x"); at = 8; space = false; line_start = false; value = true } ∷ close_bar
+parameter = record { kind = kinds.Identifier (codes "x"); at = 8; space = false; line_start = false; value = true } ∷
+    close_bar
 
 abbrev pub open_bar : Tokens
-open_bar = record { kind = kinds.Punctuator marks.OpenBar; at = 7; space = true; line_start = false; value = true } ∷ parameter
+open_bar = record { kind = kinds.Punctuator marks.OpenBar; at = 7; space = true; line_start = false; value = true } ∷
+    parameter
 
 abbrev pub block_begin : Tokens
-block_begin = record { kind = kinds.Keyword keywords.Do; at = 4; space = true; line_start = false; value = false } ∷ open_bar
+block_begin = record { kind = kinds.Keyword keywords.Do; at = 4; space = true; line_start = false; value = false } ∷
+    open_bar
 
 abbrev pub digit : Tokens
 digit = record { kind = kinds.Integer 1; at = 2; space = true; line_start = false; value = true } ∷ block_begin

@@ -15,10 +15,12 @@ abbrev pub one : Tokens
 one = record { kind = kinds.Integer 1; at = 4; space = true; line_start = false; value = true } ∷ []
 
 abbrev pub equals_one : Tokens
-equals_one = record { kind = kinds.Punctuator marks.Assign; at = 2; space = true; line_start = false; value = false } ∷ one
+equals_one = record { kind = kinds.Punctuator marks.Assign; at = 2; space = true; line_start = false; value = false } ∷
+    one
 
 abbrev pub tokens : Tokens
-tokens = record { kind = kinds.Identifier (codes "x"); at = 0; space = false; line_start = true; value = true } ∷ equals_one
+tokens = record { kind = kinds.Identifier (codes "x"); at = 0; space = false; line_start = true; value = true } ∷
+    equals_one
 
 abbrev pub assignment : Node
 assignment = node.assign (node.local (codes "x")) (node.integer (pos 1))
@@ -71,7 +73,8 @@ branch = node.if_node (nodes (node.branch (node.local (codes "a")) (node.stateme
 
 abbrev pub method : Node
 method =
-    node.define none (codes "f") (node.definition (nodes (node.name_parameter (codes "a") ∷ [])) none rests.Absent none None none [] (node.statements (nodes (branch ∷ []))))
+    node.define none (codes "f") (node.definition (nodes (node.name_parameter (codes "a") ∷ [])) none rests.Absent none
+    None none [] (node.statements (nodes (branch ∷ []))))
 
 abbrev pub method_tree : Node
 method_tree = node.statements (nodes (method ∷ []))

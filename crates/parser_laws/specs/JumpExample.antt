@@ -9,13 +9,21 @@ use Rattle.parser_laws.specs.Derives.{Tokens}
 
 -- the tokens from each of them on, the last first
 abbrev pub bracket_end : Tokens
-bracket_end = record { kind = kinds.Punctuator marks.CloseBracket; at = 8; space = false; line_start = false; value = false } ∷ []
+bracket_end = record {
+  kind = kinds.Punctuator marks.CloseBracket;
+  at = 8;
+  space = false;
+  line_start = false;
+  value =
+      false;
+} ∷ []
 
 abbrev pub digit : Tokens
 digit = record { kind = kinds.Integer 0; at = 7; space = false; line_start = false; value = true } ∷ bracket_end
 
 abbrev pub bracket : Tokens
-bracket = record { kind = kinds.Punctuator marks.OpenBracket; at = 6; space = false; line_start = false; value = true } ∷ digit
+bracket = record { kind = kinds.Punctuator marks.OpenBracket; at = 6; space = false; line_start = false; value = true }
+    ∷ digit
 
 abbrev pub jump : Tokens
 jump = record { kind = kinds.Keyword keywords.Yield; at = 1; space = false; line_start = false; value = true } ∷ bracket

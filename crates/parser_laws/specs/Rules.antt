@@ -249,7 +249,8 @@ is_blockless owner ts = not (is_some (block_at owner ts))
 
 -- behind a name stand neither arguments nor a block
 abbrev pub is_alone : Place → DoOwner → Tokens → Bool
-is_alone place owner ts = not (opens_arguments ts) && (is_blockless owner ts && not (allows_command place && begins_argument ts))
+is_alone place owner ts = not (opens_arguments ts) &&
+    (is_blockless owner ts && not (allows_command place && begins_argument ts))
 
 abbrev pub opens_bars : Word → Bool
 opens_bars (words.Mark marks.OpenBar) = true

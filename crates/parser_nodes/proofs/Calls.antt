@@ -28,7 +28,8 @@ name_call_of x a b =
 
 -- a call on a receiver
 pub method_call_of : (r : Tree) (x : Bytes) (a : Option (Arguments Tree)) (b : Option (Definition Tree))
-    → form_view (form.Call (Some r) x a b) ≡ node.call (node.one (view r)) x (given_node (given_view a)) (block_node (given_block b))
+    → form_view (form.Call (Some r) x a b) ≡ node.call (node.one (view r)) x (given_node (given_view a))
+    (block_node (given_block b))
 method_call_of r x a b =
     view-Call (Some r) x a b ∙ (ap (λ given. node.call (node.one (view r)) x given (part.block b)) (same_given a) ∙
     ap (node.call (node.one (view r)) x (given_node (given_view a))) (same_block b))
@@ -36,4 +37,5 @@ method_call_of r x a b =
 pub super_call_of : (a : Option (Arguments Tree)) (b : Option (Definition Tree)) (at : ℕ)
     → form_view (form.Super a b at) ≡ node.super_node (given_node (given_view a)) (block_node (given_block b))
 super_call_of a b at =
-    view-Super a b at ∙ (ap (λ given. node.super_node given (part.block b)) (same_given a) ∙ ap (node.super_node (given_node (given_view a))) (same_block b))
+    view-Super a b at ∙ (ap (λ given. node.super_node given (part.block b)) (same_given a)
+    ∙ ap (node.super_node (given_node (given_view a))) (same_block b))

@@ -17,7 +17,8 @@ unfolding elements_from first behind
 elements_end xs [] h e = cc
 elements_end xs (t ∷ ts) h e = rw (h, e) refl
 
-pub elements_none : (xs : List Name) (ts : List Token) → is_element (first ts) ≡ false → is_literal_end (first ts) ≡ false
+pub elements_none : (xs : List Name) (ts : List Token) → is_element (first ts) ≡ false
+    → is_literal_end (first ts) ≡ false
     → elements_from xs ts ≡ None
 unfolding elements_from first
 elements_none xs [] h e = refl

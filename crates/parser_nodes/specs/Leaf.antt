@@ -71,7 +71,8 @@ word_leaf _ ts = None
 
 -- the integer behind a - that is its sign
 abbrev pub negative : Tokens → Read
-negative ts = if is_sign (behind ts) then Some (negative_node (integer_at (behind ts)) (place_at ts), behind (behind ts)) else None
+negative ts = if is_sign (behind ts) then Some
+    (negative_node (integer_at (behind ts)) (place_at ts), behind (behind ts)) else None
 
 -- the constant behind ::
 abbrev pub top_constant : Word → Tokens → Read
@@ -90,7 +91,8 @@ is_literal_end _ = false
 unfoldable pub elements_from : List Name → Tokens → Option (List Name × Tokens)
 elements_from xs [] = None
 elements_from xs (t ∷ ts) =
-    if is_element (word_of t) then elements_from (xs ++ bytes_of t.kind ∷ []) ts else if is_literal_end (word_of t) then Some (xs, ts) else None
+    if is_element (word_of t) then elements_from (xs ++ bytes_of t.kind ∷ []) ts else if is_literal_end (word_of t) then
+    Some (xs, ts) else None
 
 abbrev pub elements : Tokens → Option (List Name × Tokens)
 elements ts = elements_from [] ts

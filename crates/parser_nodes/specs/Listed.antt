@@ -56,7 +56,13 @@ pub record ListNode : Type 0 where
 
 abbrev pub listed_view : Listed → ListNode
 listed_view l =
-    record { items = items_view l.items; pairs = pairs_view l.pairs; block = boxed_view l.block; command = l.command; comma = l.comma }
+    record {
+      items = items_view l.items;
+      pairs = pairs_view l.pairs;
+      block = boxed_view l.block;
+      command = l.command;
+      comma = l.comma;
+    }
 
 abbrev pub nothing_listed : ListNode
 nothing_listed = record { items = []; pairs = []; block = node.none; command = false; comma = false }

@@ -6,12 +6,12 @@ ghost use Rattle.parser_tree.specs.View.{form_view, view};
 ghost use Rattle.parser_tokens.specs.Tokens as front;
 ghost use Rattle.parser_nodes.specs.Leaf as made;
 
-use rb_base::{Bytes, List};
 use parser_tokens::operators::is_sign;
 use parser_tokens::tokens::{bytes_at, first, integer_at, place_at, skip};
 use parser_tokens::word::Word;
-use rb_syntax::{Keyword, Outside, Punctuator, Token};
 use parser_tree::{Tree, TreeForm};
+use rb_base::{Bytes, List};
+use rb_syntax::{Keyword, Outside, Punctuator, Token};
 use std::alloc::{AllocError, Global};
 
 /// The form of a primary and the tokens behind it.

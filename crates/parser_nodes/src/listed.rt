@@ -6,8 +6,8 @@ ghost use Rattle.parser_nodes.specs.Listed as made;
 ghost use Rattle.parser_nodes.specs.Nodes.{boxed_view};
 
 use parser_tokens::starts::Jump;
-use rb_syntax::{Item, Pair};
 use parser_tree::{Arguments, Tree, TreeForm};
+use rb_syntax::{Item, Pair};
 use std::alloc::{AllocError, Global};
 
 /// A part of a list.

@@ -6,8 +6,8 @@ ghost use Rattle.parser_nodes.specs.Nodes as made;
 
 use parser_tokens::operators::{Assignment, Infix, Junction, Prefix};
 use parser_tokens::word::Modifier;
-use rb_syntax::{Branch, Outside};
 use parser_tree::{BinaryOperator, Tree, TreeForm};
+use rb_syntax::{Branch, Outside};
 use std::alloc::{AllocError, Global};
 
 /// A construct outside the language with two parts.

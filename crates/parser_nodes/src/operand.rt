@@ -8,10 +8,10 @@ ghost use Rattle.parser_nodes.specs.Listed.{item_view, items_view};
 ghost use Rattle.parser_nodes.specs.Calls as made;
 
 use crate::nodes::{Shape, shape_of};
-use rb_base::Bytes;
 use parser_ahead::names::Names;
-use rb_syntax::{Item, Outside};
 use parser_tree::{Arguments, Definition, Tree, TreeForm};
+use rb_base::Bytes;
+use rb_syntax::{Item, Outside};
 use std::alloc::{AllocError, Global};
 
 /// What is called, without arguments and a block.

@@ -18,13 +18,15 @@ primary_there names (t ∷ ts) other = omega arith
 
 module _ (i : Inside) where
   pub chain_step : (n : ℕ) (commands : Bool) (owner : DoOwner) (o : OperandNode) (names : Names) (ts : Tokens) → 0 < n
-      → chain_within i n commands owner o names ts ≡ chain_turn i (continues o ts commands) (chain_within i (n - 1) commands owner) o names ts owner
+      → chain_within i n commands owner o names ts ≡ chain_turn i (continues o ts commands)
+      (chain_within i (n - 1) commands owner) o names ts owner
   unfolding chain_within
   chain_step zero commands owner o names ts some = absurd (omega arith)
   chain_step (suc n) commands owner o names ts some = let less : suc n - 1 ≡ n = omega arith in rw less
 
   pub operators_step : (n loosest : ℕ) (owner : DoOwner) (left : Node) (names : Names) (ts : Tokens) → 0 < n
-      → operators_from i n loosest owner left names ts ≡ operators_turn i (infix_at loosest (first ts)) (operators_from i (n - 1) loosest owner) left names ts owner
+      → operators_from i n loosest owner left names ts ≡ operators_turn i (infix_at loosest (first ts))
+      (operators_from i (n - 1) loosest owner) left names ts owner
   unfolding operators_from
   operators_step zero loosest owner left names ts some = absurd (omega arith)
   operators_step (suc n) loosest owner left names ts some = let less : suc n - 1 ≡ n = omega arith in rw less

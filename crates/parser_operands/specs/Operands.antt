@@ -109,22 +109,26 @@ module _ (inside : Inside) where
   -- the arguments in parentheses and the block directly behind a name
   unfoldable pub suffix : CalleeNode → Names → Tokens → DoOwner → Read OperandNode
   suffix c names ts owner =
-      if opens_arguments ts then (call_arguments inside names (behind ts) >>= (λ r. with_block c (Some r.0) r.1 r.2 owner))
+      if opens_arguments ts then (call_arguments inside names (behind ts) >>=
+      (λ r. with_block c (Some r.0) r.1 r.2 owner))
       else with_block c None names ts owner
 
   -- a string, and those side by side with it
   abbrev pub text : Names → Tokens → Read Node
   text names ts =
-      string inside [] names ts >>= (λ found. strings inside found.0 found.1 found.2 >>= (λ r. Ok (node.text (nodes r.0), r.1, r.2)))
+      string inside [] names ts >>= (λ found. strings inside found.0 found.1 found.2 >>=
+      (λ r. Ok (node.text (nodes r.0), r.1, r.2)))
 
   -- the pieces behind the begin of a symbol in quotes
   abbrev pub quoted_symbol : Names → Tokens → Read Node
   quoted_symbol names ts =
-      pieces inside [] names ts >>= (λ r. if is_literal_end (first r.2) then Ok (node.symbol_text (nodes r.0), r.1, behind r.2) else Err (length r.2))
+      pieces inside [] names ts >>= (λ r. if is_literal_end (first r.2) then Ok
+      (node.symbol_text (nodes r.0), r.1, behind r.2) else Err (length r.2))
 
   -- statements behind an opening parenthesis
   abbrev pub group : Names → Tokens → Read Node
-  group names ts = inside.statements names ts >>= (λ r. expect wanted.CloseParenthesis r.2 >>= (λ rest. Ok (r.0, r.1, rest)))
+  group names ts = inside.statements names ts >>=
+      (λ r. expect wanted.CloseParenthesis r.2 >>= (λ rest. Ok (r.0, r.1, rest)))
 
   -- the elements behind an opening bracket
   abbrev pub array : Names → Tokens → Read Node
@@ -161,8 +165,10 @@ module _ (inside : Inside) where
 
   unfoldable pub primary_by : Primary → Names → Tokens → DoOwner → Read OperandNode
   primary_by primaries.Local names ts owner = Ok (whole (node.local (bytes_at ts)), names, behind ts)
-  primary_by primaries.Name names ts owner = suffix (name_callee (bytes_at ts) (is_identifier (first ts))) names (behind ts) owner
-  primary_by primaries.OutsideName names ts owner = suffix (outside_callee outsides.NonAsciiName (place_at ts) []) names (behind ts) owner
+  primary_by primaries.Name names ts owner = suffix (name_callee (bytes_at ts) (is_identifier (first ts))) names
+      (behind ts) owner
+  primary_by primaries.OutsideName names ts owner =
+      suffix (outside_callee outsides.NonAsciiName (place_at ts) []) names (behind ts) owner
   primary_by primaries.Super names ts owner = suffix super_callee names (behind ts) owner
   primary_by p names ts owner = wrapped (compound p names ts owner)
 
@@ -172,29 +178,37 @@ module _ (inside : Inside) where
 
   abbrev pub indexed : Node → Names → Tokens → Read OperandNode
   indexed receiver names ts =
-      elements inside names (behind ts) wanted.CloseBracket >>= (λ r. Ok (whole (node.index receiver (items_of r.0)), r.1, r.2))
+      elements inside names (behind ts) wanted.CloseBracket >>=
+      (λ r. Ok (whole (node.index receiver (items_of r.0)), r.1, r.2))
 
   -- .( calls the method call
   abbrev pub called : Node → Postfix → Names → Tokens → Read OperandNode
   called receiver p names ts =
       call_arguments inside names (behind (behind ts))
-      >>= (λ r. Ok (whole (call_node (postfix_callee receiver (codes "call") p (place_at ts)) (Some r.0) None), r.1, r.2))
+      >>= (λ r. Ok (
+        whole (call_node (postfix_callee receiver (codes "call") p (place_at ts)) (Some r.0) None),
+        r.1,
+        r.2,
+      ))
 
   -- the name behind . &. or ::, of ASCII
   abbrev pub plain_named : Node → Postfix → Names → Tokens → DoOwner → Read OperandNode
   plain_named receiver p names ts owner =
-      if is_scoped_constant p (behind ts) then Ok (whole (node.scoped_constant receiver (bytes_at (behind ts))), names, behind (behind ts))
+      if is_scoped_constant p (behind ts) then Ok
+      (whole (node.scoped_constant receiver (bytes_at (behind ts))), names, behind (behind ts))
       else suffix (postfix_callee receiver (bytes_at (behind ts)) p (place_at ts)) names (behind (behind ts)) owner
 
   -- the name behind . &. or ::
   abbrev pub named : Node → Postfix → Names → Tokens → DoOwner → Read OperandNode
   named receiver p names ts owner =
-      if is_outside_name (first (behind ts)) then suffix (outside_name (place_at (behind ts)) receiver) names (behind (behind ts)) owner
+      if is_outside_name (first (behind ts)) then suffix (outside_name (place_at (behind ts)) receiver) names
+      (behind (behind ts)) owner
       else if is_name_word (first (behind ts)) then plain_named receiver p names ts owner else Err (length (behind ts))
 
   abbrev pub dotted : Node → Postfix → Names → Tokens → DoOwner → Read OperandNode
   dotted receiver p names ts owner =
-      if not (scoped p) && is_open_parenthesis (first (behind ts)) then called receiver p names ts else named receiver p names ts owner
+      if not (scoped p) && is_open_parenthesis (first (behind ts)) then called receiver p names ts else named receiver p
+      names ts owner
 
   -- a postfix behind its receiver
   unfoldable pub postfixed : Node → Postfix → Names → Tokens → DoOwner → Read OperandNode
@@ -203,14 +217,16 @@ module _ (inside : Inside) where
   postfixed receiver postfixes.Safe names ts owner = dotted receiver postfixes.Safe names ts owner
   postfixed receiver postfixes.Scope names ts owner = dotted receiver postfixes.Scope names ts owner
 
-  abbrev pub chain_turn : Option Postfix → (OperandNode → Names → Tokens → Read OperandNode) → OperandNode → Names → Tokens → DoOwner → Read OperandNode
+  abbrev pub chain_turn : Option Postfix → (OperandNode → Names → Tokens → Read OperandNode) → OperandNode → Names
+      → Tokens → DoOwner → Read OperandNode
   chain_turn None go o names ts owner = Ok (o, names, ts)
   chain_turn (Some p) go o names ts owner = postfixed (operand_node o) p names ts owner >>= (λ r. go r.0 r.1 r.2)
 
   -- at most n postfixes behind a primary
   unfoldable pub chain_within : ℕ → Bool → DoOwner → OperandNode → Names → Tokens → Read OperandNode
   chain_within zero commands owner o names ts = Err 0
-  chain_within (suc n) commands owner o names ts = chain_turn (continues o ts commands) (chain_within n commands owner) o names ts owner
+  chain_within (suc n) commands owner o names ts =
+      chain_turn (continues o ts commands) (chain_within n commands owner) o names ts owner
 
   abbrev pub chain_from : OperandNode → Names → Tokens → Bool → DoOwner → Read OperandNode
   chain_from o names ts commands owner = chain_within (length ts + 1) commands owner o names ts

@@ -18,7 +18,8 @@ use Rattle.parser_operands.specs.Operands.{operand}
 
 module _ (inside : Inside) where
   -- an operator with its right operand, and what follows, behind the left one
-  abbrev pub operators_turn : Option Infix → (Node → Names → Tokens → Read Node) → Node → Names → Tokens → DoOwner → Read Node
+  abbrev pub operators_turn : Option Infix → (Node → Names → Tokens → Read Node) → Node → Names → Tokens → DoOwner
+      → Read Node
   operators_turn None go left names ts owner = Ok (left, names, ts)
   operators_turn (Some o) go left names ts owner =
       inside.operation names (behind ts) (right_level o) owner
@@ -35,7 +36,8 @@ module _ (inside : Inside) where
 
   -- operands with operators between them
   unfoldable pub operation : Names → Tokens → ℕ → DoOwner → Read Node
-  operation names ts loosest owner = operand inside names ts false owner >>= (λ r. operators (operand_node r.0) r.1 r.2 loosest owner)
+  operation names ts loosest owner = operand inside names ts false owner >>=
+      (λ r. operators (operand_node r.0) r.1 r.2 loosest owner)
 
   abbrev pub choice : Node → Names → Tokens → DoOwner → Read Node
   choice test names ts owner =

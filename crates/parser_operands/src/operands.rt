@@ -12,27 +12,27 @@ ghost use Rattle.parser_nodes.specs.Calls.{callee_view, operand_view, given_view
 ghost use Rattle.parser_forms.specs.Reading.{Reads, Shortens};
 ghost use Rattle.parser_operands.specs.Operands as rules;
 
+use parser_ahead::names::Names;
+use parser_ahead::primary::{DoOwner, Place, Primary, block_at, is_name, primary_at};
 use parser_forms::bracket::{call_arguments, elements, hash, sectioned, yielded};
 use parser_forms::definition::{class_form, define, lambda, module_form};
 use parser_forms::literal::{is_literal_end, pieces, string, strings};
 use parser_forms::parameter::is_open_parenthesis;
-use rb_base::Bytes;
+use parser_forms::{Inner, Read};
+use parser_nodes::leaf::leaf;
+use parser_nodes::listed::array_tree;
+use parser_nodes::nodes::{defined_tree, prefix_tree};
+use parser_nodes::operand::{Callee, Operand, call_tree, operand_tree};
 use parser_tokens::expect::{Wanted, expect, expect_closing};
 use parser_tokens::failure::syntax;
 use parser_tokens::operators::{Prefix, prefix_at};
 use parser_tokens::starts::{Postfix, begins_argument, opens_arguments, postfix_at};
 use parser_tokens::tokens::{bytes_at, first, place_at, skip};
 use parser_tokens::word::Word;
-use parser_ahead::names::Names;
-use parser_ahead::primary::{DoOwner, Place, Primary, block_at, is_name, primary_at};
-use rb_syntax::{Item, Outside, Token};
 use parser_tree::{Arguments, Piece, Tree, TreeForm, UnaryOperator};
-use parser_forms::{Inner, Read};
+use rb_base::Bytes;
+use rb_syntax::{Item, Outside, Token};
 use std::alloc::{AllocError, Global};
-use parser_nodes::leaf::leaf;
-use parser_nodes::listed::array_tree;
-use parser_nodes::nodes::{defined_tree, prefix_tree};
-use parser_nodes::operand::{Callee, Operand, call_tree, operand_tree};
 
 /// The loosest level of operators in the operand behind a prefix.
 fn operand_level(sign: Prefix) -> u8

@@ -5,19 +5,19 @@ ghost use Rattle.parser_forms.specs.Reading.{Reads, Shortens};
 ghost use Rattle.parser_operands.specs.Operators as rules;
 
 use crate::operands::operand;
+use parser_ahead::names::Names;
+use parser_ahead::primary::DoOwner;
+use parser_forms::{Inner, Read};
+use parser_nodes::nodes::{choice_tree, infix_tree};
+use parser_nodes::operand::operand_tree;
 use parser_tokens::expect::{Wanted, expect};
 use parser_tokens::failure::syntax;
 use parser_tokens::operators::{clashes, infix_at};
 use parser_tokens::tokens::{first, place_at, skip};
 use parser_tokens::word::Word;
-use parser_ahead::names::Names;
-use parser_ahead::primary::DoOwner;
-use rb_syntax::{Punctuator, Token};
 use parser_tree::Tree;
-use parser_forms::{Inner, Read};
+use rb_syntax::{Punctuator, Token};
 use std::alloc::Global;
-use parser_nodes::nodes::{choice_tree, infix_tree};
-use parser_nodes::operand::operand_tree;
 
 /// The operators at most as loose as `loosest` behind a left operand.
 #[tactic(auto, using(crate::proofs::Turns::operator_turns))]

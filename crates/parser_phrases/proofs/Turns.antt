@@ -15,7 +15,9 @@ use Rattle.parser_phrases.specs.Targets.{is_for, next_target, targets_from}
 
 module _ (i : Inside) where
   pub targets_step : (n : ℕ) (u : TargetUse) (more : Bool) (found : TargetsNode) (names : Names) (ts : Tokens) → 0 < n
-      → targets_from i n u more found names ts ≡ (if more && begins_target u (first ts) then (next_target i u found names ts >>= (λ r. targets_from i (n - 1) u r.0.0 r.0.1 r.1 r.2))
+      → targets_from i n u more found names ts
+      ≡ (if more && begins_target u (first ts) then
+      (next_target i u found names ts >>= (λ r. targets_from i (n - 1) u r.0.0 r.0.1 r.1 r.2))
       else if more && is_for u then Err (length ts)
       else Ok (found, names, ts))
   unfolding targets_from

@@ -117,11 +117,13 @@ module _ (inside : Inside) where
 
   -- the value that a modifier rescue stands for where the value before it fails
   abbrev pub rescued : Node → Names → Tokens → DoOwner → Read Node
-  rescued value names ts owner = inside.argument names (behind ts) owner >>= (λ other. Ok (rescued_node value other.0, other.1, other.2))
+  rescued value names ts owner = inside.argument names (behind ts) owner >>=
+      (λ other. Ok (rescued_node value other.0, other.1, other.2))
 
   -- an assigned value, with the modifier rescue that is of it
   abbrev pub whole_value : Node → Sort → Names → Tokens → DoOwner → Read Node
-  whole_value value sort names ts owner = if is_rescued sort ts then rescued value names ts owner else Ok (value, names, ts)
+  whole_value value sort names ts owner = if is_rescued sort ts then rescued value names ts owner else Ok
+      (value, names, ts)
 
   -- the value of an assignment, and the assignment
   unfoldable pub assign : Node → Names → Assignment → Tokens → Place → DoOwner → Read PhraseNode
@@ -141,7 +143,8 @@ module _ (inside : Inside) where
   -- a command with a block
   abbrev pub with_block : BlockStyle → CalleeNode → ListNode → Names → Tokens → Read OperandNode
   with_block style c l names ts =
-      if is_none l.block then (inside.block names ts style >>= (λ d. Ok (blocked c l d.0, d.1, d.2))) else Err (length ts)
+      if is_none l.block then (inside.block names ts style >>= (λ d. Ok (blocked c l d.0, d.1, d.2))) else Err
+      (length ts)
 
   -- a command with a block, and what follows it
   abbrev pub block_command : BlockStyle → CalleeNode → ListNode → Names → Tokens → DoOwner → Read PhraseNode
@@ -156,10 +159,12 @@ module _ (inside : Inside) where
 
   -- the arguments of a command, and its block, which is none in braces
   unfoldable pub command : CalleeNode → Names → Tokens → DoOwner → Read PhraseNode
-  command c names ts owner = inside.list names ts (in_command owner) >>= (λ r. command_by (block_at owner r.2) c r.0 r.1 r.2 owner)
+  command c names ts owner = inside.list names ts (in_command owner) >>=
+      (λ r. command_by (block_at owner r.2) c r.0 r.1 r.2 owner)
 
   abbrev pub value_phrase : OperandNode → Names → Tokens → DoOwner → Read PhraseNode
-  value_phrase o names ts owner = value_from inside (operand_node o) names ts owner >>= (λ r. Ok ((r.0, sorts.Argument), r.1, r.2))
+  value_phrase o names ts owner = value_from inside (operand_node o) names ts owner >>=
+      (λ r. Ok ((r.0, sorts.Argument), r.1, r.2))
 
   -- a command of a name, else a value
   abbrev pub command_or_value : OperandNode → Names → Tokens → Place → DoOwner → Read PhraseNode
@@ -169,7 +174,8 @@ module _ (inside : Inside) where
 
   -- several targets, the first of which is an operand
   abbrev pub first_of_several : OperandNode → Names → Tokens → DoOwner → Read PhraseNode
-  first_of_several o names ts owner = multiple (put (one_target (target_node o)) true no_targets) (target_names o names) (behind ts) owner
+  first_of_several o names ts owner = multiple (put (one_target (target_node o)) true no_targets) (target_names o names)
+      (behind ts) owner
 
   -- a target without an assignment: the first of several, or a command or a value
   abbrev pub unassigned : OperandNode → Names → Tokens → Place → DoOwner → Read PhraseNode
@@ -178,13 +184,15 @@ module _ (inside : Inside) where
 
   -- an assignment to a target, or what it begins without one
   abbrev pub target_phrase : Option Assignment → OperandNode → Names → Tokens → Place → DoOwner → Read PhraseNode
-  target_phrase (Some a) o names ts place owner = assign (target_node o) (target_names o names) a (behind ts) place owner
+  target_phrase (Some a) o names ts place owner =
+      assign (target_node o) (target_names o names) a (behind ts) place owner
   target_phrase None o names ts place owner = unassigned o names ts place owner
 
   -- what an operand that was read begins
   unfoldable pub phrase_from : OperandNode → Names → Tokens → Place → DoOwner → Read PhraseNode
   phrase_from o names ts place owner =
-      if is_target o then target_phrase (assignment_at (first ts)) o names ts place owner else command_or_value o names ts place owner
+      if is_target o then target_phrase (assignment_at (first ts)) o names ts place owner else command_or_value o names
+      ts place owner
 
   -- what stands behind a ! where a command is allowed
   abbrev pub negated_command : OperandNode → Names → Tokens → DoOwner → Read PhraseNode
@@ -194,7 +202,8 @@ module _ (inside : Inside) where
 
   -- an operand behind a !, and what the negation begins
   abbrev pub negated_operand : OperandNode → Names → Tokens → DoOwner → Read PhraseNode
-  negated_operand o names ts owner = phrase_from (whole (prefix_node prefixes.Not (operand_node o))) names ts places.Argument owner
+  negated_operand o names ts owner = phrase_from (whole (prefix_node prefixes.Not (operand_node o))) names ts
+      places.Argument owner
 
   unfoldable pub negated : Names → Tokens → DoOwner → Read PhraseNode
   negated names ts owner =
@@ -209,7 +218,8 @@ module _ (inside : Inside) where
 
   -- what begins with an operand
   abbrev pub operand_phrase : Names → Tokens → Place → DoOwner → Read PhraseNode
-  operand_phrase names ts place owner = operand inside names ts (allows_command place) owner >>= (λ o. phrase_from o.0 o.1 o.2 place owner)
+  operand_phrase names ts place owner = operand inside names ts (allows_command place) owner >>=
+      (λ o. phrase_from o.0 o.1 o.2 place owner)
 
   -- what stands behind a defined? without parentheses
   abbrev pub defined : Names → Tokens → DoOwner → Read PhraseNode

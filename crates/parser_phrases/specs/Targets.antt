@@ -41,7 +41,11 @@ operand_target o names rest ts = if is_target o then Ok (target_node o, target_n
 -- a target behind those that were found, and whether a comma stands behind it
 abbrev pub put_target : TargetNode → TargetsNode → Names → Tokens → Tokens → Read (Bool × TargetsNode)
 put_target t found names rest ts =
-    if may_follow t found then Ok ((is_comma_word (first rest), put t (is_comma_word (first rest)) found), names, skip_if (is_comma_word (first rest)) rest)
+    if may_follow t found then Ok (
+      (is_comma_word (first rest), put t (is_comma_word (first rest)) found),
+      names,
+      skip_if (is_comma_word (first rest)) rest,
+    )
     else Err (length ts)
 
 module _ (inside : Inside) where
@@ -57,13 +61,15 @@ module _ (inside : Inside) where
 
   abbrev pub starred : TargetUse → Names → Tokens → Read TargetNode
   starred u names ts =
-      if begins_target u (first (behind ts)) then (alone u names (behind ts) >>= (λ r. Ok (star_target (Some r.0), r.1, r.2)))
+      if begins_target u (first (behind ts)) then
+      (alone u names (behind ts) >>= (λ r. Ok (star_target (Some r.0), r.1, r.2)))
       else Ok (star_target None, names, behind ts)
 
   abbrev pub grouped : TargetUse → Names → Tokens → Read TargetNode
   grouped u names ts =
       inside.targets names no_targets (behind ts) u
-      >>= (λ r. if r.0.several then (expect_closing wanted.CloseParenthesis r.2 >>= (λ rest. Ok (group_target r.0.list, r.1, rest))) else Err (length r.2))
+      >>= (λ r. if r.0.several then (expect_closing wanted.CloseParenthesis r.2 >>=
+      (λ rest. Ok (group_target r.0.list, r.1, rest))) else Err (length r.2))
 
   -- a target, maybe with a star, or targets in parentheses
   unfoldable pub target : TargetUse → Names → Tokens → Read TargetNode
@@ -80,7 +86,8 @@ module _ (inside : Inside) where
   unfoldable pub targets_from : ℕ → TargetUse → Bool → TargetsNode → Names → Tokens → Read TargetsNode
   targets_from zero u more found names ts = Err 0
   targets_from (suc n) u more found names ts =
-      if more && begins_target u (first ts) then (next_target u found names ts >>= (λ r. targets_from n u r.0.0 r.0.1 r.1 r.2))
+      if more && begins_target u (first ts) then
+      (next_target u found names ts >>= (λ r. targets_from n u r.0.0 r.0.1 r.1 r.2))
       else if more && is_for u then Err (length ts)
       else Ok (found, names, ts)
 

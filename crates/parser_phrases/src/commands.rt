@@ -8,18 +8,18 @@ ghost use Rattle.parser_nodes.specs.Nodes.{boxed_view};
 ghost use Rattle.parser_forms.specs.Reading.{Reads};
 ghost use Rattle.parser_phrases.specs.Phrases as rules;
 
+use parser_ahead::names::Names;
+use parser_ahead::primary::{BlockStyle, DoOwner, Place, block_at};
+use parser_forms::{Inner, Read};
+use parser_nodes::listed::{Listed, Phrase, Sort, jump_tree, yield_tree};
+use parser_nodes::operand::{Callee, Operand, call_tree, operand_tree};
 use parser_operands::operands::{begins_command, chain_from};
 use parser_operands::operators::value_from;
 use parser_tokens::failure::syntax;
 use parser_tokens::starts::Jump;
-use parser_ahead::names::Names;
-use parser_ahead::primary::{BlockStyle, DoOwner, Place, block_at};
-use rb_syntax::{Item, Token};
 use parser_tree::{Arguments, Definition, Tree};
-use parser_forms::{Inner, Read};
+use rb_syntax::{Item, Token};
 use std::alloc::{AllocError, Global};
-use parser_nodes::listed::{Listed, Phrase, Sort, jump_tree, yield_tree};
-use parser_nodes::operand::{Callee, Operand, call_tree, operand_tree};
 
 /// Whether a command begins with this operand, where one is allowed.
 fn may_command(place: Place, operand: &Operand, tokens: &[Token]) -> bool

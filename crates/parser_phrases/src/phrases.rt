@@ -12,7 +12,14 @@ ghost use Rattle.parser_phrases.specs.Phrases as rules;
 
 use crate::commands::{command_or_value, jump_list};
 use crate::targets::targets;
+use parser_ahead::groups::TargetUse;
+use parser_ahead::names::Names;
+use parser_ahead::primary::{DoOwner, Place, Start, is_comma, start_at};
 use parser_form_nodes::targets::{Target, Targets};
+use parser_forms::{Inner, Read};
+use parser_nodes::listed::{Phrase, Sort, is_right_side, right_side};
+use parser_nodes::nodes::{assignment_tree, defined_tree, prefix_tree, rescued_tree};
+use parser_nodes::operand::{Operand, is_target, operand_tree, target_tree};
 use parser_operands::operands::{begins_command, operand};
 use parser_tokens::expect::{Wanted, expect};
 use parser_tokens::failure::syntax;
@@ -20,16 +27,9 @@ use parser_tokens::operators::{Assignment, Prefix, assignment_at};
 use parser_tokens::starts::modifier_at;
 use parser_tokens::tokens::{place_at, skip};
 use parser_tokens::word::Modifier;
-use parser_ahead::groups::TargetUse;
-use parser_ahead::names::Names;
-use parser_ahead::primary::{DoOwner, Place, Start, is_comma, start_at};
-use rb_syntax::Token;
 use parser_tree::{Tree, TreeForm};
-use parser_forms::{Inner, Read};
+use rb_syntax::Token;
 use std::alloc::{AllocError, Global};
-use parser_nodes::listed::{Phrase, Sort, is_right_side, right_side};
-use parser_nodes::nodes::{assignment_tree, defined_tree, prefix_tree, rescued_tree};
-use parser_nodes::operand::{Operand, is_target, operand_tree, target_tree};
 
 /// Whether an assignment has no operator.
 fn is_plain(assignment: Assignment) -> bool

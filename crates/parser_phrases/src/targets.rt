@@ -8,21 +8,21 @@ ghost use Rattle.parser_form_nodes.specs.Targets.{target_view, targets_view};
 ghost use Rattle.parser_forms.specs.Reading.{Reads, Shortens};
 ghost use Rattle.parser_phrases.specs.Targets as rules;
 
+use parser_ahead::groups::{TargetUse, begins_target, is_nested_group};
+use parser_ahead::names::Names;
+use parser_ahead::primary::{DoOwner, is_comma};
 use parser_form_nodes::targets::{Target, Targets};
+use parser_forms::{Inner, Read};
+use parser_nodes::operand::{is_target, target_tree};
 use parser_operands::operands::chain;
-use rb_base::Bytes;
 use parser_tokens::expect::{Wanted, expect_closing};
 use parser_tokens::failure::syntax;
 use parser_tokens::tokens::{bytes_at, first, place_at, skip, skip_if};
 use parser_tokens::word::Word;
-use parser_ahead::groups::{TargetUse, begins_target, is_nested_group};
-use parser_ahead::names::Names;
-use parser_ahead::primary::{DoOwner, is_comma};
-use rb_syntax::{Outside, Punctuator, Token};
 use parser_tree::{Tree, TreeForm};
-use parser_forms::{Inner, Read};
+use rb_base::Bytes;
+use rb_syntax::{Outside, Punctuator, Token};
 use std::alloc::Global;
-use parser_nodes::operand::{is_target, target_tree};
 
 /// Whether a star stands at the front.
 pub fn is_star(tokens: &[Token]) -> bool

@@ -2,7 +2,8 @@
 use Rattle.std.proofs.Common.{◌≡◌, ◌<◌, List, [], ◌∷◌, ◌++◌, Some, None, length, map, refl, arith}
 use Rattle.parser_statements.specs.Sections.{only}
 
-pub only_last : {A B : Type 0} (f : A → B) (xs : List A) (x : A) → length xs ≡ 0 → only (map f (xs ++ x ∷ [])) ≡ Some (f x)
+pub only_last : {A B : Type 0} (f : A → B) (xs : List A) (x : A) → length xs ≡ 0
+    → only (map f (xs ++ x ∷ [])) ≡ Some (f x)
 unfolding only
 only_last f [] x h = refl
 only_last f (y ∷ xs) x h = absurd (omega arith)

@@ -51,7 +51,8 @@ module _ (inside : Inside) where
 
   -- a value, or a key with its value behind an arrow
   abbrev pub plain_or_pair : Node → Names → Tokens → DoOwner → Read PartNode
-  plain_or_pair n names ts owner = if is_arrow_word (first ts) then valued (pair_part n) names (behind ts) owner else Ok (plain_part n, names, ts)
+  plain_or_pair n names ts owner = if is_arrow_word (first ts) then valued (pair_part n) names (behind ts) owner else Ok
+      (plain_part n, names, ts)
 
   -- only where it stands alone a part may be a command
   abbrev pub value_part : Bool → Names → Tokens → DoOwner → Read PartNode
@@ -62,7 +63,8 @@ module _ (inside : Inside) where
   -- what stands behind two stars, as a pair
   abbrev pub double_splat : Names → Tokens → DoOwner → Read PartNode
   double_splat names ts owner =
-      argument inside names (behind ts) owner >>= (λ r. Ok (pair_part (outside_node outsides.DoubleSplat (place_at ts) r.0) node.nil, r.1, r.2))
+      argument inside names (behind ts) owner >>=
+      (λ r. Ok (pair_part (outside_node outsides.DoubleSplat (place_at ts) r.0) node.nil, r.1, r.2))
 
   -- a key with a colon and its value
   abbrev pub labelled : Names → Tokens → DoOwner → Read PartNode
@@ -82,7 +84,8 @@ module _ (inside : Inside) where
   -- a part behind those that were found
   abbrev pub with_part : Bool → ListNode → Names → Tokens → DoOwner → Read ListNode
   with_part alone found names ts owner =
-      part alone names ts owner >>= (λ r. if may_follow r.0 found then Ok (put r.0 found, r.1, r.2) else Err (length ts))
+      part alone names ts owner >>= (λ r. if may_follow r.0 found then Ok (put r.0 found, r.1, r.2) else Err
+      (length ts))
 
   -- a part behind those that were found, and the comma behind it, which no command has
   unfoldable pub next_part : Bool → ListNode → Names → Tokens → DoOwner → Read ListNode
@@ -95,7 +98,8 @@ module _ (inside : Inside) where
   unfoldable pub list_from : ℕ → DoOwner → Bool → Bool → ListNode → Names → Tokens → Read ListNode
   list_from zero owner alone more found names ts = Err 0
   list_from (suc n) owner alone more found names ts =
-      if goes_on more (first ts) then (next_part alone found names ts owner >>= (λ r. list_from n owner false r.0.comma r.0 r.1 r.2))
+      if goes_on more (first ts) then (next_part alone found names ts owner >>=
+      (λ r. list_from n owner false r.0.comma r.0 r.1 r.2))
       else Ok (found, names, ts)
 
   -- parts with commas between them, up to what begins none

@@ -85,19 +85,22 @@ module _ (inside : Inside) where
   abbrev pub walk_section : Names → Tokens → Read SectionNode
   walk_section names ts =
       targets inside names no_targets ts uses.For >>= (λ t.
-      if is_empty t.0.list.before then Err (length t.2) else (expect wanted.In t.2 >>= (λ rest. walk_items t.0.list.before t.1 rest)))
+      if is_empty t.0.list.before then Err (length t.2) else
+      (expect wanted.In t.2 >>= (λ rest. walk_items t.0.list.before t.1 rest)))
 
   -- the subject of case, or none
   abbrev pub subject_section : Names → Tokens → Read SectionNode
   subject_section names ts =
       if ends_subject (first ts) then Ok (subject [], names, skip_separators ts)
-      else (expression inside names ts places.Command owners.Call >>= (λ r. Ok (subject (r.0 ∷ []), r.1, skip_separators r.2)))
+      else (expression inside names ts places.Command owners.Call >>=
+      (λ r. Ok (subject (r.0 ∷ []), r.1, skip_separators r.2)))
 
   -- a value of when or rescue; one with a star is outside the language
   unfoldable pub value_test : Names → Tokens → Read Node
   value_test names ts =
       if is_star (first ts)
-      then (argument inside names (behind ts) owners.Call >>= (λ r. Ok (outside_node outsides.SplatClause (place_at ts) r.0, r.1, r.2)))
+      then (argument inside names (behind ts) owners.Call >>=
+      (λ r. Ok (outside_node outsides.SplatClause (place_at ts) r.0, r.1, r.2)))
       else argument inside names ts owners.Call
 
   -- a value behind those that were found
@@ -108,14 +111,16 @@ module _ (inside : Inside) where
   unfoldable pub tests_from : ℕ → List Node → Names → Tokens → Read (List Node)
   tests_from zero found names ts = Err 0
   tests_from (suc n) found names ts =
-      if is_comma_word (first ts) then (with_test found names (behind ts) >>= (λ r. tests_from n r.0 r.1 r.2)) else Ok (found, names, ts)
+      if is_comma_word (first ts) then (with_test found names (behind ts) >>= (λ r. tests_from n r.0 r.1 r.2)) else Ok
+      (found, names, ts)
 
   abbrev pub tests_behind : List Node → Names → Tokens → Read (List Node)
   tests_behind found names ts = tests_from (length ts + 1) found names ts
 
   -- the values of when or rescue
   unfoldable pub tests : Names → Tokens → Read (List Node)
-  tests names ts = if begins_value (first ts) then (with_test [] names ts >>= (λ r. tests_behind r.0 r.1 r.2)) else Ok ([], names, ts)
+  tests names ts = if begins_value (first ts) then (with_test [] names ts >>= (λ r. tests_behind r.0 r.1 r.2)) else Ok
+      ([], names, ts)
 
   -- a clause with these values
   abbrev pub clause : SectionKind → ℕ → List Node → Names → Tokens → Read SectionNode
@@ -123,12 +128,14 @@ module _ (inside : Inside) where
 
   -- a clause of case
   abbrev pub when_section : SectionKind → ℕ → Names → Tokens → Read SectionNode
-  when_section k at names ts = tests names ts >>= (λ r. if is_empty r.0 then Err (length r.2) else clause k at r.0 r.1 r.2)
+  when_section k at names ts = tests names ts >>=
+      (λ r. if is_empty r.0 then Err (length r.2) else clause k at r.0 r.1 r.2)
 
   -- what the exception is assigned to, or nothing
   abbrev pub rescue_target : Names → Tokens → Read Nodes
   rescue_target names ts =
-      if is_arrow_word (first ts) then (targets inside names no_targets (behind ts) uses.For >>= (λ t. target_by (only_target t.0) t.1 t.2))
+      if is_arrow_word (first ts) then (targets inside names no_targets (behind ts) uses.For >>=
+      (λ t. target_by (only_target t.0) t.1 t.2))
       else Ok (none, names, ts)
 
   -- a rescue clause of these classes
@@ -160,12 +167,15 @@ module _ (inside : Inside) where
   abbrev pub next_sections : SectionKind → List SectionNode → Names → Tokens → Read (List SectionNode)
   next_sections k found names ts = with_section k (place_at ts) found names (behind ts)
 
-  abbrev pub sections_turn : Option SectionKind → (SectionKind → List SectionNode → Names → Tokens → Read (List SectionNode)) → List SectionNode → Names → Tokens → Read (List SectionNode)
+  abbrev pub sections_turn : Option SectionKind
+      → (SectionKind → List SectionNode → Names → Tokens → Read (List SectionNode)) → List SectionNode → Names → Tokens
+      → Read (List SectionNode)
   sections_turn None go found names ts = Ok (found, names, ts)
   sections_turn (Some k) go found names ts = next_sections k found names ts >>= (λ r. go k r.0 r.1 r.2)
 
   -- at most n sections behind one of this kind and those before it
-  unfoldable pub sections_from : ℕ → Compound → SectionKind → List SectionNode → Names → Tokens → Read (List SectionNode)
+  unfoldable pub sections_from : ℕ → Compound → SectionKind → List SectionNode → Names → Tokens
+      → Read (List SectionNode)
   sections_from zero compound before found names ts = Err 0
   sections_from (suc n) compound before found names ts =
       sections_turn (next_section compound before (first ts)) (sections_from n compound) found names ts

@@ -60,21 +60,25 @@ module _ (inside : Inside) where
   unfoldable pub negation : Names → Tokens → Place → DoOwner → Read PhraseNode
   negation names ts place owner =
       if is_not (first ts)
-      then (inside.negation names (behind ts) places.Command owner >>= (λ r. Ok ((prefix_node prefixes.Not r.0.0, sorts.Command), r.1, r.2)))
+      then (inside.negation names (behind ts) places.Command owner >>=
+      (λ r. Ok ((prefix_node prefixes.Not r.0.0, sorts.Command), r.1, r.2)))
       else phrase inside names ts place owner
 
   -- what stands behind and or or, joined with what stands before it
   unfoldable pub junction_with : Junction → Node → Names → Tokens → DoOwner → Read Node
-  junction_with j left names ts owner = negation names (behind ts) places.Command owner >>= (λ r. Ok (junction_node j left r.0.0, r.1, r.2))
+  junction_with j left names ts owner = negation names (behind ts) places.Command owner >>=
+      (λ r. Ok (junction_node j left r.0.0, r.1, r.2))
 
-  abbrev pub junctions_turn : Option Junction → (Node → Names → Tokens → Read Node) → Node → Names → Tokens → DoOwner → Read Node
+  abbrev pub junctions_turn : Option Junction → (Node → Names → Tokens → Read Node) → Node → Names → Tokens → DoOwner
+      → Read Node
   junctions_turn None go left names ts owner = Ok (left, names, ts)
   junctions_turn (Some j) go left names ts owner = junction_with j left names ts owner >>= (λ r. go r.0 r.1 r.2)
 
   -- at most n and or or
   unfoldable pub junctions_from : ℕ → DoOwner → Node → Names → Tokens → Read Node
   junctions_from zero owner left names ts = Err 0
-  junctions_from (suc n) owner left names ts = junctions_turn (junction_at (first ts)) (junctions_from n owner) left names ts owner
+  junctions_from (suc n) owner left names ts =
+      junctions_turn (junction_at (first ts)) (junctions_from n owner) left names ts owner
 
   abbrev pub junctions : Node → Names → Tokens → DoOwner → Read Node
   junctions left names ts owner = junctions_from (length ts + 1) owner left names ts
@@ -134,7 +138,8 @@ module _ (inside : Inside) where
 
   -- a statement and the separators behind it
   unfoldable pub separated : Names → Tokens → Read Node
-  separated names ts = statement names ts >>= (λ r. if ends_statement (first r.2) then Ok (r.0, r.1, skip_separators r.2) else Err (length r.2))
+  separated names ts = statement names ts >>=
+      (λ r. if ends_statement (first r.2) then Ok (r.0, r.1, skip_separators r.2) else Err (length r.2))
 
   -- a statement behind those that were found
   unfoldable pub with_statement : List Node → Names → Tokens → Read (List Node)

@@ -8,22 +8,22 @@ ghost use Rattle.parser_nodes.specs.Listed as made;
 ghost use Rattle.parser_forms.specs.Reading.{Reads, Shortens};
 ghost use Rattle.parser_statements.specs.Lists as rules;
 
+use parser_ahead::groups::is_quoted_label;
+use parser_ahead::names::Names;
+use parser_ahead::primary::{DoOwner, PartStart, Place, is_arrow, is_comma, part_at};
 use parser_forms::literal::pieces;
+use parser_forms::{Inner, Read};
+use parser_nodes::listed::{Listed, Part, Phrase};
+use parser_nodes::nodes::outside_tree;
 use parser_phrases::phrases::{argument, is_argument, phrase};
-use rb_base::Bytes;
 use parser_tokens::failure::syntax;
 use parser_tokens::starts::begins_value;
 use parser_tokens::tokens::{bytes_at, first, place_at, skip, skip_if};
 use parser_tokens::word::Word;
-use parser_ahead::groups::is_quoted_label;
-use parser_ahead::names::Names;
-use parser_ahead::primary::{DoOwner, PartStart, Place, is_arrow, is_comma, part_at};
-use rb_syntax::{Outside, Token};
 use parser_tree::{Piece, Tree, TreeForm};
-use parser_forms::{Inner, Read};
+use rb_base::Bytes;
+use rb_syntax::{Outside, Token};
 use std::alloc::{AllocError, Global};
-use parser_nodes::listed::{Listed, Part, Phrase};
-use parser_nodes::nodes::outside_tree;
 
 /// Where a part stands: only alone it may be a command.
 fn part_place(alone: bool) -> Place

@@ -11,8 +11,14 @@ ghost use Rattle.parser_forms.specs.Reading.{Reads, Shortens};
 ghost use Rattle.parser_statements.specs.Sections as rules;
 
 use crate::statements::{expression, statements};
+use parser_ahead::groups::TargetUse;
+use parser_ahead::names::Names;
+use parser_ahead::primary::{DoOwner, Place, is_arrow, is_comma};
+use parser_ahead::sections::{Compound, SectionKind, first_section, next_section};
 use parser_form_nodes::sections::{Section, pattern_heads};
 use parser_form_nodes::targets::Targets;
+use parser_forms::{Inner, Read};
+use parser_nodes::nodes::outside_tree;
 use parser_phrases::phrases::argument;
 use parser_phrases::targets::{is_star, targets};
 use parser_tokens::expect::{Wanted, expect, expect_do, expect_then, skip_separators};
@@ -20,15 +26,9 @@ use parser_tokens::failure::syntax;
 use parser_tokens::starts::begins_value;
 use parser_tokens::tokens::{first, place_at, skip};
 use parser_tokens::word::Word;
-use parser_ahead::groups::TargetUse;
-use parser_ahead::names::Names;
-use parser_ahead::primary::{DoOwner, Place, is_arrow, is_comma};
-use parser_ahead::sections::{Compound, SectionKind, first_section, next_section};
-use rb_syntax::{Keyword, Outside, Token};
 use parser_tree::{Tree, TreeForm};
-use parser_forms::{Inner, Read};
+use rb_syntax::{Keyword, Outside, Token};
 use std::alloc::{AllocError, Global};
-use parser_nodes::nodes::outside_tree;
 
 /// Whether no subject stands behind `case`.
 fn ends_subject(word: Word) -> bool

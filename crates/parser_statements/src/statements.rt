@@ -9,7 +9,12 @@ ghost use Rattle.parser_nodes.specs.Nodes.{views};
 ghost use Rattle.parser_forms.specs.Reading.{Reads, Shortens};
 ghost use Rattle.parser_statements.specs.Statements as rules;
 
+use parser_ahead::names::Names;
+use parser_ahead::primary::{DoOwner, Place};
 use parser_form_nodes::definitions::{alias, undef};
+use parser_forms::{Inner, Read};
+use parser_nodes::listed::{Phrase, Sort};
+use parser_nodes::nodes::{junction_tree, modified_tree, outside_tree, prefix_tree};
 use parser_phrases::phrases::phrase;
 use parser_tokens::expect::{Wanted, expect, skip_separators};
 use parser_tokens::failure::syntax;
@@ -17,14 +22,9 @@ use parser_tokens::operators::{Junction, Prefix, junction_at};
 use parser_tokens::starts::{ends_statement, ends_statements, modifier_at};
 use parser_tokens::tokens::{first, place_at, skip};
 use parser_tokens::word::{Modifier, Word};
-use parser_ahead::names::Names;
-use parser_ahead::primary::{DoOwner, Place};
-use rb_syntax::{Keyword, Outside, Token};
 use parser_tree::{Tree, TreeForm};
-use parser_forms::{Inner, Read};
+use rb_syntax::{Keyword, Outside, Token};
 use std::alloc::Global;
-use parser_nodes::listed::{Phrase, Sort};
-use parser_nodes::nodes::{junction_tree, modified_tree, outside_tree, prefix_tree};
 
 /// Whether `not` stands at the front.
 fn is_not(tokens: &[Token]) -> bool

@@ -14,7 +14,8 @@ behind_shorter [] there = absurd (there refl)
 behind_shorter (t ∷ ts) there = omega arith
 
 pub wanted_there : (w : Wanted) (x : Word) → is_wanted w x ≡ true → x ≢ Finish
-wanted_there w x h = λ (e : x ≡ Finish). let no : is_wanted w Finish ≡ true = subst (λ y. is_wanted w y ≡ true) e h in absurd (grind arith)
+wanted_there w x h = λ (e : x ≡ Finish). let no : is_wanted w Finish ≡ true = subst (λ y. is_wanted w y ≡ true) e h in
+    absurd (grind arith)
 
 pub wanted_shorter : (w : Wanted) (ts : List Token) → is_wanted w (first ts) ≡ true → length (behind ts) < length ts
 wanted_shorter w ts h = behind_shorter ts (wanted_there w (first ts) h)
@@ -35,7 +36,8 @@ newlines_enough zero (suc m) ts few some = grind (arith, newline_shorter ts)
 newlines_enough (suc n) zero ts few some = grind (arith, newline_shorter ts)
 newlines_enough (suc n) (suc m) ts few some = grind (arith, newline_shorter ts, newlines_enough n m (behind ts))
 
-newlines_turn : (n : ℕ) (ts : List Token) → 0 < n → is_newline (first ts) ≡ true → newlines_from n ts ≡ newlines_from (n - 1) (behind ts)
+newlines_turn : (n : ℕ) (ts : List Token) → 0 < n → is_newline (first ts) ≡ true
+    → newlines_from n ts ≡ newlines_from (n - 1) (behind ts)
 unfolding newlines_from
 newlines_turn zero ts some h = absurd (omega arith)
 newlines_turn (suc n) ts some h = let less : suc n - 1 ≡ n = omega arith in rw (h, less)
@@ -43,7 +45,8 @@ newlines_turn (suc n) ts some h = let less : suc n - 1 ≡ n = omega arith in rw
 pub newlines_more : (ts : List Token) → is_newline (first ts) ≡ true → skip_newlines ts ≡ skip_newlines (behind ts)
 newlines_more ts h =
     let shorter = newline_shorter ts h in
-    newlines_turn (length ts) ts (omega arith) h ∙ newlines_enough (length ts - 1) (length (behind ts)) (behind ts) (omega arith) (omega arith)
+    newlines_turn (length ts) ts (omega arith) h
+    ∙ newlines_enough (length ts - 1) (length (behind ts)) (behind ts) (omega arith) (omega arith)
 
 newlines_stop : (n : ℕ) (ts : List Token) → is_newline (first ts) ≡ false → newlines_from n ts ≡ ts
 unfolding newlines_from
@@ -55,22 +58,26 @@ newlines_end ts h = newlines_stop (length ts) ts h
 
 pub ruleset newline_turns = (newlines_more, newlines_end)
 
-separators_enough : (n m : ℕ) (ts : List Token) → length ts ≤ n → length ts ≤ m → separators_from n ts ≡ separators_from m ts
+separators_enough : (n m : ℕ) (ts : List Token) → length ts ≤ n → length ts ≤ m
+    → separators_from n ts ≡ separators_from m ts
 unfolding separators_from
 separators_enough zero zero ts few some = refl
 separators_enough zero (suc m) ts few some = grind (arith, separator_shorter ts)
 separators_enough (suc n) zero ts few some = grind (arith, separator_shorter ts)
 separators_enough (suc n) (suc m) ts few some = grind (arith, separator_shorter ts, separators_enough n m (behind ts))
 
-separators_turn : (n : ℕ) (ts : List Token) → 0 < n → is_separator (first ts) ≡ true → separators_from n ts ≡ separators_from (n - 1) (behind ts)
+separators_turn : (n : ℕ) (ts : List Token) → 0 < n → is_separator (first ts) ≡ true
+    → separators_from n ts ≡ separators_from (n - 1) (behind ts)
 unfolding separators_from
 separators_turn zero ts some h = absurd (omega arith)
 separators_turn (suc n) ts some h = let less : suc n - 1 ≡ n = omega arith in rw (h, less)
 
-pub separators_more : (ts : List Token) → is_separator (first ts) ≡ true → skip_separators ts ≡ skip_separators (behind ts)
+pub separators_more : (ts : List Token) → is_separator (first ts) ≡ true
+    → skip_separators ts ≡ skip_separators (behind ts)
 separators_more ts h =
     let shorter = separator_shorter ts h in
-    separators_turn (length ts) ts (omega arith) h ∙ separators_enough (length ts - 1) (length (behind ts)) (behind ts) (omega arith) (omega arith)
+    separators_turn (length ts) ts (omega arith) h
+    ∙ separators_enough (length ts - 1) (length (behind ts)) (behind ts) (omega arith) (omega arith)
 
 separators_stop : (n : ℕ) (ts : List Token) → is_separator (first ts) ≡ false → separators_from n ts ≡ ts
 unfolding separators_from

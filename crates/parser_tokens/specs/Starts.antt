@@ -102,7 +102,8 @@ is_open_brace _ = false
 -- the tokens behind a name begin the arguments of a command
 unfoldable pub begins_argument : List Token → Bool
 begins_argument ts =
-    not (is_open_brace (first ts)) && (is_apart ts && (begins_value (first ts) && (not (wants_tight (first ts)) || not (is_apart (behind ts)))))
+    not (is_open_brace (first ts)) && (is_apart ts &&
+    (begins_value (first ts) && (not (wants_tight (first ts)) || not (is_apart (behind ts)))))
 
 abbrev pub is_open_parenthesis : Word → Bool
 is_open_parenthesis (words.Mark marks.OpenParenthesis) = true

@@ -5,8 +5,8 @@ ghost use Rattle.parser_tokens.specs.Operators as operators;
 
 use crate::tokens::{first, skip};
 use crate::word::Word;
-use rb_syntax::{Keyword, Outside, Punctuator, Token};
 use parser_tree::{AssignmentOperator, BinaryOperator, UnaryOperator};
+use rb_syntax::{Keyword, Outside, Punctuator, Token};
 
 /// An operator between two operands.
 #[derive(Clone, Copy, Debug, PartialEq, Eq)]

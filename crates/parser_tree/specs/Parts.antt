@@ -61,8 +61,10 @@ optional_node p = node.optional_parameter p.name (view p.value)
 
 abbrev pub definition_node : Definition Tree → Node
 definition_node d =
-    node.definition (nodes (map parameter_node d.parameters.required.items)) (nodes (map optional_node d.parameters.optional.items)) d.parameters.rest
-    (nodes (map parameter_node d.parameters.post.items)) d.parameters.block (trees d.parameters.outside.items) d.locals (view d.body)
+    node.definition (nodes (map parameter_node d.parameters.required.items))
+    (nodes (map optional_node d.parameters.optional.items)) d.parameters.rest
+    (nodes (map parameter_node d.parameters.post.items)) d.parameters.block (trees d.parameters.outside.items) d.locals
+    (view d.body)
 
 abbrev pub block : Option (Definition Tree) → Nodes
 block None = node.none
@@ -72,7 +74,8 @@ abbrev pub rescue_node : RescueClause Tree → Node
 rescue_node c = node.rescue_clause (trees c.classes.items) (boxed c.target) (view c.body)
 
 abbrev pub begin_node : RescueBody Tree → Node
-begin_node b = node.begin_node (view b.body) (nodes (map rescue_node b.clauses.items)) (boxed b.otherwise) (boxed b.ensure)
+begin_node b = node.begin_node (view b.body) (nodes (map rescue_node b.clauses.items)) (boxed b.otherwise)
+    (boxed b.ensure)
 
 abbrev pub when_node : WhenClause Tree → Node
 when_node c = node.when_clause (trees c.tests.items) (view c.body)

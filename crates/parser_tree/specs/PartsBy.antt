@@ -82,8 +82,10 @@ optionals_by v ps = nodes (map (optional_by v) ps)
 
 abbrev pub definition_by : {T : Type 0} → (T → Node) → Definition (Boxed T) → Node
 definition_by v d =
-    node.definition (parameters_by v d.parameters.required.items) (optionals_by v d.parameters.optional.items) d.parameters.rest
-    (parameters_by v d.parameters.post.items) d.parameters.block (trees_by v d.parameters.outside.items) d.locals (tree_by v d.body)
+    node.definition (parameters_by v d.parameters.required.items) (optionals_by v d.parameters.optional.items)
+    d.parameters.rest
+    (parameters_by v d.parameters.post.items) d.parameters.block (trees_by v d.parameters.outside.items) d.locals
+    (tree_by v d.body)
 
 abbrev pub block_by : {T : Type 0} → (T → Node) → Option (Definition (Boxed T)) → Nodes
 block_by v None = node.none
@@ -96,7 +98,8 @@ abbrev pub rescues_by : {T : Type 0} → (T → Node) → List (RescueClause (Bo
 rescues_by v cs = nodes (map (rescue_by v) cs)
 
 abbrev pub begin_by : {T : Type 0} → (T → Node) → RescueBody (Boxed T) → Node
-begin_by v b = node.begin_node (tree_by v b.body) (rescues_by v b.clauses.items) (boxed_by v b.otherwise) (boxed_by v b.ensure)
+begin_by v b = node.begin_node (tree_by v b.body) (rescues_by v b.clauses.items) (boxed_by v b.otherwise)
+    (boxed_by v b.ensure)
 
 abbrev pub when_by : {T : Type 0} → (T → Node) → WhenClause (Boxed T) → Node
 when_by v c = node.when_clause (trees_by v c.tests.items) (tree_by v c.body)

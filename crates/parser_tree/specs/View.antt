@@ -78,8 +78,10 @@ optional_of p = node.optional_parameter p.name p.value.value
 
 abbrev pub definition_of : Definition Held → Node
 definition_of d =
-    node.definition (nodes (map parameter_of d.parameters.required.items)) (nodes (map optional_of d.parameters.optional.items)) d.parameters.rest
-    (nodes (map parameter_of d.parameters.post.items)) d.parameters.block (all_held d.parameters.outside.items) d.locals d.body.value
+    node.definition (nodes (map parameter_of d.parameters.required.items))
+    (nodes (map optional_of d.parameters.optional.items)) d.parameters.rest
+    (nodes (map parameter_of d.parameters.post.items)) d.parameters.block (all_held d.parameters.outside.items) d.locals
+    d.body.value
 
 abbrev pub block_of : Option (Definition Held) → Nodes
 block_of None = node.none

@@ -41,23 +41,27 @@ pub with_none : (told : Option (List ℕ)) → told ≡ with_more told []
 with_none None = refl
 with_none (Some bytes) = ap Some (sym (append-nil bytes))
 
-with_two : (told : Option (List ℕ)) (front back : List ℕ) → with_more (with_more told front) back ≡ with_more told (front ++ back)
+with_two : (told : Option (List ℕ)) (front back : List ℕ)
+    → with_more (with_more told front) back ≡ with_more told (front ++ back)
 with_two None front back = refl
 with_two (Some bytes) front back = ap Some (append_assoc bytes front back)
 
 behind_two : (front back : List ℕ) (k : Course) → behind front (behind back k) ≡ behind (front ++ back) k
-behind_two front back k = ap (λ (w : List ℕ). record { written = w; ran = k.ran }) (sym (append_assoc front back k.written))
+behind_two front back k = ap (λ (w : List ℕ). record { written = w; ran = k.ran })
+    (sym (append_assoc front back k.written))
 
 pub reached_start : (k : Course) (told : Option (List ℕ)) → Reached k k told told
 reached_start k told = record { out = []; taken = with_none told; course = refl }
 
 -- the course from a place begins with the turn there
-course_turn : (b : Irep) (n place : ℕ) (rs : Values) → 0 < n → course b n place rs ≡ follows (course b (n - 1)) (stepped b place rs)
+course_turn : (b : Irep) (n place : ℕ) (rs : Values) → 0 < n
+    → course b n place rs ≡ follows (course b (n - 1)) (stepped b place rs)
 unfolding course
 course_turn b zero place rs h = absurd (omega arith)
 course_turn b (suc n) place rs h = let e : suc n - 1 ≡ n = omega arith in rw e refl
 
-course_by : (b : Irep) (n place : ℕ) (rs : Values) (step : Values × Next) → 0 < n → step ≡ stepped b place rs → course b n place rs ≡ follows (course b (n - 1)) step
+course_by : (b : Irep) (n place : ℕ) (rs : Values) (step : Values × Next) → 0 < n → step ≡ stepped b place rs
+    → course b n place rs ≡ follows (course b (n - 1)) step
 course_by b n place rs step h e = course_turn b n place rs h ∙ ap (follows (course b (n - 1))) (sym e)
 
 pub reached_to :
@@ -78,7 +82,8 @@ pub reached_puts :
 reached_puts b whole old new new' n place next v rs rs' r h e t = record {
   out = r.out ++ line_of v;
   taken = t ∙ (ap (λ (o : Option (List ℕ)). with_more o (line_of v)) r.taken ∙ with_two old r.out (line_of v));
-  course = r.course ∙ (ap (behind r.out) (course_by b n place rs (rs', nexts.Puts next v) h e) ∙ behind_two r.out (line_of v) (course b (n - 1) next rs'));
+  course = r.course ∙ (ap (behind r.out) (course_by b n place rs (rs', nexts.Puts next v) h e)
+      ∙ behind_two r.out (line_of v) (course b (n - 1) next rs'));
 }
 
 -- how a course comes out, and all that it writes
@@ -86,7 +91,8 @@ pub record IsOver (whole : Course) (ran : Ran) (old new : Option (List ℕ)) : T
   pub ran_is : ran ≡ whole.ran
   pub written_is : new ≡ with_more old whole.written
 
-over : (whole : Course) (ran : Ran) (old new : Option (List ℕ)) (rest : Course) → Reached whole rest old new → rest ≡ silent ran → IsOver whole ran old new
+over : (whole : Course) (ran : Ran) (old new : Option (List ℕ)) (rest : Course) → Reached whole rest old new
+    → rest ≡ silent ran → IsOver whole ran old new
 over whole ran old new rest r e =
     let all : whole ≡ behind r.out (silent ran) = r.course ∙ ap (behind r.out) e in
     let bytes : whole.written ≡ r.out = ap (λ (k : Course). k.written) all ∙ append-nil r.out in
@@ -103,20 +109,26 @@ pub over_ended :
     (b : Irep) (whole : Course) (old new : Option (List ℕ)) (n place status : ℕ) (rs rs' : Values)
     → Reached whole (course b n place rs) old new → 0 < n → (rs', nexts.Ended status) ≡ stepped b place rs
     → IsOver whole (rans.Ended status) old new
-over_ended b whole old new n place status rs rs' r h e = over whole (rans.Ended status) old new (course b n place rs) r (course_by b n place rs (rs', nexts.Ended status) h e)
+over_ended b whole old new n place status rs rs' r h e =
+    over whole (rans.Ended status) old new (course b n place rs) r
+    (course_by b n place rs (rs', nexts.Ended status) h e)
 
 pub over_uncaught :
     (b : Irep) (whole : Course) (old new : Option (List ℕ)) (n place : ℕ) (f : Failure) (rs rs' : Values)
     → Reached whole (course b n place rs) old new → 0 < n → (rs', nexts.Uncaught f) ≡ stepped b place rs
     → IsOver whole (rans.Uncaught f) old new
-over_uncaught b whole old new n place f rs rs' r h e = over whole (rans.Uncaught f) old new (course b n place rs) r (course_by b n place rs (rs', nexts.Uncaught f) h e)
+over_uncaught b whole old new n place f rs rs' r h e =
+    over whole (rans.Uncaught f) old new (course b n place rs) r (course_by b n place rs (rs', nexts.Uncaught f) h e)
 
 -- a front of the line is a front of what the whole course writes from there
-front_behind : (front line rest : List ℕ) (k : ℕ) (old : Option (List ℕ)) → with_more (with_more old front) (take k line) ≡ with_more old (take (length front + min k (length line)) (front ++ (line ++ rest)))
+front_behind : (front line rest : List ℕ) (k : ℕ) (old : Option (List ℕ))
+    → with_more (with_more old front) (take k line) ≡ with_more old
+    (take (length front + min k (length line)) (front ++ (line ++ rest)))
 front_behind front line rest k old =
     let bounded : min k (length line) ≤ length line = omega arith in
     let start : take (length front + min k (length line)) (front ++ (line ++ rest)) ≡ front ++ take k line =
-    take-append-add front (line ++ rest) (min k (length line)) ∙ ap (λ (w : List ℕ). front ++ w) (take-append-le (min k (length line)) line rest bounded ∙ take_min k line) in
+    take-append-add front (line ++ rest) (min k (length line))
+    ∙ ap (λ (w : List ℕ). front ++ w) (take-append-le (min k (length line)) line rest bounded ∙ take_min k line) in
     with_two old front (take k line) ∙ ap (with_more old) (sym start)
 
 pub stopped_puts :
@@ -126,8 +138,15 @@ pub stopped_puts :
     → TookFront old new' whole.written
 stopped_puts b whole old new new' n place next v rs rs' r h e t =
     let rest : List ℕ = (course b (n - 1) next rs').written in
-    let all : whole.written ≡ r.out ++ (line_of v ++ rest) = ap (λ (k : Course). k.written) (r.course ∙ ap (behind r.out) (course_by b n place rs (rs', nexts.Puts next v) h e)) in
-    (length r.out + min t.0 (length (line_of v)), t.1 ∙ (ap (λ (o : Option (List ℕ)). with_more o (take t.0 (line_of v))) r.taken ∙ (front_behind r.out (line_of v) rest t.0 old ∙ ap (λ (w : List ℕ). with_more old (take (length r.out + min t.0 (length (line_of v))) w)) (sym all))))
+    let all : whole.written ≡ r.out ++ (line_of v ++ rest) =
+    ap (λ (k : Course). k.written) (r.course
+    ∙ ap (behind r.out) (course_by b n place rs (rs', nexts.Puts next v) h e)) in (
+      length r.out + min t.0 (length (line_of v)),
+      t.1
+          ∙ (ap (λ (o : Option (List ℕ)). with_more o (take t.0 (line_of v))) r.taken
+          ∙ (front_behind r.out (line_of v) rest t.0 old
+          ∙ ap (λ (w : List ℕ). with_more old (take (length r.out + min t.0 (length (line_of v))) w)) (sym all))),
+    )
 
 pub on_err : {T E : Type 0} (r : Result T E) (P : Type 0) → P → OnErr r P
 on_err (Ok x) P h = tt

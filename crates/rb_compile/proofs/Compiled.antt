@@ -22,11 +22,21 @@ code_size f w = omega (arith, within_code f w, length_code f)
 abbrev main_program : Bool → ℕ → ℕ → List ℕ → Program
 main_program puts locals registers code = record {
   version = 2;
-  bodies = record { locals = locals; registers = registers; code = code; catches = []; pool = []; symbols = cond {A = List (List ℕ)} puts (codes "puts" ∷ []) []; children = [] } ∷ [];
+  bodies = record {
+    locals = locals;
+    registers = registers;
+    code = code;
+    catches = [];
+    pool = [];
+    symbols =
+        cond {A = List (List ℕ)} puts (codes "puts" ∷ []) [];
+    children = [];
+  } ∷ [];
 }
 
 -- the file has few bytes besides the code
-short_file : (puts : Bool) (locals registers : ℕ) (code : List ℕ) → length code < 32768 → length (canonical (main_program puts locals registers code)) < 2 ^ 32
+short_file : (puts : Bool) (locals registers : ℕ) (code : List ℕ) → length code < 32768
+    → length (canonical (main_program puts locals registers code)) < 2 ^ 32
 unfolding canonical record_of
 short_file true locals registers code lt = simp length-append (omega arith)
 short_file false locals registers code lt = simp length-append (omega arith)
@@ -36,7 +46,8 @@ unfolding canonical record_of encoding
 short_nothing = omega arith
 
 pub short_code : (f : Form) → IsWithin f → length (canonical (code_of f)) < 2 ^ 32
-short_code f w = either f (λ (c : Program). length (canonical c) < 2 ^ 32) short_nothing (short_file (calls_puts f) (first_free f) (first_free f + width f) (bytes_of (operations_of f)) (code_size f w))
+short_code f w = either f (λ (c : Program). length (canonical c) < 2 ^ 32) short_nothing
+    (short_file (calls_puts f) (first_free f) (first_free f + width f) (bytes_of (operations_of f)) (code_size f w))
 
 pub implements_of : (o : Option Form) (c : Program) → IsCodeOf c o → MatchOption o ⊥ (Implements c)
 implements_of None c h = absurd h

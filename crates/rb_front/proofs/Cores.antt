@@ -15,13 +15,15 @@ use Rattle.rb_front.specs.Front.{IsTree, HasTree, core_within, core_of_tree, cor
 of_tree : (n : Node) → misplaced n ≡ None → found None n ≡ None → core_of_tree (Ok n) ≡ Some (core [] 0 n)
 of_tree n p o = ap (λ m. core_within m (found None n) n) p ∙ ap (λ f. core_within None f n) o
 
-of_tokens : (r : Result (List Token) ℕ) (size : ℕ) (n : Node) → IsTree r size n → found None n ≡ None → core_of_tokens r size ≡ Some (core [] 0 n)
+of_tokens : (r : Result (List Token) ℕ) (size : ℕ) (n : Node) → IsTree r size n → found None n ≡ None
+    → core_of_tokens r size ≡ Some (core [] 0 n)
 of_tokens (Err place) size n t o = absurd t
 of_tokens (Ok ts) size n (few, is, stand) o =
     ap (λ b. if b then core_of_tree (tree_of ts size) else None) (le-leb (deep ts) 256 few)
     ∙ ap core_of_tree is ∙ of_tree n stand o
 
-pub has_core : (text : List ℕ) (n : Node) (f : CoreForm) → HasTree text n → found None n ≡ None → f ≡ core [] 0 n → core_of text ≡ Some f
+pub has_core : (text : List ℕ) (n : Node) (f : CoreForm) → HasTree text n → found None n ≡ None → f ≡ core [] 0 n
+    → core_of text ≡ Some f
 unfolding core_of
 has_core text n f (short, is) o e =
     ap (λ b. if b then core_of_tokens (tokens_of text) (length text) else None) (le-leb (length text) 16777216 short)

@@ -32,7 +32,8 @@ IsTooDeep (Ok tokens) = 256 < deep tokens
 
 abbrev pub HasNoTree : List ℕ → FrontError → Type 0
 HasNoTree text TooLong = 16777216 < length text
-HasNoTree text (Syntax at) = (length text ≤ 16777216) × IsNoProgram (tokens_of text) (length text) at × (at ≤ length text)
+HasNoTree text (Syntax at) = (length text ≤ 16777216) × IsNoProgram (tokens_of text) (length text) at
+    × (at ≤ length text)
 HasNoTree text TooDeep = (length text ≤ 16777216) × IsTooDeep (tokens_of text)
 HasNoTree text (Outside what at) = ⊥
 HasNoTree text NoMemory = Unit {0}

@@ -16,7 +16,8 @@ whole (negsuc a) d =
     omega (arith, ints)
 
 side : (x : ℤ) (d : ℕ) → (pos 0 ≤ℤ int_rem_euclid x (pos (suc d))) × (int_rem_euclid x (pos (suc d)) <ℤ pos (suc d))
-side (pos a) d = let below : a % suc d < suc d = mod_below a (suc d) (omega arith) in (omega (arith, ints), omega (arith, ints))
+side (pos a) d = let below : a % suc d < suc d = mod_below a (suc d) (omega arith) in
+    (omega (arith, ints), omega (arith, ints))
 side (negsuc a) d = (omega (arith, ints), omega (arith, ints))
 
 times_negative : (q : ℤ) (d : ℕ) → q *ℤ negsuc d ≡ neg_ℤ (q *ℤ pos (suc d))
@@ -27,7 +28,11 @@ pub floor_division : (x y : ℤ) → y ≢ pos 0 → IsFloorDivision x y (floor_
 floor_division x (pos zero) h = absurd (h refl)
 floor_division x (pos (suc d)) h = record { whole = whole x d; remainder_side = side x d }
 floor_division x (negsuc d) h =
-    let sum : (int_div_euclid (neg_ℤ x) (pos (suc d)) *ℤ pos (suc d)) +ℤ int_rem_euclid (neg_ℤ x) (pos (suc d)) ≡ neg_ℤ x = whole (neg_ℤ x) d in
-    let turned : int_div_euclid (neg_ℤ x) (pos (suc d)) *ℤ negsuc d ≡ neg_ℤ (int_div_euclid (neg_ℤ x) (pos (suc d)) *ℤ pos (suc d)) = times_negative (int_div_euclid (neg_ℤ x) (pos (suc d))) d in
-    let at : (pos 0 ≤ℤ int_rem_euclid (neg_ℤ x) (pos (suc d))) × (int_rem_euclid (neg_ℤ x) (pos (suc d)) <ℤ pos (suc d)) = side (neg_ℤ x) d in
+    let sum : (int_div_euclid (neg_ℤ x) (pos (suc d)) *ℤ pos (suc d)) +ℤ int_rem_euclid (neg_ℤ x) (pos (suc d)) ≡ neg_ℤ
+    x = whole (neg_ℤ x) d in
+    let turned : int_div_euclid (neg_ℤ x) (pos (suc d)) *ℤ negsuc d ≡ neg_ℤ
+    (int_div_euclid (neg_ℤ x) (pos (suc d)) *ℤ pos (suc d)) =
+    times_negative (int_div_euclid (neg_ℤ x) (pos (suc d))) d in
+    let at : (pos 0 ≤ℤ int_rem_euclid (neg_ℤ x) (pos (suc d)))
+    × (int_rem_euclid (neg_ℤ x) (pos (suc d)) <ℤ pos (suc d)) = side (neg_ℤ x) d in
     record { whole = omega (arith, ints); remainder_side = (omega (arith, ints), omega (arith, ints)) }

@@ -16,8 +16,13 @@ even_more : (a n : ℕ) → n % 2 ≡ 0 → int_pow (negsuc a) (suc n) ≡ int_p
 even_more a n even = let odd : suc n % 2 ≡ 1 = omega arith in rw (odd, even, pow-suc (suc a) n) refl
 
 odd_more : (a n : ℕ) → n % 2 ≡ 1 → int_pow (negsuc a) (suc n) ≡ int_pow (negsuc a) n *ℤ negsuc a
-odd_more a n odd = let even : suc n % 2 ≡ 0 = omega arith in rw (even, odd, pow-suc (suc a) n) (sym (neg_times (suc a ^ n) a))
+odd_more a n odd = let even : suc n % 2 ≡ 0 = omega arith in
+    rw (even, odd, pow-suc (suc a) n) (sym (neg_times (suc a ^ n) a))
 
 pub power_of_more : (x : ℤ) (n : ℕ) → int_pow x (suc n) ≡ int_pow x n *ℤ x
 power_of_more (pos a) n = ap pos (pow-suc a n)
-power_of_more (negsuc a) n = elim (cases_eq (n % 2) 0) [ inl even ↦ even_more a n even | inr other ↦ odd_more a n (omega arith) ]
+power_of_more (negsuc a) n = elim (cases_eq (n % 2) 0) [
+  | inl even ↦ even_more a n even
+  | inr other ↦
+      odd_more a n (omega arith)
+]

@@ -43,14 +43,17 @@ overflow_below zero h = absurd (omega arith)
 overflow_below (suc n) h = grind (arith, nat_tests)
 
 -- a number of at least 2 to the power 64 or more is no Integer
-pub overflow_power : (x : ℤ) (e : ℕ) → 64 ≤ e → x ≢ pos 0 → x ≢ pos 1 → x ≢ negsuc 0 → exact (int_pow x e) ≡ Err Overflow
+pub overflow_power : (x : ℤ) (e : ℕ) → 64 ≤ e → x ≢ pos 0 → x ≢ pos 1 → x ≢ negsuc 0
+    → exact (int_pow x e) ≡ Err Overflow
 overflow_power (pos zero) e h no0 no1 no2 = absurd (no0 refl)
 overflow_power (pos (suc zero)) e h no0 no1 no2 = absurd (no1 refl)
-overflow_power (pos (suc (suc a))) e h no0 no1 no2 = overflow_of (suc (suc a) ^ e) (large (suc (suc a)) e (omega arith) h)
+overflow_power (pos (suc (suc a))) e h no0 no1 no2 =
+    overflow_of (suc (suc a) ^ e) (large (suc (suc a)) e (omega arith) h)
 overflow_power (negsuc zero) e h no0 no1 no2 = absurd (no2 refl)
 overflow_power (negsuc (suc a)) e h no0 no1 no2 =
     let big : 2 ^ 64 ≤ suc (suc a) ^ e = large (suc (suc a)) e (omega arith) h in
-    let P : Bool → Type 0 = λ even. exact (cond even (pos (suc (suc a) ^ e)) (neg_ℤ (pos (suc (suc a) ^ e)))) ≡ Err Overflow in
+    let P : Bool → Type 0 = λ even. exact (cond even (pos (suc (suc a) ^ e)) (neg_ℤ (pos (suc (suc a) ^ e)))) ≡ Err
+    Overflow in
     elim (e % 2 == 0) as P [ true ↦ overflow_of (suc (suc a) ^ e) big | false ↦ overflow_below (suc (suc a) ^ e) big ]
 
 pub ruleset large_powers = (power_of_zero, power_of_one, even_power, odd_power, overflow_power)

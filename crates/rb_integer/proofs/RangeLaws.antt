@@ -40,7 +40,8 @@ inside a c k h = by_lt_z {P = stands_within a (a +ℤ pos k) c ≡ true} a c
     both (int_le a (a +ℤ pos k)) (int_lt (a +ℤ pos k) c) from.le to.lt)
     (λ above. let none : int_gap a c ≡ 0 = gap_none a c above in absurd (omega arith))
 
-pub each_item_included : (b : Bounds) (exclusive : Bool) (k : ℕ) → k < count b exclusive → includes b exclusive (item b k) ≡ true
+pub each_item_included : (b : Bounds) (exclusive : Bool) (k : ℕ) → k < count b exclusive
+    → includes b exclusive (item b k) ≡ true
 each_item_included (Integers a z) exclusive k h = inside a (behind (Integers a z) exclusive) k h
 each_item_included (Bytes a z) exclusive k h = inside (pos a) (behind (Bytes a z) exclusive) k h
 
@@ -58,8 +59,13 @@ place a z c h =
 byte_at : (a k c : ℕ) → pos a +ℤ pos k ≡ pos c → Byte (a + k) ≡ Byte c
 byte_at a k c h = cc
 
-pub each_included_is_item : (b : Bounds) (exclusive : Bool) (x : Item) → includes b exclusive x ≡ true → (k : ℕ) × (k < count b exclusive) × (item b k ≡ x)
-each_included_is_item (Integers a e) exclusive (Integer z) h = let at : (k : ℕ) × (k < int_gap a (behind (Integers a e) exclusive)) × (a +ℤ pos k ≡ z) = place a z (behind (Integers a e) exclusive) h in (at.0, at.1, ap Integer at.2)
+pub each_included_is_item : (b : Bounds) (exclusive : Bool) (x : Item) → includes b exclusive x ≡ true → (k : ℕ)
+    × (k < count b exclusive) × (item b k ≡ x)
+each_included_is_item (Integers a e) exclusive (Integer z) h = let at : (k : ℕ)
+    × (k < int_gap a (behind (Integers a e) exclusive)) × (a +ℤ pos k ≡ z) =
+    place a z (behind (Integers a e) exclusive) h in (at.0, at.1, ap Integer at.2)
 each_included_is_item (Integers a e) exclusive (Byte c) h = cc
 each_included_is_item (Bytes a e) exclusive (Integer z) h = cc
-each_included_is_item (Bytes a e) exclusive (Byte c) h = let at : (k : ℕ) × (k < int_gap (pos a) (behind (Bytes a e) exclusive)) × (pos a +ℤ pos k ≡ pos c) = place (pos a) (pos c) (behind (Bytes a e) exclusive) h in (at.0, at.1, byte_at a at.0 c at.2)
+each_included_is_item (Bytes a e) exclusive (Byte c) h = let at : (k : ℕ)
+    × (k < int_gap (pos a) (behind (Bytes a e) exclusive)) × (pos a +ℤ pos k ≡ pos c) =
+    place (pos a) (pos c) (behind (Bytes a e) exclusive) h in (at.0, at.1, byte_at a at.0 c at.2)

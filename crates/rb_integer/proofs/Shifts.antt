@@ -24,7 +24,9 @@ zero_left x k is = rw (is, zero-mul (2 ^ k)) refl
 one_shifted : (k : ℕ) → k < 63 → to_z w64 (1 * 2 ^ k % 2 ^ 64) ≡ pos (2 ^ k)
 one_shifted k h = rw (one_shl k 64 (omega arith)) (to_z_pos w64 (2 ^ k) (pow_below k 63 h))
 
-pub small_left : (x : ℤ) (k : ℕ) (o : Option ℤ) → FitsSigned w64 x → k < 63 → SomeIff o (FitsSigned w64 (to_z w64 (of_z w64 x) *ℤ to_z w64 (1 * 2 ^ k % 2 ^ 64))) (to_z w64 (of_z w64 x) *ℤ to_z w64 (1 * 2 ^ k % 2 ^ 64)) → ok_or o Overflow ≡ exact (x *ℤ pos (2 ^ k))
+pub small_left : (x : ℤ) (k : ℕ) (o : Option ℤ) → FitsSigned w64 x → k < 63
+    → SomeIff o (FitsSigned w64 (to_z w64 (of_z w64 x) *ℤ to_z w64 (1 * 2 ^ k % 2 ^ 64)))
+    (to_z w64 (of_z w64 x) *ℤ to_z w64 (1 * 2 ^ k % 2 ^ 64)) → ok_or o Overflow ≡ exact (x *ℤ pos (2 ^ k))
 small_left x k o f h s =
     let ex : to_z w64 (of_z w64 x) ≡ x = to_z-of_z w64 x f in
     let one : to_z w64 (1 * 2 ^ k % 2 ^ 64) ≡ pos (2 ^ k) = one_shifted k h in

@@ -15,9 +15,9 @@ ghost use Rattle.lower_table.specs.Lowering.{core};
 ghost use Rattle.rb_lower.specs.Refusal.{Refuses};
 
 pub use error::LowerError;
-use lower_table::Lower;
-use lower_outside::first_outside;
 use ir_core::Core;
+use lower_outside::first_outside;
+use lower_table::Lower;
 use parser_tree::Tree;
 use std::alloc::Global;
 

@@ -13,12 +13,15 @@ use Rattle.def_core.proofs.Sorts.{is_there, same_sort}
 use Rattle.rb_store.specs.Opening.{with_names, with_row, with_rows, nameless, core_object, core_contents, range_singleton}
 
 pub names_step : {A : Type 0} (f : A → List ℕ) (st : Store) (i : ℕ) (names : List A) (d : A) → i < length names
-    → with_names (intern st (f (get_or names i d))).store (map f (drop (i + 1) names)) ≡ with_names st (map f (drop i names))
+    → with_names (intern st (f (get_or names i d))).store (map f (drop (i + 1) names)) ≡ with_names st
+    (map f (drop i names))
 unfolding with_names
 names_step f st i names d h = rw (drop_more names i d) refl
 
-pub rows_step : {A : Type 0} (f : A → List ℕ) (st : Store) (c : ObjId) (first i : ℕ) (names : List A) (d : A) → i < length names
-    → with_rows (with_row c (first + i) (intern st (f (get_or names i d)))) c (first + (i + 1)) (map f (drop (i + 1) names)) ≡ with_rows st c (first + i) (map f (drop i names))
+pub rows_step : {A : Type 0} (f : A → List ℕ) (st : Store) (c : ObjId) (first i : ℕ) (names : List A) (d : A)
+    → i < length names
+    → with_rows (with_row c (first + i) (intern st (f (get_or names i d)))) c (first + (i + 1))
+    (map f (drop (i + 1) names)) ≡ with_rows st c (first + i) (map f (drop i names))
 unfolding with_rows
 rows_step f st c first i names d h =
     let e : first + (i + 1) ≡ first + i + 1 = omega arith in
@@ -27,14 +30,17 @@ rows_step f st c first i names d h =
 pub there_still : (now then : List Object) (n : ℕ) → sorts_of now ≡ sorts_of then → n < length then → n < length now
 there_still now then n e h = rw (is_there now then e) h
 
-pub plays_still : (now then : List Object) (id : ObjId) (r : Role) → sorts_of now ≡ sorts_of then → plays r (sort_at then id) ≡ true → plays r (sort_at now id) ≡ true
+pub plays_still : (now then : List Object) (id : ObjId) (r : Role) → sorts_of now ≡ sorts_of then
+    → plays r (sort_at then id) ≡ true → plays r (sort_at now id) ≡ true
 plays_still now then id r e h = rw (same_sort now then id e) h
 
-pub names_end : {A : Type 0} (f : A → List ℕ) (st : Store) (i : ℕ) (names : List A) → length names ≤ i → with_names st (map f (drop i names)) ≡ st
+pub names_end : {A : Type 0} (f : A → List ℕ) (st : Store) (i : ℕ) (names : List A) → length names ≤ i
+    → with_names st (map f (drop i names)) ≡ st
 unfolding with_names
 names_end f st i names h = rw (drop_all i names) refl
 
-pub rows_end : {A : Type 0} (f : A → List ℕ) (st : Store) (c : ObjId) (n i : ℕ) (names : List A) → length names ≤ i → with_rows st c n (map f (drop i names)) ≡ st
+pub rows_end : {A : Type 0} (f : A → List ℕ) (st : Store) (c : ObjId) (n i : ℕ) (names : List A) → length names ≤ i
+    → with_rows st c n (map f (drop i names)) ≡ st
 unfolding with_rows
 rows_end f st c n i names h = rw (drop_all i names) refl
 

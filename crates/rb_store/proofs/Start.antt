@@ -28,7 +28,11 @@ use Rattle.rb_store.specs.Opening.{constant_for, constants_for, object_constants
 
 -- the sorts of the core classes, the main object and the two singleton classes, in their order
 abbrev start_sorts : List Sort
-start_sorts = sort.Class ∷ sort.Module ∷ sort.Class ∷ sort.Class ∷ sort.Module ∷ sort.Module ∷ sort.Class ∷ sort.Class ∷ sort.Class ∷ sort.Class ∷ sort.Class ∷ sort.Class ∷ sort.Class ∷ sort.Class ∷ sort.Class ∷ sort.Class ∷ sort.Class ∷ sort.Class ∷ sort.Class ∷ sort.Class ∷ sort.Class ∷ sort.Class ∷ sort.Class ∷ sort.Class ∷ sort.Class ∷ sort.Class ∷ sort.Class ∷ sort.Class ∷ sort.Class ∷ sort.Class ∷ sort.Class ∷ sort.Class ∷ sort.Class ∷ sort.Class ∷ sort.Class ∷ sort.Class ∷ sort.Class ∷ sort.Class ∷ sort.Plain ∷ sort.Singleton ∷ sort.Singleton ∷ []
+start_sorts = sort.Class ∷ sort.Module ∷ sort.Class ∷ sort.Class ∷ sort.Module ∷ sort.Module ∷ sort.Class ∷ sort.Class ∷
+    sort.Class ∷ sort.Class ∷ sort.Class ∷ sort.Class ∷ sort.Class ∷ sort.Class ∷ sort.Class ∷ sort.Class ∷ sort.Class ∷
+    sort.Class ∷ sort.Class ∷ sort.Class ∷ sort.Class ∷ sort.Class ∷ sort.Class ∷ sort.Class ∷ sort.Class ∷ sort.Class ∷
+    sort.Class ∷ sort.Class ∷ sort.Class ∷ sort.Class ∷ sort.Class ∷ sort.Class ∷ sort.Class ∷ sort.Class ∷ sort.Class ∷
+    sort.Class ∷ sort.Class ∷ sort.Class ∷ sort.Plain ∷ sort.Singleton ∷ sort.Singleton ∷ []
 
 abbrev start : Census
 start = record { sorts = start_sorts; symbols = 39 }
@@ -202,26 +206,34 @@ module_root class.ZeroDivisionError e = cc
 
 constants_are : (cs : List CoreClass) → AllAre (SoundConstant start) (constants_for cs)
 constants_are [] = tt
-constants_are (c ∷ cs) = elim (not (nat_eq (number_of c) 19)) as (λ b. AllAre (SoundConstant start) (map constant_for (cond b (c ∷ filter (λ x. not (nat_eq (number_of x) 19)) cs) (filter (λ x. not (nat_eq (number_of x) 19)) cs)))) [
-  | true ↦ ((record { below = number_below c }, is_there c), constants_are cs)
-  | false ↦ constants_are cs
-]
+constants_are (c ∷ cs) = elim (not (nat_eq (number_of c) 19)) as
+    (λ b. AllAre (SoundConstant start) (map constant_for
+    (cond b (c ∷ filter (λ x. not (nat_eq (number_of x) 19)) cs) (filter (λ x. not (nat_eq (number_of x) 19)) cs)))) [
+      | true ↦ ((record { below = number_below c }, is_there c), constants_are cs)
+      | false ↦ constants_are cs
+    ]
 
 own_constants : (c : CoreClass) → AllAre (SoundConstant start) (constants_of c)
 unfolding object_constants
-own_constants c = elim (nat_eq (number_of c) 0) as (λ b. AllAre (SoundConstant start) (if b then object_constants else (if nat_eq (number_of c) 18 then (record { name = record { 0 = 38 }; value = (constant_for class.Yielder).value }) ∷ [] else []))) [
-  | true ↦ constants_are core_classes
-  | false ↦ elim (nat_eq (number_of c) 18) as (λ b. AllAre (SoundConstant start) (if b then (record { name = record { 0 = 38 }; value = (constant_for class.Yielder).value }) ∷ [] else [])) [
-    | true ↦ ((record { below = lit< tt }, is_there class.Yielder), tt)
-    | false ↦ tt
-  ]
-]
+own_constants c = elim (nat_eq (number_of c) 0) as
+    (λ b. AllAre (SoundConstant start) (if b then object_constants else
+    (if nat_eq (number_of c) 18 then (record { name = record { 0 = 38 }; value = (constant_for class.Yielder).value }) ∷
+    [] else []))) [
+      | true ↦ constants_are core_classes
+      | false ↦ elim (nat_eq (number_of c) 18) as
+          (λ b. AllAre (SoundConstant start) (if b then
+          (record { name = record { 0 = 38 }; value = (constant_for class.Yielder).value }) ∷ [] else [])) [
+            | true ↦ ((record { below = lit< tt }, is_there class.Yielder), tt)
+            | false ↦ tt
+          ]
+    ]
 
 included_are : (c : CoreClass) → AllAre (Is start Module) (included_in c)
-included_are c = elim (nat_eq (number_of c) 0) as (λ b. AllAre (Is start Module) (if b then core class.Kernel ∷ [] else [])) [
-  | true ↦ (record { holds = refl }, tt)
-  | false ↦ tt
-]
+included_are c = elim (nat_eq (number_of c) 0) as
+    (λ b. AllAre (Is start Module) (if b then core class.Kernel ∷ [] else [])) [
+      | true ↦ (record { holds = refl }, tt)
+      | false ↦ tt
+    ]
 
 class_of_class : (c : CoreClass) → Is start Class (if is_module c then core class.Module else core class.Class)
 class_of_class c = elim (is_module c) as (λ b. Is start Class (if b then core class.Module else core class.Class)) [
@@ -230,13 +242,16 @@ class_of_class c = elim (is_module c) as (λ b. Is start Class (if b then core c
 ]
 
 singleton_is : (c : CoreClass) → OptionIs (Is start SingletonClass) (singleton_of c)
-singleton_is c = elim (nat_eq (number_of c) 0) as (λ b. OptionIs (Is start SingletonClass) (if b then Some object_singleton else (if nat_eq (number_of c) 15 then Some range_singleton else None))) [
-  | true ↦ record { holds = refl }
-  | false ↦ elim (nat_eq (number_of c) 15) as (λ b. OptionIs (Is start SingletonClass) (if b then Some range_singleton else None)) [
-    | true ↦ record { holds = refl }
-    | false ↦ tt
-  ]
-]
+singleton_is c = elim (nat_eq (number_of c) 0) as
+    (λ b. OptionIs (Is start SingletonClass) (if b then Some object_singleton else
+    (if nat_eq (number_of c) 15 then Some range_singleton else None))) [
+      | true ↦ record { holds = refl }
+      | false ↦ elim (nat_eq (number_of c) 15) as
+          (λ b. OptionIs (Is start SingletonClass) (if b then Some range_singleton else None)) [
+            | true ↦ record { holds = refl }
+            | false ↦ tt
+          ]
+    ]
 
 core_sound : (c : CoreClass) → SoundObject start (number_of c) (core_object c)
 unfolding core_object core_contents
@@ -257,12 +272,21 @@ core_sound c = record {
 main_sound : SoundObject start 38 (fresh (core class.Object) kind.Plain)
 main_sound = record { class = record { holds = refl }; singleton = tt; variables = tt; kind = tt }
 
-singleton_sound : (n : ℕ) (superclass : ObjId) → Is start Superclass superclass → superclass.0 < n → SoundObject start n (singleton_object superclass)
+singleton_sound : (n : ℕ) (superclass : ObjId) → Is start Superclass superclass → superclass.0 < n
+    → SoundObject start n (singleton_object superclass)
 singleton_sound n superclass is below = record {
   class = record { holds = refl };
   singleton = tt;
   variables = tt;
-  kind = record { name = tt; superclass = (is, below); module_root = λ e. cc; included = tt; constants = tt; methods = tt };
+  kind = record {
+    name = tt;
+    superclass = (is, below);
+    module_root = λ e. cc;
+    included = tt;
+    constants = tt;
+    methods =
+        tt;
+  };
 }
 
 -- objects that are sound with the numbers from n on
@@ -270,14 +294,139 @@ abbrev SoundFrom : ℕ → List Object → Type 0
 SoundFrom n [] = Unit {0}
 SoundFrom n (o ∷ os) = SoundObject start n o × SoundFrom (suc n) os
 
-sound_at : (n : ℕ) (os : List Object) (i : ℕ) → SoundFrom n os → i < length os → SoundObject start (n + i) (get_or os i absent)
+sound_at : (n : ℕ) (os : List Object) (i : ℕ) → SoundFrom n os → i < length os
+    → SoundObject start (n + i) (get_or os i absent)
 sound_at n [] i all h = absurd (omega (arith, h))
 sound_at n (o ∷ os) zero all h = let e : n + zero ≡ n = omega arith in rw e all.0
-sound_at n (o ∷ os) (suc i) all h = let e : n + suc i ≡ suc n + i = omega arith in rw e (sound_at (suc n) os i all.1 (omega (arith, h)))
+sound_at n (o ∷ os) (suc i) all h = let e : n + suc i ≡ suc n + i = omega arith in
+    rw e (sound_at (suc n) os i all.1 (omega (arith, h)))
 
 nameless_sound : SoundFrom 0 nameless.objects
 unfolding nameless core_classes
-nameless_sound = (core_sound class.Object, (core_sound class.Kernel, (core_sound class.Module, (core_sound class.Class, (core_sound class.Comparable, (core_sound class.Enumerable, (core_sound class.Numeric, (core_sound class.Integer, (core_sound class.NilClass, (core_sound class.TrueClass, (core_sound class.FalseClass, (core_sound class.String, (core_sound class.Symbol, (core_sound class.Array, (core_sound class.Hash, (core_sound class.Range, (core_sound class.Proc, (core_sound class.Fiber, (core_sound class.Enumerator, (core_sound class.Yielder, (core_sound class.Exception, (core_sound class.ScriptError, (core_sound class.NotImplementedError, (core_sound class.SystemExit, (core_sound class.SystemStackError, (core_sound class.StandardError, (core_sound class.ArgumentError, (core_sound class.FiberError, (core_sound class.IndexError, (core_sound class.KeyError, (core_sound class.StopIteration, (core_sound class.LocalJumpError, (core_sound class.NameError, (core_sound class.NoMethodError, (core_sound class.RangeError, (core_sound class.RuntimeError, (core_sound class.TypeError, (core_sound class.ZeroDivisionError, (main_sound, (singleton_sound 39 (core class.Class) (record { holds = refl }) (lit< tt), (singleton_sound 40 object_singleton (record { holds = refl }) (lit< tt), tt)))))))))))))))))))))))))))))))))))))))))
+nameless_sound = (
+  core_sound class.Object,
+  (
+    core_sound class.Kernel,
+    (
+      core_sound class.Module,
+      (
+        core_sound class.Class,
+        (
+          core_sound class.Comparable,
+          (
+            core_sound class.Enumerable,
+            (
+              core_sound class.Numeric,
+              (
+                core_sound class.Integer,
+                (
+                  core_sound class.NilClass,
+                  (
+                    core_sound class.TrueClass,
+                    (
+                      core_sound class.FalseClass,
+                      (
+                        core_sound class.String,
+                        (
+                          core_sound class.Symbol,
+                          (
+                            core_sound class.Array,
+                            (
+                              core_sound class.Hash,
+                              (
+                                core_sound class.Range,
+                                (
+                                  core_sound class.Proc,
+                                  (
+                                    core_sound class.Fiber,
+                                    (
+                                      core_sound class.Enumerator,
+                                      (
+                                        core_sound class.Yielder,
+                                        (
+                                          core_sound class.Exception,
+                                          (
+                                            core_sound class.ScriptError,
+                                            (
+                                              core_sound class.NotImplementedError,
+                                              (
+                                                core_sound class.SystemExit,
+                                                (
+                                                  core_sound class.SystemStackError,
+                                                  (
+                                                    core_sound class.StandardError,
+                                                    (
+                                                      core_sound class.ArgumentError,
+                                                      (
+                                                        core_sound class.FiberError,
+                                                        (
+                                                          core_sound class.IndexError,
+                                                          (
+                                                            core_sound class.KeyError,
+                                                            (
+                                                              core_sound class.StopIteration,
+                                                              (
+                                                                core_sound class.LocalJumpError,
+                                                                (
+                                                                  core_sound class.NameError,
+                                                                  (
+                                                                    core_sound class.NoMethodError,
+                                                                    (
+                                                                      core_sound class.RangeError,
+                                                                      (
+                                                                        core_sound class.RuntimeError,
+                                                                        (
+                                                                          core_sound class.TypeError,
+                                                                          (
+                                                                            core_sound class.ZeroDivisionError,
+                                                                            (
+                                                                              main_sound,
+                                                                              (
+                                                                                singleton_sound 39 (core class.Class) (record { holds = refl }) (lit< tt),
+                                                                                (
+                                                                                  singleton_sound 40 object_singleton (record { holds = refl }) (lit< tt),
+                                                                                  tt,
+                                                                                ),
+                                                                              ),
+                                                                            ),
+                                                                          ),
+                                                                        ),
+                                                                      ),
+                                                                    ),
+                                                                  ),
+                                                                ),
+                                                              ),
+                                                            ),
+                                                          ),
+                                                        ),
+                                                      ),
+                                                    ),
+                                                  ),
+                                                ),
+                                              ),
+                                            ),
+                                          ),
+                                        ),
+                                      ),
+                                    ),
+                                  ),
+                                ),
+                              ),
+                            ),
+                          ),
+                        ),
+                      ),
+                    ),
+                  ),
+                ),
+              ),
+            ),
+          ),
+        ),
+      ),
+    ),
+  ),
+)
 
 nameless_sorts : sorts_of nameless.objects ≡ start_sorts
 unfolding nameless core_classes core_object core_contents
@@ -304,7 +453,8 @@ bare_sound = record {
       (subst (λ (os : List Object). SoundObject start n (get_or os n absent)) (sym bare_objects)
       (let within : n < length nameless.objects = subst (λ (os : List Object). n < length os) bare_objects h in
       let e : 0 + n ≡ n = omega arith in
-      subst (λ (m : ℕ). SoundObject start m (get_or nameless.objects n absent)) e (sound_at 0 nameless.objects n nameless_sound within)));
+      subst (λ (m : ℕ). SoundObject start m (get_or nameless.objects n absent)) e
+      (sound_at 0 nameless.objects n nameless_sound within)));
   core = λ c. ap (λ (k : Census). slice_get k.sorts (number_of c)) bare_census ∙ core_at c;
 }
 
@@ -320,7 +470,8 @@ interned_symbol : (st : Store) (name : List ℕ) → IsSymbol (census (intern st
 unfolding intern
 interned_symbol st name = by (position (bytes_eq name) st.symbols) refl
   where
-    by : (p : Option ℕ) → position (bytes_eq name) st.symbols ≡ p → IsSymbol (census (intern_at st name p).store) (intern_at st name p).symbol
+    by : (p : Option ℕ) → position (bytes_eq name) st.symbols ≡ p
+        → IsSymbol (census (intern_at st name p).store) (intern_at st name p).symbol
     by None e = record { below = rw length-append (omega arith) }
     by (Some i) e = record { below = (position-Some (bytes_eq name) st.symbols i [] e).0 }
 
@@ -331,29 +482,35 @@ row_is n h =
     grind (arith, nat_tests, enough, h)
 
 -- a core method keeps the sort of each object
-row_sorts : (st : Store) (c : ObjId) (n : ℕ) (name : List ℕ) → Is (census st) ClassOrModule c → sorts_of (with_row c n (intern st name)).objects ≡ sorts_of st.objects
+row_sorts : (st : Store) (c : ObjId) (n : ℕ) (name : List ℕ) → Is (census st) ClassOrModule c
+    → sorts_of (with_row c n (intern st name)).objects ≡ sorts_of st.objects
 row_sorts st c n name is =
     let there = (interned st name).roles ClassOrModule c is in
-    sorts-with_method (intern st name).store c (intern st name).symbol (method.Core n) Public (is_plays (intern st name).store ClassOrModule c there)
+    sorts-with_method (intern st name).store c (intern st name).symbol (method.Core n) Public
+    (is_plays (intern st name).store ClassOrModule c there)
     ∙ ap sorts_of (intern_objects st name)
 
-same_role : (st other : Store) (r : Role) (id : ObjId) → sorts_of other.objects ≡ sorts_of st.objects → Is (census st) r id → Is (census other) r id
+same_role : (st other : Store) (r : Role) (id : ObjId) → sorts_of other.objects ≡ sorts_of st.objects
+    → Is (census st) r id → Is (census other) r id
 same_role st other r id e is = record { holds = ap (λ ss. plays_at r (slice_get ss id.0)) e ∙ is.holds }
 
-rows_sorts : (st : Store) (c : ObjId) (n : ℕ) (names : List (List ℕ)) → Is (census st) ClassOrModule c → sorts_of (with_rows st c n names).objects ≡ sorts_of st.objects
+rows_sorts : (st : Store) (c : ObjId) (n : ℕ) (names : List (List ℕ)) → Is (census st) ClassOrModule c
+    → sorts_of (with_rows st c n names).objects ≡ sorts_of st.objects
 unfolding with_rows
 rows_sorts st c n [] is = refl
 rows_sorts st c n (name ∷ names) is =
     let e = row_sorts st c n name is in
     rows_sorts (with_row c n (intern st name)) c (n + 1) names (same_role st _ ClassOrModule c e is) ∙ e
 
-rows_sound : (st : Store) → Sound st → (c : ObjId) → Is (census st) ClassOrModule c → (n : ℕ) (names : List (List ℕ)) → n + length names ≤ 52 → Sound (with_rows st c n names)
+rows_sound : (st : Store) → Sound st → (c : ObjId) → Is (census st) ClassOrModule c → (n : ℕ) (names : List (List ℕ))
+    → n + length names ≤ 52 → Sound (with_rows st c n names)
 unfolding with_rows
 rows_sound st sound c is n [] h = sound
 rows_sound st sound c is n (name ∷ names) h =
     let there = (interned st name).roles ClassOrModule c is in
     rows_sound (with_row c n (intern st name))
-    (sound_with_method (intern st name).store (sound_with_interned st sound name) c (intern st name).symbol (method.Core n) Public there (interned_symbol st name) (row_is n (omega (arith, h))))
+    (sound_with_method (intern st name).store (sound_with_interned st sound name) c (intern st name).symbol
+    (method.Core n) Public there (interned_symbol st name) (row_is n (omega (arith, h))))
     c (same_role st _ ClassOrModule c (row_sorts st c n name is) is) (n + 1) names (omega (arith, h))
 
 bare_role : (id : ObjId) → Is start ClassOrModule id → Is (census bare) ClassOrModule id
@@ -369,5 +526,6 @@ opening_sound =
     let with_integer = rows_sorts bare (core class.Integer) 0 integer_names integer in
     let range_there = same_role bare _ ClassOrModule (core class.Range) with_integer range in
     let second = rows_sound _ first (core class.Range) range_there 39 range_names (lit≤ tt) in
-    let own_there = same_role _ _ ClassOrModule range_singleton (rows_sorts _ (core class.Range) 39 range_names range_there ∙ with_integer) own in
+    let own_there = same_role _ _ ClassOrModule range_singleton
+    (rows_sorts _ (core class.Range) 39 range_names range_there ∙ with_integer) own in
     rows_sound _ second range_singleton own_there 51 (codes "new" ∷ []) (lit≤ tt)

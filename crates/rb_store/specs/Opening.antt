@@ -34,7 +34,8 @@ object_constants = constants_for core_classes
 abbrev pub constants_of : CoreClass → List Constant
 constants_of c =
     if nat_eq (table.number_of c) 0 then object_constants
-    else (if nat_eq (table.number_of c) 18 then (record { name = symbol_number 38; value = Obj (core class.Yielder) }) ∷ [] else [])
+    else (if nat_eq (table.number_of c) 18 then (record { name = symbol_number 38; value = Obj (core class.Yielder) }) ∷
+    [] else [])
 
 -- Object includes Kernel
 abbrev pub included_in : CoreClass → List ObjId
@@ -83,7 +84,8 @@ core_object c = record {
 
 -- what stands behind the core classes and modules: the main object and the singleton classes
 abbrev pub others : List Object
-others = fresh (core class.Object) kind.Plain ∷ singleton_object (core class.Class) ∷ singleton_object object_singleton ∷ []
+others = fresh (core class.Object) kind.Plain ∷ singleton_object (core class.Class) ∷ singleton_object object_singleton
+    ∷ []
 
 -- the classes, modules and the main object, without methods and symbols
 unfoldable pub nameless : Store
@@ -113,5 +115,6 @@ with_rows st c n (name ∷ names) = with_rows (with_row c n (intern st name)) c 
 -- the rows of the table (def_core, Rows): those of Integer, those of Range, and `new` of Range itself
 unfoldable pub opening : Store
 opening =
-    with_rows (with_rows (with_rows bare (core class.Integer) 0 integer_names) (core class.Range) (length integer_names) range_names)
+    with_rows (with_rows (with_rows bare (core class.Integer) 0 integer_names) (core class.Range) (length integer_names)
+    range_names)
     range_singleton (length integer_names + length range_names) (codes "new" ∷ [])

@@ -1,11 +1,11 @@
 ghost use Rattle.std.specs.Prelude.{◌≡◌, ◌<◌, ℕ, length};
 ghost use Rattle.vm_env.specs.Env.{Lies, contents, env};
 
-use vm_env::{EnvId, Envs};
 use rb_value::{ObjId, Slot, Value};
 use stack_bank::StackBank;
 use std::process::Abort;
 use std::test::Fail;
+use vm_env::{EnvId, Envs};
 
 // A value of an environment is that of the slot, and the other way round; the values stay after the window is gone.
 #[test]

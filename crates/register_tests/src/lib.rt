@@ -2,8 +2,8 @@
 #![tactic(auto)]
 
 #[cfg(test)]
+mod environments;
+#[cfg(test)]
 mod pool;
 #[cfg(test)]
 mod stacks;
-#[cfg(test)]
-mod environments;

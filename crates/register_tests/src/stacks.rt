@@ -1,8 +1,8 @@
 ghost use Rattle.std.specs.Prelude.{ℕ, ◌<◌};
 ghost use Rattle.stack_bank.specs.Bank.{IsLive};
 
-use stack_bank::{StackBank, StackId};
 use rb_value::{Slot, SymId, Value};
+use stack_bank::{StackBank, StackId};
 use std::alloc::AllocError;
 use std::process::Abort;
 use std::test::Fail;

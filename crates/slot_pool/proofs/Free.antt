@@ -7,11 +7,13 @@ use Rattle.std.proofs.lemmas.List.Sums.{sum_by-append, sum_by-cons}
 use Rattle.slot_pool.specs.Inside.{is_free, IsApart}
 
 pub free_last : (free : List ℕ) (b : ℕ) → is_free (free ++ b ∷ []) b ≡ true
-free_last free b = list_any-append (nat_eq b) free (b ∷ []) ∙ or_right (is_free free b) (nat_eq b b || false) (rw (eq-eqb b b refl) refl)
+free_last free b = list_any-append (nat_eq b) free (b ∷ [])
+    ∙ or_right (is_free free b) (nat_eq b b || false) (rw (eq-eqb b b refl) refl)
 
 pub free_other : (free : List ℕ) (b k : ℕ) → k ≢ b → is_free (free ++ b ∷ []) k ≡ is_free free k
 free_other free b k differs =
-    list_any-append (nat_eq k) free (b ∷ []) ∙ rw (ne_eqb k b differs) (elim (is_free free k) as (λ t. (t || false) ≡ t) [ true ↦ refl | false ↦ refl ])
+    list_any-append (nat_eq k) free (b ∷ []) ∙ rw (ne_eqb k b differs)
+    (elim (is_free free k) as (λ t. (t || false) ≡ t) [ true ↦ refl | false ↦ refl ])
 
 -- one more free block, which wasn't
 pub apart_push : (free : List ℕ) (b : ℕ) → IsApart free → is_free free b ≡ false → IsApart (free ++ b ∷ [])
@@ -26,7 +28,8 @@ pub apart_front : (free : List ℕ) (b : ℕ) → IsApart (free ++ b ∷ []) →
 apart_front [] b apart = (tt, refl)
 apart_front (f ∷ free) b apart =
     let rest = apart_front free b apart.1 in
-    let parts = or_parts (is_free free f) (nat_eq f b || false) (sym (list_any-append (nat_eq f) free (b ∷ [])) ∙ apart.0) in
+    let parts = or_parts (is_free free f) (nat_eq f b || false)
+    (sym (list_any-append (nat_eq f) free (b ∷ [])) ∙ apart.0) in
     let other = or_parts (nat_eq f b) false parts.1 in
     let differs : b ≢ f = λ same. eqb-false f b other.0 (sym same) in
     ((parts.0, rest.0), or_from (nat_eq b f) (is_free free b) (ne_eqb b f differs) rest.1)

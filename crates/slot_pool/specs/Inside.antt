@@ -18,11 +18,12 @@ abbrev pub IsApart : List ℕ → Type 0
 IsApart [] = Unit {0}
 IsApart (f ∷ free) = (is_free free f ≡ false) × IsApart free
 
-pub record IsSound {T : Type 0} (free : List ℕ) (slots : List T) (count room free_capacity slot_capacity : ℕ) : Type 0 where
-  pub whole : length slots ≡ 64 * count
-  pub apart : IsApart free
-  pub below : All (λ f. f < count) free
-  pub balance : live_blocks (blocks_of free slots count) + length free ≡ count
-  pub fits : 64 * count < 2 ^ 64
-  pub free_room : count + room ≤ free_capacity
-  pub slot_room : 64 * (count + room) ≤ slot_capacity
+pub record IsSound {T : Type 0} (free : List ℕ) (slots : List T) (count room free_capacity slot_capacity : ℕ) : Type 0
+  where
+    pub whole : length slots ≡ 64 * count
+    pub apart : IsApart free
+    pub below : All (λ f. f < count) free
+    pub balance : live_blocks (blocks_of free slots count) + length free ≡ count
+    pub fits : 64 * count < 2 ^ 64
+    pub free_room : count + room ≤ free_capacity
+    pub slot_room : 64 * (count + room) ≤ slot_capacity

@@ -31,15 +31,19 @@ same_values old new b same = ap (λ o. unwrap_or o []) same
 pub other_block : (blocks : Blocks) (b c : ℕ) → IsSome (block_at blocks b) → block_at blocks c ≡ None → b ≢ c
 other_block blocks b c live none same = cc (ap (block_at blocks) same)
 
-pub live_set_some : (blocks : Blocks) (b : ℕ) (xs : List Slot) → IsSome (block_at blocks b) → live_blocks (set blocks b (Some xs)) ≡ live_blocks blocks
+pub live_set_some : (blocks : Blocks) (b : ℕ) (xs : List Slot) → IsSome (block_at blocks b)
+    → live_blocks (set blocks b (Some xs)) ≡ live_blocks blocks
 live_set_some blocks b xs live =
-    let sums : live_blocks (set blocks b (Some xs)) + one_if_live (get_or blocks b None) ≡ live_blocks blocks + 1 = sum_by-set one_if_live blocks b (Some xs) None (live_within blocks b live) in
+    let sums : live_blocks (set blocks b (Some xs)) + one_if_live (get_or blocks b None) ≡ live_blocks blocks + 1 =
+    sum_by-set one_if_live blocks b (Some xs) None (live_within blocks b live) in
     let one : one_if_live (get_or blocks b None) ≡ 1 = ap (λ t. cond t 1 0) live in
     omega arith
 
-pub live_set_none : (blocks : Blocks) (b : ℕ) → IsSome (block_at blocks b) → live_blocks (set blocks b None) + 1 ≡ live_blocks blocks
+pub live_set_none : (blocks : Blocks) (b : ℕ) → IsSome (block_at blocks b)
+    → live_blocks (set blocks b None) + 1 ≡ live_blocks blocks
 live_set_none blocks b live =
-    let sums : live_blocks (set blocks b None) + one_if_live (get_or blocks b None) ≡ live_blocks blocks + 0 = sum_by-set one_if_live blocks b None None (live_within blocks b live) in
+    let sums : live_blocks (set blocks b None) + one_if_live (get_or blocks b None) ≡ live_blocks blocks + 0 =
+    sum_by-set one_if_live blocks b None None (live_within blocks b live) in
     let one : one_if_live (get_or blocks b None) ≡ 1 = ap (λ t. cond t 1 0) live in
     omega arith
 

@@ -53,7 +53,11 @@ blocks_of (Some xs) = blocks_for (length xs)
 
 -- the stack has the first n slots, and the blocks that hold them
 abbrev pub cut : Bank → ℕ → ℕ → Bank
-cut bank id n = record { stacks = slice_set bank.stacks id (Some (take n (slots bank id))); tables = slice_set bank.tables id (take (blocks_for n) (table bank id)) }
+cut bank id n = record {
+  stacks = slice_set bank.stacks id (Some (take n (slots bank id)));
+  tables =
+      slice_set bank.tables id (take (blocks_for n) (table bank id));
+}
 
 abbrev pub shrunk : Bank → ℕ → ℕ → Bank
 shrunk bank id n = cut bank id (length (slots bank id) - n)

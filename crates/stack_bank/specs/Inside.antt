@@ -49,14 +49,16 @@ see blocks hs = record { stacks = map (seen blocks) hs; tables = map table_of hs
 -- the blocks of the table have 64 values each, and none stands twice
 pub record HoldsTable (blocks : Blocks) (table : List ℕ) : Type 0 where
   pub full : (j : ℕ) → j < length table → length (values_at blocks (slice_index_or table j 0)) ≡ 64
-  pub apart : (i j : ℕ) → i < length table → j < length table → slice_index_or table i 0 ≡ slice_index_or table j 0 → i ≡ j
+  pub apart : (i j : ℕ) → i < length table → j < length table → slice_index_or table i 0 ≡ slice_index_or table j 0
+      → i ≡ j
 
 abbrev pub IsOutside : List ℕ → ℕ → Type 0
 IsOutside table b = (j : ℕ) → j < length table → slice_index_or table j 0 ≢ b
 
 -- blocks are leased and given back for one table: every other live block is as before, and outside the table
 pub record Moves (old new : Blocks) (before after : List ℕ) : Type 0 where
-  pub others : (b : ℕ) → IsSome (block_at old b) → IsOutside before b → (block_at new b ≡ block_at old b) × IsOutside after b
+  pub others : (b : ℕ) → IsSome (block_at old b) → IsOutside before b → (block_at new b ≡ block_at old b)
+      × IsOutside after b
   pub holds : HoldsTable new after
   pub count : live_blocks new + length before ≡ live_blocks old + length after
 
@@ -105,6 +107,8 @@ pub record IsWhole (h : Held) : Type 0 where
 
 pub record IsSound (blocks : Blocks) (hs : List Held) : Type 0 where
   pub whole : All IsWhole hs
-  pub full : (s j : ℕ) → j < length (table_at hs s) → length (values_at blocks (slice_index_or (table_at hs s) j 0)) ≡ 64
-  pub apart : (s t i j : ℕ) → i < length (table_at hs s) → j < length (table_at hs t) → slice_index_or (table_at hs s) i 0 ≡ slice_index_or (table_at hs t) j 0 → (s ≡ t) × (i ≡ j)
+  pub full : (s j : ℕ) → j < length (table_at hs s)
+      → length (values_at blocks (slice_index_or (table_at hs s) j 0)) ≡ 64
+  pub apart : (s t i j : ℕ) → i < length (table_at hs s) → j < length (table_at hs t)
+      → slice_index_or (table_at hs s) i 0 ≡ slice_index_or (table_at hs t) j 0 → (s ≡ t) × (i ≡ j)
   pub total : sum_by length (map table_of hs) ≡ live_blocks blocks

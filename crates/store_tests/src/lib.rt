@@ -2,10 +2,10 @@
 #![tactic(auto)]
 
 #[cfg(test)]
-mod values;
-#[cfg(test)]
-mod objects;
-#[cfg(test)]
 mod classes;
 #[cfg(test)]
 mod lookup;
+#[cfg(test)]
+mod objects;
+#[cfg(test)]
+mod values;

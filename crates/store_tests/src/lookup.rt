@@ -4,9 +4,9 @@ ghost use Rattle.def_core.specs.Sound.{Sound, Census, census, Is, ClassOrModule,
 ghost use Rattle.rb_store.specs.Counted.{IsCounted};
 ghost use Rattle.method_lookup.specs.Cache.{GoesWith};
 
-use method_lookup::*;
 use class_model::set_method;
 use def_core::{BindKind, Bound, Found};
+use method_lookup::*;
 use rb_base::Steps;
 use rb_store::Store;
 use rb_value::{Args, CoreClass, Kind, Method, ObjId, Shape, SymId, Value, Visibility};

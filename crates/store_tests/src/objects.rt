@@ -1,5 +1,5 @@
-use rb_store::*;
 use rb_base::List;
+use rb_store::*;
 use rb_value::{CoreClass, Kind, Object, SymId};
 use std::test::Fail;
 

@@ -1,5 +1,5 @@
-use rb_value::*;
 use rb_base::{Bytes, List};
+use rb_value::*;
 use std::test::Fail;
 
 const PUBLIC: MethodEntry = MethodEntry {

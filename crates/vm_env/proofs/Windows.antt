@@ -22,33 +22,45 @@ length-window base n xs within = length-take-le n (drop base xs) (rw (length-dro
 pub window_bound : (base n i : ℕ) (xs : List Slot) → i < length (map read (window base n xs)) → i < n
 window_bound base n i xs within = omega (arith, length-map (window base n xs) read, length-take n (drop base xs))
 
-pub get_or-window : (base n i : ℕ) (xs : List Slot) (d : Slot) → i < n → get_or (window base n xs) i d ≡ get_or xs (base + i) d
+pub get_or-window : (base n i : ℕ) (xs : List Slot) (d : Slot) → i < n
+    → get_or (window base n xs) i d ≡ get_or xs (base + i) d
 get_or-window base n i xs d within = get_or-take n (drop base xs) i d within ∙ get_or-drop base xs i d
 
-pub window_here : (base n i : ℕ) (xs : List Slot) (v : Slot) → i < n → window base n (set xs (base + i) v) ≡ set (window base n xs) i v
+pub window_here : (base n i : ℕ) (xs : List Slot) (v : Slot) → i < n
+    → window base n (set xs (base + i) v) ≡ set (window base n xs) i v
 window_here base n i xs v within = rw (drop-set-add base xs i v) (take-set-lt n (drop base xs) i v within)
 
-pub window_other : (base n p : ℕ) (xs : List Slot) (v : Slot) → ((j : ℕ) → j < n → base + j ≢ p) → window base n (set xs p v) ≡ window base n xs
+pub window_other : (base n p : ℕ) (xs : List Slot) (v : Slot) → ((j : ℕ) → j < n → base + j ≢ p)
+    → window base n (set xs p v) ≡ window base n xs
 window_other base n p xs v outside =
-    let lengths : length (window base n (set xs p v)) ≡ length (window base n xs) = simp (length-take, length-drop, length-set) refl in
+    let lengths : length (window base n (set xs p v)) ≡ length (window base n xs) =
+    simp (length-take, length-drop, length-set) refl in
     same_lists _ _ lengths (λ j d in_list.
     let within : j < n = omega (arith, length-take n (drop base (set xs p v))) in
-    get_or-window base n j (set xs p v) d within ∙ (get_or-set_other xs p (base + j) v d (outside j within) ∙ sym (get_or-window base n j xs d within)))
+    get_or-window base n j (set xs p v) d within
+    ∙ (get_or-set_other xs p (base + j) v d (outside j within) ∙ sym (get_or-window base n j xs d within)))
 
 -- ---- one value of a window
 
-pub window_value : (base n i : ℕ) (xs : List Slot) (v : Slot) → base + n ≤ length xs → i < n → slice_get xs (base + i) ≡ Some v → slice_get (map read (window base n xs)) i ≡ Some (read v)
+pub window_value : (base n i : ℕ) (xs : List Slot) (v : Slot) → base + n ≤ length xs → i < n
+    → slice_get xs (base + i) ≡ Some v → slice_get (map read (window base n xs)) i ≡ Some (read v)
 window_value base n i xs v lies within is =
-    let slot : get_or (window base n xs) i nil ≡ v = get_or-window base n i xs nil within ∙ get_or_from_slice_get xs (base + i) v nil is in
+    let slot : get_or (window base n xs) i nil ≡ v = get_or-window base n i xs nil within
+    ∙ get_or_from_slice_get xs (base + i) v nil is in
     let size : length (window base n xs) ≡ n = length-window base n xs lies in
     slice_get-get_or (map read (window base n xs)) i (read nil) (omega (arith, length-map (window base n xs) read))
     ∙ ap Some (get_or-map read (window base n xs) i nil (read nil) (omega arith) ∙ ap read slot)
 
 -- one value more is copied
-pub window_more : (base n i : ℕ) (xs : List Slot) (v : Slot) (front now : List Value) → base + n ≤ length xs → i < n → slice_get xs (base + i) ≡ Some v → now ≡ front ++ map read (window base i xs) → now ++ read v ∷ [] ≡ front ++ map read (window base (i + 1) xs)
+pub window_more : (base n i : ℕ) (xs : List Slot) (v : Slot) (front now : List Value) → base + n ≤ length xs → i < n
+    → slice_get xs (base + i) ≡ Some v → now ≡ front ++ map read (window base i xs) → now ++ read v ∷ [] ≡ front
+    ++ map read (window base (i + 1) xs)
 window_more base n i xs v front now lies within is so_far =
-    let slot : get_or (drop base xs) i nil ≡ v = get_or-drop base xs i nil ∙ get_or_from_slice_get xs (base + i) v nil is in
-    let more : map read (window base (i + 1) xs) ≡ map read (window base i xs) ++ read (get_or (drop base xs) i nil) ∷ [] = map_more read (drop base xs) i nil (rw (length-drop base xs) (omega arith)) in
+    let slot : get_or (drop base xs) i nil ≡ v = get_or-drop base xs i nil
+    ∙ get_or_from_slice_get xs (base + i) v nil is in
+    let more : map read (window base (i + 1) xs) ≡ map read (window base i xs)
+    ++ read (get_or (drop base xs) i nil) ∷ [] =
+    map_more read (drop base xs) i nil (rw (length-drop base xs) (omega arith)) in
     rw (so_far, more, slot) (append_assoc front (map read (window base i xs)) (read v ∷ []))
 
 -- ---- a slot of a stack is written
@@ -59,27 +71,36 @@ live_within bank id live = elim (cases_lt id (length bank.stacks)) as (λ _. id 
   | inr past ↦ absurd (cc (get_or_past bank.stacks id None past))
 ]
 
-pub slots_here : (bank : Bank) (id p : ℕ) (v : Slot) → IsLive bank id → slots (with_slot bank id p v) id ≡ set (slots bank id) p v
-slots_here bank id p v live = ap (λ o. unwrap_or o []) (get_or-set_same bank.stacks id (Some (set (slots bank id) p v)) None (live_within bank id live))
+pub slots_here : (bank : Bank) (id p : ℕ) (v : Slot) → IsLive bank id
+    → slots (with_slot bank id p v) id ≡ set (slots bank id) p v
+slots_here bank id p v live = ap (λ o. unwrap_or o [])
+    (get_or-set_same bank.stacks id (Some (set (slots bank id) p v)) None (live_within bank id live))
 
 pub slots_other : (bank : Bank) (id k p : ℕ) (v : Slot) → k ≢ id → slots (with_slot bank id p v) k ≡ slots bank k
-slots_other bank id k p v differs = ap (λ o. unwrap_or o []) (get_or-set_other bank.stacks id k (Some (set (slots bank id) p v)) None differs)
+slots_other bank id k p v differs = ap (λ o. unwrap_or o [])
+    (get_or-set_other bank.stacks id k (Some (set (slots bank id) p v)) None differs)
 
 -- the window that has the slot
-pub contents_here : (bank : Bank) (id base n i : ℕ) (v : Value) → IsLive bank id → i < n → contents (with_slot bank id (base + i) (V v)) (Open id base n) ≡ set (contents bank (Open id base n)) i v
+pub contents_here : (bank : Bank) (id base n i : ℕ) (v : Value) → IsLive bank id → i < n
+    → contents (with_slot bank id (base + i) (V v)) (Open id base n) ≡ set (contents bank (Open id base n)) i v
 contents_here bank id base n i v live within =
     ap (λ xs. map read (window base n xs)) (slots_here bank id (base + i) (V v) live)
     ∙ (ap (map read) (window_here base n i (slots bank id) (V v) within)
     ∙ map-set read (window base n (slots bank id)) i (V v))
 
 -- every other window
-pub contents_other : (bank : Bank) (other : Env) (id base n i : ℕ) (v : Value) → IsLive bank id → i < n → MeetsNot other id base n → contents (with_slot bank id (base + i) (V v)) other ≡ contents bank other
+pub contents_other : (bank : Bank) (other : Env) (id base n i : ℕ) (v : Value) → IsLive bank id → i < n
+    → MeetsNot other id base n → contents (with_slot bank id (base + i) (V v)) other ≡ contents bank other
 contents_other bank (Open stack from count) id base n i v live within apart =
-    elim (cases_eq stack id) as (λ _. contents (with_slot bank id (base + i) (V v)) (Open stack from count) ≡ contents bank (Open stack from count)) [
+    elim (cases_eq stack id) as (λ _. contents (with_slot bank id (base + i) (V v)) (Open stack from count) ≡ contents
+    bank (Open stack from count)) [
       | inl same ↦
-          let here : slots (with_slot bank id (base + i) (V v)) stack ≡ set (slots bank stack) (base + i) (V v) = ap (slots (with_slot bank id (base + i) (V v))) same ∙ (slots_here bank id (base + i) (V v) live ∙ ap (λ k. set (slots bank k) (base + i) (V v)) (sym same)) in
+          let here : slots (with_slot bank id (base + i) (V v)) stack ≡ set (slots bank stack) (base + i) (V v) =
+          ap (slots (with_slot bank id (base + i) (V v))) same
+          ∙ (slots_here bank id (base + i) (V v) live ∙ ap (λ k. set (slots bank k) (base + i) (V v)) (sym same)) in
           ap (λ xs. map read (window from count xs)) here
-          ∙ ap (map read) (window_other from count (base + i) (slots bank stack) (V v) (λ j in_count. apart same j i in_count within))
+          ∙ ap (map read) (window_other from count (base + i) (slots bank stack) (V v)
+          (λ j in_count. apart same j i in_count within))
       | inr differs ↦ ap (λ xs. map read (window from count xs)) (slots_other bank id stack (base + i) (V v) differs)
     ]
 contents_other bank (Closed values) id base n i v live within apart = refl

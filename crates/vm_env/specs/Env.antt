@@ -42,7 +42,8 @@ captured envs stack base n = envs ++ Open stack base n ∷ []
 -- value i is written where it stands: in its slot, or in the room of the environment
 abbrev pub WritesAt : Env → List Env → List Env → Bank → Bank → ℕ → ℕ → Value → Type 0
 WritesAt (Open stack base n) old new bank bank' e i v = (new ≡ old) × (bank' ≡ with_slot bank stack (base + i) (V v))
-WritesAt (Closed values) old new bank bank' e i v = (new ≡ slice_set old e (Closed (slice_set values i v))) × (bank' ≡ bank)
+WritesAt (Closed values) old new bank bank' e i v = (new ≡ slice_set old e (Closed (slice_set values i v)))
+    × (bank' ≡ bank)
 
 abbrev pub Writes : List Env → List Env → Bank → Bank → ℕ → ℕ → Value → Type 0
 Writes old new bank bank' e i v = WritesAt (env old e) old new bank bank' e i v

@@ -15,7 +15,15 @@ pub record Kept : Type 0 where
   pub room : ℕ
 
 abbrev pub kept : Stored → Kept
-kept e = record { stack = e.stack.0; base = e.base; size = e.size; open_now = e.«open»; values = e.values.items; room = vec_capacity e.values }
+kept e = record {
+  stack = e.stack.0;
+  base = e.base;
+  size = e.size;
+  open_now = e.«open»;
+  values = e.values.items;
+  room =
+      vec_capacity e.values;
+}
 
 abbrev pub seen : Kept → Env
 seen k = if k.open_now then Open k.stack k.base k.size else Closed k.values

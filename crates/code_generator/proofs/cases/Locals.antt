@@ -16,10 +16,12 @@ use Rattle.code_generator.proofs.Keeping.{awaits_fits, keeps_local}
 use Rattle.code_generator.proofs.Matching.{turned, by_none, by_one, going, gives, keeps_value}
 
 -- a register of the surroundings is the register of the names of the body
-local_register : (q : Source) (b : ℕ) (h : Around) (x : Name) → h.names ≡ (source.body_at q b).names → register_of h.names x ≡ register_of (source.body_at q b).names x
+local_register : (q : Source) (b : ℕ) (h : Around) (x : Name) → h.names ≡ (source.body_at q b).names
+    → register_of h.names x ≡ register_of (source.body_at q b).names x
 local_register q b h x e = ap (λ (ns : List Name). register_of ns x) e
 
-pub do_local : (q : Source) (p : Program) (x : Name) (ks : List Item) (w : World) (f : Frame) (fs : List Frame) (m : Memory) → Focused q p (perform (local x)) ks w f fs m → Step q p (Run (perform (local x)) ks w) (On f fs m)
+pub do_local : (q : Source) (p : Program) (x : Name) (ks : List Item) (w : World) (f : Frame) (fs : List Frame)
+    (m : Memory) → Focused q p (perform (local x)) ks w f fs m → Step q p (Run (perform (local x)) ks w) (On f fs m)
 do_local q p x ks w f fs m r =
     let fits = awaits_fits q p m.lists ks r.h f.body f.list fs r.end r.r r.next in
     let reg = local_register q f.body r.h x r.names in
@@ -30,7 +32,9 @@ do_local q p x ks w f fs m r =
     ∙ ap (λ (v : Value). On (goto f (f.pc + 3)) fs (write m f.list r.r v)) (sym e))
     (gives q p (named q w x) ks w f fs m r.h r.r (f.pc + 3) r.end r.same r.names r.code.room r.next r.code.ends)
 
-pub do_set_local : (q : Source) (p : Program) (x : Name) (e : Form) (ks : List Item) (w : World) (f : Frame) (fs : List Frame) (m : Memory) → Focused q p (perform (set_local x e)) ks w f fs m → Step q p (Run (perform (set_local x e)) ks w) (On f fs m)
+pub do_set_local : (q : Source) (p : Program) (x : Name) (e : Form) (ks : List Item) (w : World) (f : Frame)
+    (fs : List Frame) (m : Memory) → Focused q p (perform (set_local x e)) ks w f fs m
+    → Step q p (Run (perform (set_local x e)) ks w) (On f fs m)
 do_set_local q p x e ks w f fs m r =
     by_none q p _ _ (omega arith) (record {
       same = r.same;
@@ -40,16 +44,28 @@ do_set_local q p x e ks w f fs m r =
       above = r.above;
       end = r.code.mid;
       code = r.code.assigned;
-      next = record { low = r.r; kept_below = omega arith; locals_below = r.above; held = tt; end = r.end; behind = record { move = r.code.move; is_local = r.code.is_local; ends = r.code.ends }; next = r.next };
+      next = record {
+        low = r.r;
+        kept_below = omega arith;
+        locals_below = r.above;
+        held = tt;
+        end = r.end;
+        behind =
+            record { move = r.code.move; is_local = r.code.is_local; ends = r.code.ends };
+        next = r.next;
+      };
     })
 
-pub give_assign : (q : Source) (p : Program) (v : Value) (x : Name) (ks : List Item) (w : World) (f : Frame) (fs : List Frame) (m : Memory) → Given q p v (assign x) ks w f fs m → Step q p (Run (give v) (inside (assign x) ∷ ks) w) (On f fs m)
+pub give_assign : (q : Source) (p : Program) (v : Value) (x : Name) (ks : List Item) (w : World) (f : Frame)
+    (fs : List Frame) (m : Memory) → Given q p v (assign x) ks w f fs m
+    → Step q p (Run (give v) (inside (assign x) ∷ ks) w) (On f fs m)
 give_assign q p v x ks w f fs m r =
     let reg = local_register q f.body r.h x r.names in
     let own = register_of (source.body_at q f.body).names x in
     let there : own < (body_at p f.body).locals = omega (arith, reg, r.behind.is_local) in
     let zero_off : r.r + 0 ≡ r.r = omega arith in
-    let stands : slot_at m.lists f.list r.r ≡ value v = subst (λ (n : ℕ). slot_at m.lists f.list n ≡ value v) zero_off r.held.0 in
+    let stands : slot_at m.lists f.list r.r ≡ value v =
+    subst (λ (n : ℕ). slot_at m.lists f.list n ≡ value v) zero_off r.held.0 in
     by_one q p _ _ _ (going r.same)
     (turned p (Move (register_of r.h.names x) r.r) f fs m r.behind.move
     ∙ ap (λ (n : ℕ). On (goto f (f.pc + 3)) fs (write m f.list n (value_at m.lists f.list r.r))) reg

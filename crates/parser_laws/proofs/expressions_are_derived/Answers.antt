@@ -2,4 +2,9 @@ use Rattle.parser_laws.proofs.Laws.{argument_derived, operation_derived, stateme
 use Rattle.parser_laws.proofs.expressions_are_derived.Goals as goal
 
 pub returns : goal.returns
-returns c = record { argument = argument_derived; operation = operation_derived; statements = statements_derived; program = program_derived }
+returns c = record {
+  argument = argument_derived;
+  operation = operation_derived;
+  statements = statements_derived;
+  program = program_derived;
+}

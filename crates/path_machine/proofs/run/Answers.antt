@@ -9,17 +9,20 @@ use Rattle.path_machine.proofs.run.Goals as goal
 pub returns-in-Some-clause-ran : goal.returns-in-Some-clause-ran
 returns-in-Some-clause-ran g c =
     ok_ran c.args.code.now c.in-Some.body.now c.args.budget c.run_body.result
-    (first_is c.bodies.result.now c.args.code.now.bodies c.in-Some.body.now c.in-Some.ensures.value c.bodies.ensures.value) c.run_body.ensures.ran
+    (first_is c.bodies.result.now c.args.code.now.bodies c.in-Some.body.now c.in-Some.ensures.value
+    c.bodies.ensures.value) c.run_body.ensures.ran
 
 pub returns-in-Some-clause-written : goal.returns-in-Some-clause-written
 returns-in-Some-clause-written g c =
     ok_written c.args.code.now c.in-Some.body.now c.args.budget c.run_body.result _ _
-    (first_is c.bodies.result.now c.args.code.now.bodies c.in-Some.body.now c.in-Some.ensures.value c.bodies.ensures.value) c.run_body.ensures.written
+    (first_is c.bodies.result.now c.args.code.now.bodies c.in-Some.body.now c.in-Some.ensures.value
+    c.bodies.ensures.value) c.run_body.ensures.written
 
 pub returns-in-Some-clause-stopped : goal.returns-in-Some-clause-stopped
 returns-in-Some-clause-stopped g c =
     err_stopped c.args.code.now c.in-Some.body.now c.args.budget c.run_body.result _ _
-    (first_is c.bodies.result.now c.args.code.now.bodies c.in-Some.body.now c.in-Some.ensures.value c.bodies.ensures.value) c.run_body.ensures.stopped
+    (first_is c.bodies.result.now c.args.code.now.bodies c.in-Some.body.now c.in-Some.ensures.value
+    c.bodies.ensures.value) c.run_body.ensures.stopped
 
 pub returns-in-None-clause-ran : goal.returns-in-None-clause-ran
 returns-in-None-clause-ran g c =

@@ -5,8 +5,10 @@ use Rattle.rb_compile.proofs.generate_code.Goals as goal
 
 pub returns-in-Some-2-clause-refused : goal.returns-in-Some-2-clause-refused
 returns-in-Some-2-clause-refused c =
-    refused_past c.args.text.now (core_view c.args.core.now) c.in-Some.code c.in-Some-2.excess c.requires (sym c.in-Some.is ∙ c.in_ok-code.ensures) (sym c.in-Some-2.is ∙ c.in_ok-excess.ensures)
+    refused_past c.args.text.now (core_view c.args.core.now) c.in-Some.code c.in-Some-2.excess c.requires
+    (sym c.in-Some.is ∙ c.in_ok-code.ensures) (sym c.in-Some-2.is ∙ c.in_ok-excess.ensures)
 
 pub returns-in-None-clause-code : goal.returns-in-None-clause-code
 returns-in-None-clause-code c =
-    coded c.args.text.now (core_view c.args.core.now) c.in-Some.code c.requires (sym c.in-Some.is ∙ c.in_ok-code.ensures) (sym c.in-None.is ∙ c.in_ok-excess.ensures)
+    coded c.args.text.now (core_view c.args.core.now) c.in-Some.code c.requires
+    (sym c.in-Some.is ∙ c.in_ok-code.ensures) (sym c.in-None.is ∙ c.in_ok-excess.ensures)

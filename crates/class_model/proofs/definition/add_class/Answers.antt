@@ -8,4 +8,5 @@ pub returns-clause-sound : goal.returns-clause-sound
 returns-clause-sound c =
     let st = c.args.st.now.store in
     subst Sound (sym (c.in_ok-id.ensures.ok ∙ ap (with_object st) c.named_class-object.ensures))
-    (sound_named st c.requires.sound c.args.class c.args.form c.args.superclass c.args.name c.requires.plain c.requires.superclass c.requires.root c.requires.name)
+    (sound_named st c.requires.sound c.args.class c.args.form c.args.superclass c.args.name c.requires.plain
+    c.requires.superclass c.requires.root c.requires.name)

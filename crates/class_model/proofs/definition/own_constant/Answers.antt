@@ -11,6 +11,9 @@ use Rattle.class_model.proofs.definition.own_constant.Goals as goal
 pub returns-in-Class-clause-there : goal.returns-in-Class-clause-there
 returns-in-Class-clause-there c =
     let st = c.args.st.now.store in
-    let class = ap (λ (k : Kind). (contents_of k).constants) (sym (ap (λ (o : Object). o.kind) c.get.ensures) ∙ c.in-Class.is) in
-    let value = c.constant_in.ensures ∙ ap (λ (ks : List Constant). constant_in ks c.args.name) (c.as_slice.ensures ∙ sym class) in
-    subst (OptionIs (IsValue (census st))) (sym value) (own_is_value st c.requires.sound c.args.class c.args.name c.requires.class)
+    let class = ap (λ (k : Kind). (contents_of k).constants)
+    (sym (ap (λ (o : Object). o.kind) c.get.ensures) ∙ c.in-Class.is) in
+    let value = c.constant_in.ensures ∙ ap (λ (ks : List Constant). constant_in ks c.args.name)
+    (c.as_slice.ensures ∙ sym class) in
+    subst (OptionIs (IsValue (census st))) (sym value)
+    (own_is_value st c.requires.sound c.args.class c.args.name c.requires.class)

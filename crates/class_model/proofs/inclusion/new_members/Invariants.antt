@@ -7,7 +7,8 @@ use Rattle.class_model.proofs.inclusion.new_members.Given as goal
 abbrev pub invariant-members : goal.invariant-members
 invariant-members l = record {
   walk : IsWalk l.walk;
-  same : l.list.items ++ filter (is_new l.st.store.objects l.class) (left l.walk) ≡ filter (is_new l.st.store.objects l.class) (chain l.st.store.objects l.fn.mixin);
+  same : l.list.items ++ filter (is_new l.st.store.objects l.class) (left l.walk) ≡ filter
+      (is_new l.st.store.objects l.class) (chain l.st.store.objects l.fn.mixin);
 }
 
 abbrev pub decreases-members : goal.decreases-members

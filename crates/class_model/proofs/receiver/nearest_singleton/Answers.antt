@@ -5,5 +5,6 @@ use Rattle.class_model.proofs.receiver.nearest_singleton.Goals as goal
 
 pub returns-in-Some-clause-value : goal.returns-in-Some-clause-value
 returns-in-Some-clause-value c =
-    sym (singleton_here c.args.st.now.store c.requires.sound c.superclasses.at c.args.other c.in-Some.singleton c.superclasses.invariant.there (sym (ap (λ (o : Object). o.singleton) c.get.ensures) ∙ c.in-Some.is))
+    sym (singleton_here c.args.st.now.store c.requires.sound c.superclasses.at c.args.other c.in-Some.singleton
+    c.superclasses.invariant.there (sym (ap (λ (o : Object). o.singleton) c.get.ensures) ∙ c.in-Some.is))
     ∙ c.superclasses.invariant.same

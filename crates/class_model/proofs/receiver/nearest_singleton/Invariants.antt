@@ -5,7 +5,8 @@ use Rattle.class_model.proofs.receiver.nearest_singleton.Given as goal
 abbrev pub invariant-superclasses : goal.invariant-superclasses
 invariant-superclasses l = record {
   there : l.at.0 < length l.st.store.objects;
-  same : nearest_singleton l.st.store.objects (lineage l.st.store.objects l.at) l.other ≡ nearest_singleton l.st.store.objects (lineage l.st.store.objects l.fn.id) l.other;
+  same : nearest_singleton l.st.store.objects (lineage l.st.store.objects l.at) l.other ≡ nearest_singleton
+      l.st.store.objects (lineage l.st.store.objects l.fn.id) l.other;
 }
 
 abbrev pub decreases-superclasses : goal.decreases-superclasses

@@ -8,7 +8,8 @@ abbrev pub invariant-superclasses : goal.invariant-superclasses
 invariant-superclasses l = record {
   there : l.at.0 < length l.st.store.objects;
   all : AllAre (Is (census l.st.store) Any) l.list.items;
-  same : l.list.items ++ filter (is_missing l.st.store.objects) (lineage l.st.store.objects l.at) ≡ filter (is_missing l.st.store.objects) (lineage l.st.store.objects l.fn.id);
+  same : l.list.items ++ filter (is_missing l.st.store.objects) (lineage l.st.store.objects l.at) ≡ filter
+      (is_missing l.st.store.objects) (lineage l.st.store.objects l.fn.id);
 }
 
 abbrev pub decreases-superclasses : goal.decreases-superclasses

@@ -14,7 +14,8 @@ abbrev lines : List ℕ → List ℕ → List ℕ
 lines a b = ([] ++ (a ++ 10 ∷ [])) ++ (b ++ 10 ∷ [])
 
 digits : lines (decimal 2) (decimal 1) ≡ codes "2\n1\n"
-digits = ap (λ (a : List ℕ). lines a (decimal 1)) (decimal_digit 2 (omega arith)) ∙ ap (lines (50 ∷ [])) (decimal_digit 1 (omega arith))
+digits = ap (λ (a : List ℕ). lines a (decimal 1)) (decimal_digit 2 (omega arith))
+    ∙ ap (lines (50 ∷ [])) (decimal_digit 1 (omega arith))
 
 pub returns : goal.returns
 unfolding encoding decode_wide_at front narrow_front opcode_of opcodes call integer outcome slot_at put fetch target is_puts

@@ -6,4 +6,5 @@ use Rattle.code_generator.proofs.limits.+operators.Given as goal
 
 abbrev pub invariant-all_operators_left-loop-tree : goal.invariant-all_operators_left-loop-tree
 invariant-all_operators_left-loop-tree l =
-    left_after l.left (all_operations (all_forms (drop l.tree-index l.list))) ≡ left_after l.budget (all_operations (all_forms l.list))
+    left_after l.left (all_operations (all_forms (drop l.tree-index l.list))) ≡ left_after l.budget
+    (all_operations (all_forms l.list))

@@ -6,4 +6,5 @@ use Rattle.code_generator.proofs.limits.+parts.Given as goal
 
 abbrev pub invariant-all_parts_left-loop-tree : goal.invariant-all_parts_left-loop-tree
 invariant-all_parts_left-loop-tree l =
-    left_after l.left (all_parts (all_forms (drop l.tree-index l.list))) ≡ left_after l.budget (all_parts (all_forms l.list))
+    left_after l.left (all_parts (all_forms (drop l.tree-index l.list))) ≡ left_after l.budget
+    (all_parts (all_forms l.list))

@@ -7,4 +7,5 @@ pub returns : goal.returns
 returns g c =
     let v = g.T.Formed.core in
     let none : c.branches.left ≡ 0 = omega (arith, c.branches-test.false) in
-    ap (λ n. cond_of (by.branches_by v (drop n c.args.branches.now.items)) (form_of (v c.args.otherwise.now.value))) (sym none) ∙ c.branches.invariant.1
+    ap (λ n. cond_of (by.branches_by v (drop n c.args.branches.now.items)) (form_of (v c.args.otherwise.now.value)))
+    (sym none) ∙ c.branches.invariant.1

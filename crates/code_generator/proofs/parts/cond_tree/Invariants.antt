@@ -6,7 +6,8 @@ use Rattle.code_generator.proofs.parts.cond_tree.Given as goal
 
 abbrev pub invariant-branches : goal.invariant-branches
 invariant-branches g l =
-    (l.left ≤ length l.branches.items) × (cond_of (by.branches_by g.T.Formed.core (drop l.left l.branches.items)) (form_of (by.core_by g.T.Formed.core l.otherwise)) ≡ form_in l.tree)
+    (l.left ≤ length l.branches.items) × (cond_of (by.branches_by g.T.Formed.core (drop l.left l.branches.items))
+    (form_of (by.core_by g.T.Formed.core l.otherwise)) ≡ form_in l.tree)
 
 abbrev pub decreases-branches : goal.decreases-branches
 decreases-branches g l = l.left

@@ -12,8 +12,11 @@ loop-item-preserved g c =
     let v = item_by g.T.Formed.core in
     let list = c.deref-item-items.result.now in
     let item = c.item-item.result in
-    let here : drop l.item-index list ≡ item ∷ drop (l.item-index + 1) list = drop_more list l.item-index item (omega arith) ∙ ap (λ y. y ∷ drop (l.item-index + 1) list) (sym c.item-item.is) in
-    let there : drop l.item-index c.args.items.now.items ≡ item ∷ drop (l.item-index + 1) c.args.items.now.items = subst (λ xs. drop l.item-index xs ≡ item ∷ drop (l.item-index + 1) xs) c.deref-item-items.ensures.value here in
+    let here : drop l.item-index list ≡ item ∷ drop (l.item-index + 1) list =
+    drop_more list l.item-index item (omega arith)
+    ∙ ap (λ y. y ∷ drop (l.item-index + 1) list) (sym c.item-item.is) in
+    let there : drop l.item-index c.args.items.now.items ≡ item ∷ drop (l.item-index + 1) c.args.items.now.items =
+    subst (λ xs. drop l.item-index xs ≡ item ∷ drop (l.item-index + 1) xs) c.deref-item-items.ensures.value here in
     let one : form_of (v item) ≡ Some (form c.in-Some.tree) = c.in_ok-tree.ensures ∙ ap form_in c.in-Some.is in
     let pushed : c.push.new.self.items ≡ l.trees.items ++ c.in-Some.tree ∷ [] = c.in_ok-push-in-Some.ensures.items in
     trees_step v _ l.trees.items c.push.new.self.items c.in-Some.tree item _ _ l.invariant there one pushed
@@ -21,5 +24,7 @@ loop-item-preserved g c =
 pub returns : goal.returns
 returns g c =
     let l = c.loop-item in
-    let none : drop l.item-index c.args.items.now.items ≡ [] = subst (λ xs. drop l.item-index xs ≡ []) c.deref-item-items.ensures.value (drop_all l.item-index c.deref-item-items.result.now (omega arith)) in
+    let none : drop l.item-index c.args.items.now.items ≡ [] =
+    subst (λ xs. drop l.item-index xs ≡ []) c.deref-item-items.ensures.value
+    (drop_all l.item-index c.deref-item-items.result.now (omega arith)) in
     trees_end (item_by g.T.Formed.core) _ l.trees.items _ l.invariant none

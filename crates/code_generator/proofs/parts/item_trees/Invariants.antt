@@ -6,4 +6,5 @@ use Rattle.code_generator.proofs.parts.item_trees.Given as goal
 
 abbrev pub invariant-loop-item : goal.invariant-loop-item
 invariant-loop-item g l =
-    all_of (by.items_by g.T.Formed.core l.items.items) ≡ before_all (map form l.trees.items) (all_of (by.items_by g.T.Formed.core (drop l.item-index l.items.items)))
+    all_of (by.items_by g.T.Formed.core l.items.items) ≡ before_all (map form l.trees.items)
+    (all_of (by.items_by g.T.Formed.core (drop l.item-index l.items.items)))

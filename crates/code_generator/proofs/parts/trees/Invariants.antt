@@ -6,4 +6,5 @@ use Rattle.code_generator.proofs.parts.trees.Given as goal
 
 abbrev pub invariant-loop-core : goal.invariant-loop-core
 invariant-loop-core g l =
-    all_of (by.cores_by g.T.Formed.core l.list.items) ≡ before_all (map form l.trees.items) (all_of (by.cores_by g.T.Formed.core (drop l.core-index l.list.items)))
+    all_of (by.cores_by g.T.Formed.core l.list.items) ≡ before_all (map form l.trees.items)
+    (all_of (by.cores_by g.T.Formed.core (drop l.core-index l.list.items)))

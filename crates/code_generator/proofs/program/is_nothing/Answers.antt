@@ -10,4 +10,6 @@ no_lines f [] = refl
 no_lines f (x ∷ xs) = ne_eqb (length (x ∷ xs)) 0 (λ e. absurd (omega (arith, e)))
 
 pub returns-in-Seq : goal.returns-in-Seq
-returns-in-Seq c = simp (c.in-Seq.is, the_lemmas) (c.is_empty.ensures ∙ ap (λ (n : ℕ). nat_eq n 0) (ap length c.as_slice.ensures.value) ∙ no_lines _ c.in-Seq.list.items)
+returns-in-Seq c = simp (c.in-Seq.is, the_lemmas)
+    (c.is_empty.ensures ∙ ap (λ (n : ℕ). nat_eq n 0) (ap length c.as_slice.ensures.value)
+    ∙ no_lines _ c.in-Seq.list.items)

@@ -11,4 +11,5 @@ get-requires c = is_within c.args.st.now.store Any c.args.id c.requires.object
 pub returns-clause-class : goal.returns-clause-class
 returns-clause-class c =
     let st = c.args.st.now.store in
-    subst (λ (o : Object). Is (census st) ClassOrModule o.class) (sym c.get.ensures) (class_is st c.requires.sound c.args.id c.requires.object)
+    subst (λ (o : Object). Is (census st) ClassOrModule o.class) (sym c.get.ensures)
+    (class_is st c.requires.sound c.args.id c.requires.object)

@@ -6,4 +6,5 @@ use Rattle.core_number.proofs.operands.core_class.Goals as goal
 
 pub returns-clause-class : goal.returns-clause-class
 returns-clause-class c =
-    subst (λ (id : ObjId). Is (census c.args.st.now.store) ClassOrModule id) (sym c.class_object.ensures) (core_is c.args.st.now.store c.requires c.args.class)
+    subst (λ (id : ObjId). Is (census c.args.st.now.store) ClassOrModule id) (sym c.class_object.ensures)
+    (core_is c.args.st.now.store c.requires c.args.class)

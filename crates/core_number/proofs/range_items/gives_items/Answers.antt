@@ -17,13 +17,19 @@ returns c =
     let is = rows.items c.args.ends.bounds c.args.count in
     let strings = c.in_ok-made.ensures.strings in
     let values = c.in_ok-made.ensures.values in
-    let item : c.array.result ≡ array_object (rows.values_from (length st.objects) is) = c.array.ensures ∙ ap array_object (c.from_vec.ensures ∙ values) in
-    let pushed : c.push.new.self.items ≡ rows.strings_of is ++ array_object (rows.values_from (length st.objects) is) ∷ [] =
-    c.in_ok-push.ensures.items ∙ ap (λ (os : List Object). os ++ c.array.result ∷ []) strings ∙ ap (λ (o : Object). rows.strings_of is ++ o ∷ []) item in
+    let item : c.array.result ≡ array_object (rows.values_from (length st.objects) is) = c.array.ensures
+    ∙ ap array_object (c.from_vec.ensures ∙ values) in
+    let pushed : c.push.new.self.items ≡ rows.strings_of is
+    ++ array_object (rows.values_from (length st.objects) is) ∷ [] =
+    c.in_ok-push.ensures.items ∙ ap (λ (os : List Object). os ++ c.array.result ∷ []) strings
+    ∙ ap (λ (o : Object). rows.strings_of is ++ o ∷ []) item in
     let stored : c.add_all.new.self.store ≡ (rows.gives_items st is).store =
     c.in_ok-add_all.ensures.ok
-    ∙ ap (λ (os : List Object). let s : Store = record st { objects = st.objects ++ os } in s) (c.from_vec-2.ensures ∙ pushed)
-    ∙ ap (λ (os : List Object). let s : Store = record st { objects = os } in s) (sym (append_assoc st.objects (rows.strings_of is) (array_object (rows.values_from (length st.objects) is) ∷ []))) in
+    ∙ ap (λ (os : List Object). let s : Store = record st { objects = st.objects ++ os } in s)
+    (c.from_vec-2.ensures ∙ pushed)
+    ∙ ap (λ (os : List Object). let s : Store = record st { objects = os } in s)
+    (sym (append_assoc st.objects (rows.strings_of is)
+    (array_object (rows.values_from (length st.objects) is) ∷ []))) in
     let count : c.len.result + c.len-2.result ≡ length (st.objects ++ rows.strings_of is) =
     rw length-append (grind (arith, common_steps, c.len.ensures.count, c.len-2.ensures, ap length strings)) in
     record {

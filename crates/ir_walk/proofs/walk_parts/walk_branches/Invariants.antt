@@ -6,4 +6,6 @@ use Rattle.ir_walk.proofs.walk_parts.walk_branches.Given as goal
 
 abbrev pub invariant-loop-branch : goal.invariant-loop-branch
 invariant-loop-branch g l =
-    walked_all l.extent (steps l.trail.items) (branches_by g.T.Walked.form (drop l.branch-index l.branches.items)) ≡ walked_all l.extent (steps l.fn.trail.items) (branches_by g.T.Walked.form l.branches.items)
+    walked_all l.extent (steps l.trail.items)
+    (branches_by g.T.Walked.form (drop l.branch-index l.branches.items)) ≡ walked_all l.extent
+    (steps l.fn.trail.items) (branches_by g.T.Walked.form l.branches.items)

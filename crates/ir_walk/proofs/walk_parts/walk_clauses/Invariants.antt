@@ -6,4 +6,6 @@ use Rattle.ir_walk.proofs.walk_parts.walk_clauses.Given as goal
 
 abbrev pub invariant-loop-clause : goal.invariant-loop-clause
 invariant-loop-clause g l =
-    walked_all l.extent (steps l.trail.items) (clauses_by g.T.Walked.form (drop l.clause-index l.clauses.items)) ≡ walked_all l.extent (steps l.fn.trail.items) (clauses_by g.T.Walked.form l.clauses.items)
+    walked_all l.extent (steps l.trail.items)
+    (clauses_by g.T.Walked.form (drop l.clause-index l.clauses.items)) ≡ walked_all l.extent
+    (steps l.fn.trail.items) (clauses_by g.T.Walked.form l.clauses.items)

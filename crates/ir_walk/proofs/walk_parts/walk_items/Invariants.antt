@@ -6,4 +6,5 @@ use Rattle.ir_walk.proofs.walk_parts.walk_items.Given as goal
 
 abbrev pub invariant-loop-item : goal.invariant-loop-item
 invariant-loop-item g l =
-    walked_all l.extent (steps l.trail.items) (items_by g.T.Walked.form (drop l.item-index l.items.items)) ≡ walked_all l.extent (steps l.fn.trail.items) (items_by g.T.Walked.form l.items.items)
+    walked_all l.extent (steps l.trail.items) (items_by g.T.Walked.form (drop l.item-index l.items.items)) ≡ walked_all
+    l.extent (steps l.fn.trail.items) (items_by g.T.Walked.form l.items.items)

@@ -6,4 +6,5 @@ use Rattle.ir_walk.proofs.walk_parts.walk_pairs.Given as goal
 
 abbrev pub invariant-loop-pair : goal.invariant-loop-pair
 invariant-loop-pair g l =
-    walked_all l.extent (steps l.trail.items) (pairs_by g.T.Walked.form (drop l.pair-index l.pairs.items)) ≡ walked_all l.extent (steps l.fn.trail.items) (pairs_by g.T.Walked.form l.pairs.items)
+    walked_all l.extent (steps l.trail.items) (pairs_by g.T.Walked.form (drop l.pair-index l.pairs.items)) ≡ walked_all
+    l.extent (steps l.fn.trail.items) (pairs_by g.T.Walked.form l.pairs.items)

@@ -5,4 +5,5 @@ use Rattle.ir_walk.proofs.width_parts.add_branches.Given as goal
 
 abbrev pub invariant-loop-branch : goal.invariant-loop-branch
 invariant-loop-branch g l =
-    l.all.items ++ widths (branches_by g.T.Measured.form (drop l.branch-index l.branches.items)) ≡ l.fn.all.items ++ widths (branches_by g.T.Measured.form l.branches.items)
+    l.all.items ++ widths (branches_by g.T.Measured.form (drop l.branch-index l.branches.items)) ≡ l.fn.all.items
+    ++ widths (branches_by g.T.Measured.form l.branches.items)

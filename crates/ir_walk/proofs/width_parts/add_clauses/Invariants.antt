@@ -5,4 +5,5 @@ use Rattle.ir_walk.proofs.width_parts.add_clauses.Given as goal
 
 abbrev pub invariant-loop-clause : goal.invariant-loop-clause
 invariant-loop-clause g l =
-    l.all.items ++ widths (clauses_by g.T.Measured.form (drop l.clause-index l.clauses.items)) ≡ l.fn.all.items ++ widths (clauses_by g.T.Measured.form l.clauses.items)
+    l.all.items ++ widths (clauses_by g.T.Measured.form (drop l.clause-index l.clauses.items)) ≡ l.fn.all.items
+    ++ widths (clauses_by g.T.Measured.form l.clauses.items)

@@ -5,4 +5,5 @@ use Rattle.ir_walk.proofs.width_parts.add_items.Given as goal
 
 abbrev pub invariant-loop-item : goal.invariant-loop-item
 invariant-loop-item g l =
-    l.all.items ++ widths (items_by g.T.Measured.form (drop l.item-index l.items.items)) ≡ l.fn.all.items ++ widths (items_by g.T.Measured.form l.items.items)
+    l.all.items ++ widths (items_by g.T.Measured.form (drop l.item-index l.items.items)) ≡ l.fn.all.items
+    ++ widths (items_by g.T.Measured.form l.items.items)

@@ -5,4 +5,5 @@ use Rattle.ir_walk.proofs.width_parts.add_pairs.Given as goal
 
 abbrev pub invariant-loop-pair : goal.invariant-loop-pair
 invariant-loop-pair g l =
-    l.all.items ++ widths (pairs_by g.T.Measured.form (drop l.pair-index l.pairs.items)) ≡ l.fn.all.items ++ widths (pairs_by g.T.Measured.form l.pairs.items)
+    l.all.items ++ widths (pairs_by g.T.Measured.form (drop l.pair-index l.pairs.items)) ≡ l.fn.all.items
+    ++ widths (pairs_by g.T.Measured.form l.pairs.items)

@@ -92,7 +92,9 @@ abbrev pub invariant-find_rescues-loop-clause : goal.invariant-find_rescues-loop
 invariant-find_rescues-loop-clause l = l.best ≡ fold found l.fn.best (map rescue_node (take l.clause-index l.clauses))
 
 abbrev pub invariant-find_parameters-loop-parameter : goal.invariant-find_parameters-loop-parameter
-invariant-find_parameters-loop-parameter l = l.best ≡ fold found l.fn.best (map parameter_node (take l.parameter-index l.parameters))
+invariant-find_parameters-loop-parameter l = l.best ≡ fold found l.fn.best
+    (map parameter_node (take l.parameter-index l.parameters))
 
 abbrev pub invariant-find_optional-loop-parameter : goal.invariant-find_optional-loop-parameter
-invariant-find_optional-loop-parameter l = l.best ≡ fold found l.fn.best (map optional_node (take l.parameter-index l.parameters))
+invariant-find_optional-loop-parameter l = l.best ≡ fold found l.fn.best
+    (map optional_node (take l.parameter-index l.parameters))

@@ -3,12 +3,15 @@ use Rattle.method_lookup.proofs.binding.bind.Goals as goal
 
 pub returns-then-not-shape-clause-values : goal.returns-then-not-shape-clause-values
 returns-then-not-shape-clause-values c =
-    values_without_rest c.args.st.now.store c.requires.sound c.args.shape c.args.kind c.args.args.now _ _ c.requires.args c.of-given.ensures.all c.in_ok-list.ensures
+    values_without_rest c.args.st.now.store c.requires.sound c.args.shape c.args.kind c.args.args.now _ _
+    c.requires.args c.of-given.ensures.all c.in_ok-list.ensures
 
 pub returns-clause-sound : goal.returns-clause-sound
-returns-clause-sound c = sound_rest c.args.st.now.store c.requires.sound _ c.args.shape c.args.kind c.args.args.now _ _ c.requires.args c.of-given.ensures.all c.in_ok-others.ensures c.in_ok-add_array.ensures.ok
+returns-clause-sound c = sound_rest c.args.st.now.store c.requires.sound _ c.args.shape c.args.kind c.args.args.now _ _
+    c.requires.args c.of-given.ensures.all c.in_ok-others.ensures c.in_ok-add_array.ensures.ok
 
 pub returns-clause-values : goal.returns-clause-values
 returns-clause-values c =
     let list = rw c.len.ensures.count at c.in_ok-list-2.ensures in
-    values_with_rest c.args.st.now.store c.requires.sound _ c.args.shape c.args.kind c.args.args.now _ _ _ c.requires.args c.of-given.ensures.all list c.in_ok-add_array.ensures.ok
+    values_with_rest c.args.st.now.store c.requires.sound _ c.args.shape c.args.kind c.args.args.now _ _ _
+    c.requires.args c.of-given.ensures.all list c.in_ok-add_array.ensures.ok

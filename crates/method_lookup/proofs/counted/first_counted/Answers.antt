@@ -9,8 +9,10 @@ returns-in-Some-own_method c =
     let objects = c.args.st.now.store.objects in
     let method = sym c.in-Some-own_method.ensures.method in
     record {
-      found = c.own_found.ensures ∙ found_here objects _ _ c.in-Some.class c.args.name c.in-Some-own_method.field-0 c.in-Some.ensures.step method ∙ c.members.invariant.same;
-      ticks = c.own_method.ensures.probe ∙ asked_here objects _ _ c.in-Some.class c.args.name c.members.steps c.in-Some-own_method.field-0 c.in-Some.ensures.step method ∙ c.members.invariant.ticks;
+      found = c.own_found.ensures ∙ found_here objects _ _ c.in-Some.class c.args.name c.in-Some-own_method.field-0
+          c.in-Some.ensures.step method ∙ c.members.invariant.same;
+      ticks = c.own_method.ensures.probe ∙ asked_here objects _ _ c.in-Some.class c.args.name c.members.steps
+          c.in-Some-own_method.field-0 c.in-Some.ensures.step method ∙ c.members.invariant.ticks;
     }
 
 pub members-preserved : goal.members-preserved
@@ -20,7 +22,8 @@ members-preserved c =
     record {
       walk = c.in-Some.ensures.walk;
       store = c.in-Some.ensures.store ∙ c.members.invariant.store;
-      same = found_behind objects _ _ c.in-Some.class c.args.name c.in-Some.ensures.step method ∙ c.members.invariant.same;
+      same = found_behind objects _ _ c.in-Some.class c.args.name c.in-Some.ensures.step method
+          ∙ c.members.invariant.same;
       ticks =
           ap (λ n. counted n (probes objects (left c.next.new.self) c.args.name)) c.own_method.ensures.probe
           ∙ asked_behind objects _ _ c.in-Some.class c.args.name c.members.steps c.in-Some.ensures.step method
@@ -28,4 +31,5 @@ members-preserved c =
     }
 
 pub returns-clause-ticks : goal.returns-clause-ticks
-returns-clause-ticks c = sym (asked_none c.args.st.now.store.objects _ c.args.name c.members.steps c.in_default.ensures.step.0) ∙ c.members.invariant.ticks
+returns-clause-ticks c = sym (asked_none c.args.st.now.store.objects _ c.args.name c.members.steps
+    c.in_default.ensures.step.0) ∙ c.members.invariant.ticks

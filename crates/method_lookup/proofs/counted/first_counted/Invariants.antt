@@ -9,7 +9,8 @@ invariant-members l = record {
   walk : IsWalk l.walk;
   store : l.walk.store.now ≡ l.st;
   same : first_of l.st.store.objects (left l.walk) l.name ≡ first_of l.st.store.objects (left l.fn.walk) l.name;
-  ticks : counted l.steps (probes l.st.store.objects (left l.walk) l.name) ≡ counted l.fn.steps (probes l.st.store.objects (left l.fn.walk) l.name);
+  ticks : counted l.steps (probes l.st.store.objects (left l.walk) l.name) ≡ counted l.fn.steps
+      (probes l.st.store.objects (left l.fn.walk) l.name);
 }
 
 abbrev pub decreases-members : goal.decreases-members

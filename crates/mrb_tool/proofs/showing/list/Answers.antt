@@ -14,4 +14,5 @@ returns g c =
     let before = disk g.F.Files.tells g.F.Files.file g.F.Files.load_faults g.F.Files.store_faults c.args.files.now in
     let after = disk g.F.Files.tells g.F.Files.file g.F.Files.load_faults g.F.Files.store_faults c.load.new.files in
     listed_as before after (stream g.O.Sink.taken g.O.Sink.faults c.args.out.now)
-    (stream g.O.Sink.taken g.O.Sink.faults c.list.new.out) c.args.file.now c.in_ok-code.code c.list.result c.in_ok-code.ensures c.list.ensures
+    (stream g.O.Sink.taken g.O.Sink.faults c.list.new.out) c.args.file.now c.in_ok-code.code c.list.result
+    c.in_ok-code.ensures c.list.ensures

@@ -12,7 +12,8 @@ tokens-preserved c =
     let more = literal_more c.tokens.count c.tokens.rest.now some open_still in
     let less = behind_less c.tokens.rest.now some in
     let bound : c.literal_step-count.result + length c.skip-rest.result.now ≤ length c.args.tokens.now = grind arith in
-    let same : groups.literal_end c.literal_step-count.result c.skip-rest.result.now ≡ groups.literal_end c.tokens.count c.tokens.rest.now = cc in
+    let same : groups.literal_end c.literal_step-count.result c.skip-rest.result.now ≡ groups.literal_end c.tokens.count
+    c.tokens.rest.now = cc in
     (same ∙ c.tokens.invariant.0, bound)
 
 pub returns : goal.returns

@@ -11,7 +11,8 @@ tokens-preserved c =
     let more = brackets_more c.tokens.count c.tokens.rest.now some open_still in
     let less = behind_less c.tokens.rest.now some in
     let bound : c.bracket_step-count.result + length c.skip-rest.result.now ≤ length c.args.tokens.now = grind arith in
-    let same : behind_brackets c.bracket_step-count.result c.skip-rest.result.now ≡ behind_brackets c.tokens.count c.tokens.rest.now = cc in
+    let same : behind_brackets c.bracket_step-count.result c.skip-rest.result.now ≡ behind_brackets c.tokens.count
+    c.tokens.rest.now = cc in
     (same ∙ c.tokens.invariant.0, bound)
 
 pub returns : goal.returns

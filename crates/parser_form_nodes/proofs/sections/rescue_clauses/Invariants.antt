@@ -6,5 +6,6 @@ use Rattle.parser_form_nodes.proofs.sections.rescue_clauses.Given as goal
 
 abbrev pub invariant-loop-section : goal.invariant-loop-section
 invariant-loop-section l =
-    (map rescue_node l.list.items ++ map rescue_of (map section_view (into_iter_items l.section-iterator)) ≡ map rescue_of (map section_view l.fn.sections.items))
+    (map rescue_node l.list.items ++ map rescue_of (map section_view (into_iter_items l.section-iterator)) ≡ map
+    rescue_of (map section_view l.fn.sections.items))
     × (into_iter_len l.section-iterator ≡ length (into_iter_items l.section-iterator))

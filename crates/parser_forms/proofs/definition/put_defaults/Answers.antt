@@ -7,7 +7,8 @@ pub loop-parameter-preserved : goal.loop-parameter-preserved
 loop-parameter-preserved c =
     let at = c.loop-parameter in
     let x = c.in-Some.parameter in
-    let steps : into_iter_items at.parameter-iterator ≡ x ∷ into_iter_items c.next.new.self = c.in-Some.ensures.steps.0 in (
+    let steps : into_iter_items at.parameter-iterator ≡ x ∷ into_iter_items c.next.new.self =
+    c.in-Some.ensures.steps.0 in (
       put_turn at.parts.items c.push.new.self.items x _ _ _ steps c.in_ok-push.ensures.items at.invariant.0,
       let was = at.invariant.1 in
           let gone = c.in-Some.ensures.steps.1 in

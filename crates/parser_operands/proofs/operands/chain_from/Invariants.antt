@@ -6,7 +6,8 @@ use Rattle.parser_operands.proofs.operands.chain_from.Given as goal
 abbrev pub invariant-postfixes : goal.invariant-postfixes
 invariant-postfixes g l =
     (n : ℕ) × (length l.rest < n)
-    × (chain_from (g.I.Inner.inside l.inner) (operand_view l.fn.operand) l.fn.names l.fn.tokens l.commands l.owner ≡ chain_within (g.I.Inner.inside l.inner) n l.commands l.owner (operand_view l.operand) l.names l.rest)
+    × (chain_from (g.I.Inner.inside l.inner) (operand_view l.fn.operand) l.fn.names l.fn.tokens l.commands
+    l.owner ≡ chain_within (g.I.Inner.inside l.inner) n l.commands l.owner (operand_view l.operand) l.names l.rest)
     × (length l.rest ≤ length l.fn.tokens)
 
 abbrev pub decreases-postfixes : goal.decreases-postfixes

@@ -6,7 +6,8 @@ use Rattle.parser_statements.proofs.sections.sections_behind.Given as goal
 abbrev pub invariant-sections : goal.invariant-sections
 invariant-sections g l =
     (n : ℕ) × (length l.rest < n)
-    × (sections_behind (g.I.Inner.inside l.inner) l.form l.fn.kind (sections_view l.fn.found) l.fn.names l.fn.tokens ≡ sections_from (g.I.Inner.inside l.inner) n l.form l.before (sections_view l.list) l.names l.rest)
+    × (sections_behind (g.I.Inner.inside l.inner) l.form l.fn.kind (sections_view l.fn.found) l.fn.names
+    l.fn.tokens ≡ sections_from (g.I.Inner.inside l.inner) n l.form l.before (sections_view l.list) l.names l.rest)
     × (length l.rest ≤ length l.fn.tokens)
 
 abbrev pub decreases-sections : goal.decreases-sections

@@ -6,7 +6,8 @@ use Rattle.parser_statements.proofs.statements.modifiers.Given as goal
 abbrev pub invariant-modifiers : goal.invariant-modifiers
 invariant-modifiers g l =
     (n : ℕ) × (length l.rest < n)
-    × (modifiers (g.I.Inner.inside l.inner) (view l.fn.body) l.fn.names l.fn.tokens ≡ modifiers_from (g.I.Inner.inside l.inner) n (view l.tree) l.names l.rest)
+    × (modifiers (g.I.Inner.inside l.inner) (view l.fn.body) l.fn.names l.fn.tokens ≡ modifiers_from
+    (g.I.Inner.inside l.inner) n (view l.tree) l.names l.rest)
     × (length l.rest ≤ length l.fn.tokens)
 
 abbrev pub decreases-modifiers : goal.decreases-modifiers

@@ -11,7 +11,8 @@ loop-i-init c = record {
 
 pub loop-i-preserved : goal.loop-i-preserved
 loop-i-preserved c = record {
-  adds = rw c.push_reserved.ensures.items (adds_step _ _ _ _ _ _ _ c.loop-i.invariant.adds c.lease_reserved-block.ensures);
+  adds = rw c.push_reserved.ensures.items (adds_step _ _ _ _ _ _ _ c.loop-i.invariant.adds
+      c.lease_reserved-block.ensures);
   spare = omega (arith, c.lease_reserved-block.ensures.spare);
   room = omega arith;
 }

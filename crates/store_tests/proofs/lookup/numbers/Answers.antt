@@ -7,5 +7,6 @@ use Rattle.store_tests.proofs.lookup.numbers.Goals as goal
 
 pub loop-n-preserved : goal.loop-n-preserved
 loop-n-preserved c = record {
-  all = λ k. subst (AllAre (IsValue k)) (sym c.in_ok-push.ensures.items) (all_append (IsValue k) _ (Int _ ∷ []) (c.loop-n.invariant.all k) (tt, tt));
+  all = λ k. subst (AllAre (IsValue k)) (sym c.in_ok-push.ensures.items)
+      (all_append (IsValue k) _ (Int _ ∷ []) (c.loop-n.invariant.all k) (tt, tt));
 }

@@ -15,6 +15,8 @@ returns-in-Cond t c =
 
 pub returns-in-Call : goal.returns-in-Call
 returns-in-Call t c =
-    let whole = ap term_view c.in-Call.is ∙ view-Call c.in-Call.receiver c.in-Call.name c.in-Call.items c.in-Call.block in
-    let call = called_is c.in-Call.receiver c.in-Call.name (by.items_by term_view c.in-Call.items.items) (by.boxed_by term_view c.in-Call.block) in
+    let whole = ap term_view c.in-Call.is ∙ view-Call c.in-Call.receiver c.in-Call.name c.in-Call.items c.in-Call.block
+    in
+    let call = called_is c.in-Call.receiver c.in-Call.name (by.items_by term_view c.in-Call.items.items)
+    (by.boxed_by term_view c.in-Call.block) in
     subst (λ o. IfOk c.call_tree.result (λ tree. o ≡ form_in tree)) (sym (ap form_of whole ∙ call)) c.call_tree.ensures

@@ -17,7 +17,9 @@ returns-in-Call t c =
     c.has_splat.ensures ∙ ap (λ is. has_splat (by.items_by term_view is)) c.deref.ensures.value in
     subst (λ f. IfOk c.call_width.result (λ w. w ≡ width f))
     (sym (ap term_view c.in-Call.is ∙ view-Call c.in-Call.receiver c.in-Call.name c.in-Call.items c.in-Call.block))
-    (subst (λ s. IfOk c.call_width.result (λ w. w ≡ of_call s ((width (by.receiver_by term_view c.in-Call.receiver) ∷ widths (by.items_by term_view c.in-Call.items.items)) ++ widths (by.boxed_by term_view c.in-Call.block)))) splat c.call_width.ensures)
+    (subst (λ s. IfOk c.call_width.result (λ w. w ≡ of_call s
+    ((width (by.receiver_by term_view c.in-Call.receiver) ∷ widths (by.items_by term_view c.in-Call.items.items))
+    ++ widths (by.boxed_by term_view c.in-Call.block)))) splat c.call_width.ensures)
 
 pub returns-in-Super : goal.returns-in-Super
 returns-in-Super t c =
@@ -25,4 +27,6 @@ returns-in-Super t c =
     c.has_splat-in-Super.ensures ∙ ap (λ is. has_splat (by.items_by term_view is)) c.deref-in-Super.ensures.value in
     subst (λ f. IfOk c.super_width.result (λ w. w ≡ width f))
     (sym (ap term_view c.in-Super.is ∙ view-Super c.in-Super.items c.in-Super.block))
-    (subst (λ s. IfOk c.super_width.result (λ w. w ≡ of_call s ((3 ∷ widths (by.items_by term_view c.in-Super.items.items)) ++ widths (by.boxed_by term_view c.in-Super.block)))) splat c.super_width.ensures)
+    (subst (λ s. IfOk c.super_width.result (λ w. w ≡ of_call s
+    ((3 ∷ widths (by.items_by term_view c.in-Super.items.items))
+    ++ widths (by.boxed_by term_view c.in-Super.block)))) splat c.super_width.ensures)

@@ -7,7 +7,8 @@ pub classes-preserved : goal.classes-preserved
 classes-preserved c =
     let within : c.classes.class-index < length c.args.classes.now = omega arith in
     record {
-      same = rw (c.in_ok-intern.ensures.ok, c.name.ensures) (names_step name_of _ _ _ _ within ∙ c.classes.invariant.same);
+      same = rw (c.in_ok-intern.ensures.ok, c.name.ensures)
+          (names_step name_of _ _ _ _ within ∙ c.classes.invariant.same);
       objects = c.in_ok-intern.ensures.objects ∙ c.classes.invariant.objects;
     }
 

@@ -16,4 +16,8 @@ returns-in_ok-push-in-None-clause-symbol c = rw (← c.self.view_is, ← c.in-No
 
 pub returns-in_ok-push-in-None-clause-ok : goal.returns-in_ok-push-in-None-clause-ok
 unfolding intern
-returns-in_ok-push-in-None-clause-ok c = rw (← c.self.view_is, ← c.in-None.ensures.place, c.in_ok-push-in-None.ensures.ok) refl
+returns-in_ok-push-in-None-clause-ok c = rw (
+  ← c.self.view_is,
+  ← c.in-None.ensures.place,
+  c.in_ok-push-in-None.ensures.ok,
+) refl

@@ -14,42 +14,54 @@ use Rattle.rb_store.proofs.store.Store.new.Goals as goal
 
 pub add_rows-requires-clause-there : goal.add_rows-requires-clause-there
 add_rows-requires-clause-there c =
-    let e = c.in_ok-intern.ensures.objects ∙ c.in_ok-add_names.ensures.objects ∙ ap (λ (st : Store). st.objects) c.in_ok-store.ensures in
+    let e = c.in_ok-intern.ensures.objects ∙ c.in_ok-add_names.ensures.objects
+    ∙ ap (λ (st : Store). st.objects) c.in_ok-store.ensures in
     rw (e, nameless_length) (omega arith)
 
 pub add_rows-requires-clause-is_class : goal.add_rows-requires-clause-is_class
 add_rows-requires-clause-is_class c =
-    let e = c.in_ok-intern.ensures.objects ∙ c.in_ok-add_names.ensures.objects ∙ ap (λ (st : Store). st.objects) c.in_ok-store.ensures in
+    let e = c.in_ok-intern.ensures.objects ∙ c.in_ok-add_names.ensures.objects
+    ∙ ap (λ (st : Store). st.objects) c.in_ok-store.ensures in
     plays_still _ _ (core class.Integer) ClassOrModule (ap sorts_of e) nameless_integer
 
 pub add_rows-requires-2-clause-there : goal.add_rows-requires-2-clause-there
 add_rows-requires-2-clause-there c =
-    let e = c.in_ok-intern.ensures.objects ∙ c.in_ok-add_names.ensures.objects ∙ ap (λ (st : Store). st.objects) c.in_ok-store.ensures in
+    let e = c.in_ok-intern.ensures.objects ∙ c.in_ok-add_names.ensures.objects
+    ∙ ap (λ (st : Store). st.objects) c.in_ok-store.ensures in
     there_still _ _ 15 (c.in_ok-add_rows.ensures.objects ∙ ap sorts_of e) (rw nameless_length (omega arith))
 
 pub add_rows-requires-2-clause-is_class : goal.add_rows-requires-2-clause-is_class
 add_rows-requires-2-clause-is_class c =
-    let e = c.in_ok-intern.ensures.objects ∙ c.in_ok-add_names.ensures.objects ∙ ap (λ (st : Store). st.objects) c.in_ok-store.ensures in
+    let e = c.in_ok-intern.ensures.objects ∙ c.in_ok-add_names.ensures.objects
+    ∙ ap (λ (st : Store). st.objects) c.in_ok-store.ensures in
     plays_still _ _ (core class.Range) ClassOrModule (c.in_ok-add_rows.ensures.objects ∙ ap sorts_of e) nameless_range
 
 pub add_rows-requires-3-clause-there : goal.add_rows-requires-3-clause-there
 add_rows-requires-3-clause-there c =
-    let e = c.in_ok-intern.ensures.objects ∙ c.in_ok-add_names.ensures.objects ∙ ap (λ (st : Store). st.objects) c.in_ok-store.ensures in
-    there_still _ _ 40 (c.in_ok-add_rows-2.ensures.objects ∙ c.in_ok-add_rows.ensures.objects ∙ ap sorts_of e) (rw nameless_length (omega arith))
+    let e = c.in_ok-intern.ensures.objects ∙ c.in_ok-add_names.ensures.objects
+    ∙ ap (λ (st : Store). st.objects) c.in_ok-store.ensures in
+    there_still _ _ 40 (c.in_ok-add_rows-2.ensures.objects ∙ c.in_ok-add_rows.ensures.objects ∙ ap sorts_of e)
+    (rw nameless_length (omega arith))
 
 pub add_rows-requires-3-clause-is_class : goal.add_rows-requires-3-clause-is_class
 add_rows-requires-3-clause-is_class c =
-    let e = c.in_ok-intern.ensures.objects ∙ c.in_ok-add_names.ensures.objects ∙ ap (λ (st : Store). st.objects) c.in_ok-store.ensures in
-    plays_still _ _ range_singleton ClassOrModule (c.in_ok-add_rows-2.ensures.objects ∙ c.in_ok-add_rows.ensures.objects ∙ ap sorts_of e) nameless_singleton
+    let e = c.in_ok-intern.ensures.objects ∙ c.in_ok-add_names.ensures.objects
+    ∙ ap (λ (st : Store). st.objects) c.in_ok-store.ensures in
+    plays_still _ _ range_singleton ClassOrModule
+    (c.in_ok-add_rows-2.ensures.objects ∙ c.in_ok-add_rows.ensures.objects ∙ ap sorts_of e) nameless_singleton
 
 pub returns-clause-store : goal.returns-clause-store
 unfolding opening bare core_classes integer_names range_names
 returns-clause-store c =
-    let named = c.in_ok-add_names.ensures.ok ∙ ap (λ (st : Store). with_names st (map name_of core_classes)) c.in_ok-store.ensures in
+    let named = c.in_ok-add_names.ensures.ok ∙ ap (λ (st : Store). with_names st (map name_of core_classes))
+    c.in_ok-store.ensures in
     let all = c.in_ok-intern.ensures.ok ∙ ap (λ (st : Store). (intern st (codes "Yielder")).store) named in
-    let first = c.in_ok-add_rows.ensures.ok ∙ ap (λ (st : Store). with_rows st (core class.Integer) 0 integer_names) all in
-    let second = c.in_ok-add_rows-2.ensures.ok ∙ ap (λ (st : Store). with_rows st (core class.Range) 39 range_names) first in
-    ap (λ (h : Held). h.store) c.store-5.view_is ∙ c.in_ok-add_rows-3.ensures.ok ∙ ap (λ (st : Store). with_rows st range_singleton 51 (codes "new" ∷ [])) second
+    let first = c.in_ok-add_rows.ensures.ok ∙ ap (λ (st : Store). with_rows st (core class.Integer) 0 integer_names) all
+    in
+    let second = c.in_ok-add_rows-2.ensures.ok
+    ∙ ap (λ (st : Store). with_rows st (core class.Range) 39 range_names) first in
+    ap (λ (h : Held). h.store) c.store-5.view_is ∙ c.in_ok-add_rows-3.ensures.ok
+    ∙ ap (λ (st : Store). with_rows st range_singleton 51 (codes "new" ∷ [])) second
 
 pub returns-clause-sound : goal.returns-clause-sound
 returns-clause-sound c = subst Sound (sym (returns-clause-store c)) opening_sound

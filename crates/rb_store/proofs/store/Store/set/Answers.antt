@@ -3,4 +3,5 @@ use Rattle.rb_store.proofs.Counted.{set_counted}
 use Rattle.rb_store.proofs.store.Store.set.Goals as goal
 
 pub returns-clause-counted : goal.returns-clause-counted
-returns-clause-counted c = rw (← c.self.view_is) (set_counted _ _ c.args.id c.args.object (omega arith) (search rules) (search rules) (search rules))
+returns-clause-counted c = rw (← c.self.view_is)
+    (set_counted _ _ c.args.id c.args.object (omega arith) (search rules) (search rules) (search rules))

@@ -30,10 +30,12 @@ fill_part-requires-clause-within g c =
 pub invariant_of-self : goal.invariant_of-self
 invariant_of-self g c =
     let live = rw (← c.self.view_is) at c.requires.live in
-    rw c.fill_part.ensures.capacity (filled_part _ _ _ _ _ _ _ c.args.b.0 c.args.from c.args.to c.args.v c.fill_part.ensures.items c.self.invariant live c.requires.order c.requires.within).sound
+    rw c.fill_part.ensures.capacity (filled_part _ _ _ _ _ _ _ c.args.b.0 c.args.from c.args.to c.args.v
+    c.fill_part.ensures.items c.self.invariant live c.requires.order c.requires.within).sound
 
 pub returns : goal.returns
 returns g c =
     let live = rw (← c.self.view_is) at c.requires.live in
-    let changed = (filled_part _ _ _ _ _ _ _ c.args.b.0 c.args.from c.args.to c.args.v c.fill_part.ensures.items c.self.invariant live c.requires.order c.requires.within).blocks in
+    let changed = (filled_part _ _ _ _ _ _ _ c.args.b.0 c.args.from c.args.to c.args.v c.fill_part.ensures.items
+    c.self.invariant live c.requires.order c.requires.within).blocks in
     rw (← c.self.view_is, changed) refl

@@ -5,7 +5,8 @@ use Rattle.slot_pool.proofs.pool.SlotPool.give.Goals as goal
 pub invariant_of-self : goal.invariant_of-self
 invariant_of-self g c =
     let live = rw (← c.self.view_is) at c.requires in
-    rw (c.push_reserved.ensures.items, c.push_reserved.ensures.capacity) (gives _ _ _ _ _ _ c.args.b.0 c.self.invariant live).sound
+    rw (c.push_reserved.ensures.items, c.push_reserved.ensures.capacity)
+    (gives _ _ _ _ _ _ c.args.b.0 c.self.invariant live).sound
 
 pub returns : goal.returns
 returns g c =

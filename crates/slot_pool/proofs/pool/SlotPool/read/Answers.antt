@@ -15,9 +15,14 @@ overflow_add-b g c =
 pub index-requires : goal.index-requires
 index-requires g c =
     let live = rw (← c.self.view_is) at c.requires.live in
-    omega (arith, place_within _ _ _ _ _ _ c.args.b.0 c.args.i (c.args.b.0 * 64 + c.args.i) c.self.invariant live c.requires.within (omega arith))
+    omega (
+      arith,
+      place_within _ _ _ _ _ _ c.args.b.0 c.args.i (c.args.b.0 * 64 + c.args.i) c.self.invariant live
+          c.requires.within (omega arith),
+    )
 
 pub returns : goal.returns
 returns g c =
     let live = rw (← c.self.view_is) at c.requires.live in
-    rw (← c.self.view_is) (place_read _ _ _ _ _ _ c.args.b.0 c.args.i (c.args.b.0 * 64 + c.args.i) c.index.result.now c.self.invariant live c.requires.within (omega arith) c.index.ensures)
+    rw (← c.self.view_is) (place_read _ _ _ _ _ _ c.args.b.0 c.args.i (c.args.b.0 * 64 + c.args.i) c.index.result.now
+    c.self.invariant live c.requires.within (omega arith) c.index.ensures)

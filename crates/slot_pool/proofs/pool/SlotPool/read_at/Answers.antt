@@ -10,9 +10,14 @@ overflow_add-start g c =
 pub index-requires : goal.index-requires
 index-requires g c =
     let live = rw (← c.self.view_is) at c.requires in
-    omega (arith, place_within _ _ _ _ _ _ ((c.args.start + c.args.i) / 64) ((c.args.start + c.args.i) % 64) (c.args.start + c.args.i) c.self.invariant live (omega arith) (omega arith))
+    omega (
+      arith,
+      place_within _ _ _ _ _ _ ((c.args.start + c.args.i) / 64) ((c.args.start + c.args.i) % 64)
+          (c.args.start + c.args.i) c.self.invariant live (omega arith) (omega arith),
+    )
 
 pub returns : goal.returns
 returns g c =
     let live = rw (← c.self.view_is) at c.requires in
-    rw (← c.self.view_is) (place_read _ _ _ _ _ _ ((c.args.start + c.args.i) / 64) ((c.args.start + c.args.i) % 64) (c.args.start + c.args.i) c.index.result.now c.self.invariant live (omega arith) (omega arith) c.index.ensures)
+    rw (← c.self.view_is) (place_read _ _ _ _ _ _ ((c.args.start + c.args.i) / 64) ((c.args.start + c.args.i) % 64)
+    (c.args.start + c.args.i) c.index.result.now c.self.invariant live (omega arith) (omega arith) c.index.ensures)

@@ -15,15 +15,21 @@ overflow_add-b g c =
 pub index_mut-requires : goal.index_mut-requires
 index_mut-requires g c =
     let live = rw (← c.self.view_is) at c.requires.live in
-    omega (arith, place_within _ _ _ _ _ _ c.args.b.0 c.args.i (c.args.b.0 * 64 + c.args.i) c.self.invariant live c.requires.within (omega arith))
+    omega (
+      arith,
+      place_within _ _ _ _ _ _ c.args.b.0 c.args.i (c.args.b.0 * 64 + c.args.i) c.self.invariant live
+          c.requires.within (omega arith),
+    )
 
 pub invariant_of-self : goal.invariant_of-self
 invariant_of-self g c =
     let live = rw (← c.self.view_is) at c.requires.live in
-    (place_written _ _ _ _ _ _ c.args.b.0 c.args.i (c.args.b.0 * 64 + c.args.i) c.args.v c.self.invariant live c.requires.within (omega arith)).sound
+    (place_written _ _ _ _ _ _ c.args.b.0 c.args.i (c.args.b.0 * 64 + c.args.i) c.args.v c.self.invariant live
+    c.requires.within (omega arith)).sound
 
 pub returns : goal.returns
 returns g c =
     let live = rw (← c.self.view_is) at c.requires.live in
-    let changed = (place_written _ _ _ _ _ _ c.args.b.0 c.args.i (c.args.b.0 * 64 + c.args.i) c.args.v c.self.invariant live c.requires.within (omega arith)).blocks in
+    let changed = (place_written _ _ _ _ _ _ c.args.b.0 c.args.i (c.args.b.0 * 64 + c.args.i) c.args.v c.self.invariant
+    live c.requires.within (omega arith)).blocks in
     rw (← c.self.view_is, changed) refl

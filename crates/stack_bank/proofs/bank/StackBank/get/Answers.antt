@@ -23,4 +23,5 @@ returns c =
     let live = rw (← c.self.view_is) at c.requires.live in
     let s = the_stack _ _ c.args.id.0 c.index-stack.result.now c.self.invariant live c.index-stack.ensures in
     let within = in_stack _ _ c.args.id.0 c.args.i _ s (rw (← c.self.view_is) at c.requires.within) in
-    rw (← c.self.view_is) (slot_read _ _ c.args.id.0 c.args.i c.index.result.now _ c.read.result s within c.index.ensures c.read.ensures)
+    rw (← c.self.view_is) (slot_read _ _ c.args.id.0 c.args.i c.index.result.now _ c.read.result s within
+    c.index.ensures c.read.ensures)

@@ -19,17 +19,20 @@ invariant_of-self c =
     let live = rw (← c.self.view_is) at c.requires in
     let at = the_place _ _ c.args.id.0 c.index_mut.result.now live c.index_mut.ensures.value in
     let s = the_stack _ _ c.args.id.0 c.index_mut.result.now c.self.invariant live c.index_mut.ensures.value in
-    rw (map-set held) (grows_sound _ _ _ _ c.args.id.0 c.args.n _ _ c.self.invariant at s c.grow_stack.ensures.ok c.grow_stack.ensures.err_pool c.grow_stack.ensures.err_stack)
+    rw (map-set held) (grows_sound _ _ _ _ c.args.id.0 c.args.n _ _ c.self.invariant at s c.grow_stack.ensures.ok
+    c.grow_stack.ensures.err_pool c.grow_stack.ensures.err_stack)
 
 pub returns-clause-ok : goal.returns-clause-ok
 returns-clause-ok c =
     let live = rw (← c.self.view_is) at c.requires in
     let at = the_place _ _ c.args.id.0 c.index_mut.result.now live c.index_mut.ensures.value in
     let s = the_stack _ _ c.args.id.0 c.index_mut.result.now c.self.invariant live c.index_mut.ensures.value in
-    rw (map-set held, ← c.self.view_is) (grows_ok _ _ _ _ c.args.id.0 c.args.n _ _ c.self.invariant at s c.grow_stack.ensures.ok)
+    rw (map-set held, ← c.self.view_is) (grows_ok _ _ _ _ c.args.id.0 c.args.n _ _ c.self.invariant at s
+    c.grow_stack.ensures.ok)
 
 pub returns-clause-err : goal.returns-clause-err
 returns-clause-err c =
     let live = rw (← c.self.view_is) at c.requires in
     let at = the_place _ _ c.args.id.0 c.index_mut.result.now live c.index_mut.ensures.value in
-    rw (map-set held, ← c.self.view_is) (grows_err _ _ _ _ c.args.id.0 _ _ at c.grow_stack.ensures.err_pool c.grow_stack.ensures.err_stack)
+    rw (map-set held, ← c.self.view_is) (grows_err _ _ _ _ c.args.id.0 _ _ at c.grow_stack.ensures.err_pool
+    c.grow_stack.ensures.err_stack)

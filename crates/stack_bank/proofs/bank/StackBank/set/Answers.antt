@@ -16,7 +16,8 @@ write-requires-clause-live c =
     let live = rw (← c.self.view_is) at c.requires.live in
     let s = the_stack _ _ c.args.id.0 c.index.result.now c.self.invariant live c.index.ensures in
     let within = in_stack _ _ c.args.id.0 c.args.i _ s (rw (← c.self.view_is) at c.requires.within) in
-    block_live _ _ (c.args.i / 64) c.index-block.result.now s.holds (omega (arith, s.sized, within)) c.index-block.ensures
+    block_live _ _ (c.args.i / 64) c.index-block.result.now s.holds (omega (arith, s.sized, within))
+    c.index-block.ensures
 
 pub invariant_of-self : goal.invariant_of-self
 invariant_of-self c =
@@ -24,7 +25,8 @@ invariant_of-self c =
     let at = the_place _ _ c.args.id.0 c.index.result.now live c.index.ensures in
     let s = the_stack _ _ c.args.id.0 c.index.result.now c.self.invariant live c.index.ensures in
     let within = in_stack _ _ c.args.id.0 c.args.i _ s (rw (← c.self.view_is) at c.requires.within) in
-    rw c.write.ensures (sets_slot _ _ c.args.id.0 c.args.i c.index-block.result.now _ c.args.v c.self.invariant at s within c.index-block.ensures).sound
+    rw c.write.ensures (sets_slot _ _ c.args.id.0 c.args.i c.index-block.result.now _ c.args.v c.self.invariant at s
+    within c.index-block.ensures).sound
 
 pub returns : goal.returns
 returns c =
@@ -32,4 +34,5 @@ returns c =
     let at = the_place _ _ c.args.id.0 c.index.result.now live c.index.ensures in
     let s = the_stack _ _ c.args.id.0 c.index.result.now c.self.invariant live c.index.ensures in
     let within = in_stack _ _ c.args.id.0 c.args.i _ s (rw (← c.self.view_is) at c.requires.within) in
-    rw (c.write.ensures, ← c.self.view_is) (sets_slot _ _ c.args.id.0 c.args.i c.index-block.result.now _ c.args.v c.self.invariant at s within c.index-block.ensures).seen_as
+    rw (c.write.ensures, ← c.self.view_is) (sets_slot _ _ c.args.id.0 c.args.i c.index-block.result.now _ c.args.v
+    c.self.invariant at s within c.index-block.ensures).seen_as
