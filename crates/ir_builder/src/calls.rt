@@ -20,7 +20,8 @@ fn call_term(
     items: Vec<Item<Core>>,
     block: Option<Core>,
 ) -> Term
-    ensures { term_view result ≡ form.call (part.receiver_form receiver) name (part.items items.items) (part.boxed block) }
+    ensures { term_view result ≡ form.call (part.receiver_form receiver) name (part.items items.items)
+        (part.boxed block) }
 {
     Term::Call {
         receiver,
@@ -38,7 +39,8 @@ pub fn call(
     items: Vec<Item<Core>>,
     block: Option<Core>,
 ) -> Result<Core, AllocError>
-    ensures { IfOk result (λ c. core_view c ≡ form.call (part.receiver_form receiver) name.now (part.items items.items) (part.boxed block)) }
+    ensures { IfOk result (λ c. core_view c ≡ form.call (part.receiver_form receiver) name.now (part.items items.items)
+        (part.boxed block)) }
 {
     let name = Bytes::from_slice(alloc, name)?;
     call_term(receiver, name, items, block).into_core(alloc)

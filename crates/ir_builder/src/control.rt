@@ -55,7 +55,8 @@ pub fn cond(alloc: Global, branches: Vec<Branch<Core>>, otherwise: Core) -> Resu
 
 /// One test.
 pub fn choice(alloc: Global, test: Core, body: Core, otherwise: Core) -> Result<Core, AllocError>
-    ensures { IfOk result (λ c. core_view c ≡ form.cond (form.one (form.branch (core_view test) (core_view body))) (core_view otherwise)) }
+    ensures { IfOk result (λ c. core_view c ≡ form.cond (form.one (form.branch (core_view test) (core_view body)))
+        (core_view otherwise)) }
 {
     let mut branches = Vec::new(alloc);
     branches.push(Branch { test, body })?;
@@ -150,7 +151,8 @@ pub fn repetition(
     test: Core,
     body: Core,
 ) -> Result<Core, AllocError>
-    ensures { IfOk result (λ c. core_view c ≡ form.while_form body_first (built.loop_test until (core_view test)) (core_view body)) }
+    ensures { IfOk result (λ c. core_view c ≡ form.while_form body_first (built.loop_test until (core_view test))
+        (core_view body)) }
 {
     let test = loop_test(alloc, until, test)?;
     Term::While {

@@ -38,7 +38,8 @@ pub fn stored(
     kept: usize,
     value: Core,
 ) -> Result<Vec<Core>, AllocError>
-    ensures { IfOk result (λ v. part.cores v.items ≡ lowered.stored receiver name.now (part.items items.items) kept (core_view value)) }
+    ensures { IfOk result (λ v. part.cores v.items ≡ lowered.stored receiver name.now (part.items items.items) kept
+        (core_view value)) }
 {
     let mut items = items;
     let given = local_number(alloc, kept)?;

@@ -162,7 +162,8 @@ fn of_cond<'a>(branches: &[Branch<Core>]) -> Found<'a>
 }
 
 fn of_call<'a>(name: &'a Bytes, items: &[Item<Core>]) -> Found<'a>
-    ensures { IfOk result (λ f. view f ≡ tables.symbolic (16 + tables.items_code (by.items_by term_view items.now)) 0 name.now) }
+    ensures { IfOk result (λ f. view f ≡ tables.symbolic (16 + tables.items_code (by.items_by term_view items.now)) 0
+        name.now) }
 {
     let code = add(16, items_code(items)?)?;
     Ok(symbolic(code, 0, name))
@@ -177,7 +178,9 @@ fn passing<'a>(code: u64, items: &[Item<Core>]) -> Found<'a>
 
 #[tactic(auto, using(crate::proofs::PartCounts::count_laws))]
 fn of_begin<'a>(clauses: &[Clause<Core>]) -> Found<'a>
-    ensures { IfOk result (λ f. view f ≡ tables.handling (96 + 48 * tables.classes (by.clauses_by term_view clauses.now)) (1 + tables.count (by.clauses_by term_view clauses.now))) }
+    ensures { IfOk result (λ f. view f ≡ tables.handling
+        (96 + 48 * tables.classes (by.clauses_by term_view clauses.now))
+        (1 + tables.count (by.clauses_by term_view clauses.now))) }
 {
     let code = scaled_by(96, 48, classes(clauses)?)?;
     let handlers = scaled(1, 1, clauses.len())?;

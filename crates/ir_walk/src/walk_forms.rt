@@ -21,7 +21,8 @@ pub fn walk_two<'a, T: Walked>(
     left: &'a Box<T>,
     right: &'a Box<T>,
 ) -> Noted
-    ensures { OnOk result (steps trail.new.items ≡ walks.walked extent (walks.walked extent (steps trail.old.items) (by.core_by T.form left.now)) (by.core_by T.form right.now)) }
+    ensures { OnOk result (steps trail.new.items ≡ walks.walked extent
+        (walks.walked extent (steps trail.old.items) (by.core_by T.form left.now)) (by.core_by T.form right.now)) }
 {
     left.walk(extent, trail)?;
     right.walk(extent, trail)
@@ -33,7 +34,9 @@ pub fn walk_cond<'a, T: Walked>(
     branches: &'a Vec<Branch<Box<T>>>,
     otherwise: &'a Box<T>,
 ) -> Noted
-    ensures { OnOk result (steps trail.new.items ≡ walks.walked extent (walks.walked_all extent (steps trail.old.items) (by.branches_by T.form branches.now.items)) (by.core_by T.form otherwise.now)) }
+    ensures { OnOk result (steps trail.new.items ≡ walks.walked extent
+        (walks.walked_all extent (steps trail.old.items) (by.branches_by T.form branches.now.items))
+        (by.core_by T.form otherwise.now)) }
 {
     walk_branches(extent, trail, branches)?;
     otherwise.walk(extent, trail)
@@ -46,7 +49,9 @@ pub fn walk_call<'a, T: Walked>(
     items: &'a Vec<Item<Box<T>>>,
     block: &'a Option<Box<T>>,
 ) -> Noted
-    ensures { OnOk result (steps trail.new.items ≡ walks.walked_all extent (walks.walked_all extent (walks.walked extent (steps trail.old.items) (by.receiver_by T.form receiver.now)) (by.items_by T.form items.now.items)) (by.boxed_by T.form block.now)) }
+    ensures { OnOk result (steps trail.new.items ≡ walks.walked_all extent
+        (walks.walked_all extent (walks.walked extent (steps trail.old.items) (by.receiver_by T.form receiver.now))
+        (by.items_by T.form items.now.items)) (by.boxed_by T.form block.now)) }
 {
     walk_receiver(extent, trail, receiver)?;
     walk_items(extent, trail, items)?;
@@ -59,7 +64,9 @@ pub fn walk_super<'a, T: Walked>(
     items: &'a Vec<Item<Box<T>>>,
     block: &'a Option<Box<T>>,
 ) -> Noted
-    ensures { OnOk result (steps trail.new.items ≡ walks.walked_all extent (walks.walked_all extent (steps trail.old.items) (by.items_by T.form items.now.items)) (by.boxed_by T.form block.now)) }
+    ensures { OnOk result (steps trail.new.items ≡ walks.walked_all extent
+        (walks.walked_all extent (steps trail.old.items) (by.items_by T.form items.now.items))
+        (by.boxed_by T.form block.now)) }
 {
     walk_items(extent, trail, items)?;
     walk_optional(extent, trail, block)
@@ -70,7 +77,11 @@ pub fn walk_begin<'a, T: Walked>(
     trail: &mut Vec<Step<'a>>,
     begin: &'a BeginForm<Box<T>>,
 ) -> Noted
-    ensures { OnOk result (steps trail.new.items ≡ walks.walked_all extent (walks.walked_all extent (walks.walked_all extent (walks.walked extent (steps trail.old.items) (by.core_by T.form begin.now.body)) (by.clauses_by T.form begin.now.clauses.items)) (by.boxed_by T.form begin.now.otherwise)) (by.boxed_by T.form begin.now.ensure)) }
+    ensures { OnOk result (steps trail.new.items ≡ walks.walked_all extent
+        (walks.walked_all extent (walks.walked_all extent
+        (walks.walked extent (steps trail.old.items) (by.core_by T.form begin.now.body))
+        (by.clauses_by T.form begin.now.clauses.items)) (by.boxed_by T.form begin.now.otherwise))
+        (by.boxed_by T.form begin.now.ensure)) }
 {
     begin.body.walk(extent, trail)?;
     walk_clauses(extent, trail, &begin.clauses)?;
@@ -86,7 +97,8 @@ pub fn walk_function<'a, T: Walked>(
     body: Body<'a>,
     function: &'a Function<Box<T>>,
 ) -> Noted
-    ensures { OnOk result (steps trail.new.items ≡ walks.inside_body extent inside (steps trail.old.items) (view body.entry) (by.core_by T.form function.now.body)) }
+    ensures { OnOk result (steps trail.new.items ≡ walks.inside_body extent inside (steps trail.old.items)
+        (view body.entry) (by.core_by T.form function.now.body)) }
 {
     walk_inside(extent, inside, trail, body, &function.body)
 }
@@ -99,7 +111,9 @@ pub fn walk_define_on<'a, T: Walked>(
     body: Body<'a>,
     function: &'a Function<Box<T>>,
 ) -> Noted
-    ensures { OnOk result (steps trail.new.items ≡ walks.inside_body extent (walks.enters_bodies extent) (walks.walked extent (steps trail.old.items) (by.core_by T.form core.now)) (view body.entry) (by.core_by T.form function.now.body)) }
+    ensures { OnOk result (steps trail.new.items ≡ walks.inside_body extent (walks.enters_bodies extent)
+        (walks.walked extent (steps trail.old.items) (by.core_by T.form core.now)) (view body.entry)
+        (by.core_by T.form function.now.body)) }
 {
     core.walk(extent, trail)?;
     walk_inside(extent, extent.enters_bodies(), trail, body, &function.body)
@@ -114,7 +128,9 @@ pub fn walk_class<'a, T: Walked>(
     body: Body<'a>,
     core: &'a Box<T>,
 ) -> Noted
-    ensures { OnOk result (steps trail.new.items ≡ walks.inside_body extent (walks.enters_bodies extent) (walks.walked_all extent (walks.walked_all extent (steps trail.old.items) (by.boxed_by T.form scope.now)) (by.boxed_by T.form parent.now)) (view body.entry) (by.core_by T.form core.now)) }
+    ensures { OnOk result (steps trail.new.items ≡ walks.inside_body extent (walks.enters_bodies extent)
+        (walks.walked_all extent (walks.walked_all extent (steps trail.old.items) (by.boxed_by T.form scope.now))
+        (by.boxed_by T.form parent.now)) (view body.entry) (by.core_by T.form core.now)) }
 {
     walk_optional(extent, trail, scope)?;
     walk_optional(extent, trail, parent)?;
@@ -129,7 +145,9 @@ pub fn walk_module<'a, T: Walked>(
     body: Body<'a>,
     core: &'a Box<T>,
 ) -> Noted
-    ensures { OnOk result (steps trail.new.items ≡ walks.inside_body extent (walks.enters_bodies extent) (walks.walked_all extent (steps trail.old.items) (by.boxed_by T.form scope.now)) (view body.entry) (by.core_by T.form core.now)) }
+    ensures { OnOk result (steps trail.new.items ≡ walks.inside_body extent (walks.enters_bodies extent)
+        (walks.walked_all extent (steps trail.old.items) (by.boxed_by T.form scope.now)) (view body.entry)
+        (by.core_by T.form core.now)) }
 {
     walk_optional(extent, trail, scope)?;
     walk_inside(extent, extent.enters_bodies(), trail, body, core)
@@ -143,7 +161,9 @@ pub fn walk_singleton<'a, T: Walked>(
     body: Body<'a>,
     core: &'a Box<T>,
 ) -> Noted
-    ensures { OnOk result (steps trail.new.items ≡ walks.inside_body extent (walks.enters_bodies extent) (walks.walked extent (steps trail.old.items) (by.core_by T.form of.now)) (view body.entry) (by.core_by T.form core.now)) }
+    ensures { OnOk result (steps trail.new.items ≡ walks.inside_body extent (walks.enters_bodies extent)
+        (walks.walked extent (steps trail.old.items) (by.core_by T.form of.now)) (view body.entry)
+        (by.core_by T.form core.now)) }
 {
     of.walk(extent, trail)?;
     walk_inside(extent, extent.enters_bodies(), trail, body, core)

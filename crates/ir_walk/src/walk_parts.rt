@@ -20,7 +20,8 @@ pub fn walk_inside<'a, T: Walked>(
     body: Body<'a>,
     core: &'a Box<T>,
 ) -> Noted
-    ensures { OnOk result (steps trail.new.items ≡ walks.inside_body extent inside (steps trail.old.items) (view body.entry) (by.core_by T.form core.now)) }
+    ensures { OnOk result (steps trail.new.items ≡ walks.inside_body extent inside (steps trail.old.items)
+        (view body.entry) (by.core_by T.form core.now)) }
 {
     if inside {
         enter(trail, body)?;
@@ -36,7 +37,8 @@ pub fn walk_receiver<'a, T: Walked>(
     trail: &mut Vec<Step<'a>>,
     receiver: &'a Receiver<Box<T>>,
 ) -> Noted
-    ensures { OnOk result (steps trail.new.items ≡ walks.walked extent (steps trail.old.items) (by.receiver_by T.form receiver.now)) }
+    ensures { OnOk result (steps trail.new.items ≡ walks.walked extent (steps trail.old.items)
+        (by.receiver_by T.form receiver.now)) }
 {
     match receiver {
         Receiver::To(core) => core.walk(extent, trail),
@@ -49,7 +51,8 @@ pub fn walk_optional<'a, T: Walked>(
     trail: &mut Vec<Step<'a>>,
     core: &'a Option<Box<T>>,
 ) -> Noted
-    ensures { OnOk result (steps trail.new.items ≡ walks.walked_all extent (steps trail.old.items) (by.boxed_by T.form core.now)) }
+    ensures { OnOk result (steps trail.new.items ≡ walks.walked_all extent (steps trail.old.items)
+        (by.boxed_by T.form core.now)) }
 {
     match core {
         Some(core) => core.walk(extent, trail),
@@ -62,7 +65,8 @@ pub fn walk_all<'a, T: Walked>(
     trail: &mut Vec<Step<'a>>,
     list: &'a Vec<Box<T>>,
 ) -> Noted
-    ensures { OnOk result (steps trail.new.items ≡ walks.walked_all extent (steps trail.old.items) (by.cores_by T.form list.now.items)) }
+    ensures { OnOk result (steps trail.new.items ≡ walks.walked_all extent (steps trail.old.items)
+        (by.cores_by T.form list.now.items)) }
 {
     for core in list {
         core.walk(extent, trail)?;
@@ -75,7 +79,8 @@ fn walk_item<'a, T: Walked>(
     trail: &mut Vec<Step<'a>>,
     item: &'a Item<Box<T>>,
 ) -> Noted
-    ensures { OnOk result (steps trail.new.items ≡ walks.walked extent (steps trail.old.items) (by.item_by T.form item.now)) }
+    ensures { OnOk result (steps trail.new.items ≡ walks.walked extent (steps trail.old.items)
+        (by.item_by T.form item.now)) }
 {
     match item {
         Item::Plain(core) | Item::Splat(core) => core.walk(extent, trail),
@@ -87,7 +92,8 @@ pub fn walk_items<'a, T: Walked>(
     trail: &mut Vec<Step<'a>>,
     items: &'a Vec<Item<Box<T>>>,
 ) -> Noted
-    ensures { OnOk result (steps trail.new.items ≡ walks.walked_all extent (steps trail.old.items) (by.items_by T.form items.now.items)) }
+    ensures { OnOk result (steps trail.new.items ≡ walks.walked_all extent (steps trail.old.items)
+        (by.items_by T.form items.now.items)) }
 {
     for item in items {
         walk_item(extent, trail, item)?;
@@ -100,7 +106,8 @@ fn walk_pair<'a, T: Walked>(
     trail: &mut Vec<Step<'a>>,
     pair: &'a Pair<Box<T>>,
 ) -> Noted
-    ensures { OnOk result (steps trail.new.items ≡ walks.walked extent (steps trail.old.items) (by.pair_by T.form pair.now)) }
+    ensures { OnOk result (steps trail.new.items ≡ walks.walked extent (steps trail.old.items)
+        (by.pair_by T.form pair.now)) }
 {
     pair.key.walk(extent, trail)?;
     pair.value.walk(extent, trail)
@@ -111,7 +118,8 @@ pub fn walk_pairs<'a, T: Walked>(
     trail: &mut Vec<Step<'a>>,
     pairs: &'a Vec<Pair<Box<T>>>,
 ) -> Noted
-    ensures { OnOk result (steps trail.new.items ≡ walks.walked_all extent (steps trail.old.items) (by.pairs_by T.form pairs.now.items)) }
+    ensures { OnOk result (steps trail.new.items ≡ walks.walked_all extent (steps trail.old.items)
+        (by.pairs_by T.form pairs.now.items)) }
 {
     for pair in pairs {
         walk_pair(extent, trail, pair)?;
@@ -124,7 +132,8 @@ fn walk_branch<'a, T: Walked>(
     trail: &mut Vec<Step<'a>>,
     branch: &'a Branch<Box<T>>,
 ) -> Noted
-    ensures { OnOk result (steps trail.new.items ≡ walks.walked extent (steps trail.old.items) (by.branch_by T.form branch.now)) }
+    ensures { OnOk result (steps trail.new.items ≡ walks.walked extent (steps trail.old.items)
+        (by.branch_by T.form branch.now)) }
 {
     branch.test.walk(extent, trail)?;
     branch.body.walk(extent, trail)
@@ -135,7 +144,8 @@ pub fn walk_branches<'a, T: Walked>(
     trail: &mut Vec<Step<'a>>,
     branches: &'a Vec<Branch<Box<T>>>,
 ) -> Noted
-    ensures { OnOk result (steps trail.new.items ≡ walks.walked_all extent (steps trail.old.items) (by.branches_by T.form branches.now.items)) }
+    ensures { OnOk result (steps trail.new.items ≡ walks.walked_all extent (steps trail.old.items)
+        (by.branches_by T.form branches.now.items)) }
 {
     for branch in branches {
         walk_branch(extent, trail, branch)?;
@@ -148,7 +158,8 @@ fn walk_clause<'a, T: Walked>(
     trail: &mut Vec<Step<'a>>,
     clause: &'a Clause<Box<T>>,
 ) -> Noted
-    ensures { OnOk result (steps trail.new.items ≡ walks.walked extent (steps trail.old.items) (by.clause_by T.form clause.now)) }
+    ensures { OnOk result (steps trail.new.items ≡ walks.walked extent (steps trail.old.items)
+        (by.clause_by T.form clause.now)) }
 {
     walk_all(extent, trail, &clause.classes)?;
     walk_optional(extent, trail, &clause.target)?;
@@ -160,7 +171,8 @@ pub fn walk_clauses<'a, T: Walked>(
     trail: &mut Vec<Step<'a>>,
     clauses: &'a Vec<Clause<Box<T>>>,
 ) -> Noted
-    ensures { OnOk result (steps trail.new.items ≡ walks.walked_all extent (steps trail.old.items) (by.clauses_by T.form clauses.now.items)) }
+    ensures { OnOk result (steps trail.new.items ≡ walks.walked_all extent (steps trail.old.items)
+        (by.clauses_by T.form clauses.now.items)) }
 {
     for clause in clauses {
         walk_clause(extent, trail, clause)?;

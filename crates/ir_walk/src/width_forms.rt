@@ -31,7 +31,8 @@ pub fn one_and_leaf<T: Measured>(alloc: Global, core: &Box<T>) -> Measure
 
 /// Two parts, one after the other.
 pub fn two<T: Measured>(alloc: Global, left: &Box<T>, right: &Box<T>) -> Measure
-    ensures { IfOk result (λ w. w ≡ widths.in_order (widths.width (by.core_by T.form left.now) ∷ widths.width (by.core_by T.form right.now) ∷ [])) }
+    ensures { IfOk result (λ w. w ≡ widths.in_order
+        (widths.width (by.core_by T.form left.now) ∷ widths.width (by.core_by T.form right.now) ∷ [])) }
 {
     let left = left.width(alloc)?;
     let right = right.width(alloc)?;
@@ -40,7 +41,8 @@ pub fn two<T: Measured>(alloc: Global, left: &Box<T>, right: &Box<T>) -> Measure
 
 /// Two parts, one after the other.
 pub fn while_width<T: Measured>(alloc: Global, test: &Box<T>, body: &Box<T>) -> Measure
-    ensures { IfOk result (λ w. w ≡ widths.in_turn (widths.width (by.core_by T.form test.now) ∷ widths.width (by.core_by T.form body.now) ∷ [])) }
+    ensures { IfOk result (λ w. w ≡ widths.in_turn
+        (widths.width (by.core_by T.form test.now) ∷ widths.width (by.core_by T.form body.now) ∷ [])) }
 {
     let test = test.width(alloc)?;
     let body = body.width(alloc)?;
@@ -84,7 +86,9 @@ pub fn cond_width<T: Measured>(
     branches: &Vec<Branch<Box<T>>>,
     otherwise: &Box<T>,
 ) -> Measure
-    ensures { IfOk result (λ w. w ≡ widths.in_turn (widths.widths (by.branches_by T.form branches.now.items) ++ widths.width (by.core_by T.form otherwise.now) ∷ [])) }
+    ensures { IfOk result (λ w. w ≡ widths.in_turn
+        (widths.widths (by.branches_by T.form branches.now.items)
+        ++ widths.width (by.core_by T.form otherwise.now) ∷ [])) }
 {
     let mut all = Vec::new(alloc);
     add_branches(alloc, &mut all, branches)?;
@@ -100,7 +104,9 @@ pub fn call_width<T: Measured>(
     items: &Vec<Item<Box<T>>>,
     block: &Option<Box<T>>,
 ) -> Measure
-    ensures { IfOk result (λ w. w ≡ widths.of_call splat ((widths.width (by.receiver_by T.form receiver.now) ∷ widths.widths (by.items_by T.form items.now.items)) ++ widths.widths (by.boxed_by T.form block.now))) }
+    ensures { IfOk result (λ w. w ≡ widths.of_call splat
+        ((widths.width (by.receiver_by T.form receiver.now) ∷ widths.widths (by.items_by T.form items.now.items))
+        ++ widths.widths (by.boxed_by T.form block.now))) }
 {
     let mut all = Vec::new(alloc);
     all.push(receiver_width(alloc, receiver)?)?;
@@ -126,7 +132,8 @@ pub fn super_width<T: Measured>(
     items: &Vec<Item<Box<T>>>,
     block: &Option<Box<T>>,
 ) -> Measure
-    ensures { IfOk result (λ w. w ≡ widths.of_call splat ((3 ∷ widths.widths (by.items_by T.form items.now.items)) ++ widths.widths (by.boxed_by T.form block.now))) }
+    ensures { IfOk result (λ w. w ≡ widths.of_call splat
+        ((3 ∷ widths.widths (by.items_by T.form items.now.items)) ++ widths.widths (by.boxed_by T.form block.now))) }
 {
     let mut all = Vec::new(alloc);
     all.push(3)?;
@@ -152,7 +159,9 @@ pub fn class_width<T: Measured>(
     scope: &Option<Box<T>>,
     parent: &Option<Box<T>>,
 ) -> Measure
-    ensures { IfOk result (λ w. w ≡ widths.in_order (widths.or_leaf (widths.widths (by.boxed_by T.form scope.now)) ∷ widths.or_leaf (widths.widths (by.boxed_by T.form parent.now)) ∷ [])) }
+    ensures { IfOk result (λ w. w ≡ widths.in_order
+        (widths.or_leaf (widths.widths (by.boxed_by T.form scope.now)) ∷ widths.or_leaf
+        (widths.widths (by.boxed_by T.form parent.now)) ∷ [])) }
 {
     let scope = optional_width(alloc, scope)?;
     let parent = optional_width(alloc, parent)?;
@@ -161,7 +170,8 @@ pub fn class_width<T: Measured>(
 
 /// The scope of a module.
 pub fn module_width<T: Measured>(alloc: Global, scope: &Option<Box<T>>) -> Measure
-    ensures { IfOk result (λ w. w ≡ widths.in_order (widths.or_leaf (widths.widths (by.boxed_by T.form scope.now)) ∷ [])) }
+    ensures { IfOk result (λ w. w ≡ widths.in_order
+        (widths.or_leaf (widths.widths (by.boxed_by T.form scope.now)) ∷ [])) }
 {
     let scope = optional_width(alloc, scope)?;
     in_order(&[scope])

@@ -43,7 +43,8 @@ fn is_part(part: LastPart, kind: SectionKind) -> bool
 #[tactic(auto, using(crate::proofs::Lasts::lasts), unfolding(crate::specs::Sections::part_body, crate::specs::Sections::before_part))]
 fn take_part(part: LastPart, sections: &mut Vec<Section>) -> Result<Option<Tree>, AllocError>
     ensures body { IfOk result (λ b. boxed b ≡ made.part_body part (made.sections_view sections.old)) }
-    ensures left { OnOk result (made.sections_view sections.new ≡ made.before_part part (made.sections_view sections.old)) }
+    ensures left { OnOk result (made.sections_view sections.new ≡ made.before_part part
+        (made.sections_view sections.old)) }
 {
     let Some(section) = sections.pop() else {
         return Ok(None);

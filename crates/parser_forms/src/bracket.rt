@@ -28,7 +28,8 @@ pub fn call_arguments<'a, I: Inner>(
     names: &mut Names,
     tokens: &'a [Token],
 ) -> Read<'a, Arguments<Tree>>
-    ensures value { Reads arguments_view result names.new (rules.call_arguments (I.inside inner.now) names.old tokens.now) }
+    ensures value { Reads arguments_view result names.new
+        (rules.call_arguments (I.inside inner.now) names.old tokens.now) }
     ensures shorter { Shortens tokens.now result }
 {
     let (listed, rest) = inner.list(alloc, names, tokens, DoOwner::Call)?;

@@ -85,7 +85,8 @@ fn block_body<'a, I: Inner>(
     at: u32,
     tokens: &'a [Token],
 ) -> Read<'a, Definition<Tree>>
-    ensures value { Reads block_view result names.new (rules.block_body (I.inside inner.now) style mark (parameters_view list) names.old tokens.now) }
+    ensures value { Reads block_view result names.new
+        (rules.block_body (I.inside inner.now) style mark (parameters_view list) names.old tokens.now) }
     ensures within { IfOk result (λ p. length p.1.now ≤ length tokens.now) }
 {
     let (body, rest) = styled_body(inner, alloc, names, tokens, style)?;
@@ -122,7 +123,8 @@ fn lambda_body<'a, I: Inner>(
     at: u32,
     tokens: &'a [Token],
 ) -> Read<'a, Definition<Tree>>
-    ensures value { Reads block_view result names.new (rules.lambda_body (I.inside inner.now) bare style mark (parameters_view list) names.old tokens.now) }
+    ensures value { Reads block_view result names.new
+        (rules.lambda_body (I.inside inner.now) bare style mark (parameters_view list) names.old tokens.now) }
     ensures within { IfOk result (λ p. length p.1.now ≤ length tokens.now) }
 {
     let behind = skip(tokens);
@@ -209,7 +211,8 @@ fn put_defaults(
     parts: &mut Vec<Tree>,
     optional: Vec<OptionalParameter<Tree>>,
 ) -> Result<(), AllocError>
-    ensures { OnOk result (map view parts.new.items ≡ map view parts.old.items ++ rules.defaults (map optional_node optional.items)) }
+    ensures { OnOk result (map view parts.new.items ≡ map view parts.old.items
+        ++ rules.defaults (map optional_node optional.items)) }
 {
     for parameter in optional {
         parts.push(parameter.value)?;
@@ -237,7 +240,8 @@ fn endless_method<'a, I: Inner>(
     list: ParameterList<Tree>,
     tokens: &'a [Token],
 ) -> Read<'a, Tree>
-    ensures value { Reads view result scope.new (rules.endless_method (I.inside inner.now) (parameters_view list) scope.old tokens.now) }
+    ensures value { Reads view result scope.new
+        (rules.endless_method (I.inside inner.now) (parameters_view list) scope.old tokens.now) }
     ensures within { IfOk result (λ p. length p.1.now ≤ length tokens.now) }
 {
     let at = place_at(tokens);
@@ -255,7 +259,8 @@ fn whole_method<'a, I: Inner>(
     at: u32,
     tokens: &'a [Token],
 ) -> Read<'a, Tree>
-    ensures value { Reads view result scope.new (rules.whole_method (I.inside inner.now) (head_view head) (parameters_view list) scope.old tokens.now) }
+    ensures value { Reads view result scope.new
+        (rules.whole_method (I.inside inner.now) (head_view head) (parameters_view list) scope.old tokens.now) }
     ensures within { IfOk result (λ p. length p.1.now ≤ length tokens.now) }
 {
     let (body, rest) = body(inner, alloc, scope, tokens)?;
@@ -273,7 +278,8 @@ fn method_rest<'a, I: Inner>(
     at: u32,
     tokens: &'a [Token],
 ) -> Read<'a, Tree>
-    ensures value { Reads view result scope.new (rules.method_rest (I.inside inner.now) (head_view head) (parameters_view list) scope.old tokens.now) }
+    ensures value { Reads view result scope.new
+        (rules.method_rest (I.inside inner.now) (head_view head) (parameters_view list) scope.old tokens.now) }
     ensures within { IfOk result (λ p. length p.1.now ≤ length tokens.now) }
 {
     if is_assign(tokens) {

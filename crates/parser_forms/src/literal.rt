@@ -81,7 +81,8 @@ fn next_piece<'a, I: Inner>(
     found: Vec<Piece<Tree>>,
     tokens: &'a [Token],
 ) -> Read<'a, Vec<Piece<Tree>>>
-    ensures value { Reads pieces_view result names.new (rules.next_piece (I.inside inner.now) (pieces_view found) names.old tokens.now) }
+    ensures value { Reads pieces_view result names.new
+        (rules.next_piece (I.inside inner.now) (pieces_view found) names.old tokens.now) }
     ensures shorter { Shortens tokens.now result }
 {
     let mut list = found;
@@ -99,7 +100,8 @@ pub fn pieces<'a, I: Inner>(
     found: Vec<Piece<Tree>>,
     tokens: &'a [Token],
 ) -> Read<'a, Vec<Piece<Tree>>>
-    ensures value { Reads pieces_view result names.new (rules.pieces (I.inside inner.now) (pieces_view found) names.old tokens.now) }
+    ensures value { Reads pieces_view result names.new
+        (rules.pieces (I.inside inner.now) (pieces_view found) names.old tokens.now) }
     ensures within { IfOk result (λ p. length p.1.now ≤ length tokens.now) }
 {
     let mut list = found;
@@ -148,7 +150,8 @@ pub fn string<'a, I: Inner>(
     found: Vec<Piece<Tree>>,
     tokens: &'a [Token],
 ) -> Read<'a, Vec<Piece<Tree>>>
-    ensures value { Reads pieces_view result names.new (rules.string (I.inside inner.now) (pieces_view found) names.old tokens.now) }
+    ensures value { Reads pieces_view result names.new
+        (rules.string (I.inside inner.now) (pieces_view found) names.old tokens.now) }
     ensures within { IfOk result (λ p. length p.1.now ≤ length (front.behind tokens.now)) }
 {
     if is_character(first(tokens)) {
@@ -170,7 +173,8 @@ pub fn strings<'a, I: Inner>(
     found: Vec<Piece<Tree>>,
     tokens: &'a [Token],
 ) -> Read<'a, Vec<Piece<Tree>>>
-    ensures value { Reads pieces_view result names.new (rules.strings (I.inside inner.now) (pieces_view found) names.old tokens.now) }
+    ensures value { Reads pieces_view result names.new
+        (rules.strings (I.inside inner.now) (pieces_view found) names.old tokens.now) }
     ensures within { IfOk result (λ p. length p.1.now ≤ length tokens.now) }
 {
     let mut list = found;

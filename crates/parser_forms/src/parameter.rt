@@ -326,7 +326,8 @@ pub fn block_parameters<'a, I: Inner>(
     names: &mut Names,
     tokens: &'a [Token],
 ) -> Read<'a, ParameterList<Tree>>
-    ensures value { Reads parameters_view result names.new (rules.block_parameters (I.inside inner.now) names.old tokens.now) }
+    ensures value { Reads parameters_view result names.new
+        (rules.block_parameters (I.inside inner.now) names.old tokens.now) }
     ensures within { IfOk result (λ p. length p.1.now ≤ length tokens.now) }
 {
     if is_open_bar(first(tokens)) {
@@ -343,7 +344,8 @@ fn bare_parameters<'a, I: Inner>(
     names: &mut Names,
     tokens: &'a [Token],
 ) -> Read<'a, ParameterList<Tree>>
-    ensures value { Reads parameters_view result names.new (rules.bare_parameters (I.inside inner.now) names.old tokens.now) }
+    ensures value { Reads parameters_view result names.new
+        (rules.bare_parameters (I.inside inner.now) names.old tokens.now) }
     ensures within { IfOk result (λ p. length p.1.now ≤ length tokens.now) }
 {
     let (found, rest) = parameters(inner, alloc, names, tokens)?;
@@ -362,7 +364,8 @@ pub fn open_parameters<'a, I: Inner>(
     names: &mut Names,
     tokens: &'a [Token],
 ) -> Read<'a, ParameterList<Tree>>
-    ensures value { Reads parameters_view result names.new (rules.open_parameters (I.inside inner.now) names.old tokens.now) }
+    ensures value { Reads parameters_view result names.new
+        (rules.open_parameters (I.inside inner.now) names.old tokens.now) }
     ensures within { IfOk result (λ p. length p.1.now ≤ length tokens.now) }
 {
     if !is_open_parenthesis(first(tokens)) {

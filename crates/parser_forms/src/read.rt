@@ -106,7 +106,8 @@ pub trait Inner {
         tokens: &'a [Token],
         target_use: TargetUse,
     ) -> Read<'a, Targets>
-        ensures value { Reads targets_view result names.new ((inside self.now).targets names.old (targets_view found) tokens.now target_use) }
+        ensures value { Reads targets_view result names.new
+            ((inside self.now).targets names.old (targets_view found) tokens.now target_use) }
         ensures within { IfOk result (λ p. length p.1.now ≤ length tokens.now) };
 
     fn block<'a>(

@@ -56,24 +56,42 @@ ghost use Rattle.parser_laws.specs.Expressions.{is_expression};
 /// What the definitions of the parser read as an expression is derived: a value, an assignment among them, operators with
 /// their operands, statements, and a whole program, behind which no token stands.
 pub fn expressions_are_derived()
-    ensures argument { (d : ℕ) (names known : Names) (ts rest : Tokens) (owner : DoOwner) (n : Node) → argument (levels d) names ts owner ≡ Ok (n, known, rest) → is_expression n ≡ true → Derives (Argument places.Argument owner n) names ts known rest }
-    ensures operation { (d : ℕ) (names known : Names) (ts rest : Tokens) (loosest : ℕ) (owner : DoOwner) (n : Node) → operation (levels d) names ts loosest owner ≡ Ok (n, known, rest) → is_expression n ≡ true → Derives (Operation places.Argument loosest owner n) names ts known rest }
-    ensures statements { (d : ℕ) (names known : Names) (ts rest : Tokens) (n : Node) → statements (levels d) names ts ≡ Ok (n, known, rest) → is_expression n ≡ true → Derives (Statements n) names ts known rest }
-    ensures program { (ts : Tokens) (n : Node) → program ts ≡ Ok n → is_expression n ≡ true → (known : Names) × (rest : Tokens) × Derives (Statements n) [] ts known rest × (is_finish (first rest) ≡ true) }
+    ensures argument { (d : ℕ) (names known : Names) (ts rest : Tokens) (owner : DoOwner) (n : Node)
+        → argument (levels d) names ts owner ≡ Ok (n, known, rest) → is_expression n ≡ true
+        → Derives (Argument places.Argument owner n) names ts known rest }
+    ensures operation { (d : ℕ) (names known : Names) (ts rest : Tokens) (loosest : ℕ) (owner : DoOwner) (n : Node)
+        → operation (levels d) names ts loosest owner ≡ Ok (n, known, rest) → is_expression n ≡ true
+        → Derives (Operation places.Argument loosest owner n) names ts known rest }
+    ensures statements { (d : ℕ) (names known : Names) (ts rest : Tokens) (n : Node)
+        → statements (levels d) names ts ≡ Ok (n, known, rest) → is_expression n ≡ true
+        → Derives (Statements n) names ts known rest }
+    ensures program { (ts : Tokens) (n : Node) → program ts ≡ Ok n → is_expression n ≡ true → (known : Names)
+        × (rest : Tokens) × Derives (Statements n) [] ts known rest × (is_finish (first rest) ≡ true) }
 {}
 
 /// What is derived the definitions of the parser read, with as many levels as there are tokens.
 pub fn derived_is_read()
-    ensures argument { (d : ℕ) (names known : Names) (ts rest : Tokens) (owner : DoOwner) (n : Node) → Derives (Argument places.Argument owner n) names ts known rest → length ts ≤ d → argument (levels d) names ts owner ≡ Ok (n, known, rest) }
-    ensures operation { (d : ℕ) (names known : Names) (ts rest : Tokens) (loosest : ℕ) (owner : DoOwner) (n : Node) → Derives (Operation places.Argument loosest owner n) names ts known rest → length ts ≤ d → operation (levels d) names ts loosest owner ≡ Ok (n, known, rest) }
-    ensures statements { (d : ℕ) (names known : Names) (ts rest : Tokens) (n : Node) → Derives (Statements n) names ts known rest → length ts ≤ d → statements (levels d) names ts ≡ Ok (n, known, rest) }
-    ensures program { (ts : Tokens) (n : Node) (known : Names) (rest : Tokens) → Derives (Statements n) [] ts known rest → is_finish (first rest) ≡ true → program ts ≡ Ok n }
+    ensures argument { (d : ℕ) (names known : Names) (ts rest : Tokens) (owner : DoOwner) (n : Node)
+        → Derives (Argument places.Argument owner n) names ts known rest → length ts ≤ d
+        → argument (levels d) names ts owner ≡ Ok (n, known, rest) }
+    ensures operation { (d : ℕ) (names known : Names) (ts rest : Tokens) (loosest : ℕ) (owner : DoOwner) (n : Node)
+        → Derives (Operation places.Argument loosest owner n) names ts known rest → length ts ≤ d
+        → operation (levels d) names ts loosest owner ≡ Ok (n, known, rest) }
+    ensures statements { (d : ℕ) (names known : Names) (ts rest : Tokens) (n : Node)
+        → Derives (Statements n) names ts known rest → length ts ≤ d
+        → statements (levels d) names ts ≡ Ok (n, known, rest) }
+    ensures program { (ts : Tokens) (n : Node) (known : Names) (rest : Tokens) → Derives (Statements n) [] ts known rest
+        → is_finish (first rest) ≡ true → program ts ≡ Ok n }
 {}
 
 /// At most one node is derived, with the same tokens left and the same names known.
 pub fn at_most_one()
-    ensures argument { (names known later : Names) (ts rest more : Tokens) (owner : DoOwner) (n m : Node) → Derives (Argument places.Argument owner n) names ts known rest → Derives (Argument places.Argument owner m) names ts later more → (n ≡ m) × (known ≡ later) × (rest ≡ more) }
-    ensures statements { (names known later : Names) (ts rest more : Tokens) (n m : Node) → Derives (Statements n) names ts known rest → Derives (Statements m) names ts later more → (n ≡ m) × (known ≡ later) × (rest ≡ more) }
+    ensures argument { (names known later : Names) (ts rest more : Tokens) (owner : DoOwner) (n m : Node)
+        → Derives (Argument places.Argument owner n) names ts known rest
+        → Derives (Argument places.Argument owner m) names ts later more → (n ≡ m) × (known ≡ later) × (rest ≡ more) }
+    ensures statements { (names known later : Names) (ts rest more : Tokens) (n m : Node)
+        → Derives (Statements n) names ts known rest → Derives (Statements m) names ts later more → (n ≡ m)
+        × (known ≡ later) × (rest ≡ more) }
 {}
 
 /// The tokens of `x = 1` are derived as an assignment, behind which `x` is known as a local, and those of

@@ -151,7 +151,8 @@ fn elements<'a>(
     list: &mut List<Bytes>,
     tokens: &'a [Token],
 ) -> Result<Option<&'a [Token]>, AllocError>
-    ensures value { IfOk result (λ r. option_map (λ rest. (list.new, rest.now)) r ≡ made.elements_from list.old tokens.now) }
+    ensures value { IfOk result (λ r. option_map (λ rest. (list.new, rest.now)) r ≡ made.elements_from list.old
+        tokens.now) }
     ensures shorter { IfOk result (λ r. IfSome r (λ rest. length rest.now < length tokens.now)) }
 {
     let mut rest = tokens;
@@ -182,7 +183,8 @@ fn negative(alloc: Global, tokens: &[Token]) -> Option<(TreeForm, &[Token])>
 
 /// The constant behind `::`.
 fn top_constant<'a>(alloc: Global, tokens: &'a [Token]) -> Leaf<'a>
-    ensures value { IfOk result (λ r. option_map (λ p. (form_view p.0, p.1.now)) r ≡ made.top_constant (front.first tokens.now) tokens.now) }
+    ensures value { IfOk result (λ r. option_map (λ p. (form_view p.0, p.1.now)) r ≡ made.top_constant
+        (front.first tokens.now) tokens.now) }
     ensures within { IfOk result (λ r. IfSome r (λ p. length p.1.now ≤ length tokens.now)) }
 {
     match first(tokens) {
@@ -196,7 +198,8 @@ fn top_constant<'a>(alloc: Global, tokens: &'a [Token]) -> Leaf<'a>
 
 /// The `%w` whose elements stand at the front.
 fn words<'a>(alloc: Global, tokens: &'a [Token]) -> Leaf<'a>
-    ensures value { IfOk result (λ r. option_map (λ p. (form_view p.0, p.1.now)) r ≡ made.with_elements node.words (made.elements tokens.now)) }
+    ensures value { IfOk result (λ r. option_map (λ p. (form_view p.0, p.1.now)) r ≡ made.with_elements node.words
+        (made.elements tokens.now)) }
     ensures shorter { IfOk result (λ r. IfSome r (λ p. length p.1.now < length tokens.now)) }
 {
     let mut list = List::new(alloc);
@@ -208,7 +211,8 @@ fn words<'a>(alloc: Global, tokens: &'a [Token]) -> Leaf<'a>
 
 /// The `%i` whose elements stand at the front.
 fn symbols<'a>(alloc: Global, tokens: &'a [Token]) -> Leaf<'a>
-    ensures value { IfOk result (λ r. option_map (λ p. (form_view p.0, p.1.now)) r ≡ made.with_elements node.symbols (made.elements tokens.now)) }
+    ensures value { IfOk result (λ r. option_map (λ p. (form_view p.0, p.1.now)) r ≡ made.with_elements node.symbols
+        (made.elements tokens.now)) }
     ensures shorter { IfOk result (λ r. IfSome r (λ p. length p.1.now < length tokens.now)) }
 {
     let mut list = List::new(alloc);

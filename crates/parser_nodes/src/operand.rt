@@ -131,7 +131,8 @@ fn outside_call(
     arguments: Option<Arguments<Tree>>,
     block: Option<Definition<Tree>>,
 ) -> Result<Tree, AllocError>
-    ensures { IfOk result (λ t. view t ≡ made.outside_call what at (views parts) (made.given_view arguments) (made.given_block block)) }
+    ensures { IfOk result (λ t. view t ≡ made.outside_call what at (views parts) (made.given_view arguments)
+        (made.given_block block)) }
 {
     let mut parts = parts;
     add_arguments(&mut parts, arguments)?;
@@ -145,7 +146,8 @@ fn name_call(
     arguments: Option<Arguments<Tree>>,
     block: Option<Definition<Tree>>,
 ) -> TreeForm
-    ensures { form_view result ≡ node.call node.none name (made.given_node (made.given_view arguments)) (made.block_node (made.given_block block)) }
+    ensures { form_view result ≡ node.call node.none name (made.given_node (made.given_view arguments))
+        (made.block_node (made.given_block block)) }
 {
     TreeForm::Call {
         receiver: None,
@@ -162,7 +164,8 @@ fn method_call(
     arguments: Option<Arguments<Tree>>,
     block: Option<Definition<Tree>>,
 ) -> TreeForm
-    ensures { form_view result ≡ node.call (node.one (view receiver)) name (made.given_node (made.given_view arguments)) (made.block_node (made.given_block block)) }
+    ensures { form_view result ≡ node.call (node.one (view receiver)) name (made.given_node (made.given_view arguments))
+        (made.block_node (made.given_block block)) }
 {
     TreeForm::Call {
         receiver: Some(receiver),
@@ -178,7 +181,8 @@ fn super_call(
     block: Option<Definition<Tree>>,
     at: u32,
 ) -> TreeForm
-    ensures { form_view result ≡ node.super_node (made.given_node (made.given_view arguments)) (made.block_node (made.given_block block)) }
+    ensures { form_view result ≡ node.super_node (made.given_node (made.given_view arguments))
+        (made.block_node (made.given_block block)) }
 {
     TreeForm::Super {
         arguments,
@@ -194,7 +198,8 @@ pub fn call_tree(
     arguments: Option<Arguments<Tree>>,
     block: Option<Definition<Tree>>,
 ) -> Result<Tree, AllocError>
-    ensures { IfOk result (λ t. view t ≡ made.call_node (made.callee_view callee) (made.given_view arguments) (made.given_block block)) }
+    ensures { IfOk result (λ t. view t ≡ made.call_node (made.callee_view callee) (made.given_view arguments)
+        (made.given_block block)) }
 {
     match callee {
         Callee::Name { name, .. } => name_call(name, arguments, block).into_tree(alloc),

@@ -206,7 +206,8 @@ fn with_block<'a, I: Inner>(
     tokens: &'a [Token],
     owner: DoOwner,
 ) -> Read<'a, Operand>
-    ensures value { Reads operand_view result names.new (rules.with_block (I.inside inner.now) (callee_view callee) (given_view arguments) names.old tokens.now owner) }
+    ensures value { Reads operand_view result names.new
+        (rules.with_block (I.inside inner.now) (callee_view callee) (given_view arguments) names.old tokens.now owner) }
     ensures within { IfOk result (λ p. length p.1.now ≤ length tokens.now) }
 {
     let Some(style) = block_at(owner, tokens) else {
@@ -230,7 +231,8 @@ fn suffix<'a, I: Inner>(
     tokens: &'a [Token],
     owner: DoOwner,
 ) -> Read<'a, Operand>
-    ensures value { Reads operand_view result names.new (rules.suffix (I.inside inner.now) (callee_view callee) names.old tokens.now owner) }
+    ensures value { Reads operand_view result names.new
+        (rules.suffix (I.inside inner.now) (callee_view callee) names.old tokens.now owner) }
     ensures within { IfOk result (λ p. length p.1.now ≤ length tokens.now) }
 {
     if !opens_arguments(tokens) {
@@ -428,7 +430,8 @@ fn indexed<'a, I: Inner>(
     receiver: Tree,
     tokens: &'a [Token],
 ) -> Read<'a, Operand>
-    ensures value { Reads operand_view result names.new (rules.indexed (I.inside inner.now) (view receiver) names.old tokens.now) }
+    ensures value { Reads operand_view result names.new
+        (rules.indexed (I.inside inner.now) (view receiver) names.old tokens.now) }
     ensures shorter { Shortens tokens.now result }
 {
     let behind = skip(tokens);
@@ -446,7 +449,8 @@ fn called<'a, I: Inner>(
     postfix: Postfix,
     tokens: &'a [Token],
 ) -> Read<'a, Operand>
-    ensures value { Reads operand_view result names.new (rules.called (I.inside inner.now) (view receiver) postfix names.old tokens.now) }
+    ensures value { Reads operand_view result names.new
+        (rules.called (I.inside inner.now) (view receiver) postfix names.old tokens.now) }
     ensures shorter { Shortens tokens.now result }
 {
     let name = Bytes::from_slice(alloc, b"call")?;
@@ -473,7 +477,8 @@ fn plain_named<'a, I: Inner>(
     tokens: &'a [Token],
     owner: DoOwner,
 ) -> Read<'a, Operand>
-    ensures value { Reads operand_view result names.new (rules.plain_named (I.inside inner.now) (view receiver) postfix names.old tokens.now owner) }
+    ensures value { Reads operand_view result names.new
+        (rules.plain_named (I.inside inner.now) (view receiver) postfix names.old tokens.now owner) }
     ensures within { IfOk result (λ p. length p.1.now ≤ length (front.behind (front.behind tokens.now))) }
 {
     let behind = skip(tokens);
@@ -496,7 +501,8 @@ fn named<'a, I: Inner>(
     tokens: &'a [Token],
     owner: DoOwner,
 ) -> Read<'a, Operand>
-    ensures value { Reads operand_view result names.new (rules.named (I.inside inner.now) (view receiver) postfix names.old tokens.now owner) }
+    ensures value { Reads operand_view result names.new
+        (rules.named (I.inside inner.now) (view receiver) postfix names.old tokens.now owner) }
     ensures shorter { Shortens tokens.now result }
 {
     let behind = skip(tokens);
@@ -520,7 +526,8 @@ fn dotted<'a, I: Inner>(
     tokens: &'a [Token],
     owner: DoOwner,
 ) -> Read<'a, Operand>
-    ensures value { Reads operand_view result names.new (rules.dotted (I.inside inner.now) (view receiver) postfix names.old tokens.now owner) }
+    ensures value { Reads operand_view result names.new
+        (rules.dotted (I.inside inner.now) (view receiver) postfix names.old tokens.now owner) }
     ensures shorter { Shortens tokens.now result }
 {
     if !is_scope(postfix) && is_open_parenthesis(first(skip(tokens))) {
@@ -540,7 +547,8 @@ fn postfixed<'a, I: Inner>(
     tokens: &'a [Token],
     owner: DoOwner,
 ) -> Read<'a, Operand>
-    ensures value { Reads operand_view result names.new (rules.postfixed (I.inside inner.now) (view receiver) postfix names.old tokens.now owner) }
+    ensures value { Reads operand_view result names.new
+        (rules.postfixed (I.inside inner.now) (view receiver) postfix names.old tokens.now owner) }
     ensures shorter { Shortens tokens.now result }
 {
     match postfix {
@@ -562,7 +570,8 @@ pub fn chain_from<'a, I: Inner>(
     commands: bool,
     owner: DoOwner,
 ) -> Read<'a, Operand>
-    ensures value { Reads operand_view result names.new (rules.chain_from (I.inside inner.now) (operand_view operand) names.old tokens.now commands owner) }
+    ensures value { Reads operand_view result names.new
+        (rules.chain_from (I.inside inner.now) (operand_view operand) names.old tokens.now commands owner) }
     ensures within { IfOk result (λ p. length p.1.now ≤ length tokens.now) }
 {
     let mut operand = operand;
@@ -586,7 +595,8 @@ pub fn chain<'a, I: Inner>(
     commands: bool,
     owner: DoOwner,
 ) -> Read<'a, Operand>
-    ensures value { Reads operand_view result names.new (rules.chain (I.inside inner.now) names.old tokens.now commands owner) }
+    ensures value { Reads operand_view result names.new
+        (rules.chain (I.inside inner.now) names.old tokens.now commands owner) }
     ensures shorter { Shortens tokens.now result }
 {
     let (operand, rest) = primary(inner, alloc, names, tokens, owner)?;
@@ -603,7 +613,8 @@ pub fn operand<'a, I: Inner>(
     commands: bool,
     owner: DoOwner,
 ) -> Read<'a, Operand>
-    ensures value { Reads operand_view result names.new (rules.operand (I.inside inner.now) names.old tokens.now commands owner) }
+    ensures value { Reads operand_view result names.new
+        (rules.operand (I.inside inner.now) names.old tokens.now commands owner) }
     ensures shorter { Shortens tokens.now result }
 {
     match prefix_at(tokens) {

@@ -30,7 +30,8 @@ fn operators<'a, I: Inner>(
     loosest: u8,
     owner: DoOwner,
 ) -> Read<'a, Tree>
-    ensures value { Reads view result names.new (rules.operators (I.inside inner.now) (view left) names.old tokens.now loosest owner) }
+    ensures value { Reads view result names.new
+        (rules.operators (I.inside inner.now) (view left) names.old tokens.now loosest owner) }
     ensures within { IfOk result (λ p. length p.1.now ≤ length tokens.now) }
 {
     let mut left = left;
@@ -59,7 +60,8 @@ pub fn operation<'a, I: Inner>(
     loosest: u8,
     owner: DoOwner,
 ) -> Read<'a, Tree>
-    ensures value { Reads view result names.new (rules.operation (I.inside inner.now) names.old tokens.now loosest owner) }
+    ensures value { Reads view result names.new
+        (rules.operation (I.inside inner.now) names.old tokens.now loosest owner) }
     ensures shorter { Shortens tokens.now result }
 {
     let (left, rest) = operand(inner, alloc, names, tokens, false, owner)?;
@@ -76,7 +78,8 @@ fn choice<'a, I: Inner>(
     tokens: &'a [Token],
     owner: DoOwner,
 ) -> Read<'a, Tree>
-    ensures value { Reads view result names.new (rules.choice (I.inside inner.now) (view test) names.old tokens.now owner) }
+    ensures value { Reads view result names.new
+        (rules.choice (I.inside inner.now) (view test) names.old tokens.now owner) }
     ensures shorter { Shortens tokens.now result }
 {
     let (yes, rest) = inner.argument(alloc, names, tokens, owner)?;
@@ -95,7 +98,8 @@ pub fn value_from<'a, I: Inner>(
     tokens: &'a [Token],
     owner: DoOwner,
 ) -> Read<'a, Tree>
-    ensures value { Reads view result names.new (rules.value_from (I.inside inner.now) (view left) names.old tokens.now owner) }
+    ensures value { Reads view result names.new
+        (rules.value_from (I.inside inner.now) (view left) names.old tokens.now owner) }
     ensures within { IfOk result (λ p. length p.1.now ≤ length tokens.now) }
 {
     let (test, rest) = operators(inner, alloc, names, left, tokens, 13, owner)?;

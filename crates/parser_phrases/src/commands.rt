@@ -35,7 +35,8 @@ fn blocked(
     listed: Listed,
     definition: Definition<Tree>,
 ) -> Result<Operand, AllocError>
-    ensures { IfOk result (λ o. operand_view o ≡ rules.blocked (callee_view callee) (listed_view listed) (block_view definition)) }
+    ensures { IfOk result (λ o. operand_view o ≡ rules.blocked (callee_view callee) (listed_view listed)
+        (block_view definition)) }
 {
     let arguments = listed.into_arguments(alloc)?;
     Ok(Operand::Whole(call_tree(alloc, callee, Some(arguments), Some(definition))?))
@@ -51,7 +52,8 @@ fn with_block<'a, I: Inner>(
     style: BlockStyle,
     tokens: &'a [Token],
 ) -> Read<'a, Operand>
-    ensures value { Reads operand_view result names.new (rules.with_block (I.inside inner.now) style (callee_view callee) (listed_view listed) names.old tokens.now) }
+    ensures value { Reads operand_view result names.new
+        (rules.with_block (I.inside inner.now) style (callee_view callee) (listed_view listed) names.old tokens.now) }
     ensures within { IfOk result (λ p. length p.1.now ≤ length tokens.now) }
 {
     if !listed.has_no_block() {
@@ -72,7 +74,9 @@ fn block_command<'a, I: Inner>(
     tokens: &'a [Token],
     owner: DoOwner,
 ) -> Read<'a, Phrase>
-    ensures value { Reads phrase_view result names.new (rules.block_command (I.inside inner.now) style (callee_view callee) (listed_view listed) names.old tokens.now owner) }
+    ensures value { Reads phrase_view result names.new
+        (rules.block_command (I.inside inner.now) style (callee_view callee) (listed_view listed) names.old tokens.now
+        owner) }
     ensures within { IfOk result (λ p. length p.1.now ≤ length tokens.now) }
 {
     let (call, rest) = with_block(inner, alloc, names, callee, listed, style, tokens)?;
@@ -102,7 +106,8 @@ fn command<'a, I: Inner>(
     tokens: &'a [Token],
     owner: DoOwner,
 ) -> Read<'a, Phrase>
-    ensures value { Reads phrase_view result names.new (rules.command (I.inside inner.now) (callee_view callee) names.old tokens.now owner) }
+    ensures value { Reads phrase_view result names.new
+        (rules.command (I.inside inner.now) (callee_view callee) names.old tokens.now owner) }
     ensures within { IfOk result (λ p. length p.1.now ≤ length tokens.now) }
 {
     let (listed, rest) = inner.list(alloc, names, tokens, owner.in_command())?;
@@ -124,7 +129,8 @@ fn value_phrase<'a, I: Inner>(
     tokens: &'a [Token],
     owner: DoOwner,
 ) -> Read<'a, Phrase>
-    ensures value { Reads phrase_view result names.new (rules.value_phrase (I.inside inner.now) (operand_view operand) names.old tokens.now owner) }
+    ensures value { Reads phrase_view result names.new
+        (rules.value_phrase (I.inside inner.now) (operand_view operand) names.old tokens.now owner) }
     ensures within { IfOk result (λ p. length p.1.now ≤ length tokens.now) }
 {
     let left = operand_tree(alloc, operand)?;
@@ -143,7 +149,8 @@ pub(crate) fn command_or_value<'a, I: Inner>(
     place: Place,
     owner: DoOwner,
 ) -> Read<'a, Phrase>
-    ensures value { Reads phrase_view result names.new (rules.command_or_value (I.inside inner.now) (operand_view operand) names.old tokens.now place owner) }
+    ensures value { Reads phrase_view result names.new
+        (rules.command_or_value (I.inside inner.now) (operand_view operand) names.old tokens.now place owner) }
     ensures within { IfOk result (λ p. length p.1.now ≤ length tokens.now) }
 {
     let commands = may_command(place, &operand, tokens);
@@ -202,7 +209,8 @@ pub(crate) fn jump_list<'a, I: Inner>(
     at: u32,
     owner: DoOwner,
 ) -> Read<'a, Phrase>
-    ensures value { Reads phrase_view result names.new (rules.jump_list (I.inside inner.now) jump names.old tokens.now owner) }
+    ensures value { Reads phrase_view result names.new
+        (rules.jump_list (I.inside inner.now) jump names.old tokens.now owner) }
     ensures within { IfOk result (λ p. length p.1.now ≤ length tokens.now) }
 {
     let (listed, rest) = inner.list(alloc, names, tokens, jump_owner(jump, owner))?;

@@ -114,7 +114,8 @@ fn right_hand<'a, I: Inner>(
     tokens: &'a [Token],
     owner: DoOwner,
 ) -> Read<'a, Phrase>
-    ensures value { Reads phrase_view result names.new (rules.right_hand (I.inside inner.now) names.old tokens.now owner) }
+    ensures value { Reads phrase_view result names.new
+        (rules.right_hand (I.inside inner.now) names.old tokens.now owner) }
     ensures within { IfOk result (λ p. length p.1.now ≤ length tokens.now) }
 {
     let (listed, rest) = inner.list(alloc, names, tokens, owner)?;
@@ -134,7 +135,8 @@ fn assigned_value<'a, I: Inner>(
     place: Place,
     owner: DoOwner,
 ) -> Read<'a, Phrase>
-    ensures value { Reads phrase_view result names.new (rules.assigned_value (I.inside inner.now) names.old tokens.now assignment place owner) }
+    ensures value { Reads phrase_view result names.new
+        (rules.assigned_value (I.inside inner.now) names.old tokens.now assignment place owner) }
     ensures within { IfOk result (λ p. length p.1.now ≤ length tokens.now) }
 {
     if takes_list(assignment, place) {
@@ -152,7 +154,8 @@ fn rescued<'a, I: Inner>(
     tokens: &'a [Token],
     owner: DoOwner,
 ) -> Read<'a, Tree>
-    ensures value { Reads view result names.new (rules.rescued (I.inside inner.now) (view tree) names.old tokens.now owner) }
+    ensures value { Reads view result names.new
+        (rules.rescued (I.inside inner.now) (view tree) names.old tokens.now owner) }
     ensures within { IfOk result (λ p. length p.1.now ≤ length tokens.now) }
 {
     let (other, rest) = inner.argument(alloc, names, skip(tokens), owner)?;
@@ -169,7 +172,8 @@ fn whole_value<'a, I: Inner>(
     tokens: &'a [Token],
     owner: DoOwner,
 ) -> Read<'a, Tree>
-    ensures value { Reads view result names.new (rules.whole_value (I.inside inner.now) (view tree) sort names.old tokens.now owner) }
+    ensures value { Reads view result names.new
+        (rules.whole_value (I.inside inner.now) (view tree) sort names.old tokens.now owner) }
     ensures within { IfOk result (λ p. length p.1.now ≤ length tokens.now) }
 {
     if is_rescued(sort, tokens) {
@@ -191,7 +195,8 @@ fn assign<'a, I: Inner>(
     place: Place,
     owner: DoOwner,
 ) -> Read<'a, Phrase>
-    ensures value { Reads phrase_view result names.new (rules.assign (I.inside inner.now) (view target) names.old assignment tokens.now place owner) }
+    ensures value { Reads phrase_view result names.new
+        (rules.assign (I.inside inner.now) (view target) names.old assignment tokens.now place owner) }
     ensures within { IfOk result (λ p. length p.1.now ≤ length tokens.now) }
 {
     let (value, rest) = assigned_value(inner, alloc, names, tokens, assignment, place, owner)?;
@@ -226,7 +231,8 @@ fn multiple<'a, I: Inner>(
     tokens: &'a [Token],
     owner: DoOwner,
 ) -> Read<'a, Phrase>
-    ensures value { Reads phrase_view result names.new (rules.multiple (I.inside inner.now) (targets_view found) names.old tokens.now owner) }
+    ensures value { Reads phrase_view result names.new
+        (rules.multiple (I.inside inner.now) (targets_view found) names.old tokens.now owner) }
     ensures shorter { Shortens tokens.now result }
 {
     let target_use = TargetUse::Assignment;
@@ -250,7 +256,8 @@ fn first_of_several<'a, I: Inner>(
     tokens: &'a [Token],
     owner: DoOwner,
 ) -> Read<'a, Phrase>
-    ensures value { Reads phrase_view result names.new (rules.first_of_several (I.inside inner.now) (operand_view operand) names.old tokens.now owner) }
+    ensures value { Reads phrase_view result names.new
+        (rules.first_of_several (I.inside inner.now) (operand_view operand) names.old tokens.now owner) }
     ensures within { IfOk result (λ p. length p.1.now ≤ length tokens.now) }
 {
     let target = target_tree(alloc, names, operand)?;
@@ -269,7 +276,8 @@ fn unassigned<'a, I: Inner>(
     place: Place,
     owner: DoOwner,
 ) -> Read<'a, Phrase>
-    ensures value { Reads phrase_view result names.new (rules.unassigned (I.inside inner.now) (operand_view operand) names.old tokens.now place owner) }
+    ensures value { Reads phrase_view result names.new
+        (rules.unassigned (I.inside inner.now) (operand_view operand) names.old tokens.now place owner) }
     ensures within { IfOk result (λ p. length p.1.now ≤ length tokens.now) }
 {
     if begins_several(place, tokens) {
@@ -289,7 +297,9 @@ fn target_phrase<'a, I: Inner>(
     place: Place,
     owner: DoOwner,
 ) -> Read<'a, Phrase>
-    ensures value { Reads phrase_view result names.new (rules.target_phrase (I.inside inner.now) (assigning.assignment_at (front.first tokens.now)) (operand_view operand) names.old tokens.now place owner) }
+    ensures value { Reads phrase_view result names.new
+        (rules.target_phrase (I.inside inner.now) (assigning.assignment_at (front.first tokens.now))
+        (operand_view operand) names.old tokens.now place owner) }
     ensures within { IfOk result (λ p. length p.1.now ≤ length tokens.now) }
 {
     match assignment_at(tokens) {
@@ -315,7 +325,8 @@ fn phrase_from<'a, I: Inner>(
     place: Place,
     owner: DoOwner,
 ) -> Read<'a, Phrase>
-    ensures value { Reads phrase_view result names.new (rules.phrase_from (I.inside inner.now) (operand_view operand) names.old tokens.now place owner) }
+    ensures value { Reads phrase_view result names.new
+        (rules.phrase_from (I.inside inner.now) (operand_view operand) names.old tokens.now place owner) }
     ensures within { IfOk result (λ p. length p.1.now ≤ length tokens.now) }
 {
     if is_target(&operand) {
@@ -334,7 +345,8 @@ fn negated_command<'a, I: Inner>(
     tokens: &'a [Token],
     owner: DoOwner,
 ) -> Read<'a, Phrase>
-    ensures value { Reads phrase_view result names.new (rules.negated_command (I.inside inner.now) (operand_view operand) names.old tokens.now owner) }
+    ensures value { Reads phrase_view result names.new
+        (rules.negated_command (I.inside inner.now) (operand_view operand) names.old tokens.now owner) }
     ensures within { IfOk result (λ p. length p.1.now ≤ length tokens.now) }
 {
     let place = Place::Command;
@@ -356,7 +368,8 @@ fn negated_operand<'a, I: Inner>(
     tokens: &'a [Token],
     owner: DoOwner,
 ) -> Read<'a, Phrase>
-    ensures value { Reads phrase_view result names.new (rules.negated_operand (I.inside inner.now) (operand_view operand) names.old tokens.now owner) }
+    ensures value { Reads phrase_view result names.new
+        (rules.negated_operand (I.inside inner.now) (operand_view operand) names.old tokens.now owner) }
     ensures within { IfOk result (λ p. length p.1.now ≤ length tokens.now) }
 {
     let tree = operand_tree(alloc, operand)?;
@@ -393,7 +406,8 @@ fn operand_phrase<'a, I: Inner>(
     place: Place,
     owner: DoOwner,
 ) -> Read<'a, Phrase>
-    ensures value { Reads phrase_view result names.new (rules.operand_phrase (I.inside inner.now) names.old tokens.now place owner) }
+    ensures value { Reads phrase_view result names.new
+        (rules.operand_phrase (I.inside inner.now) names.old tokens.now place owner) }
     ensures shorter { Shortens tokens.now result }
 {
     let commands = place.allows_command();
@@ -437,7 +451,8 @@ pub fn phrase<'a, I: Inner>(
     place: Place,
     owner: DoOwner,
 ) -> Read<'a, Phrase>
-    ensures value { Reads phrase_view result names.new (rules.phrase (I.inside inner.now) names.old tokens.now place owner) }
+    ensures value { Reads phrase_view result names.new
+        (rules.phrase (I.inside inner.now) names.old tokens.now place owner) }
     ensures shorter { Shortens tokens.now result }
 {
     let at = place_at(tokens);

@@ -115,7 +115,8 @@ fn starred<'a, I: Inner>(
     tokens: &'a [Token],
     target_use: TargetUse,
 ) -> Read<'a, Target>
-    ensures value { Reads target_view result names.new (rules.starred (I.inside inner.now) target_use names.old tokens.now) }
+    ensures value { Reads target_view result names.new
+        (rules.starred (I.inside inner.now) target_use names.old tokens.now) }
     ensures within { IfOk result (λ p. length p.1.now ≤ length (front.behind tokens.now)) }
 {
     let behind = skip(tokens);
@@ -134,7 +135,8 @@ fn grouped<'a, I: Inner>(
     tokens: &'a [Token],
     target_use: TargetUse,
 ) -> Read<'a, Target>
-    ensures value { Reads target_view result names.new (rules.grouped (I.inside inner.now) target_use names.old tokens.now) }
+    ensures value { Reads target_view result names.new
+        (rules.grouped (I.inside inner.now) target_use names.old tokens.now) }
     ensures shorter { Shortens tokens.now result }
 {
     let none = Targets::new(alloc);
@@ -155,7 +157,8 @@ fn target<'a, I: Inner>(
     tokens: &'a [Token],
     target_use: TargetUse,
 ) -> Read<'a, Target>
-    ensures value { Reads target_view result names.new (rules.target (I.inside inner.now) target_use names.old tokens.now) }
+    ensures value { Reads target_view result names.new
+        (rules.target (I.inside inner.now) target_use names.old tokens.now) }
     ensures shorter { Shortens tokens.now result }
 {
     if is_star(tokens) {
@@ -181,7 +184,8 @@ fn next_target<'a, I: Inner>(
     tokens: &'a [Token],
     target_use: TargetUse,
 ) -> Read<'a, bool>
-    ensures value { Reads (λ more. (more, targets_view found.new)) result names.new (rules.next_target (I.inside inner.now) target_use (targets_view found.old) names.old tokens.now) }
+    ensures value { Reads (λ more. (more, targets_view found.new)) result names.new
+        (rules.next_target (I.inside inner.now) target_use (targets_view found.old) names.old tokens.now) }
     ensures shorter { Shortens tokens.now result }
 {
     let (target, rest) = target(inner, alloc, names, tokens, target_use)?;
@@ -210,7 +214,8 @@ pub fn targets<'a, I: Inner>(
     tokens: &'a [Token],
     target_use: TargetUse,
 ) -> Read<'a, Targets>
-    ensures value { Reads targets_view result names.new (rules.targets (I.inside inner.now) names.old (targets_view found) tokens.now target_use) }
+    ensures value { Reads targets_view result names.new
+        (rules.targets (I.inside inner.now) names.old (targets_view found) tokens.now target_use) }
     ensures within { IfOk result (λ p. length p.1.now ≤ length tokens.now) }
 {
     let mut targets = found;

@@ -105,7 +105,8 @@ fn plain_or_pair<'a, I: Inner>(
     tokens: &'a [Token],
     owner: DoOwner,
 ) -> Read<'a, Part>
-    ensures value { Reads part_view result names.new (rules.plain_or_pair (I.inside inner.now) (view tree) names.old tokens.now owner) }
+    ensures value { Reads part_view result names.new
+        (rules.plain_or_pair (I.inside inner.now) (view tree) names.old tokens.now owner) }
     ensures within { IfOk result (λ p. length p.1.now ≤ length tokens.now) }
 {
     if !is_arrow(tokens) {
@@ -124,7 +125,8 @@ fn value_part<'a, I: Inner>(
     alone: bool,
     owner: DoOwner,
 ) -> Read<'a, Part>
-    ensures value { Reads part_view result names.new (rules.value_part (I.inside inner.now) alone names.old tokens.now owner) }
+    ensures value { Reads part_view result names.new
+        (rules.value_part (I.inside inner.now) alone names.old tokens.now owner) }
     ensures shorter { Shortens tokens.now result }
 {
     let (found, rest) = phrase(inner, alloc, names, tokens, part_place(alone), owner)?;
@@ -144,7 +146,8 @@ fn double_splat<'a, I: Inner>(
     tokens: &'a [Token],
     owner: DoOwner,
 ) -> Read<'a, Part>
-    ensures value { Reads part_view result names.new (rules.double_splat (I.inside inner.now) names.old tokens.now owner) }
+    ensures value { Reads part_view result names.new
+        (rules.double_splat (I.inside inner.now) names.old tokens.now owner) }
     ensures shorter { Shortens tokens.now result }
 {
     let (tree, rest) = argument(inner, alloc, names, skip(tokens), owner)?;
@@ -208,7 +211,8 @@ fn with_part<'a, I: Inner>(
     alone: bool,
     owner: DoOwner,
 ) -> Read<'a, Listed>
-    ensures value { Reads listed_view result names.new (rules.with_part (I.inside inner.now) alone (listed_view listed) names.old tokens.now owner) }
+    ensures value { Reads listed_view result names.new
+        (rules.with_part (I.inside inner.now) alone (listed_view listed) names.old tokens.now owner) }
     ensures shorter { Shortens tokens.now result }
 {
     let mut grown = listed;
@@ -231,7 +235,8 @@ fn next_part<'a, I: Inner>(
     alone: bool,
     owner: DoOwner,
 ) -> Read<'a, Listed>
-    ensures value { Reads listed_view result names.new (rules.next_part (I.inside inner.now) alone (listed_view listed) names.old tokens.now owner) }
+    ensures value { Reads listed_view result names.new
+        (rules.next_part (I.inside inner.now) alone (listed_view listed) names.old tokens.now owner) }
     ensures shorter { Shortens tokens.now result }
 {
     let (grown, rest) = with_part(inner, alloc, names, listed, tokens, alone, owner)?;

@@ -122,7 +122,8 @@ fn sectioned<'a, I: Inner>(
     target: Option<Tree>,
     tokens: &'a [Token],
 ) -> Read<'a, Section>
-    ensures value { Reads section_view result names.new (rules.sectioned (I.inside inner.now) kind (views heads) (boxed_view target) names.old tokens.now) }
+    ensures value { Reads section_view result names.new
+        (rules.sectioned (I.inside inner.now) kind (views heads) (boxed_view target) names.old tokens.now) }
     ensures within { IfOk result (λ p. length p.1.now ≤ length tokens.now) }
 {
     let (body, rest) = statements(inner, alloc, names, tokens)?;
@@ -143,7 +144,8 @@ fn plain_section<'a, I: Inner>(
     kind: SectionKind,
     tokens: &'a [Token],
 ) -> Read<'a, Section>
-    ensures value { Reads section_view result names.new (rules.sectioned (I.inside inner.now) kind [] none names.old tokens.now) }
+    ensures value { Reads section_view result names.new
+        (rules.sectioned (I.inside inner.now) kind [] none names.old tokens.now) }
     ensures within { IfOk result (λ p. length p.1.now ≤ length tokens.now) }
 {
     sectioned(inner, alloc, names, kind, Vec::new(alloc), None, tokens)
@@ -197,7 +199,8 @@ fn walk_items<'a, I: Inner>(
     heads: Vec<Tree>,
     tokens: &'a [Token],
 ) -> Read<'a, Section>
-    ensures value { Reads section_view result names.new (rules.walk_items (I.inside inner.now) (views heads) names.old tokens.now) }
+    ensures value { Reads section_view result names.new
+        (rules.walk_items (I.inside inner.now) (views heads) names.old tokens.now) }
     ensures within { IfOk result (λ p. length p.1.now ≤ length tokens.now) }
 {
     let (items, rest) = expression(inner, alloc, names, tokens, Place::Command, DoOwner::Loop)?;
@@ -233,7 +236,8 @@ fn subject_section<'a, I: Inner>(
     names: &mut Names,
     tokens: &'a [Token],
 ) -> Read<'a, Section>
-    ensures value { Reads section_view result names.new (rules.subject_section (I.inside inner.now) names.old tokens.now) }
+    ensures value { Reads section_view result names.new
+        (rules.subject_section (I.inside inner.now) names.old tokens.now) }
     ensures within { IfOk result (λ p. length p.1.now ≤ length tokens.now) }
 {
     if ends_subject(first(tokens)) {
@@ -273,7 +277,8 @@ fn with_test<'a, I: Inner>(
     found: Vec<Tree>,
     tokens: &'a [Token],
 ) -> Read<'a, Vec<Tree>>
-    ensures value { Reads views result names.new (rules.with_test (I.inside inner.now) (views found) names.old tokens.now) }
+    ensures value { Reads views result names.new
+        (rules.with_test (I.inside inner.now) (views found) names.old tokens.now) }
     ensures shorter { Shortens tokens.now result }
 {
     let mut list = found;
@@ -291,7 +296,8 @@ fn tests_behind<'a, I: Inner>(
     found: Vec<Tree>,
     tokens: &'a [Token],
 ) -> Read<'a, Vec<Tree>>
-    ensures value { Reads views result names.new (rules.tests_behind (I.inside inner.now) (views found) names.old tokens.now) }
+    ensures value { Reads views result names.new
+        (rules.tests_behind (I.inside inner.now) (views found) names.old tokens.now) }
     ensures within { IfOk result (λ p. length p.1.now ≤ length tokens.now) }
 {
     let mut list = found;
@@ -333,7 +339,8 @@ fn clause<'a, I: Inner>(
     found: Vec<Tree>,
     tokens: &'a [Token],
 ) -> Read<'a, Section>
-    ensures value { Reads section_view result names.new (rules.clause (I.inside inner.now) kind at (views found) names.old tokens.now) }
+    ensures value { Reads section_view result names.new
+        (rules.clause (I.inside inner.now) kind at (views found) names.old tokens.now) }
     ensures within { IfOk result (λ p. length p.1.now ≤ length tokens.now) }
 {
     let rest = expect_then(tokens)?;
@@ -350,7 +357,8 @@ fn when_section<'a, I: Inner>(
     at: u32,
     tokens: &'a [Token],
 ) -> Read<'a, Section>
-    ensures value { Reads section_view result names.new (rules.when_section (I.inside inner.now) kind at names.old tokens.now) }
+    ensures value { Reads section_view result names.new
+        (rules.when_section (I.inside inner.now) kind at names.old tokens.now) }
     ensures within { IfOk result (λ p. length p.1.now ≤ length tokens.now) }
 {
     let (found, rest) = tests(inner, alloc, names, tokens)?;
@@ -401,7 +409,8 @@ fn rescue_clause<'a, I: Inner>(
     heads: Vec<Tree>,
     tokens: &'a [Token],
 ) -> Read<'a, Section>
-    ensures value { Reads section_view result names.new (rules.rescue_clause (I.inside inner.now) (views heads) names.old tokens.now) }
+    ensures value { Reads section_view result names.new
+        (rules.rescue_clause (I.inside inner.now) (views heads) names.old tokens.now) }
     ensures within { IfOk result (λ p. length p.1.now ≤ length tokens.now) }
 {
     let (target, rest) = rescue_target(inner, alloc, names, tokens)?;
@@ -441,7 +450,8 @@ fn section<'a, I: Inner>(
     at: u32,
     tokens: &'a [Token],
 ) -> Read<'a, Section>
-    ensures value { Reads section_view result names.new (rules.section (I.inside inner.now) kind at names.old tokens.now) }
+    ensures value { Reads section_view result names.new
+        (rules.section (I.inside inner.now) kind at names.old tokens.now) }
     ensures within { IfOk result (λ p. length p.1.now ≤ length tokens.now) }
 {
     match kind {
@@ -471,7 +481,8 @@ fn with_section<'a, I: Inner>(
     found: Vec<Section>,
     tokens: &'a [Token],
 ) -> Read<'a, Vec<Section>>
-    ensures value { Reads sections_view result names.new (rules.with_section (I.inside inner.now) kind at (sections_view found) names.old tokens.now) }
+    ensures value { Reads sections_view result names.new
+        (rules.with_section (I.inside inner.now) kind at (sections_view found) names.old tokens.now) }
     ensures within { IfOk result (λ p. length p.1.now ≤ length tokens.now) }
 {
     let mut list = found;
@@ -489,7 +500,8 @@ fn next_sections<'a, I: Inner>(
     found: Vec<Section>,
     tokens: &'a [Token],
 ) -> Read<'a, Vec<Section>>
-    ensures value { Reads sections_view result names.new (rules.next_sections (I.inside inner.now) kind (sections_view found) names.old tokens.now) }
+    ensures value { Reads sections_view result names.new
+        (rules.next_sections (I.inside inner.now) kind (sections_view found) names.old tokens.now) }
     ensures within { IfOk result (λ p. length p.1.now ≤ length (front.behind tokens.now)) }
 {
     let at = place_at(tokens);
@@ -507,7 +519,8 @@ fn sections_behind<'a, I: Inner>(
     found: Vec<Section>,
     tokens: &'a [Token],
 ) -> Read<'a, Vec<Section>>
-    ensures value { Reads sections_view result names.new (rules.sections_behind (I.inside inner.now) form kind (sections_view found) names.old tokens.now) }
+    ensures value { Reads sections_view result names.new
+        (rules.sections_behind (I.inside inner.now) form kind (sections_view found) names.old tokens.now) }
     ensures within { IfOk result (λ p. length p.1.now ≤ length tokens.now) }
 {
     let mut list = found;
@@ -531,7 +544,8 @@ fn section_list<'a, I: Inner>(
     form: Compound,
     tokens: &'a [Token],
 ) -> Read<'a, Vec<Section>>
-    ensures value { Reads sections_view result names.new (rules.section_list (I.inside inner.now) names.old form tokens.now) }
+    ensures value { Reads sections_view result names.new
+        (rules.section_list (I.inside inner.now) names.old form tokens.now) }
     ensures within { IfOk result (λ p. length p.1.now ≤ length tokens.now) }
 {
     let none = Vec::new(alloc);

@@ -54,7 +54,8 @@ pub fn negation<'a, I: Inner>(
     place: Place,
     owner: DoOwner,
 ) -> Read<'a, Phrase>
-    ensures value { Reads phrase_view result names.new (rules.negation (I.inside inner.now) names.old tokens.now place owner) }
+    ensures value { Reads phrase_view result names.new
+        (rules.negation (I.inside inner.now) names.old tokens.now place owner) }
     ensures shorter { Shortens tokens.now result }
 {
     if !is_not(tokens) {
@@ -78,7 +79,8 @@ fn junction_with<'a, I: Inner>(
     tokens: &'a [Token],
     owner: DoOwner,
 ) -> Read<'a, Tree>
-    ensures value { Reads view result names.new (rules.junction_with (I.inside inner.now) junction (view left) names.old tokens.now owner) }
+    ensures value { Reads view result names.new
+        (rules.junction_with (I.inside inner.now) junction (view left) names.old tokens.now owner) }
     ensures shorter { Shortens tokens.now result }
 {
     let (right, rest) = negation(inner, alloc, names, skip(tokens), Place::Command, owner)?;
@@ -96,7 +98,8 @@ fn junctions<'a, I: Inner>(
     tokens: &'a [Token],
     owner: DoOwner,
 ) -> Read<'a, Tree>
-    ensures value { Reads view result names.new (rules.junctions (I.inside inner.now) (view left) names.old tokens.now owner) }
+    ensures value { Reads view result names.new
+        (rules.junctions (I.inside inner.now) (view left) names.old tokens.now owner) }
     ensures within { IfOk result (λ p. length p.1.now ≤ length tokens.now) }
 {
     let mut tree = left;
@@ -245,7 +248,8 @@ fn modified<'a, I: Inner>(
     body: Tree,
     tokens: &'a [Token],
 ) -> Read<'a, Tree>
-    ensures value { Reads view result names.new (rules.modified (I.inside inner.now) modifier (view body) names.old tokens.now) }
+    ensures value { Reads view result names.new
+        (rules.modified (I.inside inner.now) modifier (view body) names.old tokens.now) }
     ensures shorter { Shortens tokens.now result }
 {
     let (part, rest) = modifier_part(inner, alloc, names, skip(tokens), modifier)?;
@@ -317,7 +321,8 @@ fn with_statement<'a, I: Inner>(
     found: Vec<Tree>,
     tokens: &'a [Token],
 ) -> Read<'a, Vec<Tree>>
-    ensures value { Reads views result names.new (rules.with_statement (I.inside inner.now) (views found) names.old tokens.now) }
+    ensures value { Reads views result names.new
+        (rules.with_statement (I.inside inner.now) (views found) names.old tokens.now) }
     ensures shorter { Shortens tokens.now result }
 {
     let mut list = found;

@@ -90,7 +90,8 @@ impl Store {
 
     /// Puts objects after the others, in their order. Where memory runs out all is as before.
     pub fn add_all(&mut self, objects: List<Object>) -> Result<(), AllocError>
-        ensures ok { OnOk result (self.new.store ≡ record self.old.store { objects = self.old.store.objects ++ objects }) }
+        ensures ok { OnOk result (self.new.store ≡ record self.old.store
+            { objects = self.old.store.objects ++ objects }) }
         ensures changes { self.new.changes ≡ self.old.changes }
         ensures err { OnErr result (self.new.store ≡ self.old.store) }
     {
@@ -105,7 +106,8 @@ impl Store {
         requires there { id.0 < length self.old.store.objects }
         requires sort { sort_of object.kind ≡ sort_at self.old.store.objects id }
         ensures old { result ≡ object_at self.old.store.objects id }
-        ensures objects { self.new.store ≡ record self.old.store { objects = set_object self.old.store.objects id object } }
+        ensures objects { self.new.store ≡ record self.old.store
+            { objects = set_object self.old.store.objects id object } }
         ensures changes { self.new.changes ≡ changes_after self.old.changes (sort_of object.kind) }
         ensures counted { IsCounted self.old self.new }
     {

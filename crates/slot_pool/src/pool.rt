@@ -30,9 +30,15 @@ impl<T> Model for SlotPool<T> {
 
     ghost Value = { Pool T };
 
-    ghost view = { λ p. record { blocks = blocks_of p.free.items p.slots.items p.count; free = p.free.items; spare = length p.free.items + p.room } };
+    ghost view = { λ p. record {
+      blocks = blocks_of p.free.items p.slots.items p.count;
+      free = p.free.items;
+      spare =
+          length p.free.items + p.room;
+    } };
 
-    ghost invariant = { λ p. IsSound p.free.items p.slots.items p.count p.room (vec_capacity p.free) (vec_capacity p.slots) };
+    ghost invariant = { λ p. IsSound p.free.items p.slots.items p.count p.room (vec_capacity p.free)
+        (vec_capacity p.slots) };
 }
 
 impl<T: Copy> SlotPool<T> {
