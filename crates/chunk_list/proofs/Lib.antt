@@ -1,0 +1,6 @@
+mod Sizes
+mod Places
+mod Writing
+mod Putting
+mod Shortening
+mod Appending
