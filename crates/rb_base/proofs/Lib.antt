@@ -1,3 +1,4 @@
 pub mod Entries
 pub mod Known
+pub mod Moving
 pub mod Taking

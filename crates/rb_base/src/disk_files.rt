@@ -11,7 +11,7 @@ use std::marker::Model;
 use std::{fs, rt};
 
 /// How many bytes one call reads at most.
-const CHUNK: usize = 4096;
+const CHUNK: usize = 65536;
 
 /// The files of a runtime.
 #[derive(Drop)]

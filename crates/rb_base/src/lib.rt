@@ -3,10 +3,11 @@
 //! that public types hold, and a counter of steps.
 //!
 //! Types: [`Source`], [`Sink`], [`Files`], [`Failed`], [`FileError`]; in memory [`MemorySource`], [`MemorySink`],
-//! [`MemoryFiles`]; of the system [`StdSource`], [`StdSink`], [`DiskFiles`]; [`Bytes`], [`List`], [`Steps`].
+//! [`MemoryFiles`]; over another sink [`Buffered`]; of the system [`StdSource`], [`StdSink`], [`DiskFiles`]; [`Bytes`], [`List`], [`Steps`].
 //! Calls: [`write_all`], and those of the types.
 #![tactic(auto)]
 
+pub mod buffered;
 mod calls;
 pub mod disk_files;
 pub mod list;
@@ -17,6 +18,7 @@ pub mod steps;
 pub mod streams;
 pub mod writing;
 
+pub use buffered::{Buffered, CAPACITY};
 pub use disk_files::DiskFiles;
 pub use list::{Bytes, List};
 pub use memory::{MemorySink, MemorySource};

@@ -70,6 +70,17 @@ pub trait Sink {
         ensures counted { OnOk result (faults self.new ≡ faults self.old) }
         ensures failed { OnErr result (Rose (faults self.old) (faults self.new)) }
         ensures kept { OnErr result (taken self.new ≡ taken self.old) };
+
+    /// Sends on what was taken and is still held here. A sink that holds nothing back has nothing to do.
+    ///
+    /// `Failed` where a call failed: what didn't go on is still held.
+    fn flush(&mut self) -> Result<(), Failed>
+        ensures told { taken self.new ≡ taken self.old }
+        ensures counted { OnOk result (faults self.new ≡ faults self.old) }
+        ensures failed { OnErr result (Rose (faults self.old) (faults self.new)) }
+    {
+        Ok(())
+    }
 }
 
 /// Files by name.

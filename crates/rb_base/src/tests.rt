@@ -101,3 +101,20 @@ fn counts_and_lists(rt: HostRuntime) -> Result<(), Fail> {
     assert_eq!(rt; text.into_vec().as_slice(), b"text".as_slice());
     Ok(())
 }
+
+/// Three pieces of 5000 bytes: the second fills the buffer, whose bytes then go out, and the call that they go by
+/// fails at first.
+#[test]
+fn gathers_pieces(rt: HostRuntime) -> Result<(), Fail> {
+    let inner = MemorySink::new(rt.alloc(), 6000, vec![in rt.alloc(); 2]?);
+    let mut out = Buffered::new(inner);
+    let piece = vec![in rt.alloc(); b'x'; 5000]?;
+    assert_eq!(rt; write_all(&mut out, &piece), Ok(()));
+    assert_eq!(rt; out.inner().bytes().len(), 0);
+    assert_eq!(rt; write_all(&mut out, &piece), Err(Failed));
+    assert_eq!(rt; out.inner().bytes().len(), 6000);
+    assert_eq!(rt; write_all(&mut out, &piece), Ok(()));
+    assert_eq!(rt; out.flush(), Ok(()));
+    assert_eq!(rt; out.inner().bytes().len(), 13192);
+    Ok(())
+}

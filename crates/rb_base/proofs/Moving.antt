@@ -1,5 +1,5 @@
 -- Bytes that move within a buffer and out of it.
-use Rattle.std.proofs.Common.{◌≡◌, ◌≢◌, sym, ap, ◌∙◌, ℕ, ◌+◌, ◌-◌, ◌<◌, ◌≤◌, List, [], ◌++◌, length, take, drop, arith, length-drop}
+use Rattle.std.proofs.Common.{◌≡◌, ◌≢◌, sym, ap, ◌∙◌, ℕ, ◌+◌, ◌-◌, ◌≤◌, List, [], length, take, drop, arith, length-drop}
 use lib.Seq.{paste}
 use Rattle.std.specs.Prelude.{Option, nat_eq}
 use Rattle.std.proofs.lemmas.Bool.{cond-true, cond-false, eq-eqb, ne_eqb}
@@ -7,7 +7,7 @@ use Rattle.std.proofs.lemmas.List.{drop-take, take-append-drop}
 use Rattle.std.proofs.lemmas.List.Edits.{take-paste}
 use Rattle.rb_base.specs.Outside.{with_more}
 use Rattle.rb_base.proofs.Taking.{with_more-again}
-use Rattle.buffered_sink.specs.Buffers.{kept}
+use Rattle.rb_base.specs.Buffers.{kept}
 
 -- those that didn't go out move to the front
 pub moved : (bytes : List ℕ) (len count : ℕ) → len ≤ length bytes → count ≤ len

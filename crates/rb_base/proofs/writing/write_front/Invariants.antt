@@ -1,6 +1,6 @@
 use Rattle.std.proofs.Common.{◌≡◌, ◌-◌, ◌≤◌, length, take}
 use Rattle.rb_base.specs.Outside.{with_more}
-use Rattle.rb_base.proofs.writing.write_all.Given as goal
+use Rattle.rb_base.proofs.writing.write_front.Given as goal
 
 abbrev pub invariant-pieces : goal.invariant-pieces
 invariant-pieces g l =

@@ -1,8 +1,8 @@
 use Rattle.std.proofs.Common.{◌≡◌, sym, [], take, arith}
 use Rattle.std.proofs.lemmas.List.{length-take-le}
-use Rattle.buffered_sink.specs.Buffers.{kept}
-use Rattle.buffered_sink.proofs.Moving.{kept_full, kept_room}
-use Rattle.buffered_sink.proofs.buffered.Buffered.make_room.Goals as goal
+use Rattle.rb_base.specs.Buffers.{kept}
+use Rattle.rb_base.proofs.Moving.{kept_full, kept_room}
+use Rattle.rb_base.proofs.buffered.Buffered.make_room.Goals as goal
 
 pub returns-then-self-eq-CAPACITY-clause-kept : goal.returns-then-self-eq-CAPACITY-clause-kept
 returns-then-self-eq-CAPACITY-clause-kept g c =

@@ -1,17 +1,17 @@
 //! A sink over another one, with bytes that are still to go there.
 ghost use Rattle.std.specs.Prelude.{◌≡◌, ℕ, ◌+◌, ◌-◌, ◌*◌, ◌<◌, ◌≤◌, [], ◌++◌, length, take, drop, min, IfOk, IsOk, OnOk, OnErr};
-ghost use Rattle.buffered_sink.specs.Buffers.{kept, LeavesSome};
+ghost use Rattle.rb_base.specs.Buffers.{kept, LeavesSome};
 ghost use Rattle.rb_base.specs.Outside.{Rose, with_more};
 
-use crate::front::write_front;
-use rb_base::{Failed, Sink};
+use crate::outside::{Failed, Sink};
+use crate::writing::write_front;
 use std::marker::Model;
 
 /// How many bytes may be pending.
 pub const CAPACITY: usize = 8192;
 
 /// A sink over another one, seen as that one and the bytes that are pending: taken, and not yet written to it. They
-/// go there when no room is left for one more, and where [`Buffered::flush`] is called.
+/// go there when no room is left for one more, and where [`Sink::flush`] is called.
 #[derive(Drop)]
 pub struct Buffered<O> {
     inner: O,
@@ -21,7 +21,7 @@ pub struct Buffered<O> {
 
 impl<O> Model for Buffered<O> {
     ghost use Rattle.std.specs.Prelude.{◌≤◌, take};
-    ghost use Rattle.buffered_sink.specs.Buffers.{BufferState};
+    ghost use Rattle.rb_base.specs.Buffers.{BufferState};
 
     ghost Value = { BufferState O };
 
@@ -55,29 +55,6 @@ impl<O: Sink + Drop> Buffered<O> {
         ensures { result ≡ self.inner }
     {
         self.inner
-    }
-
-    /// Writes the pending bytes to the other sink, by as many calls as it needs, and by none where nothing is pending.
-    ///
-    /// `Failed` where a call failed: the bytes that went out are no longer pending, and all others still are.
-    pub fn flush(&mut self) -> Result<(), Failed>
-        ensures told { with_more (O.taken self.new.inner) self.new.pending
-            ≡ with_more (O.taken self.old.inner) self.old.pending }
-        ensures flushed { OnOk result (self.new.pending ≡ []) }
-        ensures counted { OnOk result (O.faults self.new.inner ≡ O.faults self.old.inner) }
-        ensures failed { OnErr result (Rose (O.faults self.old.inner) (O.faults self.new.inner)) }
-        ensures left { OnErr result (LeavesSome (O.taken self.old.inner) (O.taken self.new.inner)
-            self.old.pending self.new.pending) }
-        ensures idle { self.old.pending ≡ [] → IsOk result × (self.new ≡ self.old) }
-    {
-        let count = write_front(&mut self.inner, &self.bytes[..self.len]);
-        if count < self.len {
-            self.bytes.copy_within(count..self.len, 0);
-            self.len -= count;
-            return Err(Failed);
-        }
-        self.len = 0;
-        Ok(())
     }
 
     /// Writes the pending bytes to the other sink where there is no room for one more.
@@ -124,5 +101,28 @@ impl<O: Sink + Drop> Sink for Buffered<O> {
         self.bytes[self.len..end].copy_from_slice(&piece[..count]);
         self.len = end;
         Ok(count)
+    }
+
+    /// Writes the pending bytes to the other sink, by as many calls as it needs, and by none where nothing is pending.
+    ///
+    /// `Failed` where a call failed: the bytes that went out are no longer pending, and all others still are.
+    fn flush(&mut self) -> Result<(), Failed>
+        ensures told { with_more (O.taken self.new.inner) self.new.pending
+            ≡ with_more (O.taken self.old.inner) self.old.pending }
+        ensures flushed { OnOk result (self.new.pending ≡ []) }
+        ensures counted { OnOk result (O.faults self.new.inner ≡ O.faults self.old.inner) }
+        ensures failed { OnErr result (Rose (O.faults self.old.inner) (O.faults self.new.inner)) }
+        ensures left { OnErr result (LeavesSome (O.taken self.old.inner) (O.taken self.new.inner)
+            self.old.pending self.new.pending) }
+        ensures idle { self.old.pending ≡ [] → IsOk result × (self.new ≡ self.old) }
+    {
+        let count = write_front(&mut self.inner, &self.bytes[..self.len]);
+        if count < self.len {
+            self.bytes.copy_within(count..self.len, 0);
+            self.len -= count;
+            return Err(Failed);
+        }
+        self.len = 0;
+        Ok(())
     }
 }

@@ -1,8 +1,8 @@
 use Rattle.std.proofs.Common.{◌≡◌, ◌-◌, ◌<◌, length, take, drop, ap, ◌∙◌, arith}
 use Rattle.std.proofs.lemmas.List.{length-take-le}
 use Rattle.rb_base.specs.Outside.{with_more}
-use Rattle.buffered_sink.proofs.Moving.{moved, told_still}
-use Rattle.buffered_sink.proofs.buffered.Buffered.flush.Goals as goal
+use Rattle.rb_base.proofs.Moving.{moved, told_still}
+use Rattle.rb_base.proofs.buffered.BufferedSink.flush.Goals as goal
 
 pub returns-then-count-self-clause-told : goal.returns-then-count-self-clause-told
 returns-then-count-self-clause-told g c =

@@ -1,7 +1,7 @@
-use Rattle.std.proofs.Common.{◌≡◌, ◌+◌, ◌-◌, ◌++◌, length, take, ap, ◌∙◌, arith}
+use Rattle.std.proofs.Common.{◌+◌, ◌-◌, ◌++◌, take, ap, ◌∙◌, arith}
 use Rattle.std.proofs.lemmas.List.{length-take-le}
 use Rattle.std.proofs.lemmas.Slice.{take-put_mid}
-use Rattle.buffered_sink.proofs.buffered.BufferedSink.write.Goals as goal
+use Rattle.rb_base.proofs.buffered.BufferedSink.write.Goals as goal
 
 pub returns-clause-all : goal.returns-clause-all
 returns-clause-all g c =

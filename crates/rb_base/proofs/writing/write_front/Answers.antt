@@ -1,7 +1,7 @@
 use Rattle.std.proofs.Common.{arith, ◌∙◌, length-drop}
 use Rattle.std.proofs.lemmas.List.{take_rest}
 use Rattle.rb_base.proofs.Taking.{took_further}
-use Rattle.buffered_sink.proofs.front.write_front.Goals as goal
+use Rattle.rb_base.proofs.writing.write_front.Goals as goal
 
 pub pieces-preserved : goal.pieces-preserved
 pieces-preserved g c =
