@@ -1,9 +1,9 @@
 -- A set of slices as the list of their texts.
-use Rattle.std.proofs.Common.{◌≡◌, ℕ, List, [], ◌∷◌, ◌++◌, map, take, length, refl, ap, sym}
-use Rattle.std.specs.Prelude.{Bool, true, false, if◌then◌else◌, ◌||◌, bytes_eq}
+use Rattle.std.proofs.Common.{◌≡◌, ℕ, List, [], ◌∷◌, ◌++◌, map, take, length, refl, ap, sym, cond, ◌+◌}
+use Rattle.std.specs.Prelude.{Bool, true, false, not, if◌then◌else◌, ◌||◌, bytes_eq}
 use Rattle.std.proofs.lemmas.List.{map-append, length-map, take-map}
 use Rattle.std.specs.Borrow.{Bor}
-use Rattle.std.specs.List.{list_any}
+use Rattle.std.specs.List.{list_any, position, position_or_len}
 use Rattle.text_set.specs.Sets.{is_among, text, texts, with_text}
 
 among_or : (a b : Bool) → (if a then true else b) ≡ (a || b)
@@ -31,4 +31,13 @@ length-texts ks = length-map ks text
 pub take-texts : (n : ℕ) (ks : List (Bor (List ℕ))) → texts (take n ks) ≡ take n (texts ks)
 take-texts n ks = sym (take-map text n ks)
 
-pub ruleset set_laws = (is_among-texts, with_text-texts, length-texts, take-texts)
+prefix-texts : (x : List ℕ) (ks : List (Bor (List ℕ))) → position_or_len (bytes_eq x) (texts ks)
+    ≡ position_or_len (λ (k : Bor (List ℕ)). bytes_eq x k.now) ks
+prefix-texts x [] = refl
+prefix-texts x (k ∷ ks) = ap (λ (n : ℕ). cond (not (bytes_eq x k.now)) (1 + n) 0) (prefix-texts x ks)
+
+pub position-texts : (x : List ℕ) (ks : List (Bor (List ℕ)))
+    → position (bytes_eq x) (texts ks) ≡ position (λ (k : Bor (List ℕ)). bytes_eq x k.now) ks
+position-texts x ks = rw (prefix-texts x ks, length-texts ks) refl
+
+pub ruleset set_laws = (is_among-texts, with_text-texts, length-texts, take-texts, position-texts)

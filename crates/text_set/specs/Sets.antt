@@ -17,3 +17,8 @@ is_among x (y ∷ ys) = if bytes_eq x y then true else is_among x ys
 -- the list with a text at its end, where it isn't there yet
 abbrev pub with_text : List (List ℕ) → List ℕ → List (List ℕ)
 with_text texts x = if is_among x texts then texts else texts ++ x ∷ []
+
+-- the list with texts, one after the other
+abbrev pub with_texts : List (List ℕ) → List (List ℕ) → List (List ℕ)
+with_texts texts [] = texts
+with_texts texts (x ∷ xs) = with_texts (with_text texts x) xs

@@ -1,7 +1,8 @@
-ghost use Rattle.std.specs.Prelude.{◌≡◌, [], length, not, take, IfOk, OnOk};
-ghost use Rattle.text_set.specs.Sets.{is_among, texts, with_text};
+ghost use Rattle.std.specs.Prelude.{◌≡◌, ◌<◌, [], length, not, take, position, bytes_eq, IfOk, IfSome, OnOk};
+ghost use Rattle.text_set.specs.Sets.{is_among, texts, with_text, with_texts};
 
 use indexmap::IndexSet;
+use rb_base::Bytes;
 use std::alloc::{AllocError, Global};
 use std::marker::Model;
 
@@ -40,12 +41,31 @@ impl<'a> TextSet<'a> {
         Ok(new)
     }
 
+    /// Adds texts, one after the other.
+    pub fn add_all(&mut self, others: &'a [Bytes]) -> Result<(), AllocError>
+        ensures { OnOk result (self.new ≡ with_texts self.old others.now) }
+    {
+        for other in others {
+            self.add(other.as_slice())?;
+        }
+        Ok(())
+    }
+
     /// Whether a text is there.
     #[tactic(auto, using(crate::proofs::Sets::set_laws))]
     pub fn contains(&self, text: &[u8]) -> bool
         ensures { result ≡ is_among text.now self.now }
     {
         self.texts.contains(text)
+    }
+
+    /// The place of a text among them. None where it isn't there.
+    #[tactic(auto, using(crate::proofs::Sets::set_laws))]
+    pub fn position(&self, text: &[u8]) -> Option<usize>
+        ensures value { result ≡ position (bytes_eq text.now) self.now }
+        ensures within { IfSome result (λ place. place < length self.now) }
+    {
+        self.texts.get_index_of(text)
     }
 
     /// How many texts there are.
