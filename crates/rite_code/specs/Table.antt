@@ -63,7 +63,7 @@ row_of opcode.Array = record { number = 48; name = codes "ARRAY"; shape = BB }
 row_of opcode.AryPush = record { number = 49; name = codes "ARYPUSH"; shape = BB }
 row_of opcode.AryCat = record { number = 50; name = codes "ARYCAT"; shape = B }
 row_of opcode.ARef = record { number = 51; name = codes "AREF"; shape = BBI }
-row_of opcode.APost = record { number = 52; name = codes "APOST"; shape = BBB }
+row_of opcode.APost = record { number = 52; name = codes "APOST"; shape = BBI }
 row_of opcode.Intern = record { number = 53; name = codes "INTERN"; shape = B }
 row_of opcode.String = record { number = 54; name = codes "STRING"; shape = BB }
 row_of opcode.StrCat = record { number = 55; name = codes "STRCAT"; shape = B }

@@ -309,10 +309,9 @@ impl Opcode {
             | Opcode::SSendB
             | Opcode::Send
             | Opcode::SendB
-            | Opcode::APost
             | Opcode::Def
             | Opcode::Defined => Shape::BBB,
-            Opcode::ARef => Shape::BBI,
+            Opcode::ARef | Opcode::APost => Shape::BBI,
             Opcode::Jmp | Opcode::JmpUw => Shape::S,
             Opcode::LoadI16 | Opcode::JmpIf | Opcode::JmpNot => Shape::BS,
             Opcode::LoadI32 => Shape::BSS,

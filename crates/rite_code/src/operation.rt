@@ -72,7 +72,7 @@ pub enum Operation {
     AryPush { a: u16, b: u16 },
     AryCat { a: u16 },
     ARef { a: u16, b: u16, c: i32 },
-    APost { a: u16, b: u16, c: u16 },
+    APost { a: u16, b: u16, c: i32 },
     Intern { a: u16 },
     String { a: u16, b: u16 },
     StrCat { a: u16 },
@@ -189,7 +189,7 @@ impl Opcode {
             Opcode::AryPush => Operation::AryPush { a, b },
             Opcode::AryCat => Operation::AryCat { a },
             Opcode::ARef => Operation::ARef { a, b, c: by },
-            Opcode::APost => Operation::APost { a, b, c },
+            Opcode::APost => Operation::APost { a, b, c: by },
             Opcode::Intern => Operation::Intern { a },
             Opcode::String => Operation::String { a, b },
             Opcode::StrCat => Operation::StrCat { a },
@@ -367,7 +367,6 @@ impl Operation {
             | Operation::SSendB { a, b, c }
             | Operation::Send { a, b, c }
             | Operation::SendB { a, b, c }
-            | Operation::APost { a, b, c }
             | Operation::Def { a, b, c }
             | Operation::Defined { a, b, c } => Operands {
                 a,
@@ -375,7 +374,7 @@ impl Operation {
                 c,
                 ..NO_OPERANDS
             },
-            Operation::ARef { a, b, c } => Operands {
+            Operation::ARef { a, b, c } | Operation::APost { a, b, c } => Operands {
                 a,
                 b,
                 by: c,
