@@ -374,7 +374,13 @@ impl Operation {
                 c,
                 ..NO_OPERANDS
             },
-            Operation::ARef { a, b, c } | Operation::APost { a, b, c } => Operands {
+            Operation::ARef { a, b, c } => Operands {
+                a,
+                b,
+                by: c,
+                ..NO_OPERANDS
+            },
+            Operation::APost { a, b, c } => Operands {
                 a,
                 b,
                 by: c,
