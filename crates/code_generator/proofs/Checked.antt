@@ -12,7 +12,7 @@ use Rattle.rite_code.specs.Code.{Program}
 use Rattle.rite_code.specs.declared.operation.Operation.{Operation}
 use Rattle.rite_code.specs.declared.operation.Operation.TheVariants.{Move, LoadI, LoadI16, LoadI32, LoadNil, Jmp, JmpNot}
 use Rattle.rite_code.specs.Shape.{size_of}
-use Rattle.def_machine.specs.State.{body_at}
+use Rattle.path_turns.specs.State.{body_at}
 use Rattle.code_outline.specs.Layout.{Standing, is_start}
 use Rattle.code_outline.specs.Makers.{use_in}
 use Rattle.code_verifier.specs.Needs.{registers_of, symbols_of, entry_of, distance_of, variable_of, count_of, leaves, parameters_of}

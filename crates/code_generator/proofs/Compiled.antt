@@ -15,8 +15,8 @@ use Rattle.rite_code.specs.Instruction.{narrow}
 use Rattle.rite_code.specs.Shape.{size_of}
 use Rattle.rite_code.specs.Spelling.{encoding, encodings, decode_wide_at}
 use Rattle.rite_code.proofs.RoundTrip.{decode_encoded, length-encoding_narrow}
-use Rattle.def_machine.specs.State.{body_at}
-use Rattle.def_machine.specs.Turn.{fetch}
+use Rattle.path_turns.specs.State.{body_at}
+use Rattle.path_turns.specs.Turn.{fetch}
 use Rattle.code_generator.specs.Gen.{gen, len, register_of, is_puts, calls_puts, any_calls_puts, symbols_of, first_free, operations_of, full_code}
 use Rattle.code_generator.specs.Implements.{source_of, Implements}
 use Rattle.code_generator.proofs.Bounds.{has_operands, three_parts, within_registers, within_code}

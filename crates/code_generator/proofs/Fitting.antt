@@ -11,7 +11,7 @@ use Rattle.rite_code.specs.declared.operation.Operation.{Operation}
 use Rattle.rite_code.specs.declared.operation.Operation.TheVariants.{Move, LoadI, LoadI16, LoadI32}
 use Rattle.rite_code.specs.Instruction.{narrow}
 use Rattle.rite_code.specs.Shape.{fits, is_byte, is_short, is_long}
-use Rattle.def_machine.specs.State.{body_at}
+use Rattle.path_turns.specs.State.{body_at}
 use Rattle.code_generator.specs.Gen.{distance, load_number, action_of, action_size, before_operands, register_of, len, len_all, len_rest, gen, gen_operands, gen_all, gen_rest, width, operands_width, all_width}
 use Rattle.code_generator.proofs.Bounds.{has_operands, three_parts}
 use Rattle.code_generator.proofs.Jumps.{distance_short}

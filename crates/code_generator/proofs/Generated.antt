@@ -6,7 +6,7 @@ use Rattle.code_generator.specs.Limits.{arity, count}
 use Rattle.rite_code.specs.Code.{Program}
 use Rattle.rite_code.specs.declared.operation.Operation.{Operation}
 use Rattle.rite_code.specs.declared.operation.Operation.TheVariants.{Move}
-use Rattle.def_machine.specs.State.{body_at}
+use Rattle.path_turns.specs.State.{body_at}
 use Rattle.code_generator.specs.Gen.{distance, action_size, before_operands, register_of, is_puts, len, len_all, len_rest, gen, gen_operands, gen_all, gen_rest, width, operands_width, all_width}
 use Rattle.code_generator.proofs.Stands.{Around, Ins, Stands, StandOperands, StandAll, StandRest}
 use Rattle.code_generator.proofs.Jumps.{distance_leads}

@@ -4,7 +4,7 @@ use Rattle.std.specs.Prelude.{◌+ℤ◌, ◌-ℤ◌}
 use Rattle.std.proofs.lemmas.Int.{ints}
 use Rattle.std.proofs.lemmas.Bool.Decides.{nat_tests}
 use Rattle.rite_code.specs.Shape.{is_short}
-use Rattle.def_machine.specs.Turn.{target}
+use Rattle.path_turns.specs.Turn.{target}
 use Rattle.code_generator.specs.Gen.{distance}
 
 target_of : (z : ℤ) (next to : ℕ) → pos next +ℤ z ≡ pos to → target next z ≡ to

@@ -1,8 +1,8 @@
 -- What a write leaves of the pending items.
 use Rattle.std.proofs.Common.{◌≡◌, ℕ, ◌+◌, ◌<◌, ◌≤◌, List, [], ◌∷◌, ◌∙◌, arith, length}
 use Rattle.rite_code.specs.Code.{Program}
-use Rattle.def_eval.specs.Configuration.{Source, Item, inside, activation}
-use Rattle.def_machine.specs.State.{Slot, body_at, Registers, slot_at, put, Frame}
+use Rattle.path_eval.specs.Configuration.{Source, Item, inside, activation}
+use Rattle.path_turns.specs.State.{Slot, body_at, Registers, slot_at, put, Frame}
 use Rattle.code_generator.proofs.Stands.{Around, spared, kept}
 use Rattle.code_generator.proofs.Relation.{Fits, Holds, Awaits}
 use Rattle.code_generator.proofs.Registers.{fits_put, slot_other}

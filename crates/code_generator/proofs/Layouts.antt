@@ -6,8 +6,8 @@ use Rattle.rite_code.specs.declared.operation.Operation.{Operation}
 use Rattle.rite_code.specs.Instruction.{Instruction, narrow}
 use Rattle.rite_code.specs.Shape.{size_of}
 use Rattle.rite_code.specs.Spelling.{decode, decode_wide_at, front, placed}
-use Rattle.def_machine.specs.State.{body_at}
-use Rattle.def_machine.specs.Turn.{fetch}
+use Rattle.path_turns.specs.State.{body_at}
+use Rattle.path_turns.specs.Turn.{fetch}
 use Rattle.code_outline.specs.Layout.{Standing, begun, standings, layout, end_of}
 use Rattle.code_generator.proofs.Pieces.{HasAt, total}
 

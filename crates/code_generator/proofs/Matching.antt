@@ -5,14 +5,14 @@ use Rattle.rite_code.specs.Code.{Program}
 use Rattle.rite_code.specs.declared.operation.Operation.{Operation}
 use Rattle.rite_code.specs.Instruction.{Instruction}
 use Rattle.rite_code.specs.Shape.{size_of}
-use Rattle.def_eval.specs.Seen.{Going}
-use Rattle.def_eval.specs.Steps.{times}
-use Rattle.def_eval.specs.Configuration as source
-use Rattle.def_eval.specs.Configuration.{Source, Part, Item, inside, Focus, give, World, Config, Run, seen}
-use Rattle.def_eval.specs.Transition.{go}
-use Rattle.def_eval.specs.Measure.{measure}
-use Rattle.def_machine.specs.State.{Slot, value, Registers, slot_at, Frame, Memory, State, On, shown}
-use Rattle.def_machine.specs.Turn.{turn, turn_by, act, goto, write}
+use Rattle.path_eval.specs.Seen.{Going}
+use Rattle.path_eval.specs.Steps.{times}
+use Rattle.path_eval.specs.Configuration as source
+use Rattle.path_eval.specs.Configuration.{Source, Part, Item, inside, Focus, give, World, Config, Run, seen}
+use Rattle.path_eval.specs.Transition.{go}
+use Rattle.path_eval.specs.Measure.{measure}
+use Rattle.path_turns.specs.State.{Slot, value, Registers, slot_at, Frame, Memory, State, On, shown}
+use Rattle.path_turns.specs.Turn.{turn, turn_by, act, goto, write}
 use Rattle.code_generator.proofs.Stands.{Around, Ins, Room, spared, kept}
 use Rattle.code_generator.proofs.Relation.{Holds, Related, Focused, Given, Awaits, Same, Step}
 use Rattle.code_generator.proofs.Registers.{slot_same, same_above}

@@ -5,12 +5,12 @@ use Rattle.path_core.specs.Form.{Form, seq, none}
 use Rattle.rite_code.specs.Code.{IsText, IsItem, IsBody, none as no_tree, node, IsWhole}
 use Rattle.rite_code.specs.Spelling.{encoding, decode_at, decode_wide_at, front, narrow_front}
 use Rattle.rite_code.specs.Table.{opcode_of, opcodes}
-use Rattle.def_eval.specs.Steps.{times, Follows}
-use Rattle.def_eval.specs.Seen.{Ended, over}
-use Rattle.def_eval.specs.Configuration.{Config, Halt, opening, seen}
-use Rattle.def_eval.specs.Transition.{go}
-use Rattle.def_machine.specs.State.{State, Off, start, shown}
-use Rattle.def_machine.specs.Turn.{turn, fetch}
+use Rattle.path_eval.specs.Steps.{times, Follows}
+use Rattle.path_eval.specs.Seen.{Ended, over}
+use Rattle.path_eval.specs.Configuration.{Config, Halt, opening, seen}
+use Rattle.path_eval.specs.Transition.{go}
+use Rattle.path_turns.specs.State.{State, Off, start, shown}
+use Rattle.path_turns.specs.Turn.{turn, fetch}
 use Rattle.code_outline.specs.Layout.{standings, layout, end_of}
 use Rattle.code_outline.specs.Makers.{made_in, made_from, first_maker, maker_of}
 use Rattle.code_verifier.specs.Checks.{first, unread, cause_of, body_bad, bodies_bad, first_bad}

@@ -6,7 +6,7 @@ use Rattle.rite_code.specs.declared.operation.Operation.{Operation}
 use Rattle.rite_code.specs.declared.operation.Operation.TheVariants.{Move, LoadNil, Jmp, JmpNot}
 use Rattle.rite_code.specs.Instruction.{narrow}
 use Rattle.rite_code.specs.Shape.{size_of}
-use Rattle.def_machine.specs.Turn.{fetch}
+use Rattle.path_turns.specs.Turn.{fetch}
 use Rattle.code_generator.specs.Gen.{distance, action_size, before_operands, register_of, len, len_all, len_rest, gen, gen_operands, gen_all, gen_rest}
 use Rattle.code_generator.proofs.cases.Strict.{size_is}
 

@@ -8,10 +8,10 @@ use Rattle.path_core.specs.Form.{place_of}
 use Rattle.path_value.specs.declared.value.Value.{Value}
 use Rattle.path_value.specs.declared.value.Value.TheVariants.{Nil}
 use Rattle.rite_code.specs.Code.{Program}
-use Rattle.def_eval.specs.Configuration as source
-use Rattle.def_eval.specs.Configuration.{Source, Scope, World, no_scope, scope_at, named, local_of, with_local}
-use Rattle.def_machine.specs.State.{Slot, value, read, body_at, Registers, no_registers, list_at, slot_at, value_at, put, Memory}
-use Rattle.def_machine.specs.Turn.{write}
+use Rattle.path_eval.specs.Configuration as source
+use Rattle.path_eval.specs.Configuration.{Source, Scope, World, no_scope, scope_at, named, local_of, with_local}
+use Rattle.path_turns.specs.State.{Slot, value, read, body_at, Registers, no_registers, list_at, slot_at, value_at, put, Memory}
+use Rattle.path_turns.specs.Turn.{write}
 use Rattle.code_generator.proofs.Relation.{Fits, behind_self, scope_of, Same}
 
 pub list_same : (ls : List Registers) (n i : ℕ) (v : Slot) → n < length ls

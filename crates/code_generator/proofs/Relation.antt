@@ -3,14 +3,14 @@ use Rattle.std.proofs.Common.{◌≡◌, ℕ, ◌+◌, ◌<◌, ◌≤◌, List,
 use Rattle.path_value.specs.declared.value.Value.{Value}
 use Rattle.rite_code.specs.Code.{Program}
 use Rattle.rite_code.specs.declared.operation.Operation.TheVariants.{Stop}
-use Rattle.def_eval.specs.Seen.{Uncaught}
-use Rattle.def_eval.specs.Steps.{Matched}
-use Rattle.def_eval.specs.Configuration as source
-use Rattle.def_eval.specs.Configuration.{Source, Part, Item, inside, activation, Exit, raise, Focus, perform, give, travel, Scope, World, Config, Run, Halt, seen}
-use Rattle.def_eval.specs.Transition.{go}
-use Rattle.def_eval.specs.Measure.{measure}
-use Rattle.def_machine.specs.State.{Slot, value, read, body_at, Registers, list_at, slot_at, Frame, Memory, State, On, Off, shown}
-use Rattle.def_machine.specs.Turn.{turn}
+use Rattle.path_eval.specs.Seen.{Uncaught}
+use Rattle.path_eval.specs.Steps.{Matched}
+use Rattle.path_eval.specs.Configuration as source
+use Rattle.path_eval.specs.Configuration.{Source, Part, Item, inside, activation, Exit, raise, Focus, perform, give, travel, Scope, World, Config, Run, Halt, seen}
+use Rattle.path_eval.specs.Transition.{go}
+use Rattle.path_eval.specs.Measure.{measure}
+use Rattle.path_turns.specs.State.{Slot, value, read, body_at, Registers, list_at, slot_at, Frame, Memory, State, On, Off, shown}
+use Rattle.path_turns.specs.Turn.{turn}
 use Rattle.code_generator.proofs.Stands.{Around, Ins, Stands, spared, kept, Behind}
 
 -- these slots stand in a row of registers

@@ -8,9 +8,9 @@ use Rattle.rite_code.specs.declared.operation.Operation.{Operation}
 use Rattle.rite_code.specs.declared.operation.Operation.TheVariants.{Move, LoadNil, Jmp, JmpNot}
 use Rattle.rite_code.specs.Instruction.{narrow}
 use Rattle.rite_code.specs.Shape.{size_of}
-use Rattle.def_eval.specs.Configuration.{Part, operands, rest, branch, chosen, loop_test, loop_body, assign}
-use Rattle.def_machine.specs.State.{Slot, value, body_at}
-use Rattle.def_machine.specs.Turn.{fetch, target}
+use Rattle.path_eval.specs.Configuration.{Part, operands, rest, branch, chosen, loop_test, loop_body, assign}
+use Rattle.path_turns.specs.State.{Slot, value, body_at}
+use Rattle.path_turns.specs.Turn.{fetch, target}
 use Rattle.code_generator.specs.Gen.{action_of, action_size, before_operands, is_puts, register_of}
 
 -- what is known around a form: the names of the locals of its body

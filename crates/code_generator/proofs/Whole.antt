@@ -6,15 +6,15 @@ use Rattle.path_value.specs.declared.value.Value.{Value}
 use Rattle.path_value.specs.declared.value.Value.TheVariants.{Nil}
 use Rattle.rite_code.specs.Code.{Program}
 use Rattle.rite_code.specs.declared.operation.Operation.TheVariants.{Stop}
-use Rattle.def_eval.specs.Seen.{Over, over}
-use Rattle.def_eval.specs.Steps.{StepLaw, Follows}
-use Rattle.def_eval.proofs.Induction.{follows}
-use Rattle.def_eval.specs.Configuration as source
-use Rattle.def_eval.specs.Configuration.{Source, Part, operands, rest, branch, chosen, loop_test, loop_body, assign, Item, inside, activation, Exit, raise, Focus, perform, give, travel, Config, Run, Halt, World, opening, seen}
-use Rattle.def_eval.specs.Transition.{go}
-use Rattle.def_eval.specs.Measure.{measure, weight}
-use Rattle.def_machine.specs.State.{value, read, body_at, Frame, Memory, State, On, Off, start, shown}
-use Rattle.def_machine.specs.Turn.{turn}
+use Rattle.path_eval.specs.Seen.{Over, over}
+use Rattle.path_eval.specs.Steps.{StepLaw, Follows}
+use Rattle.path_eval.proofs.Induction.{follows}
+use Rattle.path_eval.specs.Configuration as source
+use Rattle.path_eval.specs.Configuration.{Source, Part, operands, rest, branch, chosen, loop_test, loop_body, assign, Item, inside, activation, Exit, raise, Focus, perform, give, travel, Config, Run, Halt, World, opening, seen}
+use Rattle.path_eval.specs.Transition.{go}
+use Rattle.path_eval.specs.Measure.{measure, weight}
+use Rattle.path_turns.specs.State.{value, read, body_at, Frame, Memory, State, On, Off, start, shown}
+use Rattle.path_turns.specs.Turn.{turn}
 use Rattle.code_generator.proofs.Stands.{Ins, Stands}
 use Rattle.code_generator.proofs.Relation.{Related, Focused, Given, Step, behind_self}
 use Rattle.code_generator.proofs.Matching.{given_of, going}
@@ -74,7 +74,7 @@ alike q p (Halt v) (On f fs m) r = absurd r
 alike q p (Run x ks w) (Off t) r = absurd r
 alike q p (Run (perform e) ks w) (On f fs m) r = going r.same
 alike q p (Run (give v) ks w) (On f fs m) r = going r.same
-alike q p (Run (travel (raise e)) ks w) (On f fs m) r = ap Rattle.def_eval.specs.Seen.Going (sym r.out)
+alike q p (Run (travel (raise e)) ks w) (On f fs m) r = ap Rattle.path_eval.specs.Seen.Going (sym r.out)
 
 ended : (q : Source) (c : Config) → over (seen c) ≡ true → go q c ≡ c
 ended q (Halt v) o = refl

@@ -3,12 +3,12 @@ use Rattle.std.specs.Prelude.{ℕ, List, [], ◌∷◌}
 use Rattle.path_core.specs.Form.{Form}
 use Rattle.code_generator.specs.Names.{names_of}
 use Rattle.rite_code.specs.Code.{Program}
-use Rattle.def_eval.specs.Steps.{Follows}
-use Rattle.def_eval.specs.Seen.{over}
-use Rattle.def_eval.specs.Configuration.{Source, opening, seen}
-use Rattle.def_eval.specs.Transition.{go}
-use Rattle.def_machine.specs.State.{start, shown}
-use Rattle.def_machine.specs.Turn.{turn}
+use Rattle.path_eval.specs.Steps.{Follows}
+use Rattle.path_eval.specs.Seen.{over}
+use Rattle.path_eval.specs.Configuration.{Source, opening, seen}
+use Rattle.path_eval.specs.Transition.{go}
+use Rattle.path_turns.specs.State.{start, shown}
+use Rattle.path_turns.specs.Turn.{turn}
 
 -- the bodies of a main program
 abbrev pub source_of : Form → Source

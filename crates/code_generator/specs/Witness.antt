@@ -3,12 +3,12 @@ use Rattle.std.specs.Prelude.{◌≡◌, ℕ, pos, List, codes}
 use Rattle.rb_syntax.specs.declared.operator.Operator.TheVariants.{Minus, Greater}
 use Rattle.path_core.specs.Form.{Form, strict, local, set_local, seq, while_form, give_int, call_operator, call_puts, none, more, one, two}
 use Rattle.code_generator.specs.Limits.{IsWithin}
-use Rattle.def_eval.specs.Steps.{times}
-use Rattle.def_eval.specs.Seen.{Ended, Over}
-use Rattle.def_eval.specs.Configuration.{opening, seen}
-use Rattle.def_eval.specs.Transition.{go}
-use Rattle.def_machine.specs.State.{start, shown}
-use Rattle.def_machine.specs.Turn.{turn}
+use Rattle.path_eval.specs.Steps.{times}
+use Rattle.path_eval.specs.Seen.{Ended, Over}
+use Rattle.path_eval.specs.Configuration.{opening, seen}
+use Rattle.path_eval.specs.Transition.{go}
+use Rattle.path_turns.specs.State.{start, shown}
+use Rattle.path_turns.specs.Turn.{turn}
 use Rattle.code_generator.specs.Gen.{code_of}
 use Rattle.code_generator.specs.Implements.{source_of}
 

@@ -2,7 +2,7 @@
 use Rattle.std.proofs.Common.{◌≡◌, ◌≢◌, ℕ, List, Result, Ok, Err, IfOk, OnOk, OnErr, IsErrOf, refl}
 use Rattle.rb_base.specs.Outside.{Rose, with_more}
 use Rattle.rite_code.specs.Code.{Program}
-use Rattle.def_eval.specs.Seen.{output_of}
+use Rattle.path_eval.specs.Seen.{output_of}
 use Rattle.path_machine.specs.Run.{seen_after, IsRan, StoppedWithin}
 use Rattle.path_machine.specs.declared.ran.Ran.{Ran}
 use Rattle.path_machine.specs.declared.ran.RunFault.{RunFault}

@@ -7,7 +7,7 @@ use Rattle.rb_base.specs.Outside.{with_more, TookFront}
 use Rattle.rite_code.specs.declared.code.Irep.{Irep}
 use Rattle.rite_code.specs.Spelling.{decode_wide_at, front}
 use Rattle.path_core.specs.Rows.{line_of}
-use Rattle.def_machine.specs.State.{no_body}
+use Rattle.path_turns.specs.State.{no_body}
 use Rattle.path_machine.specs.Course.{Values, Course, behind, follows, course, stepped}
 use Rattle.path_machine.specs.Standing.{whole_course}
 use Rattle.path_value.specs.declared.value.Value.{Value}

@@ -5,10 +5,10 @@ use Rattle.path_value.specs.declared.value.Value.{Value}
 use Rattle.path_value.specs.declared.value.Value.TheVariants.{Nil}
 use Rattle.rite_code.specs.Code.{Program}
 use Rattle.path_core.specs.Rows.{line_of}
-use Rattle.def_eval.specs.Steps.{times}
-use Rattle.def_eval.specs.Seen.{End, Ended, Uncaught, Seen, Going, Over, output_of}
-use Rattle.def_machine.specs.State.{Slot, value, State, On, Off, shown, body_at}
-use Rattle.def_machine.specs.Turn.{turn}
+use Rattle.path_eval.specs.Steps.{times}
+use Rattle.path_eval.specs.Seen.{End, Ended, Uncaught, Seen, Going, Over, output_of}
+use Rattle.path_turns.specs.State.{Slot, value, State, On, Off, shown, body_at}
+use Rattle.path_turns.specs.Turn.{turn}
 use Rattle.path_machine.specs.Run.{seen_after, IsRan}
 use Rattle.path_machine.specs.Course.{Values, Course, follows, course, stepped}
 use Rattle.path_machine.specs.Standing.{standing, frame_at, led_to, seen_of, whole_course}

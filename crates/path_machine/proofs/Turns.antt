@@ -13,8 +13,8 @@ use Rattle.rite_code.specs.declared.operation.Operation.TheVariants.{Move, LoadI
 use Rattle.rite_code.specs.Instruction.{Instruction}
 use Rattle.rite_code.specs.Spelling.{decode_wide_at}
 use Rattle.path_core.specs.Rows.{Outcome, gives, raises, writes, call, line_of}
-use Rattle.def_machine.specs.State.{Slot, value, read, Registers, State, slot_at, value_at, put, body_at, On}
-use Rattle.def_machine.specs.Turn.{fetch, target, is_puts, after, operate, call_self, act, turn_by, turn}
+use Rattle.path_turns.specs.State.{Slot, value, read, Registers, State, slot_at, value_at, put, body_at, On}
+use Rattle.path_turns.specs.Turn.{fetch, target, is_puts, after, operate, call_self, act, turn_by, turn}
 use Rattle.path_machine.specs.Course.{Values, value_of, gets_outcome, operated, sent, executed, stepped_by, stepped}
 use Rattle.path_machine.specs.Standing.{lists_of, frame_at, memory_of, standing, led_to}
 use Rattle.path_machine.proofs.Writes.{IsQuiet, quiet_call}

@@ -5,8 +5,8 @@ use Rattle.std.specs.List.{slice_get}
 use Rattle.rb_base.specs.Outside.{with_more, TookFront}
 use Rattle.rite_code.specs.Code.{Program}
 use Rattle.rite_code.specs.declared.code.Irep.{Irep}
-use Rattle.def_eval.specs.Seen.{output_of}
-use Rattle.def_machine.specs.State.{body_at, no_body}
+use Rattle.path_eval.specs.Seen.{output_of}
+use Rattle.path_turns.specs.State.{body_at, no_body}
 use Rattle.path_machine.specs.Course.{Course}
 use Rattle.path_machine.specs.Standing.{whole_course}
 use Rattle.path_machine.specs.Run.{seen_after, IsRan, StoppedWithin}

@@ -11,7 +11,7 @@ use Rattle.rite_code.specs.declared.operation.Operation.TheVariants.{Move, LoadI
 use Rattle.rite_code.specs.Instruction.{Instruction}
 use Rattle.rite_code.specs.Spelling.{decode_wide_at}
 use Rattle.path_core.specs.Rows.{Outcome, gives, raises, writes, call, line_of}
-use Rattle.def_machine.specs.Turn.{target, is_puts}
+use Rattle.path_turns.specs.Turn.{target, is_puts}
 use Rattle.path_machine.specs.declared.machine.Next.{Next}
 use Rattle.path_machine.specs.declared.machine.Next.TheVariants as nexts
 use Rattle.path_machine.specs.declared.ran.Ran.{Ran}

@@ -2,10 +2,10 @@
 use Rattle.std.specs.Prelude.{◌≡◌, ℕ, List, Option, take}
 use Rattle.rb_base.specs.Outside.{with_more}
 use Rattle.rite_code.specs.Code.{Program}
-use Rattle.def_eval.specs.Steps.{times}
-use Rattle.def_eval.specs.Seen.{Ended, Uncaught, Seen, Going, Over, output_of}
-use Rattle.def_machine.specs.State.{start, shown}
-use Rattle.def_machine.specs.Turn.{turn}
+use Rattle.path_eval.specs.Steps.{times}
+use Rattle.path_eval.specs.Seen.{Ended, Uncaught, Seen, Going, Over, output_of}
+use Rattle.path_turns.specs.State.{start, shown}
+use Rattle.path_turns.specs.Turn.{turn}
 use Rattle.path_machine.specs.declared.ran.Ran.{Ran}
 use Rattle.path_machine.specs.declared.ran.Ran.TheVariants as rans
 

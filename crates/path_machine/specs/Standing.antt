@@ -3,8 +3,8 @@ use Rattle.std.specs.Prelude.{ℕ, List, [], ◌∷◌, ◌++◌, map, replicate
 use Rattle.path_value.specs.declared.value.Value.TheVariants.{Nil}
 use Rattle.rite_code.specs.declared.code.Irep.{Irep}
 use Rattle.path_core.specs.Rows.{line_of}
-use Rattle.def_eval.specs.Seen.{Ended, Uncaught, Seen, Going, Over}
-use Rattle.def_machine.specs.State.{value, Registers, Frame, Memory, State, On, Off}
+use Rattle.path_eval.specs.Seen.{Ended, Uncaught, Seen, Going, Over}
+use Rattle.path_turns.specs.State.{value, Registers, Frame, Memory, State, On, Off}
 use Rattle.path_machine.specs.Course.{Values, Course, course}
 use Rattle.path_machine.specs.declared.machine.Next.{Next}
 use Rattle.path_machine.specs.declared.machine.Next.TheVariants as nexts

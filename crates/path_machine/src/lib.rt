@@ -5,7 +5,7 @@
 
 ghost use Rattle.std.specs.Prelude.{◌≡◌, ◌≢◌, ℕ, List, IfOk, OnOk, OnErr, IsErrOf};
 ghost use Rattle.rb_base.specs.Outside.{Rose, with_more};
-ghost use Rattle.def_eval.specs.Seen.{output_of};
+ghost use Rattle.path_eval.specs.Seen.{output_of};
 ghost use Rattle.path_machine.specs.Run.{seen_after, IsRan, StoppedWithin};
 
 mod machine;

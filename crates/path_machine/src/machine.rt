@@ -1,6 +1,6 @@
 //! One turn of a body over its registers.
 ghost use Rattle.std.specs.Prelude.{◌≡◌, ◌<◌, ◌^◌, List, [], get_or, set, IfSome};
-ghost use Rattle.def_machine.specs.Turn as turns;
+ghost use Rattle.path_turns.specs.Turn as turns;
 ghost use Rattle.path_machine.specs.Course.{value_of, gets, operated, sent, executed, stepped};
 ghost use Rattle.rite_code.specs.Spelling as spelling;
 
@@ -45,7 +45,7 @@ fn write(registers: &mut [Value], index: usize, value: Value)
 
 /// Where a jump leads, by its distance from the next instruction.
 #[inline(always)]
-#[tactic(auto, unfolding(def_machine::specs::Turn::target))]
+#[tactic(auto, unfolding(path_turns::specs::Turn::target))]
 fn target(next: usize, by: i32) -> usize
     requires { next < 2 ^ 63 }
     ensures { result ≡ turns.target next by }
@@ -59,7 +59,7 @@ fn target(next: usize, by: i32) -> usize
 
 /// Whether the call of the method of this symbol with so many arguments is one of `puts` with one.
 #[inline(always)]
-#[tactic(auto, unfolding(def_machine::specs::Turn::is_puts))]
+#[tactic(auto, unfolding(path_turns::specs::Turn::is_puts))]
 fn is_puts(symbols: &[Bytes], symbol: u16, count: u16) -> bool
     ensures { result ≡ turns.is_puts (get_or symbols.now symbol []) count }
 {

@@ -2,7 +2,7 @@
 ghost use Rattle.std.specs.Prelude.{◌≡◌, ◌≢◌, [], IfOk, OnOk, OnErr, IsErrOf};
 ghost use Rattle.rb_base.specs.Outside.{Rose, TookFront, with_more};
 ghost use Rattle.path_core.specs.Rows.{line_of};
-ghost use Rattle.def_machine.specs.State.{no_body};
+ghost use Rattle.path_turns.specs.State.{no_body};
 ghost use Rattle.path_machine.specs.Course.{course};
 ghost use Rattle.path_machine.specs.Standing.{whole_course};
 

@@ -5,10 +5,10 @@ use Rattle.path_value.specs.Value.{is_true}
 use Rattle.path_value.specs.declared.value.Value.{Value}
 use Rattle.rite_code.specs.Code.{Program}
 use Rattle.rite_code.specs.declared.operation.Operation.TheVariants.{Jmp, JmpNot}
-use Rattle.def_eval.specs.Configuration.{Source, branch, chosen, Item, inside, perform, give, World, Run}
-use Rattle.def_eval.specs.Transition.{choose}
-use Rattle.def_machine.specs.State.{Slot, value, read, slot_at, Frame, Memory, On}
-use Rattle.def_machine.specs.Turn.{turn, goto, target}
+use Rattle.path_eval.specs.Configuration.{Source, branch, chosen, Item, inside, perform, give, World, Run}
+use Rattle.path_eval.specs.Transition.{choose}
+use Rattle.path_turns.specs.State.{Slot, value, read, slot_at, Frame, Memory, On}
+use Rattle.path_turns.specs.Turn.{turn, goto, target}
 use Rattle.code_generator.proofs.Stands.{Ins}
 use Rattle.code_generator.proofs.Relation.{Related, Focused, Given, Awaits, Step}
 use Rattle.code_generator.proofs.Matching.{turned, by_none, by_one, going}

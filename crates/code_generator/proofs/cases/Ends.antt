@@ -3,11 +3,11 @@ use Rattle.std.proofs.Common.{◌≡◌, ℕ, ◌+◌, ◌<◌, List, [], ◌∷
 use Rattle.path_value.specs.declared.value.Value.{Value}
 use Rattle.rite_code.specs.Code.{Program}
 use Rattle.rite_code.specs.declared.operation.Operation.TheVariants.{Stop}
-use Rattle.def_eval.specs.Seen.{Ended, Uncaught}
-use Rattle.def_eval.specs.Configuration.{Source, Item, activation, Exit, raise, give, travel, World, Config, Run}
-use Rattle.def_eval.specs.Transition.{go}
-use Rattle.def_eval.specs.Measure.{measure, weights}
-use Rattle.def_machine.specs.State.{Frame, Memory, On, Off}
+use Rattle.path_eval.specs.Seen.{Ended, Uncaught}
+use Rattle.path_eval.specs.Configuration.{Source, Item, activation, Exit, raise, give, travel, World, Config, Run}
+use Rattle.path_eval.specs.Transition.{go}
+use Rattle.path_eval.specs.Measure.{measure, weights}
+use Rattle.path_turns.specs.State.{Frame, Memory, On, Off}
 use Rattle.code_generator.proofs.Relation.{Related, Focused, Step}
 use Rattle.code_generator.proofs.Matching.{turned, by_none, by_one, going}
 
@@ -36,8 +36,8 @@ pub travel_none : (q : Source) (p : Program) (x : Exit) (w : World) (f : Frame) 
 travel_none q p (raise e) w f fs m r = by_one q p _ _ (Off (Uncaught m.out e)) (ap source_going (sym r.out)) r.throws
     (ap (λ (o : List ℕ). Uncaught o e) (sym r.out))
   where
-    source_going : List ℕ → Rattle.def_eval.specs.Seen.Seen
-    source_going = Rattle.def_eval.specs.Seen.Going
+    source_going : List ℕ → Rattle.path_eval.specs.Seen.Seen
+    source_going = Rattle.path_eval.specs.Seen.Going
 
 -- an exit passes an item
 pub travel_on : (q : Source) (p : Program) (x : Exit) (k : Item) (ks : List Item) (w : World) (f : Frame)

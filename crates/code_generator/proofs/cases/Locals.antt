@@ -4,10 +4,10 @@ use Rattle.path_core.specs.Form.{Name, Form, local, set_local}
 use Rattle.path_value.specs.declared.value.Value.{Value}
 use Rattle.rite_code.specs.Code.{Program}
 use Rattle.rite_code.specs.declared.operation.Operation.TheVariants.{Move}
-use Rattle.def_eval.specs.Configuration as source
-use Rattle.def_eval.specs.Configuration.{Source, Part, operands, rest, branch, chosen, loop_test, loop_body, assign, Item, inside, activation, Exit, raise, Focus, perform, give, travel, World, Config, Run, Halt, named, local_of, with_local, seen}
-use Rattle.def_machine.specs.State.{Slot, value, read, body_at, slot_at, value_at, Frame, Memory, On}
-use Rattle.def_machine.specs.Turn.{goto, write}
+use Rattle.path_eval.specs.Configuration as source
+use Rattle.path_eval.specs.Configuration.{Source, Part, operands, rest, branch, chosen, loop_test, loop_body, assign, Item, inside, activation, Exit, raise, Focus, perform, give, travel, World, Config, Run, Halt, named, local_of, with_local, seen}
+use Rattle.path_turns.specs.State.{Slot, value, read, body_at, slot_at, value_at, Frame, Memory, On}
+use Rattle.path_turns.specs.Turn.{goto, write}
 use Rattle.code_generator.specs.Gen.{register_of}
 use Rattle.code_generator.proofs.Stands.{Around}
 use Rattle.code_generator.proofs.Relation.{Focused, Given, Step}

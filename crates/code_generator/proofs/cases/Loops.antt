@@ -6,10 +6,10 @@ use Rattle.path_value.specs.declared.value.Value.{Value}
 use Rattle.path_value.specs.declared.value.Value.TheVariants.{Nil}
 use Rattle.rite_code.specs.Code.{Program}
 use Rattle.rite_code.specs.declared.operation.Operation.TheVariants.{LoadNil, Jmp, JmpNot}
-use Rattle.def_eval.specs.Configuration.{Source, loop_test, loop_body, Item, inside, perform, give, World, Run}
-use Rattle.def_eval.specs.Transition.{turn_loop}
-use Rattle.def_machine.specs.State.{Slot, value, read, slot_at, Frame, Memory, On}
-use Rattle.def_machine.specs.Turn.{turn, goto, write, target}
+use Rattle.path_eval.specs.Configuration.{Source, loop_test, loop_body, Item, inside, perform, give, World, Run}
+use Rattle.path_eval.specs.Transition.{turn_loop}
+use Rattle.path_turns.specs.State.{Slot, value, read, slot_at, Frame, Memory, On}
+use Rattle.path_turns.specs.Turn.{turn, goto, write, target}
 use Rattle.code_generator.proofs.Stands.{Ins}
 use Rattle.code_generator.proofs.Relation.{Related, Focused, Given, Step}
 use Rattle.code_generator.proofs.Matching.{turned, by_none, by_one, by_two, going, gives}

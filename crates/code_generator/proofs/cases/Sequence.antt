@@ -5,8 +5,8 @@ use Rattle.path_value.specs.declared.value.Value.{Value}
 use Rattle.path_value.specs.declared.value.Value.TheVariants.{Nil}
 use Rattle.rite_code.specs.Code.{Program}
 use Rattle.rite_code.specs.declared.operation.Operation.TheVariants.{LoadNil}
-use Rattle.def_eval.specs.Configuration.{Source, rest, Item, inside, perform, give, World, Run}
-use Rattle.def_machine.specs.State.{value, slot_at, Frame, Memory, On}
+use Rattle.path_eval.specs.Configuration.{Source, rest, Item, inside, perform, give, World, Run}
+use Rattle.path_turns.specs.State.{value, slot_at, Frame, Memory, On}
 use Rattle.code_generator.proofs.Relation.{Focused, Given, Awaits, Step}
 use Rattle.code_generator.proofs.Matching.{turned, by_none, by_one, going, gives}
 

@@ -13,15 +13,15 @@ use Rattle.rite_code.specs.Code.{Program}
 use Rattle.rite_code.specs.declared.operation.Operation.TheVariants as ops
 use Rattle.rite_code.specs.Shape.{size_of}
 use Rattle.path_core.specs.Rows.{Outcome, gives, raises, writes, call, line_of}
-use Rattle.def_eval.specs.Seen.{Going, Uncaught}
-use Rattle.def_eval.specs.Configuration as source
-use Rattle.def_eval.specs.Configuration.{Source, Part, operands, Item, inside, Focus, perform, give, World, Config, Run, seen}
-use Rattle.def_eval.specs.Transition as evaluation
-use Rattle.def_eval.specs.Transition.{outcome, go}
-use Rattle.def_eval.specs.Measure.{measure, weights}
-use Rattle.def_machine.specs.State.{value, read, raised, body_at, slot_at, value_at, Frame, Memory, On, Off}
-use Rattle.def_machine.specs.Turn as machine
-use Rattle.def_machine.specs.Turn.{turn, act, goto, write, throw}
+use Rattle.path_eval.specs.Seen.{Going, Uncaught}
+use Rattle.path_eval.specs.Configuration as source
+use Rattle.path_eval.specs.Configuration.{Source, Part, operands, Item, inside, Focus, perform, give, World, Config, Run, seen}
+use Rattle.path_eval.specs.Transition as evaluation
+use Rattle.path_eval.specs.Transition.{outcome, go}
+use Rattle.path_eval.specs.Measure.{measure, weights}
+use Rattle.path_turns.specs.State.{value, read, raised, body_at, slot_at, value_at, Frame, Memory, On, Off}
+use Rattle.path_turns.specs.Turn as machine
+use Rattle.path_turns.specs.Turn.{turn, act, goto, write, throw}
 use Rattle.code_generator.specs.Gen.{action_of, action_size, before_operands, load_number, number_size}
 use Rattle.code_generator.specs.Gen as generator
 use Rattle.code_generator.proofs.Stands.{Around, Room, StandOperands}

@@ -1,6 +1,6 @@
 -- What is seen of the code is the course of its first body.
 use Rattle.std.proofs.Common.{ap}
-use Rattle.def_machine.specs.State.{no_body}
+use Rattle.path_turns.specs.State.{no_body}
 use Rattle.path_machine.specs.Course.{Course}
 use Rattle.path_machine.specs.Standing.{whole_course}
 use Rattle.path_machine.proofs.Whole.{first_is, none_is, whole_ran, whole_written, ok_ran, ok_written, err_stopped, silent_written}

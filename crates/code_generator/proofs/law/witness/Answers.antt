@@ -4,10 +4,10 @@ use Rattle.std.proofs.lemmas.Fmt.{decimal_digit}
 use Rattle.rite_code.specs.Spelling.{encoding, decode_wide_at, front, narrow_front}
 use Rattle.rite_code.specs.Table.{opcode_of, opcodes}
 use Rattle.path_core.specs.Rows.{call, integer}
-use Rattle.def_eval.specs.Seen.{Ended, Over}
-use Rattle.def_eval.specs.Transition.{outcome}
-use Rattle.def_machine.specs.State.{slot_at, put}
-use Rattle.def_machine.specs.Turn.{fetch, target, is_puts}
+use Rattle.path_eval.specs.Seen.{Ended, Over}
+use Rattle.path_eval.specs.Transition.{outcome}
+use Rattle.path_turns.specs.State.{slot_at, put}
+use Rattle.path_turns.specs.Turn.{fetch, target, is_puts}
 use Rattle.code_generator.proofs.law.witness.Goals as goal
 
 abbrev lines : List ℕ → List ℕ → List ℕ

@@ -1,7 +1,7 @@
 -- From the step law to whole runs.
 use Rattle.std.proofs.Common.{◌≡◌, ◌⊎◌, ℕ, zero, suc, ◌+◌, ◌-◌, ◌*◌, ◌<◌, ◌≤◌, Bool, true, false, refl, sym, ap, ◌∙◌, subst, ⊎_elim, inl, inr, arith, true≢false}
 use Rattle.std.proofs.lemmas.Bool.{cases_lt}
-use Rattle.def_eval.specs.Steps.{times, Matched, StepLaw, Follows}
+use Rattle.path_eval.specs.Steps.{times, Matched, StepLaw, Follows}
 
 times-add : {X : Type 0} (f : X → X) (a b : ℕ) (x : X) → times (a + b) f x ≡ times b f (times a f x)
 times-add f zero b x = let e : zero + b ≡ b = omega arith in ap (λ n. times n f x) e

@@ -7,8 +7,8 @@ use Rattle.path_value.specs.declared.value.Value.{Value}
 use Rattle.path_value.specs.declared.value.Value.TheVariants.{Nil, True, Int}
 use Rattle.path_value.specs.declared.failure.Failure.{Failure}
 use Rattle.path_core.specs.Rows.{Outcome, gives, raises, writes, call, line_of}
-use Rattle.def_eval.specs.Seen.{End, Ended, Uncaught}
-use Rattle.def_eval.specs.Configuration.{Source, Part, operands, rest, branch, chosen, loop_test, loop_body, assign, Item, inside, activation, Exit, raise, Focus, perform, give, travel, World, Config, Run, Halt, named, local_of, with_local}
+use Rattle.path_eval.specs.Seen.{End, Ended, Uncaught}
+use Rattle.path_eval.specs.Configuration.{Source, Part, operands, rest, branch, chosen, loop_test, loop_body, assign, Item, inside, activation, Exit, raise, Focus, perform, give, travel, World, Config, Run, Halt, named, local_of, with_local}
 
 -- what a strict form does with the values of its operands
 unfoldable pub outcome : Action → List Value → Outcome

@@ -1,7 +1,7 @@
 -- What falls in a transition that no turn of the machine matches.
 use Rattle.std.specs.Prelude.{ℕ, ◌+◌, List, [], ◌∷◌}
 use Rattle.path_core.specs.Form.{Form, strict, local, set_local, seq, cond, while_form, Forms, none, more}
-use Rattle.def_eval.specs.Configuration.{Part, operands, rest, branch, chosen, loop_test, loop_body, assign, Item, inside, activation, Focus, perform, give, travel, Config, Run, Halt}
+use Rattle.path_eval.specs.Configuration.{Part, operands, rest, branch, chosen, loop_test, loop_body, assign, Item, inside, activation, Focus, perform, give, travel, Config, Run, Halt}
 
 abbrev mutual
   pub size : Form → ℕ

@@ -5,7 +5,7 @@ use Rattle.path_core.specs.Form.{place_of}
 use Rattle.path_value.specs.declared.value.Value.{Value}
 use Rattle.path_value.specs.declared.value.Value.TheVariants.{Nil}
 use Rattle.path_value.specs.declared.failure.Failure.{Failure}
-use Rattle.def_eval.specs.Seen.{End, Seen, Going, Over}
+use Rattle.path_eval.specs.Seen.{End, Seen, Going, Over}
 
 -- a body, with the names of its locals
 pub record Body : Type 0 where
