@@ -1,10 +1,15 @@
 #!/usr/bin/env python3
 """Measures the program on files, and tries it on broken ones. Not part of the tests.
 
-    bench/files.py speed RITE [MEBIBYTES]   time of `list` and `info` over a file of many bodies, in MB/s
+    bench/files.py speed RITE [MEBIBYTES]   time over a file of many bodies, in MB/s of the file
+    bench/files.py hostile RITE             time over files that are dear to judge
     bench/files.py broken RITE [FILES]      files with one to four bytes changed: each call must end with an answer
+                                            within a tenth of a second
 
-RITE is the built program (build/rite).
+RITE is the built program (build/rite). Times are of the whole process, with its start and the reading of the file, the
+best of three calls: `info` reads the header and the sections, `list` loads the file and writes its listing to where
+nothing is kept, `run` loads it, verifies it and makes no turn. Where RITE has no command `run`, nothing verifies a file
+and its line is missing.
 """
 import os
 import random
@@ -14,10 +19,14 @@ import sys
 import tempfile
 import time
 
+ANSWERS = (0, 121, 122)
+USAGE = 120
+SLOWEST = 0.1
+
 
 def record(locals_count, registers, children, code, catches=(), pool=(), symbols=()):
     """The bytes of a record; see docs/formats.md."""
-    fields = struct.pack(">HHHH", locals_count, registers, children, len(catches))
+    fields = bytearray(struct.pack(">HHHH", locals_count, registers, children, len(catches)))
     fields += struct.pack(">I", len(code)) + code
     for kind, begin, end, target in catches:
         fields += struct.pack(">BIII", kind, begin, end, target)
@@ -30,7 +39,7 @@ def record(locals_count, registers, children, code, catches=(), pool=(), symbols
     fields += struct.pack(">H", len(symbols))
     for name in symbols:
         fields += struct.pack(">I", len(name)) + name
-    return struct.pack(">I", len(fields) + 4) + fields
+    return struct.pack(">I", len(fields) + 4) + bytes(fields)
 
 
 def file_of(records, version=b"0002"):
@@ -51,53 +60,124 @@ def many_bodies(size):
     return file_of([record(1, 2, count, code)] + [child] * count)
 
 
-def call(rite, command, path, out=subprocess.DEVNULL, limit=60):
-    return subprocess.run([rite, command, path], stdout=out, stderr=subprocess.DEVNULL, timeout=limit).returncode
+def like_symbols(size):
+    """A file of about so many bytes: one body with 65,535 symbols that differ in their last bytes alone."""
+    front = b"x" * (size // 65535 - 8)
+    return file_of([record(1, 1, 0, b"\x48", symbols=[front + struct.pack(">I", k) for k in range(65535)])])
+
+
+def like_constants(size):
+    """The same of the pool: integers, and texts that differ in their last bytes alone."""
+    front = b"x" * (size // 32768 - 17)
+    pool = [k for k in range(32767)] + [front + struct.pack(">I", k) for k in range(32768)]
+    return file_of([record(1, 1, 0, b"\x48", pool=pool)])
+
+
+def deep_scopes(bodies):
+    """A chain of lambdas, each in the one before; each reads a variable of the main program."""
+    records = [record(2, 3, 1, bytes([0x3A, 2, 0, 0x48]))]
+    for level in range(1, bodies):
+        read = bytes([0x49, 0x13]) + struct.pack(">HHH", 2, 1, level - 1)
+        last = level == bodies - 1
+        make = b"" if last else bytes([0x3A, 2, 0])
+        records.append(record(2, 3, 0 if last else 1, bytes([0x22, 0, 0, 0]) + read + make + bytes([0x24, 2])))
+    return file_of(records)
+
+
+def timed(words, limit=60):
+    """How long a call takes, and its status."""
+    start = time.perf_counter()
+    status = subprocess.run(words, stdout=subprocess.DEVNULL, stderr=subprocess.DEVNULL, timeout=limit).returncode
+    spent = time.perf_counter() - start
+    if status not in ANSWERS:
+        sys.exit(f"{' '.join(words)} ended with {status}")
+    return spent, status
+
+
+def commands(rite, names):
+    """The calls of a file, by their names; the file's path is to come behind."""
+    run = [rite, "run", "--steps", "0"]
+    calls = {name: [rite, name] for name in names}
+    knows_run = subprocess.run(run + ["none.mrb"], capture_output=True).returncode != USAGE
+    return calls | ({"run": run} if knows_run else {})
+
+
+def best(words):
+    return min(timed(words)[0] for _ in range(3))
+
+
+def report(calls, path, size):
+    for name, words in calls.items():
+        spent = best(words + [path])
+        print(f"  {name}: {size / spent / 1e6:.1f} MB/s ({spent:.3f} s for {size} bytes)")
+
+
+def over(data, calls):
+    """Reports the calls of a file with these bytes."""
+    with tempfile.TemporaryDirectory() as folder:
+        path = os.path.join(folder, "given.mrb")
+        with open(path, "wb") as handle:
+            handle.write(data)
+        report(calls, path, len(data))
 
 
 def speed(rite, mebibytes):
-    data = many_bodies(mebibytes << 20)
-    with tempfile.TemporaryDirectory() as folder:
-        path = os.path.join(folder, "many.mrb")
-        with open(path, "wb") as handle:
-            handle.write(data)
-        for command in ("info", "list"):
-            best = min(timed(rite, command, path) for _ in range(3))
-            print(f"{command}: {len(data) / best / 1e6:.1f} MB/s ({best:.3f} s for {len(data)} bytes)")
+    print("many bodies")
+    over(many_bodies(mebibytes << 20), commands(rite, ["info", "list"]))
 
 
-def timed(rite, command, path):
-    start = time.perf_counter()
-    status = call(rite, command, path)
-    assert status == 0, f"{command} ended with {status}"
-    return time.perf_counter() - start
+def hostile(rite):
+    files = {
+        "symbols that look alike": like_symbols(16 << 20),
+        "constants that look alike": like_constants(16 << 20),
+        "a chain of 65,536 scopes": deep_scopes(65536),
+    }
+    for name, data in files.items():
+        print(name)
+        over(data, commands(rite, ["list"]))
+
+
+def mutated(data):
+    """The bytes with one to four changed."""
+    data = bytearray(data)
+    for _ in range(random.randint(1, 4)):
+        data[random.randrange(len(data))] = random.randrange(256)
+    return bytes(data)
 
 
 def broken(rite, files):
     random.seed(1)
-    whole = [many_bodies(2000), many_bodies(200), file_of([record(1, 1, 0, b"\x48")], b"0001")]
-    counts = {}
+    whole = [many_bodies(2000), many_bodies(200), deep_scopes(20), file_of([record(1, 1, 0, b"\x48")], b"0001")]
+    calls = commands(rite, ["list", "info"])
+    counts, slowest = {}, 0
     with tempfile.TemporaryDirectory() as folder:
         path = os.path.join(folder, "broken.mrb")
         for _ in range(files):
-            data = bytearray(random.choice(whole))
-            for _ in range(random.randint(1, 4)):
-                data[random.randrange(len(data))] = random.randrange(256)
             with open(path, "wb") as handle:
-                handle.write(data)
-            for command in ("list", "info"):
-                status = call(rite, command, path)
-                assert status in (0, 121), f"{command} ended with {status}: {bytes(data).hex()}"
-                counts[command, status] = counts.get((command, status), 0) + 1
-    for key in sorted(counts):
-        print(f"{key[0]}: {counts[key]} ended with {key[1]}")
+                handle.write(mutated(random.choice(whole)))
+            for name, words in calls.items():
+                spent, status = timed(words + [path])
+                slowest = max(slowest, spent)
+                counts[name, status] = counts.get((name, status), 0) + 1
+    for (name, status), count in sorted(counts.items()):
+        print(f"{name}: {count} ended with {status}")
+    print(f"slowest: {slowest:.3f} s")
+    if slowest > SLOWEST:
+        sys.exit(f"a call took more than {SLOWEST} s")
+
+
+def main(words):
+    if len(words) < 2 or words[0] not in ("speed", "hostile", "broken"):
+        sys.exit(__doc__)
+    kind, rite = words[0], words[1]
+    number = int(words[2]) if len(words) > 2 else None
+    if kind == "speed":
+        speed(rite, number or 4)
+    elif kind == "hostile":
+        hostile(rite)
+    else:
+        broken(rite, number or 20000)
 
 
 if __name__ == "__main__":
-    if len(sys.argv) < 3 or sys.argv[1] not in ("speed", "broken"):
-        sys.exit(__doc__)
-    number = int(sys.argv[3]) if len(sys.argv) > 3 else None
-    if sys.argv[1] == "speed":
-        speed(sys.argv[2], number or 4)
-    else:
-        broken(sys.argv[2], number or 5000)
+    main(sys.argv[1:])

@@ -1,6 +1,7 @@
 //! What a file is, as text: its header and its sections.
 ghost use Rattle.std.specs.Prelude.{◌≡◌, Ok, flat_map};
 ghost use Rattle.rite_file.specs.Front.{header_of, sections_of};
+ghost use Rattle.rite_file.specs.declared.error.LoadError.{LoadError as LoadErrorValue};
 ghost use Rattle.code_listing.specs.Info as texts;
 ghost use Rattle.rb_refusal.specs.Writing.{Says};
 
@@ -94,9 +95,10 @@ fn write_lines<O: Sink>(out: &mut O, bytes: &[u8], found: Header) -> Result<(), 
 /// `Refused`, with nothing written, where the header or a section is wrong, with the error of the first. `Failed` where
 /// a call failed: then a front of the text went out.
 pub fn info<O: Sink>(bytes: &[u8], out: &mut O) -> Result<(), InfoFault>
-    ensures { texts.Informs (texts.info_of bytes.now)
+    ensures informs { texts.Informs (texts.info_of bytes.now)
         (record { taken = O.taken out.old; faults = O.faults out.old })
         (record { taken = O.taken out.new; faults = O.faults out.new }) result }
+    ensures untouched { (cause : LoadErrorValue) → result ≡ Err (InfoFault.Refused cause) → out.new ≡ out.old }
 {
     let found = checked(bytes)?;
     write_lines(out, bytes, found)?;

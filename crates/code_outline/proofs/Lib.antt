@@ -5,6 +5,7 @@ pub mod Layouts
 pub mod Made
 pub mod Makes
 pub mod Marks
+pub mod Outers
 pub mod Places
 pub mod Rows
 pub mod Scopes

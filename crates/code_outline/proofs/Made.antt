@@ -4,15 +4,14 @@ use Rattle.std.specs.Prelude.{Option, None}
 use Rattle.std.specs.Option.{option_or}
 use Rattle.std.proofs.lemmas.List.{append-nil, map-append, take_more, take_all, get_or-replicate, length-replicate, length-take-le}
 use Rattle.rite_code.specs.declared.code.Irep.{Irep}
-use Rattle.rite_code.specs.Code.{Program}
+use Rattle.rite_code.specs.Code.{Program, IsWhole}
 use Rattle.code_outline.specs.declared.layout.Standing.{Standing as StandingValue}
 use Rattle.code_outline.specs.declared.layout.Layout.{Layout}
 use Rattle.code_outline.specs.declared.maker.Maker.{Maker}
 use Rattle.code_outline.specs.Layout.{Standing, layout}
 use Rattle.code_outline.specs.Makers.{made_by, made_in, made_from, first_maker, maker_of}
 use Rattle.code_outline.specs.Making.{AreMarked}
-use Rattle.code_outline.specs.declared.layout.Outline.{Outline}
-use Rattle.code_outline.specs.Outlined.{seen, LaysOut, AreLaidOut, Outlines}
+use Rattle.code_outline.specs.Outlined.{seen, LaysOut, AreLaidOut, AreParts}
 use Rattle.code_outline.proofs.Marks.{marks-append}
 
 made_in-append : (k : ℕ) (b : Irep) (ss ts : List Standing) → made_in k b (ss ++ ts) ≡ made_in k b ss ++ made_in k b ts
@@ -93,17 +92,21 @@ marked-all p n xs h m j l =
     ∙ ap (λ o. option_or o (first_maker j (made_from p.version 0 (take n p.bodies)))) e
     ∙ ap (λ bs. first_maker j (made_from p.version 0 bs)) (take_all n p.bodies h)
 
--- what is outlined up to body n, where there are no more
-abbrev pub Reaches : Program → List Irep → ℕ → Outline → Type 0
-Reaches p bs n o = (length bs ≤ n) × AreLaidOut p.version (take n bs) o.layouts × (length o.makers ≡ length bs)
-    × AreMarked (made_from p.version 0 (take n bs)) (replicate (length bs) None) o.makers
+-- what is read up to body n, where there are no more
+abbrev pub Reaches : Program → List Irep → ℕ → List Layout → List (Option Maker) → Type 0
+Reaches p bs n ls ms = IsWhole p × (length bs ≤ n) × AreLaidOut p.version (take n bs) ls × (length ms ≡ length bs)
+    × AreMarked (made_from p.version 0 (take n bs)) (replicate (length bs) None) ms
 
-outlined-whole : (p : Program) (n : ℕ) (o : Outline) → Reaches p p.bodies n o → Outlines p o
-outlined-whole p n o h = record {
-  layouts = rw (← take_all n p.bodies h.0) h.1;
-  count = h.2;
-  makers = marked-all p n o.makers h.0 h.3;
+parts-whole : (p : Program) (n : ℕ) (ls : List Layout) (ms : List (Option Maker)) → Reaches p p.bodies n ls ms
+    → AreParts p ls ms
+parts-whole p n ls ms h = record {
+  whole = h.0;
+  layouts = rw (← take_all n p.bodies h.1) h.2;
+  count = h.3;
+  makers = marked-all p n ms h.1 h.4;
 }
 
-pub outlined : (p : Program) (bs : List Irep) (n : ℕ) (o : Outline) → bs ≡ p.bodies → Reaches p bs n o → Outlines p o
-outlined p bs n o e = subst (λ (x : List Irep). Reaches p x n o → Outlines p o) (sym e) (outlined-whole p n o)
+pub parts : (p : Program) (bs : List Irep) (n : ℕ) (ls : List Layout) (ms : List (Option Maker)) → bs ≡ p.bodies
+    → Reaches p bs n ls ms → AreParts p ls ms
+parts p bs n ls ms e = subst (λ (x : List Irep). Reaches p x n ls ms → AreParts p ls ms) (sym e)
+    (parts-whole p n ls ms)

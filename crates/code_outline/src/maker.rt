@@ -31,3 +31,15 @@ pub struct Maker {
     pub at: u32,
     pub purpose: Purpose,
 }
+
+/// The body around a block or a lambda, by its maker. None of any other body.
+pub(crate) fn around(maker: Option<Maker>) -> Option<u32>
+    ensures { result ≡ made.around maker }
+{
+    let maker = maker?;
+    if maker.purpose.is_function() {
+        Some(maker.body)
+    } else {
+        None
+    }
+}

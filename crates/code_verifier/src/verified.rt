@@ -52,4 +52,12 @@ impl Verified {
     {
         &self.outline
     }
+
+    /// The program alone.
+    pub fn into_code(self) -> Code
+        ensures value { result ≡ self }
+        ensures verified { IsVerified self }
+    {
+        self.code
+    }
 }

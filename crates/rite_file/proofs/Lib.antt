@@ -1,5 +1,7 @@
+pub mod Among
 pub mod Listing
 pub mod SectionSteps
+pub mod SeenItems
 pub mod Forests
 pub mod Walking
 pub mod Fields

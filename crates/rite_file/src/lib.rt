@@ -10,6 +10,7 @@ ghost use Rattle.rite_file.specs.Gives.{Gives};
 ghost use Rattle.rite_file.specs.Loaded.{loaded};
 
 pub mod counts;
+mod distinct;
 pub mod error;
 pub mod front;
 mod lists;

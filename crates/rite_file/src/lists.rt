@@ -5,11 +5,15 @@ ghost use Rattle.std.specs.Str.{bytes_eq};
 ghost use Rattle.rite_file.specs.Gives.{Gives};
 ghost use Rattle.rite_file.specs.Record as specs;
 
+use crate::distinct::{many_items_at, many_texts_at};
 use crate::error::LoadError;
 use crate::reading::{bad, i64_at, text_at, u8_at, u16_at, u32_at};
 use rb_base::{Bytes, List};
 use rite_code::{CatchEntry, PoolItem};
 use std::alloc::Global;
+
+/// From so many entries on, each is looked for in a set of those before.
+const MANY: u16 = 16;
 
 #[tactic(auto, unfolding(crate::specs::Record::catch_at, crate::specs::Record::tested_at))]
 fn catch_at(bytes: &[u8], at: usize) -> Result<(CatchEntry, usize), LoadError>
@@ -60,7 +64,11 @@ pub fn catches_at(
 
 /// A pool entry: a text after the tag 0, or an integer after the tag 1.
 #[tactic(auto, unfolding(crate::specs::Record::item_at, crate::specs::Record::tested_at))]
-fn item_at(alloc: Global, bytes: &[u8], at: usize) -> Result<(PoolItem, usize), LoadError>
+pub(crate) fn item_at(
+    alloc: Global,
+    bytes: &[u8],
+    at: usize,
+) -> Result<(PoolItem, usize), LoadError>
     requires { at ≤ length bytes.now }
     ensures value { Gives result (specs.item_at bytes.now at) }
     ensures within { IfOk result (λ x. x.1 ≤ length bytes.now) }
@@ -113,7 +121,11 @@ pub fn pool_at(alloc: Global, bytes: &[u8], at: usize) -> Result<(List<PoolItem>
     ensures within { IfOk result (λ x. x.1 ≤ length bytes.now) }
 {
     let (count, start) = u16_at(bytes, at)?;
-    items_at(alloc, count, bytes, start)
+    if count < MANY {
+        items_at(alloc, count, bytes, start)
+    } else {
+        many_items_at(alloc, count, bytes, start)
+    }
 }
 
 fn items_at(
@@ -147,7 +159,11 @@ pub fn symbols_at(alloc: Global, bytes: &[u8], at: usize) -> Result<(List<Bytes>
     ensures within { IfOk result (λ x. x.1 ≤ length bytes.now) }
 {
     let (count, start) = u16_at(bytes, at)?;
-    texts_at(alloc, count, bytes, start)
+    if count < MANY {
+        texts_at(alloc, count, bytes, start)
+    } else {
+        many_texts_at(alloc, count, bytes, start)
+    }
 }
 
 fn texts_at(

@@ -1,5 +1,5 @@
 -- Levels out, one after the other.
-use Rattle.std.proofs.Common.{◌≡◌, refl, sym, ap, ◌∙◌, ℕ, zero, suc, ◌+◌, ◌-◌, ◌<◌, ◌≤◌, List, [], ◌∷◌, ◌++◌, length, get_or, arith}
+use Rattle.std.proofs.Common.{◌≡◌, refl, sym, ap, ◌∙◌, ℕ, zero, suc, ◌+◌, ◌-◌, ◌<◌, ◌≤◌, List, arith}
 use Rattle.std.specs.Prelude.{Option, Some, None}
 use Rattle.scope_leaps.specs.declared.leap.Leap.{Leap}
 use Rattle.scope_leaps.specs.Leaps.{outer_in, further, levels_out}

@@ -1,54 +1,20 @@
-use Rattle.std.proofs.Common.{◌≡◌, ◌∙◌, sym, rules, replicate, None, length, take, drop, map, ◌++◌}
-use Rattle.std.proofs.lemmas.List.{length-replicate, take_at}
-use Rattle.code_outline.specs.Outlined.{seen, AreLaidOut, LaysOut}
-use Rattle.code_outline.specs.Makers.{made_in, made_from}
-use Rattle.code_outline.specs.Making.{AreMarked}
-use Rattle.code_outline.proofs.Made.{laid_out-more, marked-more, outlined}
-use Rattle.code_outline.proofs.Marks.{marks-none}
+use Rattle.code_outline.proofs.Outers.{outer_around, come_before, few}
 use Rattle.code_outline.proofs.outline.Goals as goal
 
-pub loop-number-init : goal.loop-number-init
-unfolding made_from AreLaidOut
-loop-number-init c =
-    let n = length c.bodies-bodies.result.now in
-    let e : c.in_ok-makers.makers.items ≡ replicate n None = c.in_ok-makers.ensures.items_if_clones_equal
-    (λ y h. search rules) in
-    rw (e, c.new-layouts.ensures) (record {
-      layouts = tt;
-      count = length-replicate n None;
-      makers = marks-none (replicate n None);
-    })
+pub scopes_of-requires-clause-small : goal.scopes_of-requires-clause-small
+scopes_of-requires-clause-small c = rw c.as_slice.ensures
+    (few c.args.code.now c.in_ok-layouts.layouts c.in_ok-layouts.makers c.in_ok-layouts.ensures)
 
-pub loop-number-preserved : goal.loop-number-preserved
-loop-number-preserved c =
-    let v = c.args.code.now.version in
-    let bs = c.bodies-bodies.result.now in
-    let i = c.loop-number.number in
-    let b = c.index-bodies-number.result in
-    let l = c.in_ok-layout.layout in
-    let old = c.loop-number.makers.items in
-    let new = c.put_makers.new.makers in
-    let n : length new ≡ c.loop-number.makers.len = c.put_makers.auto.makers ∙ c.deref_mut.ensures.len in
-    let e : take c.loop-number.makers.len (new ++ drop (length new) old) ≡ new = take_at new (drop (length new) old)
-    c.loop-number.makers.len n in
-    let laid : LaysOut v b.code l = rw (← c.version.ensures.value, ← c.as_slice.ensures) c.in_ok-layout.ensures in
-    let marked : AreMarked (made_in i b (map seen l.instructions)) old new =
-    rw (← c.deref_mut.ensures.value, ← c.as_slice-in-loop-number.ensures) c.put_makers.ensures in
-    let count = c.loop-number.invariant.count in
-    rw (e, c.in_ok-push.ensures.ok) (record {
-      layouts = laid_out-more v bs c.loop-number.layouts i b l c.loop-number-test.true c.index-bodies-number.is
-          c.loop-number.invariant.layouts laid;
-      count = n ∙ c.loop-number.makers.ok.0 ∙ count;
-      makers = marked-more v bs i b l.instructions (replicate (length bs) None) old new c.loop-number-test.true
-          c.index-bodies-number.is laid.instructions (count ∙ sym (length-replicate (length bs) None))
-          c.loop-number.invariant.makers marked;
-    })
+pub scopes_of-requires-clause-before : goal.scopes_of-requires-clause-before
+scopes_of-requires-clause-before c = rw c.as_slice.ensures
+    (come_before c.args.code.now c.in_ok-layouts.layouts c.in_ok-layouts.makers c.in_ok-layouts.ensures)
 
 pub returns : goal.returns
 returns c =
-    let i = c.loop-number.invariant in
-    rw c.from_vec.ensures (outlined c.args.code.now c.bodies-bodies.result.now c.loop-number.number (record {
-      layouts = c.loop-number.layouts;
-      makers = c.loop-number.makers.items;
-    }) c.bodies-bodies.ensures.value
-    (c.loop-number-test.false, i.layouts, i.count, i.makers))
+    let parts = c.in_ok-layouts.ensures in
+    rw (c.in_ok-scopes.ensures, c.as_slice.ensures) (record {
+      layouts = parts.layouts;
+      count = parts.count;
+      makers = parts.makers;
+      scopes = λ j lt. outer_around c.args.code.now c.in_ok-layouts.makers j parts.count parts.makers lt;
+    })

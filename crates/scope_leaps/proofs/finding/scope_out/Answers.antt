@@ -1,5 +1,5 @@
-use Rattle.std.proofs.Common.{◌≡◌, ◌∙◌, sym, arith}
-use Rattle.scope_leaps.specs.Leaps.{levels_out, scope_in}
+use Rattle.std.proofs.Common.{◌∙◌, sym}
+use Rattle.scope_leaps.specs.Leaps.{scope_in}
 use Rattle.scope_leaps.proofs.Levels.{no_level, none_left, step_from}
 use Rattle.scope_leaps.proofs.finding.scope_out.Goals as goal
 

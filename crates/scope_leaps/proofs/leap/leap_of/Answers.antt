@@ -1,7 +1,5 @@
-use Rattle.std.proofs.Common.{◌≡◌, ◌<◌, ◌∙◌, sym, ℕ, length, get_or, arith}
-use Rattle.std.specs.Prelude.{Some}
+use Rattle.std.proofs.Common.{◌<◌, ◌∙◌, sym, length, get_or, arith}
 use Rattle.scope_leaps.specs.declared.leap.Leap.{Leap}
-use Rattle.scope_leaps.specs.Leaps.{outer_in, levels_out, LeadAll}
 use Rattle.scope_leaps.proofs.Levels.{none_left, one_level, over_two}
 use Rattle.scope_leaps.proofs.leap.leap_of.Goals as goal
 

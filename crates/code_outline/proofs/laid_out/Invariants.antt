@@ -2,7 +2,7 @@ use Rattle.std.proofs.Common.{◌≡◌, length, take, replicate, None}
 use Rattle.code_outline.specs.Makers.{made_from}
 use Rattle.code_outline.specs.Making.{AreMarked}
 use Rattle.code_outline.specs.Outlined.{AreLaidOut}
-use Rattle.code_outline.proofs.outline.Given as goal
+use Rattle.code_outline.proofs.laid_out.Given as goal
 
 abbrev pub invariant-loop-number : goal.invariant-loop-number
 invariant-loop-number l = record {
