@@ -1,19 +1,16 @@
--- Including a module keeps a store sound.
+-- The members of a module's chain are modules, and so is what a class includes with them.
 use Rattle.std.proofs.Common.{◌≡◌, ◌++◌, [], ◌∷◌, true, false, refl, ap, sym, ◌∙◌, subst}
 use Rattle.rb_value.specs.declared.value.ObjId.{ObjId}
 use Rattle.rb_value.specs.declared.kind.Sort.{Sort}
 use Rattle.rb_value.specs.declared.kind.Sort.TheVariants as sort
 use Rattle.def_core.specs.Store.{Store, sort_at}
 use Rattle.def_core.specs.Classes.{class_at, chain}
-use Rattle.def_core.specs.Changes.{new_members, with_included}
-use Rattle.def_core.specs.Sound.{census, Module, Superclass, ClassOrModule, plays, Is, AllAre, Sound, Extends}
+use Rattle.def_core.specs.Changes.{new_members}
+use Rattle.def_core.specs.Sound.{census, Module, Superclass, ClassOrModule, plays, Is, AllAre, Sound}
 use Rattle.def_core.proofs.Chains.{chain_is, chain_above}
-use Rattle.def_core.proofs.Sorts.{sorts-with_class}
-use Rattle.def_core.proofs.Grows.{same_objects}
-use Rattle.def_core.proofs.Keeps.{sound_with_class}
-use Rattle.def_core.proofs.Roles.{is_within, is_plays, module_is_class, sound_class}
+use Rattle.def_core.proofs.Roles.{is_plays, module_is_class, sound_class}
 use Rattle.class_model.specs.Including.{is_new}
-use Rattle.class_model.proofs.Lineages.{no_superclass}
+use Rattle.class_model.proofs.Lineages.{any_of, no_superclass}
 use Rattle.class_model.proofs.Members.{all_append, all_filter}
 
 module_sort : (s : Sort) → plays Module s ≡ true → plays Superclass s ≡ false
@@ -37,7 +34,7 @@ pub chain_of_module : (st : Store) → Sound st → (m : ObjId) → Is (census s
 chain_of_module st sound m is =
     chain_is st sound m (module_is_class st m is)
     ∙ ap (λ p. m ∷ (class_at st.objects m).included ++ chain_above st.objects p)
-    (no_superclass st sound m (is_within st Module m is)
+    (no_superclass st sound m (any_of st Module m is)
     (module_sort (sort_at st.objects m) (is_plays st Module m is)))
 
 all_modules : (st : Store) → Sound st → (m : ObjId) → Is (census st) Module m
@@ -50,23 +47,11 @@ all_modules st sound m is =
           tt,
     )
 
-pub sound_with_included : (st : Store) → Sound st → (c m : ObjId) → Is (census st) ClassOrModule c
-    → Is (census st) Module m → Sound (record st { objects = with_included st.objects c m })
-unfolding with_included
-sound_with_included st sound c m is mixin =
-    let old = sound_class st sound c is in
+-- the modules that a class includes with one more
+pub included_are : (st : Store) → Sound st → (c m : ObjId) → Is (census st) ClassOrModule c → Is (census st) Module m
+    → AllAre (Is (census st) Module) (new_members st.objects c m ++ (class_at st.objects c).included)
+included_are st sound c m is mixin =
     let P = Is (census st) Module in
-    sound_with_class st sound c _ is refl (record {
-      name = old.name;
-      superclass = old.superclass;
-      module_root = old.module_root;
-      included = all_append P (new_members st.objects c m) (class_at st.objects c).included
-          (all_filter P (is_new st.objects c) (chain st.objects m) (all_modules st sound m mixin)) old.included;
-      constants = old.constants;
-      methods = old.methods;
-    })
-
-pub extends_included : (st : Store) (c m : ObjId) → Is (census st) ClassOrModule c
-    → Extends (census st) (census (record st { objects = with_included st.objects c m }))
-unfolding with_included
-extends_included st c m is = same_objects st _ (sorts-with_class st.objects c _ (is_plays st ClassOrModule c is) refl)
+    all_append P (new_members st.objects c m) (class_at st.objects c).included
+    (all_filter P (is_new st.objects c) (chain st.objects m) (all_modules st sound m mixin))
+    (sound_class st sound c is).included

@@ -9,3 +9,5 @@ pub mod Included
 pub mod Constants
 pub mod Naming
 pub mod Found
+pub mod Kept
+pub mod Belongs

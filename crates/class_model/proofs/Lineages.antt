@@ -1,9 +1,9 @@
 -- An object and its superclasses: the classes whose singleton classes it may have.
-use Rattle.std.proofs.Common.{◌≡◌, ℕ, suc, zero, ◌<◌, List, [], ◌∷◌, length, Bool, true, false, refl, ap, sym, ◌∙◌, subst, true≢false}
+use Rattle.std.proofs.Common.{◌≡◌, ℕ, suc, zero, ◌<◌, List, [], ◌∷◌, Bool, true, false, refl, ap, sym, ◌∙◌, subst, true≢false}
 use Rattle.std.specs.Prelude.{Option, Some, None, unwrap_or}
 use Rattle.rb_value.specs.declared.value.Value.TheVariants.{Obj}
 use Rattle.rb_value.specs.declared.value.ObjId.{ObjId}
-use Rattle.rb_value.specs.declared.object.Object.{Object}
+use Rattle.rb_value.specs.Object.{Object}
 use Rattle.rb_value.specs.declared.kind.ClassContents.{ClassContents}
 use Rattle.rb_value.specs.declared.kind.ClassForm.{ClassForm}
 use Rattle.rb_value.specs.declared.kind.ClassForm.TheVariants as form
@@ -17,10 +17,29 @@ use Rattle.rb_value.specs.CoreClass.{is_module}
 use Rattle.rb_value.specs.Sort.{sort_of, sort_of_form}
 use Rattle.def_core.specs.Store.{Store, object_at, sort_at, core}
 use Rattle.def_core.specs.Classes.{contents_of, class_at, lineage_within, lineage, nearest_singleton, singletons_from, class_of}
-use Rattle.def_core.specs.Sound.{census, Census, Any, Class, SingletonClass, Superclass, ClassOrModule, plays, Is, OptionIs, IsSuperclass, SoundClass, SoundKind, Sound}
+use Rattle.def_core.specs.Sound.{census, Census, Role, Any, Class, SingletonClass, Superclass, ClassOrModule, plays, Is, OptionIs, IsSuperclass, SoundClass, SoundKind, Sound}
 use Rattle.def_core.proofs.Roles.{superclass_is_class, class_is_superclass, singleton_is_superclass, is_by_sort, is_within}
 use Rattle.def_core.proofs.Grows as grows
 use Rattle.def_core.proofs.Chains.{lineage_is, lineage_above}
+
+any : (s : Sort) → plays Any s ≡ true
+any sort.Plain = refl
+any sort.Class = refl
+any sort.Singleton = refl
+any sort.Module = refl
+any sort.String = refl
+any sort.Array = refl
+any sort.Hash = refl
+any sort.Range = refl
+any sort.Proc = refl
+any sort.Fiber = refl
+any sort.Exception = refl
+any sort.Enumerator = refl
+any sort.Yielder = refl
+
+-- what has a role is an object
+pub any_of : (st : Store) (r : Role) (id : ObjId) → Is (census st) r id → Is (census st) Any id
+any_of st r id is = is_by_sort st Any id (is_within st r id is) (any (sort_at st.objects id))
 
 -- only a class has a superclass
 root_of_module : (k : Census) (n : ℕ) (c : ClassContents) → SoundClass k n c
@@ -61,22 +80,22 @@ above_sound k n (kind.Exception m d) s = tt
 above_sound k n (kind.Enumerator e) s = tt
 above_sound k n (kind.Yielder b) s = tt
 
-pub above_is : (st : Store) → Sound st → (id : ObjId) → id.0 < length st.objects
+pub above_is : (st : Store) → Sound st → (id : ObjId) → Is (census st) Any id
     → OptionIs (IsSuperclass (census st) id.0) (class_at st.objects id).superclass
-above_is st sound id within = above_sound (census st) id.0 (object_at st.objects id).kind
-    (sound.objects id.0 within).kind
+above_is st sound id is = above_sound (census st) id.0 (object_at st.objects id).kind
+    (sound.objects id.0 (is_within st Any id is)).kind
 
-pub above_is_below : (st : Store) → Sound st → (id p : ObjId) → id.0 < length st.objects
-    → (class_at st.objects id).superclass ≡ Some p → (p.0 < length st.objects) × (p.0 < id.0)
-above_is_below st sound id p within h =
+pub above_is_below : (st : Store) → Sound st → (id p : ObjId) → Is (census st) Any id
+    → (class_at st.objects id).superclass ≡ Some p → Is (census st) Any p × (p.0 < id.0)
+above_is_below st sound id p is h =
     let above : IsSuperclass (census st) id.0 p =
-    subst (OptionIs (IsSuperclass (census st) id.0)) h (above_is st sound id within) in
-    (is_within st Superclass p above.0, above.1)
+    subst (OptionIs (IsSuperclass (census st) id.0)) h (above_is st sound id is) in
+    (any_of st Superclass p above.0, above.1)
 
-pub no_superclass : (st : Store) → Sound st → (id : ObjId) → id.0 < length st.objects
+pub no_superclass : (st : Store) → Sound st → (id : ObjId) → Is (census st) Any id
     → plays Superclass (sort_at st.objects id) ≡ false → (class_at st.objects id).superclass ≡ None
-no_superclass st sound id within h = root (census st) id.0 (object_at st.objects id).kind
-    (sound.objects id.0 within).kind h
+no_superclass st sound id is h = root (census st) id.0 (object_at st.objects id).kind
+    (sound.objects id.0 (is_within st Any id is)).kind h
 
 -- an object without a superclass is alone
 lineage_root : (objects : List Object) (id : ObjId) → (class_at objects id).superclass ≡ None
@@ -103,16 +122,16 @@ superclass_sort sort.Exception h = cc
 superclass_sort sort.Enumerator h = cc
 superclass_sort sort.Yielder h = cc
 
-pub lineage_of : (st : Store) → Sound st → (id : ObjId) → id.0 < length st.objects
+pub lineage_of : (st : Store) → Sound st → (id : ObjId) → Is (census st) Any id
     → lineage st.objects id ≡ id ∷ lineage_above st.objects (class_at st.objects id).superclass
-lineage_of st sound id within = by (plays Superclass (sort_at st.objects id)) refl
+lineage_of st sound id is = by (plays Superclass (sort_at st.objects id)) refl
   where
     by : (b : Bool) → plays Superclass (sort_at st.objects id) ≡ b
         → lineage st.objects id ≡ id ∷ lineage_above st.objects (class_at st.objects id).superclass
-    by true h = lineage_is st sound id (is_by_sort st ClassOrModule id within
+    by true h = lineage_is st sound id (is_by_sort st ClassOrModule id (is_within st Any id is)
         (superclass_sort (sort_at st.objects id) h))
     by false h =
-        let top = no_superclass st sound id within h in
+        let top = no_superclass st sound id is h in
         lineage_root st.objects id top ∙ ap (λ p. id ∷ lineage_above st.objects p) (sym top)
 
 from_lineage : (objects : List Object) (id : ObjId) (s : Sort) → plays Superclass s ≡ true
@@ -147,50 +166,50 @@ from_itself objects id sort.Exception h = refl
 from_itself objects id sort.Enumerator h = refl
 from_itself objects id sort.Yielder h = refl
 
-pub singletons_from_lineage : (st : Store) → Sound st → (id : ObjId) → id.0 < length st.objects
+pub singletons_from_lineage : (st : Store) → Sound st → (id : ObjId) → Is (census st) Any id
     → singletons_from st.objects id (sort_at st.objects id) ≡ lineage st.objects id
-singletons_from_lineage st sound id within = by (plays Superclass (sort_at st.objects id)) refl
+singletons_from_lineage st sound id is = by (plays Superclass (sort_at st.objects id)) refl
   where
     by : (b : Bool) → plays Superclass (sort_at st.objects id) ≡ b
         → singletons_from st.objects id (sort_at st.objects id) ≡ lineage st.objects id
     by true h = from_lineage st.objects id _ h
-    by false h = from_itself st.objects id _ h ∙ sym (lineage_root st.objects id (no_superclass st sound id within h))
+    by false h = from_itself st.objects id _ h ∙ sym (lineage_root st.objects id (no_superclass st sound id is h))
 
-pub singleton_here : (st : Store) → Sound st → (id other s : ObjId) → id.0 < length st.objects
+pub singleton_here : (st : Store) → Sound st → (id other s : ObjId) → Is (census st) Any id
     → (object_at st.objects id).singleton ≡ Some s
     → nearest_singleton st.objects (lineage st.objects id) other ≡ s
 unfolding nearest_singleton
-singleton_here st sound id other s within h = rw (lineage_of st sound id within, h) refl
+singleton_here st sound id other s is h = rw (lineage_of st sound id is, h) refl
 
-pub singleton_above : (st : Store) → Sound st → (id other p : ObjId) → id.0 < length st.objects
+pub singleton_above : (st : Store) → Sound st → (id other p : ObjId) → Is (census st) Any id
     → (object_at st.objects id).singleton ≡ None → (class_at st.objects id).superclass ≡ Some p
     → nearest_singleton st.objects (lineage st.objects id) other ≡ nearest_singleton st.objects (lineage st.objects p)
     other
 unfolding nearest_singleton
-singleton_above st sound id other p within h g = rw (lineage_of st sound id within, h, g) refl
+singleton_above st sound id other p is h g = rw (lineage_of st sound id is, h, g) refl
 
-pub singleton_nowhere : (st : Store) → Sound st → (id other : ObjId) → id.0 < length st.objects
+pub singleton_nowhere : (st : Store) → Sound st → (id other : ObjId) → Is (census st) Any id
     → (object_at st.objects id).singleton ≡ None → (class_at st.objects id).superclass ≡ None
     → nearest_singleton st.objects (lineage st.objects id) other ≡ other
 unfolding nearest_singleton
-singleton_nowhere st sound id other within h g = rw (lineage_of st sound id within, h, g) refl
+singleton_nowhere st sound id other is h g = rw (lineage_of st sound id is, h, g) refl
 
-pub singleton_is : (st : Store) → Sound st → (id s : ObjId) → id.0 < length st.objects
+pub singleton_is : (st : Store) → Sound st → (id s : ObjId) → Is (census st) Any id
     → (object_at st.objects id).singleton ≡ Some s → Is (census st) Superclass s
-singleton_is st sound id s within h = singleton_is_superclass st s
-    (subst (OptionIs (Is (census st) SingletonClass)) h (sound.objects id.0 within).singleton)
+singleton_is st sound id s is h = singleton_is_superclass st s
+    (subst (OptionIs (Is (census st) SingletonClass)) h (sound.objects id.0 (is_within st Any id is)).singleton)
 
-pub singleton_is_class : (st : Store) → Sound st → (id s : ObjId) → id.0 < length st.objects
+pub singleton_is_class : (st : Store) → Sound st → (id s : ObjId) → Is (census st) Any id
     → (object_at st.objects id).singleton ≡ Some s → Is (census st) ClassOrModule s
-singleton_is_class st sound id s within h = superclass_is_class st s (singleton_is st sound id s within h)
+singleton_is_class st sound id s is h = superclass_is_class st s (singleton_is st sound id s is h)
 
-pub class_is : (st : Store) → Sound st → (id : ObjId) → id.0 < length st.objects
+pub class_is : (st : Store) → Sound st → (id : ObjId) → Is (census st) Any id
     → Is (census st) Superclass (object_at st.objects id).class
-class_is st sound id within = class_is_superclass st _ (sound.objects id.0 within).class
+class_is st sound id is = class_is_superclass st _ (sound.objects id.0 (is_within st Any id is)).class
 
-pub class_is_class : (st : Store) → Sound st → (id : ObjId) → id.0 < length st.objects
+pub class_is_class : (st : Store) → Sound st → (id : ObjId) → Is (census st) Any id
     → Is (census st) ClassOrModule (object_at st.objects id).class
-class_is_class st sound id within = superclass_is_class st _ (class_is st sound id within)
+class_is_class st sound id is = superclass_is_class st _ (class_is st sound id is)
 
 pub core_is : (st : Store) → Sound st → (c : CoreClass) → is_module c ≡ false → Is (census st) Superclass (core c)
 core_is st sound c plain = class_is_superclass st _ (grows.core_is_class st sound c plain)
@@ -199,43 +218,24 @@ pub core_is_class : (st : Store) → Sound st → (c : CoreClass) → is_module 
     → Is (census st) ClassOrModule (core c)
 core_is_class st sound c plain = superclass_is_class st _ (core_is st sound c plain)
 
-pub class_of_object : (st : Store) → Sound st → (id : ObjId) → id.0 < length st.objects
+pub class_of_object : (st : Store) → Sound st → (id : ObjId) → Is (census st) Any id
     → nearest_singleton st.objects (lineage st.objects id) (object_at st.objects id).class ≡ class_of st.objects
     (Obj id)
 unfolding class_of
-class_of_object st sound id within = ap (λ (cs : List ObjId). nearest_singleton st.objects cs
-    (object_at st.objects id).class) (sym (singletons_from_lineage st sound id within))
+class_of_object st sound id is = ap (λ (cs : List ObjId). nearest_singleton st.objects cs
+    (object_at st.objects id).class) (sym (singletons_from_lineage st sound id is))
 
 pub class_is_core : (st : Store) → Sound st → Is (census st) Superclass (core class.Class)
 class_is_core st sound = core_is st sound class.Class refl
 
 -- a superclass, if any, is there
-pub above_there : (st : Store) → Sound st → (id : ObjId) → id.0 < length st.objects
-    → OptionIs (λ p. p.0 < length st.objects) (class_at st.objects id).superclass
-above_there st sound id within = by _ (above_is st sound id within)
+pub above_there : (st : Store) → Sound st → (id : ObjId) → Is (census st) Any id
+    → OptionIs (Is (census st) Any) (class_at st.objects id).superclass
+above_there st sound id is = by _ (above_is st sound id is)
   where
-    by : (o : Option ObjId) → OptionIs (IsSuperclass (census st) id.0) o → OptionIs (λ p. p.0 < length st.objects) o
+    by : (o : Option ObjId) → OptionIs (IsSuperclass (census st) id.0) o → OptionIs (Is (census st) Any) o
     by None h = tt
-    by (Some p) h = is_within st Superclass p h.0
-
-any : (s : Sort) → plays Any s ≡ true
-any sort.Plain = refl
-any sort.Class = refl
-any sort.Singleton = refl
-any sort.Module = refl
-any sort.String = refl
-any sort.Array = refl
-any sort.Hash = refl
-any sort.Range = refl
-any sort.Proc = refl
-any sort.Fiber = refl
-any sort.Exception = refl
-any sort.Enumerator = refl
-any sort.Yielder = refl
-
--- an object that is there has a number of the store
-pub there : (st : Store) (id : ObjId) → id.0 < length st.objects → Is (census st) Any id
-there st id within = is_by_sort st Any id within (any (sort_at st.objects id))
+    by (Some p) h = any_of st Superclass p h.0
 
 -- a parent, or else Object
 pub parent_or_object : (st : Store) → Sound st → (p : Option ObjId) → OptionIs (Is (census st) Class) p

@@ -4,7 +4,7 @@ use Rattle.std.specs.Prelude.{Option, Some, None, is_some, unwrap_or}
 use Rattle.std.proofs.Math.Seq.{drop-length}
 use Rattle.std.proofs.lemmas.List.Elements.{filter-append}
 use Rattle.rb_value.specs.declared.value.ObjId.{ObjId}
-use Rattle.rb_value.specs.declared.object.Object.{Object}
+use Rattle.rb_value.specs.Object.{Object}
 use Rattle.def_core.specs.Store.{Store, object_at, sort_at}
 use Rattle.def_core.specs.Classes.{class_at, lineage}
 use Rattle.def_core.specs.Changes.{above, make_all, missing}
@@ -38,24 +38,24 @@ make_before objects ids (suc n) d h g = let e : suc n - 1 ≡ n = omega arith in
     rw e (make_more objects ids n d (omega (arith, g)))
 
 -- the missing ones of a class and its superclasses
-pub missing_above : (st : Store) → Sound st → (id p : ObjId) → id.0 < length st.objects
+pub missing_above : (st : Store) → Sound st → (id p : ObjId) → Is (census st) Any id
     → (class_at st.objects id).superclass ≡ Some p
     → filter (is_missing st.objects) (lineage st.objects id) ≡ filter (is_missing st.objects) (id ∷ [])
     ++ filter (is_missing st.objects) (lineage st.objects p)
-missing_above st sound id p within h =
-    ap (filter (is_missing st.objects)) (lineage_of st sound id within ∙ ap (λ q. id ∷ lineage_above st.objects q) h)
+missing_above st sound id p is h =
+    ap (filter (is_missing st.objects)) (lineage_of st sound id is ∙ ap (λ q. id ∷ lineage_above st.objects q) h)
     ∙ filter-append (is_missing st.objects) (id ∷ []) (lineage st.objects p)
 
-pub missing_last : (st : Store) → Sound st → (id : ObjId) → id.0 < length st.objects
+pub missing_last : (st : Store) → Sound st → (id : ObjId) → Is (census st) Any id
     → (class_at st.objects id).superclass ≡ None
     → filter (is_missing st.objects) (lineage st.objects id) ≡ filter (is_missing st.objects) (id ∷ [])
-missing_last st sound id within h = ap (filter (is_missing st.objects))
-    (lineage_of st sound id within ∙ ap (λ q. id ∷ lineage_above st.objects q) h)
+missing_last st sound id is h = ap (filter (is_missing st.objects))
+    (lineage_of st sound id is ∙ ap (λ q. id ∷ lineage_above st.objects q) h)
 
-pub missing_is : (st : Store) → Sound st → (id : ObjId) → id.0 < length st.objects
+pub missing_is : (st : Store) → Sound st → (id : ObjId) → Is (census st) Any id
     → filter (is_missing st.objects) (lineage st.objects id) ≡ missing st.objects id
 unfolding missing
-missing_is st sound id within = ap (filter (is_missing st.objects)) (sym (singletons_from_lineage st sound id within))
+missing_is st sound id is = ap (filter (is_missing st.objects)) (sym (singletons_from_lineage st sound id is))
 
 more_made : (objects : List Object) (ids : List ObjId) → length objects ≤ length (make_all objects ids)
 unfolding make_all
@@ -83,13 +83,13 @@ given_made objects ids id there = given_attached (make_all objects ids) id
     (above (make_all objects ids) id (sort_at (make_all objects ids) id)) (omega (arith, there, more_made objects ids))
 
 -- the object has a singleton class then
-pub has_singleton : (st : Store) → Sound st → (id : ObjId) → id.0 < length st.objects
+pub has_singleton : (st : Store) → Sound st → (id : ObjId) → Is (census st) Any id
     → AllAre (λ x. x.0 < length st.objects) (missing st.objects id)
     → is_some (object_at (make_all st.objects (missing st.objects id)) id).singleton ≡ true
-has_singleton st sound id within all =
+has_singleton st sound id is all =
     let rest = filter (is_missing st.objects) (lineage_above st.objects (class_at st.objects id).superclass) in
     let e : missing st.objects id ≡ cond (is_missing st.objects id) (id ∷ rest) rest =
-    sym (missing_is st sound id within) ∙ ap (filter (is_missing st.objects)) (lineage_of st sound id within) in
+    sym (missing_is st sound id is) ∙ ap (filter (is_missing st.objects)) (lineage_of st sound id is) in
     subst (λ (xs : List ObjId). is_some (object_at (make_all st.objects xs) id).singleton ≡ true) (sym e)
     (by (is_some (object_at st.objects id).singleton) refl rest (subst (AllAre (λ x. x.0 < length st.objects)) e all))
   where
@@ -100,38 +100,35 @@ has_singleton st sound id within all =
         (cond (not (is_some (object_at st.objects id).singleton)) (id ∷ rest) rest)) id).singleton ≡ true
     by true h rest = subst (λ (b : Bool). AllAre (λ x. x.0 < length st.objects) (cond (not b) (id ∷ rest) rest)
         → is_some (object_at (make_all st.objects (cond (not b) (id ∷ rest) rest)) id).singleton ≡ true) (sym h)
-        (λ some. kept_made st.objects rest id some within h)
+        (λ some. kept_made st.objects rest id some (is_within st Any id is) h)
     by false h rest = subst (λ (b : Bool). AllAre (λ x. x.0 < length st.objects) (cond (not b) (id ∷ rest) rest)
         → is_some (object_at (make_all st.objects (cond (not b) (id ∷ rest) rest)) id).singleton ≡ true) (sym h)
-        (λ some. given_made st.objects rest id within)
+        (λ some. given_made st.objects rest id (is_within st Any id is))
 
 all_within : (st : Store) (ids : List ObjId) → AllAre (Is (census st) Any) ids
     → AllAre (λ x. x.0 < length st.objects) ids
 all_within st [] all = tt
 all_within st (id ∷ ids) all = (is_within st Any id all.0, all_within st ids all.1)
 
-pub given_is_class : (st : Store) → Sound st → (id : ObjId) → id.0 < length st.objects
+pub given_is_class : (st : Store) → Sound st → (id : ObjId) → Is (census st) Any id
     → is_some (object_at st.objects id).singleton ≡ true
     → Is (census st) ClassOrModule (unwrap_or (object_at st.objects id).singleton id)
-given_is_class st sound id within h = by (object_at st.objects id).singleton refl h
+given_is_class st sound id is h = by (object_at st.objects id).singleton refl h
   where
     by : (o : Option ObjId) → (object_at st.objects id).singleton ≡ o → is_some o ≡ true
         → Is (census st) ClassOrModule (unwrap_or o id)
     by None e s = absurd (true≢false (sym s))
-    by (Some x) e s = singleton_is_class st sound id x within e
+    by (Some x) e s = singleton_is_class st sound id x is e
 
 -- what is given as the singleton class is a class
 pub made_is_class : (st after : Store) → Sound st → Sound after → (id : ObjId) (ids : List ObjId)
-    → Is (census st) Any id → ids ≡ missing st.objects id → AllAre (Is (census st) Any) ids
+    → Is (census st) Any id → Is (census after) Any id → ids ≡ missing st.objects id → AllAre (Is (census st) Any) ids
     → after ≡ record st { objects = make_all st.objects ids }
     → Is (census after) ClassOrModule (unwrap_or (object_at after.objects id).singleton id)
-made_is_class st after sound later id ids is e all s =
-    let within = is_within st Any id is in
-    let some = has_singleton st sound id within
+made_is_class st after sound later id ids is still e all s =
+    let some = has_singleton st sound id is
     (subst (AllAre (λ x. x.0 < length st.objects)) e (all_within st ids all)) in
     let made : after.objects ≡ make_all st.objects (missing st.objects id) = ap (λ (x : Store). x.objects) s
     ∙ ap (make_all st.objects) e in
-    given_is_class after later id
-    (subst (λ (xs : List Object). id.0 < length xs) (sym made)
-    (omega (arith, within, more_made st.objects (missing st.objects id))))
+    given_is_class after later id still
     (subst (λ (xs : List Object). is_some (object_at xs id).singleton ≡ true) (sym made) some)

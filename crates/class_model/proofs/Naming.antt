@@ -1,27 +1,25 @@
 -- A new class or module with a name.
-use Rattle.std.proofs.Common.{◌≡◌, ℕ, ◌++◌, List, [], ◌∷◌, true, false, refl, ap, sym, ◌∙◌}
+use Rattle.std.proofs.Common.{◌≡◌, ℕ, ◌++◌, List, [], ◌∷◌, true, false, length, refl, ap, sym, ◌∙◌, subst}
 use Rattle.std.specs.Prelude.{Option, Some, None}
 use Rattle.std.specs.List.{position}
 use Rattle.std.specs.Str.{bytes_eq}
 use Rattle.std.proofs.lemmas.List.{append_assoc, append-nil}
-use Rattle.rb_value.specs.declared.value.Value.{Value}
 use Rattle.rb_value.specs.declared.value.Value.TheVariants.{Obj}
 use Rattle.rb_value.specs.declared.value.ObjId.{ObjId}
 use Rattle.rb_value.specs.declared.value.SymId.{SymId}
-use Rattle.rb_value.specs.declared.object.Object.{Object}
+use Rattle.rb_value.specs.Object.{Object}
 use Rattle.rb_value.specs.declared.kind.ClassForm.{ClassForm}
 use Rattle.rb_value.specs.declared.kind.ClassForm.TheVariants as form
 use Rattle.rb_value.specs.declared.core_class.CoreClass.{CoreClass}
 use Rattle.rb_value.specs.CoreClass.{is_module}
 use Rattle.rb_value.specs.Sort.{sort_of_form}
 use Rattle.def_core.specs.Store.{Store, with_object, next_number}
-use Rattle.def_core.specs.Changes.{intern, intern_at, with_constant}
-use Rattle.def_core.specs.Sound.{Census, census, Role, Superclass, ClassOrModule, plays, Is, IsSymbol, IsValue, OptionIs, IsSuperclass, Sound, Extends}
-use Rattle.def_core.proofs.Sorts.{sorts-with_class}
-use Rattle.def_core.proofs.Roles.{is_within, is_plays}
-use Rattle.def_core.proofs.Grows.{sound_with_object, new_role, core_is_class, same_objects}
+use Rattle.def_core.specs.Changes.{intern, intern_at}
+use Rattle.def_core.specs.Sound.{census, Superclass, ClassOrModule, plays, Is, IsSymbol, IsValue, OptionIs, IsSuperclass, SoundObject, Sound}
+use Rattle.def_core.proofs.Roles.{is_within}
+use Rattle.def_core.proofs.Grows.{new_role, core_is_class}
 use Rattle.class_model.specs.Growth.{IsGrown, named_class}
-use Rattle.class_model.proofs.Lineages.{there}
+use Rattle.class_model.proofs.Lineages.{any_of}
 
 pub grown_itself : (st : Store) → IsGrown st st
 grown_itself st = record {
@@ -60,12 +58,12 @@ smaller : (st : Store) (p : Option ObjId) → OptionIs (Is (census st) Superclas
 smaller st None h = tt
 smaller st (Some p) h = (h, is_within st Superclass p h)
 
-pub sound_named : (st : Store) → Sound st → (class : CoreClass) (f : ClassForm) (p : Option ObjId) (name : SymId)
-    → is_module class ≡ false
+pub named_is_sound : (st : Store) → Sound st → (class : CoreClass) (f : ClassForm) (p : Option ObjId) (name : SymId)
+    (o : Object) → o ≡ named_class class f p name → is_module class ≡ false
     → OptionIs (Is (census st) Superclass) p → (f ≡ form.Module → p ≡ None) → IsSymbol (census st) name
-    → Sound (with_object st (named_class class f p name))
-sound_named st sound class f p name plain is root symbol =
-    sound_with_object st sound (named_class class f p name) (record {
+    → SoundObject (census st) (length st.objects) o
+named_is_sound st sound class f p name o e plain is root symbol =
+    subst (SoundObject (census st) (length st.objects)) (sym e) (record {
       class = core_is_class st sound class plain;
       singleton = tt;
       variables = tt;
@@ -89,13 +87,4 @@ pub named_is_class : (st : Store) (class : CoreClass) (f : ClassForm) (p : Optio
 named_is_class st class f p name = new_role st (named_class class f p name) ClassOrModule (class_form f)
 
 pub class_is_value : (st : Store) (c : ObjId) → Is (census st) ClassOrModule c → IsValue (census st) (Obj c)
-class_is_value st c is = there st c (is_within st ClassOrModule c is)
-
-pub extends_constant : (st : Store) (c : ObjId) (name : SymId) (v : Value) → Is (census st) ClassOrModule c
-    → Extends (census st) (census (record st { objects = with_constant st.objects c name v }))
-extends_constant st c name v is = same_objects st (with_constant st.objects c name v)
-    (sorts-with_class st.objects c _ (is_plays st ClassOrModule c is) refl)
-
--- what is there is still there
-pub still : (k l : Census) (r : Role) (id : ObjId) → Extends k l → Is k r id → Is l r id
-still k l r id e is = e.roles r id is
+class_is_value st c is = any_of st ClassOrModule c is

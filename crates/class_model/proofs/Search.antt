@@ -3,7 +3,7 @@ use Rattle.std.proofs.Common.{◌≡◌, ◌<◌, List, [], ◌∷◌, length, r
 use Rattle.std.specs.Prelude.{None}
 use Rattle.rb_value.specs.declared.value.ObjId.{ObjId}
 use Rattle.rb_value.specs.declared.value.SymId.{SymId}
-use Rattle.rb_value.specs.declared.object.Object.{Object}
+use Rattle.rb_value.specs.Object.{Object}
 use Rattle.def_core.specs.Find.{entry_of, found_or, first_of}
 use Rattle.def_core.specs.Sound.{census, ClassOrModule, Is}
 use Rattle.rb_store.specs.Held.{Held}

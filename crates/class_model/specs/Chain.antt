@@ -1,7 +1,7 @@
 -- What a walk along a chain has left.
 use Rattle.std.specs.Prelude.{◌≡◌, List, [], ◌∷◌, ◌++◌, drop, Option, Some, None}
 use Rattle.rb_value.specs.declared.value.ObjId.{ObjId}
-use Rattle.rb_value.specs.declared.object.Object.{Object}
+use Rattle.rb_value.specs.Object.{Object}
 use Rattle.def_core.specs.Classes.{chain}
 use Rattle.def_core.specs.Sound.{Sound, census, Is, ClassOrModule, OptionIs, AllAre}
 use Rattle.class_model.specs.declared.chain.Chain.{Chain}

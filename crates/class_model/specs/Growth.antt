@@ -5,7 +5,7 @@ use Rattle.rb_value.specs.declared.value.SymId.{SymId}
 use Rattle.rb_value.specs.declared.core_class.CoreClass.{CoreClass}
 use Rattle.rb_value.specs.declared.kind.ClassForm.{ClassForm}
 use Rattle.rb_value.specs.declared.kind.Kind.TheVariants as kind
-use Rattle.rb_value.specs.declared.object.Object.{Object}
+use Rattle.rb_value.specs.Object.{Object}
 use Rattle.def_core.specs.Store.{Store, core, fresh}
 use Rattle.def_core.specs.Classes.{empty_class}
 

@@ -22,8 +22,8 @@ fn is_singleton(st: &Store, class: ObjId) -> bool
     requires { Is (census st.now.store) ClassOrModule class }
     ensures { result ≡ classes.is_singleton (classes.class_at st.now.store.objects class).form }
 {
-    match &st.get(class).kind {
-        Kind::Class(contents) => contents.form == ClassForm::Singleton,
+    match st.get(class).kind() {
+        Kind::Class(contents) => contents.get().form == ClassForm::Singleton,
         _ => false,
     }
 }

@@ -1,7 +1,7 @@
 //! The walk along the chain of a class.
-ghost use Rattle.std.specs.Prelude.{◌≡◌, ◌<◌, ◌∷◌, [], length, drop, filter, not};
+ghost use Rattle.std.specs.Prelude.{◌≡◌, ◌∷◌, [], drop, filter, not};
 ghost use Rattle.def_core.specs.Classes as classes;
-ghost use Rattle.def_core.specs.Sound.{Sound, census, Is, ClassOrModule, AllAre};
+ghost use Rattle.def_core.specs.Sound.{Sound, census, Is, Any, ClassOrModule, AllAre};
 ghost use Rattle.class_model.specs.AncestorsLeft.{ancestors_left, IsAncestry};
 ghost use Rattle.class_model.specs.Chain.{left, IsWalk, IsMember, Steps};
 
@@ -24,25 +24,26 @@ pub fn included_in(st: &Store, class: ObjId) -> &[ObjId]
     requires { Is (census st.now.store) ClassOrModule class }
     ensures { result.now ≡ (classes.class_at st.now.store.objects class).included }
 {
-    match &st.get(class).kind {
-        Kind::Class(contents) => contents.included.as_slice(),
+    match st.get(class).kind() {
+        Kind::Class(contents) => contents.get().included.as_slice(),
         _ => &[],
     }
 }
 
 /// The superclass of a class; none of any other object. It takes no memory.
+#[tactic(auto, using(def_core::proofs::Roles::is_within))]
 pub(crate) fn above(st: &Store, id: ObjId) -> Option<ObjId>
-    requires { id.0 < length st.now.store.objects }
+    requires { Is (census st.now.store) Any id }
     ensures { result ≡ (classes.class_at st.now.store.objects id).superclass }
 {
-    match &st.get(id).kind {
-        Kind::Class(contents) => contents.superclass,
+    match st.get(id).kind() {
+        Kind::Class(contents) => contents.get().superclass,
         _ => None,
     }
 }
 
 /// The superclass of a class. It takes no memory.
-#[tactic(auto, using(def_core::proofs::Roles::is_within))]
+#[tactic(auto, using(crate::proofs::Lineages::any_of))]
 pub fn superclass_of(st: &Store, class: ObjId) -> Option<ObjId>
     requires { Is (census st.now.store) ClassOrModule class }
     ensures { result ≡ (classes.class_at st.now.store.objects class).superclass }

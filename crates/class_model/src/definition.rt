@@ -6,8 +6,8 @@ ghost use Rattle.def_core.specs.Store.{name_at, next_number, with_object};
 ghost use Rattle.def_core.specs.Classes as classes;
 ghost use Rattle.def_core.specs.Changes as defined;
 ghost use Rattle.def_core.specs.Texts as texts;
-ghost use Rattle.def_core.specs.Sound.{Sound, census, Is, Class, Superclass, ClassOrModule, IsSymbol, IsValue, OptionIs, Extends};
-ghost use Rattle.rb_store.specs.Counted.{IsCounted};
+ghost use Rattle.def_core.specs.Sound.{Sound, census, Is, Class, Superclass, ClassOrModule, IsSymbol, IsValue, OptionIs, IsOutcome};
+ghost use Rattle.rb_store.specs.Keeps.{Keeps};
 ghost use Rattle.class_model.specs.Given.{GivesClass};
 ghost use Rattle.class_model.specs.Growth as growth;
 ghost use Rattle.class_model.specs.Growth.{IsGrown};
@@ -15,23 +15,19 @@ ghost use Rattle.class_model.specs.Growth.{IsGrown};
 use crate::chain::superclass_of;
 use crate::failing::fail;
 use crate::inclusion::module_in;
-use crate::singletons::{empty_class, fresh};
+use crate::singletons::{class_object, empty_class};
 use def_core::Cause;
+use pair_table::PairTable;
 use rb_raise::class_name;
 use rb_store::Store;
-use rb_value::{ClassForm, Constant, CoreClass, Kind, ObjId, Object, Outcome, Sort, SymId, Value};
+use rb_value::{ClassForm, CoreClass, Kind, ObjId, Object, Outcome, Sort, SymId, Value};
 use std::alloc::AllocError;
 
-/// The value of the first constant of that name.
-fn constant_in(constants: &[Constant], name: SymId) -> Option<Value>
+/// The value of the constant of that name.
+fn constant_in(constants: &PairTable<u64, Value>, name: SymId) -> Option<Value>
     ensures { result ≡ defined.constant_in constants.now name }
 {
-    'constants: for constant in constants {
-        if constant.name.0 == name.0 {
-            return Some(constant.value);
-        }
-    }
-    None
+    constants.get(&name.0).copied()
 }
 
 /// The value of the constant of that name in the own list of a class or module. It takes no memory.
@@ -42,8 +38,8 @@ pub fn own_constant(st: &Store, class: ObjId, name: SymId) -> Option<Value>
     ensures value { result ≡ defined.constant_in (classes.class_at st.now.store.objects class).constants name }
     ensures there { OptionIs (IsValue (census st.now.store)) result }
 {
-    match &st.get(class).kind {
-        Kind::Class(contents) => constant_in(contents.constants.as_slice(), name),
+    match st.get(class).kind() {
+        Kind::Class(contents) => constant_in(&contents.get().constants, name),
         _ => None,
     }
 }
@@ -64,7 +60,7 @@ fn qualified_name(st: &Store, scope: ObjId, name: SymId) -> Result<Vec<u8>, Allo
 
 /// The name of a class or module that is defined in the scope: that of its constant, with the name of the scope
 /// before it where the scope isn't Object. Where memory runs out all is as before.
-#[tactic(auto, using(crate::proofs::Naming::grown_itself, crate::proofs::Naming::grown_interned, def_core::proofs::Grows::extends_itself, def_core::proofs::Grows::interned, def_core::proofs::Grows::sound_with_interned, rb_store::proofs::Counted::unchanged))]
+#[tactic(auto, using(crate::proofs::Naming::grown_itself, crate::proofs::Naming::grown_interned, rb_store::proofs::Keeping::keeps_itself))]
 fn full_name(st: &mut Store, scope: ObjId, name: SymId) -> Result<SymId, AllocError>
     requires sound { Sound st.old.store }
     requires scope { Is (census st.old.store) ClassOrModule scope }
@@ -73,9 +69,7 @@ fn full_name(st: &mut Store, scope: ObjId, name: SymId) -> Result<SymId, AllocEr
     ensures ok { OnOk result (st.new.store ≡ (defined.full_name st.old.store scope name).store) }
     ensures there { IfOk result (IsSymbol (census st.new.store)) }
     ensures grown { IsGrown st.old.store st.new.store }
-    ensures sound { Sound st.new.store }
-    ensures extends { Extends (census st.old.store) (census st.new.store) }
-    ensures counted { IsCounted st.old st.new }
+    ensures keeps { Keeps st.old st.new }
 {
     if scope.0 == st.class_object(CoreClass::Object).0 {
         return Ok(name);
@@ -85,23 +79,23 @@ fn full_name(st: &mut Store, scope: ObjId, name: SymId) -> Result<SymId, AllocEr
     Ok(symbol)
 }
 
-/// A new class or module with a name. It takes no memory.
+/// A new class or module with a name, which isn't in the store yet.
 fn named_class(
     st: &Store,
     class: CoreClass,
     form: ClassForm,
     superclass: Option<ObjId>,
     name: SymId,
-) -> Object
-    ensures { result ≡ growth.named_class class form superclass name }
+) -> Result<Object, AllocError>
+    ensures { IfOk result (λ o. o ≡ growth.named_class class form superclass name) }
 {
     let mut contents = empty_class(st.alloc(), form, superclass);
     contents.name = Some(name);
-    fresh(st.alloc(), st.class_object(class), Kind::Class(contents))
+    class_object(st.alloc(), st.class_object(class), contents)
 }
 
 /// Puts a new class or module with a name after the other objects. Where memory runs out all is as before.
-#[tactic(auto, using(crate::proofs::Naming::sound_named, crate::proofs::Naming::named_is_class, def_core::proofs::Grows::one_more, def_core::proofs::Grows::extends_itself))]
+#[tactic(auto, using(crate::proofs::Naming::named_is_class, rb_store::proofs::Keeping::keeps_itself))]
 fn add_class(
     st: &mut Store,
     class: CoreClass,
@@ -118,17 +112,15 @@ fn add_class(
     ensures ok { OnOk result (st.new.store ≡ with_object st.old.store (growth.named_class class form superclass name)) }
     ensures class { IfOk result (Is (census st.new.store) ClassOrModule) }
     ensures err { OnErr result (st.new.store ≡ st.old.store) }
-    ensures sound { Sound st.new.store }
-    ensures extends { Extends (census st.old.store) (census st.new.store) }
-    ensures counted { IsCounted st.old st.new }
+    ensures keeps { Keeps st.old st.new }
 {
-    let object = named_class(st, class, form, superclass, name);
+    let object = named_class(st, class, form, superclass, name)?;
     let id = st.add(object)?;
     Ok(id)
 }
 
 /// Defines a class or module as a new constant of the scope. Where memory runs out all that was there is as before.
-#[tactic(auto, using(def_core::proofs::Roles::is_within, def_core::proofs::Roles::is_plays, def_core::proofs::Keeps::sound_with_constant, crate::proofs::Naming::grown_more, crate::proofs::Naming::extends_constant, crate::proofs::Naming::class_is_value, crate::proofs::Naming::still, def_core::proofs::Grows::extends_both, rb_store::proofs::Counted::counted_then))]
+#[tactic(auto, using(def_core::proofs::Roles::is_within, def_core::proofs::Roles::is_plays, crate::proofs::Naming::grown_more, crate::proofs::Naming::class_is_value, crate::proofs::Kept::kept_sound, crate::proofs::Kept::kept_role, crate::proofs::Kept::kept_symbol, rb_store::proofs::Keeping::keeps_itself, rb_store::proofs::Keeping::keeps_then))]
 fn make_named(
     st: &mut Store,
     scope: ObjId,
@@ -149,17 +141,11 @@ fn make_named(
         (defined.make_named (defined.full_name st.old.store scope name) scope name class form superclass).store) }
     ensures class { IfOk result (GivesClass (census st.new.store)) }
     ensures err { OnErr result (IsGrown st.old.store st.new.store) }
-    ensures sound { Sound st.new.store }
-    ensures extends { Extends (census st.old.store) (census st.new.store) }
-    ensures counted { IsCounted st.old st.new }
+    ensures keeps { Keeps st.old st.new }
 {
     let symbol = full_name(st, scope, name)?;
     let id = add_class(st, class, form, superclass, symbol)?;
-    let constant = Constant {
-        name,
-        value: Value::Obj(id),
-    };
-    st.put_constant(scope, constant)?;
+    st.put_constant(scope, name, Value::Obj(id))?;
     Ok(Outcome::Value(Value::Obj(id)))
 }
 
@@ -172,7 +158,7 @@ fn class_in(st: &Store, v: Value) -> Option<ObjId>
 {
     match v {
         Value::Obj(id) => {
-            if st.get(id).kind.sort() == Sort::Class {
+            if st.get(id).kind().sort() == Sort::Class {
                 Some(id)
             } else {
                 None
@@ -194,7 +180,7 @@ fn parent_agrees(parent: Option<ObjId>, superclass: Option<ObjId>) -> bool
 }
 
 /// Gives the class that stands in a constant already; the parent that is given, if any, has to be its superclass.
-#[tactic(auto, using(def_core::proofs::Roles::class_is_superclass, def_core::proofs::Roles::superclass_is_class, def_core::proofs::Roles::module_is_class, def_core::proofs::Grows::extends_itself, rb_store::proofs::Counted::unchanged))]
+#[tactic(auto, using(def_core::proofs::Roles::class_is_superclass, def_core::proofs::Roles::superclass_is_class, def_core::proofs::Roles::module_is_class, rb_store::proofs::Keeping::keeps_itself))]
 fn reopen_class(
     st: &mut Store,
     name: SymId,
@@ -212,9 +198,7 @@ fn reopen_class(
         (defined.object_of_sort defined.is_class_sort st.old.store.objects there)).store) }
     ensures class { IfOk result (GivesClass (census st.new.store)) }
     ensures err { OnErr result (st.new.store ≡ st.old.store) }
-    ensures sound { Sound st.new.store }
-    ensures extends { Extends (census st.old.store) (census st.new.store) }
-    ensures counted { IsCounted st.old st.new }
+    ensures keeps { Keeps st.old st.new }
 {
     let Some(class) = class_in(st, there) else {
         return fail(st, Cause::NotClass(name));
@@ -246,9 +230,7 @@ fn define_under(
         (defined.constant_in (classes.class_at st.old.store.objects scope).constants name)).store) }
     ensures class { IfOk result (GivesClass (census st.new.store)) }
     ensures err { OnErr result (IsGrown st.old.store st.new.store) }
-    ensures sound { Sound st.new.store }
-    ensures extends { Extends (census st.old.store) (census st.new.store) }
-    ensures counted { IsCounted st.old st.new }
+    ensures keeps { Keeps st.old st.new }
 {
     match own_constant(st, scope, name) {
         Some(there) => {
@@ -273,7 +255,7 @@ fn define_under(
 /// or a new one under the parent, or under Object where the parent is nil, as a new constant (ISO/IEC 30170:2012,
 /// 13.2). A parent that is no class, a constant that is none, and another superclass are a TypeError. Where memory
 /// runs out all that was there is as before.
-#[tactic(auto, unfolding(def_core::specs::Changes::define_class), using(crate::proofs::Naming::grown_itself))]
+#[tactic(auto, unfolding(def_core::specs::Changes::define_class), using(crate::proofs::Naming::grown_itself, crate::proofs::Belongs::class_belongs))]
 pub fn define_class(
     st: &mut Store,
     scope: ObjId,
@@ -287,10 +269,9 @@ pub fn define_class(
     ensures outcome { IfOk result (λ o. o ≡ (defined.define_class st.old.store scope name parent).outcome) }
     ensures store { OnOk result (st.new.store ≡ (defined.define_class st.old.store scope name parent).store) }
     ensures class { IfOk result (GivesClass (census st.new.store)) }
+    ensures belongs { IfOk result (IsOutcome (census st.new.store)) }
     ensures err { OnErr result (IsGrown st.old.store st.new.store) }
-    ensures sound { Sound st.new.store }
-    ensures extends { Extends (census st.old.store) (census st.new.store) }
-    ensures counted { IsCounted st.old st.new }
+    ensures keeps { Keeps st.old st.new }
 {
     if parent == Value::Nil {
         return define_under(st, scope, name, None);
@@ -305,7 +286,7 @@ pub fn define_class(
 }
 
 /// Gives the module that stands in a constant already.
-#[tactic(auto, using(def_core::proofs::Roles::class_is_superclass, def_core::proofs::Roles::superclass_is_class, def_core::proofs::Roles::module_is_class, def_core::proofs::Grows::extends_itself, rb_store::proofs::Counted::unchanged))]
+#[tactic(auto, using(def_core::proofs::Roles::class_is_superclass, def_core::proofs::Roles::superclass_is_class, def_core::proofs::Roles::module_is_class, rb_store::proofs::Keeping::keeps_itself))]
 fn reopen_module(st: &mut Store, name: SymId, there: Value) -> Result<Outcome, AllocError>
     requires sound { Sound st.old.store }
     requires name { IsSymbol (census st.old.store) name }
@@ -318,9 +299,7 @@ fn reopen_module(st: &mut Store, name: SymId, there: Value) -> Result<Outcome, A
         (defined.object_of_sort defined.is_module_sort st.old.store.objects there)).store) }
     ensures class { IfOk result (GivesClass (census st.new.store)) }
     ensures err { OnErr result (st.new.store ≡ st.old.store) }
-    ensures sound { Sound st.new.store }
-    ensures extends { Extends (census st.old.store) (census st.new.store) }
-    ensures counted { IsCounted st.old st.new }
+    ensures keeps { Keeps st.old st.new }
 {
     match module_in(st, there) {
         Some(found) => Ok(Outcome::Value(Value::Obj(found))),
@@ -331,7 +310,7 @@ fn reopen_module(st: &mut Store, name: SymId, there: Value) -> Result<Outcome, A
 /// The module of that name in the scope: the one that is there, or a new one as a new constant
 /// (ISO/IEC 30170:2012, 13.1). A constant that is no module is a TypeError. Where memory runs out all that was there is
 /// as before.
-#[tactic(auto, unfolding(def_core::specs::Changes::define_module), using(crate::proofs::Naming::grown_itself))]
+#[tactic(auto, unfolding(def_core::specs::Changes::define_module), using(crate::proofs::Naming::grown_itself, crate::proofs::Belongs::class_belongs))]
 pub fn define_module(st: &mut Store, scope: ObjId, name: SymId) -> Result<Outcome, AllocError>
     requires sound { Sound st.old.store }
     requires scope { Is (census st.old.store) ClassOrModule scope }
@@ -339,10 +318,9 @@ pub fn define_module(st: &mut Store, scope: ObjId, name: SymId) -> Result<Outcom
     ensures outcome { IfOk result (λ o. o ≡ (defined.define_module st.old.store scope name).outcome) }
     ensures store { OnOk result (st.new.store ≡ (defined.define_module st.old.store scope name).store) }
     ensures class { IfOk result (GivesClass (census st.new.store)) }
+    ensures belongs { IfOk result (IsOutcome (census st.new.store)) }
     ensures err { OnErr result (IsGrown st.old.store st.new.store) }
-    ensures sound { Sound st.new.store }
-    ensures extends { Extends (census st.old.store) (census st.new.store) }
-    ensures counted { IsCounted st.old st.new }
+    ensures keeps { Keeps st.old st.new }
 {
     match own_constant(st, scope, name) {
         Some(there) => {

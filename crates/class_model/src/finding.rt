@@ -1,7 +1,7 @@
 //! The search for a method along a chain.
 ghost use Rattle.std.specs.Prelude.{◌≡◌};
 ghost use Rattle.def_core.specs.Find as defined;
-ghost use Rattle.def_core.specs.Sound.{Sound, census, Is, ClassOrModule};
+ghost use Rattle.def_core.specs.Sound.{Sound, census, Is, ClassOrModule, OptionIs, IsFound};
 ghost use Rattle.class_model.specs.Chain.{left, IsWalk};
 
 use crate::chain::Chain;
@@ -43,11 +43,12 @@ pub fn first_of(walk: &mut Chain, st: &Store, name: SymId) -> Option<Found>
 
 /// The method that a call of that name finds in a class: that of the first member of its chain that has the name
 /// (ISO/IEC 30170:2012, 13.3.4). It takes no memory.
-#[tactic(auto, unfolding(def_core::specs::Find::find))]
+#[tactic(auto, unfolding(def_core::specs::Find::find), using(crate::proofs::Found::found_is_sound))]
 pub fn find(st: &Store, class: ObjId, name: SymId) -> Option<Found>
     requires sound { Sound st.now.store }
     requires class { Is (census st.now.store) ClassOrModule class }
-    ensures { result ≡ defined.find st.now.store.objects class name }
+    ensures found { result ≡ defined.find st.now.store.objects class name }
+    ensures sound { OptionIs (IsFound (census st.now.store)) result }
 {
     let mut walk = Chain::of(st, class);
     first_of(&mut walk, st, name)

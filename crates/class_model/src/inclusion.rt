@@ -2,8 +2,8 @@
 ghost use Rattle.std.specs.Prelude.{◌≡◌, ◌++◌, ◌∷◌, [], filter, IfOk, OnOk, OnErr};
 ghost use Rattle.def_core.specs.Classes as classes;
 ghost use Rattle.def_core.specs.Changes as defined;
-ghost use Rattle.def_core.specs.Sound.{Sound, census, Is, Module, ClassOrModule, OptionIs, IsValue, Extends};
-ghost use Rattle.rb_store.specs.Counted.{IsCounted};
+ghost use Rattle.def_core.specs.Sound.{Sound, census, Is, Module, ClassOrModule, OptionIs, IsValue, IsOutcome};
+ghost use Rattle.rb_store.specs.Keeps.{Keeps};
 ghost use Rattle.class_model.specs.Given.{GivesClass};
 ghost use Rattle.class_model.specs.Chain.{left, IsWalk};
 ghost use Rattle.class_model.specs.Including.{is_new};
@@ -68,7 +68,7 @@ fn new_members(st: &Store, class: ObjId, mixin: ObjId) -> Result<Vec<ObjId>, All
 }
 
 /// Includes a module in a class or module. Where memory runs out all is as before.
-#[tactic(auto, unfolding(def_core::specs::Changes::with_included), using(def_core::proofs::Roles::is_within, def_core::proofs::Roles::is_plays, def_core::proofs::Roles::module_is_class, crate::proofs::Included::sound_with_included, crate::proofs::Included::extends_included, def_core::proofs::Grows::extends_itself, rb_store::proofs::Counted::unchanged))]
+#[tactic(auto, unfolding(def_core::specs::Changes::with_included), using(def_core::proofs::Roles::is_within, def_core::proofs::Roles::is_plays, def_core::proofs::Roles::module_is_class, rb_store::proofs::Keeping::keeps_itself))]
 fn include_module(st: &mut Store, class: ObjId, mixin: ObjId) -> Result<(), AllocError>
     requires sound { Sound st.old.store }
     requires class { Is (census st.old.store) ClassOrModule class }
@@ -76,9 +76,7 @@ fn include_module(st: &mut Store, class: ObjId, mixin: ObjId) -> Result<(), Allo
     ensures ok { OnOk result (st.new.store ≡
         record st.old.store { objects = defined.with_included st.old.store.objects class mixin }) }
     ensures err { OnErr result (st.new.store ≡ st.old.store) }
-    ensures sound { Sound st.new.store }
-    ensures extends { Extends (census st.old.store) (census st.new.store) }
-    ensures counted { IsCounted st.old st.new }
+    ensures keeps { Keeps st.old st.new }
 {
     let mut list = new_members(st, class, mixin)?;
     list.extend_from_slice(included_in(st, class))?;
@@ -93,7 +91,7 @@ pub(crate) fn module_in(st: &Store, v: Value) -> Option<ObjId>
     ensures mixin { OptionIs (Is (census st.now.store) Module) result }
 {
     match v {
-        Value::Obj(id) => if st.get(id).kind.sort() == Sort::Module {
+        Value::Obj(id) => if st.get(id).kind().sort() == Sort::Module {
             Some(id)
         } else {
             None
@@ -106,7 +104,7 @@ pub(crate) fn module_in(st: &Store, v: Value) -> Option<ObjId>
 /// were included earlier, in the order of look-up, without those that are already in the chain of the class
 /// (ISO/IEC 30170:2012, 13.1). It gives the class. Any other value is a TypeError. Where memory runs out all is as
 /// before.
-#[tactic(auto, unfolding(def_core::specs::Changes::include), using(crate::proofs::Lineages::core_is_class))]
+#[tactic(auto, unfolding(def_core::specs::Changes::include), using(crate::proofs::Lineages::core_is_class, crate::proofs::Kept::kept_role, crate::proofs::Belongs::class_belongs))]
 pub fn include(st: &mut Store, class: ObjId, mixin: Value) -> Result<Outcome, AllocError>
     requires sound { Sound st.old.store }
     requires class { Is (census st.old.store) ClassOrModule class }
@@ -114,10 +112,9 @@ pub fn include(st: &mut Store, class: ObjId, mixin: Value) -> Result<Outcome, Al
     ensures outcome { IfOk result (λ o. o ≡ (defined.include st.old.store class mixin).outcome) }
     ensures store { OnOk result (st.new.store ≡ (defined.include st.old.store class mixin).store) }
     ensures class { IfOk result (GivesClass (census st.new.store)) }
+    ensures belongs { IfOk result (IsOutcome (census st.new.store)) }
     ensures err { OnErr result (st.new.store ≡ st.old.store) }
-    ensures sound { Sound st.new.store }
-    ensures extends { Extends (census st.old.store) (census st.new.store) }
-    ensures counted { IsCounted st.old st.new }
+    ensures keeps { Keeps st.old st.new }
 {
     match module_in(st, mixin) {
         Some(found) => {

@@ -4,8 +4,8 @@ ghost use Rattle.rb_base.specs.Steps.{one_more};
 ghost use Rattle.def_core.specs.Classes.{class_at};
 ghost use Rattle.def_core.specs.Find.{entry_of};
 ghost use Rattle.def_core.specs.Changes as defined;
-ghost use Rattle.def_core.specs.Sound.{Sound, census, Is, ClassOrModule, IsSymbol, SoundMethod, Extends};
-ghost use Rattle.rb_store.specs.Counted.{IsCounted};
+ghost use Rattle.def_core.specs.Sound.{Sound, census, Is, ClassOrModule, IsSymbol, SoundMethod, IsOutcome};
+ghost use Rattle.rb_store.specs.Keeps.{Keeps};
 ghost use Rattle.class_model.specs.Methods.{method_of};
 
 use crate::failing::fail;
@@ -18,7 +18,7 @@ use std::alloc::AllocError;
 
 /// Puts a method into the own list of a class or module (ISO/IEC 30170:2012, 13.3). `initialize` is private whatever
 /// the visibility. Where memory runs out the objects are as before.
-#[tactic(auto, using(def_core::proofs::Roles::is_within, def_core::proofs::Roles::is_plays, def_core::proofs::Keeps::sound_with_method, crate::proofs::Found::extends_method, def_core::proofs::Grows::extends_itself))]
+#[tactic(auto, using(def_core::proofs::Roles::is_within, def_core::proofs::Roles::is_plays))]
 pub fn set_method(
     st: &mut Store,
     class: ObjId,
@@ -32,24 +32,20 @@ pub fn set_method(
     requires method { SoundMethod (census st.old.store) method }
     ensures ok { OnOk result (st.new.store ≡ defined.with_method st.old.store class name method visibility) }
     ensures err { OnErr result (st.new.store ≡ st.old.store) }
-    ensures sound { Sound st.new.store }
-    ensures extends { Extends (census st.old.store) (census st.new.store) }
-    ensures counted { IsCounted st.old st.new }
+    ensures keeps { Keeps st.old st.new }
 {
     st.put_method(class, name, method, visibility)?;
     Ok(())
 }
 
 /// Sets the visibility of the next methods of a class or module. It takes no memory.
-#[tactic(auto, using(def_core::proofs::Roles::is_within, def_core::proofs::Roles::is_plays, def_core::proofs::Keeps::sound_with_default, crate::proofs::Found::extends_default))]
+#[tactic(auto, using(def_core::proofs::Roles::is_within, def_core::proofs::Roles::is_plays))]
 pub fn set_default(st: &mut Store, class: ObjId, visibility: Visibility)
     requires sound { Sound st.old.store }
     requires class { Is (census st.old.store) ClassOrModule class }
     ensures store { st.new.store ≡
         record st.old.store { objects = defined.with_default st.old.store.objects class visibility } }
-    ensures sound { Sound st.new.store }
-    ensures extends { Extends (census st.old.store) (census st.new.store) }
-    ensures counted { IsCounted st.old st.new }
+    ensures keeps { Keeps st.old st.new }
 {
     st.put_default(class, visibility);
 }
@@ -60,8 +56,8 @@ pub fn default_visibility(st: &Store, class: ObjId) -> Visibility
     requires { Is (census st.now.store) ClassOrModule class }
     ensures { result ≡ (class_at st.now.store.objects class).visibility }
 {
-    match &st.get(class).kind {
-        Kind::Class(contents) => contents.visibility,
+    match st.get(class).kind() {
+        Kind::Class(contents) => contents.get().visibility,
         _ => Visibility::Public,
     }
 }
@@ -72,8 +68,8 @@ pub fn own_entry(st: &Store, class: ObjId, name: SymId) -> Option<MethodEntry>
     requires { Is (census st.now.store) ClassOrModule class }
     ensures { result ≡ entry_of st.now.store.objects class name }
 {
-    match &st.get(class).kind {
-        Kind::Class(contents) => contents.methods.get(name),
+    match st.get(class).kind() {
+        Kind::Class(contents) => contents.get().methods.get(name),
         _ => None,
     }
 }
@@ -95,7 +91,7 @@ pub fn own_method(st: &Store, class: ObjId, name: SymId, steps: &mut Steps) -> O
 /// Sets the visibility of the method that is found under the name; where another class or module has it, the class
 /// gets an entry of its own. `initialize` stays private. It gives nil. A name that isn't found is a NameError. Where
 /// memory runs out all is as before.
-#[tactic(auto, unfolding(def_core::specs::Changes::set_visibility), using(crate::proofs::Found::found_is_sound, def_core::proofs::Grows::extends_itself, crate::proofs::Found::extends_method))]
+#[tactic(auto, unfolding(def_core::specs::Changes::set_visibility), using(crate::proofs::Found::found_is_sound))]
 pub fn set_visibility(
     st: &mut Store,
     class: ObjId,
@@ -107,10 +103,9 @@ pub fn set_visibility(
     requires name { IsSymbol (census st.old.store) name }
     ensures outcome { IfOk result (λ o. o ≡ (defined.set_visibility st.old.store class name visibility).outcome) }
     ensures store { OnOk result (st.new.store ≡ (defined.set_visibility st.old.store class name visibility).store) }
+    ensures belongs { IfOk result (IsOutcome (census st.new.store)) }
     ensures err { OnErr result (st.new.store ≡ st.old.store) }
-    ensures sound { Sound st.new.store }
-    ensures extends { Extends (census st.old.store) (census st.new.store) }
-    ensures counted { IsCounted st.old st.new }
+    ensures keeps { Keeps st.old st.new }
 {
     match find(st, class, name) {
         Some(found) => {

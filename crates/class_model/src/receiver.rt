@@ -1,19 +1,19 @@
 //! Where the look-up of a value's methods begins.
-ghost use Rattle.std.specs.Prelude.{◌≡◌, ◌<◌, length, false};
+ghost use Rattle.std.specs.Prelude.{◌≡◌, false};
 ghost use Rattle.rb_value.specs.CoreClass.{is_module};
 ghost use Rattle.def_core.specs.Store.{core};
 ghost use Rattle.def_core.specs.Classes as classes;
-ghost use Rattle.def_core.specs.Sound.{Sound, census, Is, ClassOrModule, IsValue};
+ghost use Rattle.def_core.specs.Sound.{Sound, census, Is, Any, ClassOrModule, IsValue};
 
 use crate::chain::above;
 use rb_store::Store;
 use rb_value::{CoreClass, ObjId, Value};
 
 /// The singleton class of the first of an object and its superclasses that has one, or else the other class.
-#[tactic(auto, using(crate::proofs::Lineages::singleton_here, crate::proofs::Lineages::singleton_above, crate::proofs::Lineages::singleton_nowhere, crate::proofs::Lineages::singleton_is_class, crate::proofs::Lineages::above_is_below))]
+#[tactic(auto, using(def_core::proofs::Roles::is_within, crate::proofs::Lineages::singleton_here, crate::proofs::Lineages::singleton_above, crate::proofs::Lineages::singleton_nowhere, crate::proofs::Lineages::singleton_is_class, crate::proofs::Lineages::above_is_below))]
 fn nearest_singleton(st: &Store, id: ObjId, other: ObjId) -> ObjId
     requires sound { Sound st.now.store }
-    requires there { id.0 < length st.now.store.objects }
+    requires there { Is (census st.now.store) Any id }
     requires other { Is (census st.now.store) ClassOrModule other }
     ensures value { result ≡
         classes.nearest_singleton st.now.store.objects (classes.lineage st.now.store.objects id) other }
@@ -21,7 +21,7 @@ fn nearest_singleton(st: &Store, id: ObjId, other: ObjId) -> ObjId
 {
     let mut at = id;
     'superclasses: loop {
-        if let Some(singleton) = st.get(at).singleton {
+        if let Some(singleton) = st.get(at).singleton() {
             return singleton;
         }
         match above(st, at) {
@@ -73,6 +73,6 @@ pub fn plain_class_of(st: &Store, v: Value) -> ObjId
         Value::False => core_class(st, CoreClass::FalseClass),
         Value::Int(_) => core_class(st, CoreClass::Integer),
         Value::Sym(_) => core_class(st, CoreClass::Symbol),
-        Value::Obj(id) => st.get(id).class,
+        Value::Obj(id) => st.get(id).class(),
     }
 }

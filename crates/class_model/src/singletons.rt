@@ -1,22 +1,24 @@
 //! Singleton classes.
-ghost use Rattle.std.specs.Prelude.{◌≡◌, ◌<◌, ◌≤◌, ◌++◌, ◌∷◌, [], filter, length, IfOk, OnOk, OnErr};
+ghost use Rattle.std.specs.Prelude.{◌≡◌, ◌++◌, ◌∷◌, [], filter, IfOk, OnOk, OnErr};
 ghost use Rattle.rb_value.specs.declared.value.Value.TheVariants.{Obj};
+ghost use Rattle.rb_value.specs.declared.kind.Kind.TheVariants as kinds;
 ghost use Rattle.def_core.specs.Store as store;
 ghost use Rattle.def_core.specs.Classes as classes;
 ghost use Rattle.def_core.specs.Changes as defined;
-ghost use Rattle.def_core.specs.Sound.{Sound, census, Is, Any, Superclass, OptionIs, AllAre, IsValue, Extends};
-ghost use Rattle.rb_store.specs.Counted.{IsCounted};
+ghost use Rattle.def_core.specs.Sound.{Sound, census, Is, Any, Superclass, OptionIs, AllAre, IsValue, IsOutcome};
+ghost use Rattle.rb_store.specs.Keeps.{Keeps};
 ghost use Rattle.class_model.specs.Given.{GivesClass};
 ghost use Rattle.class_model.specs.Singletons.{is_missing, with_new_singleton, IsMadeInPart, IsHalfway};
 
 use crate::chain::above;
 use crate::failing::fail;
 use def_core::Cause;
+use pair_table::PairTable;
 use rb_base::List;
 use rb_store::Store;
 use rb_value::{
-    ClassContents, ClassForm, CoreClass, Kind, MethodTable, ObjId, Object, Outcome, Sort, Value,
-    Visibility,
+    Boxed, ClassContents, ClassForm, CoreClass, Kind, MethodTable, ObjId, Object, Outcome, Sort,
+    Value, Visibility,
 };
 use std::alloc::{AllocError, Global};
 
@@ -33,34 +35,34 @@ pub(crate) fn empty_class(
         name: None,
         superclass,
         included: List::new(alloc),
-        constants: List::new(alloc),
+        constants: PairTable::new(alloc),
         visibility: Visibility::Public,
         methods: MethodTable::new(alloc),
     }
 }
 
-/// An object with a class and contents alone. It takes no memory.
-pub(crate) fn fresh(alloc: Global, class: ObjId, kind: Kind) -> Object
-    ensures { result ≡ store.fresh class kind }
+/// A class or module with those contents, which isn't in the store yet.
+pub(crate) fn class_object(
+    alloc: Global,
+    class: ObjId,
+    contents: ClassContents,
+) -> Result<Object, AllocError>
+    ensures { IfOk result (λ o. o ≡ store.fresh class (kinds.Class contents)) }
 {
-    Object {
-        class,
-        singleton: None,
-        variables: List::new(alloc),
-        kind,
-    }
+    let kind = Kind::Class(Boxed::new(alloc, contents)?);
+    Ok(Object::new(class, kind))
 }
 
 /// The singleton class of a superclass; Class where there is none.
-#[tactic(auto, using(crate::proofs::Lineages::above_is_below, crate::proofs::Lineages::singleton_is, crate::proofs::Lineages::class_is_core))]
+#[tactic(auto, using(def_core::proofs::Roles::is_within, crate::proofs::Lineages::singleton_is, crate::proofs::Lineages::class_is_core))]
 fn above_class(st: &Store, superclass: Option<ObjId>) -> ObjId
     requires sound { Sound st.now.store }
-    requires there { OptionIs (λ p. p.0 < length st.now.store.objects) superclass }
+    requires there { OptionIs (Is (census st.now.store) Any) superclass }
     ensures value { result ≡ defined.above_class st.now.store.objects superclass }
     ensures class { Is (census st.now.store) Superclass result }
 {
     match superclass {
-        Some(superclass) => match st.get(superclass).singleton {
+        Some(superclass) => match st.get(superclass).singleton() {
             Some(singleton) => singleton,
             None => st.class_object(CoreClass::Class),
         },
@@ -70,56 +72,49 @@ fn above_class(st: &Store, superclass: Option<ObjId>) -> ObjId
 
 /// The superclass of the singleton class of an object: of a class the singleton class of its superclass, and of any
 /// other object its class.
-#[tactic(auto, using(crate::proofs::Lineages::above_there, crate::proofs::Lineages::class_is))]
+#[tactic(auto, using(def_core::proofs::Roles::is_within, crate::proofs::Lineages::above_there, crate::proofs::Lineages::class_is))]
 fn superclass_for(st: &Store, id: ObjId) -> ObjId
     requires sound { Sound st.now.store }
-    requires there { id.0 < length st.now.store.objects }
+    requires there { Is (census st.now.store) Any id }
     ensures value { result ≡ defined.above st.now.store.objects id (store.sort_at st.now.store.objects id) }
     ensures class { Is (census st.now.store) Superclass result }
 {
     let object = st.get(id);
-    match object.kind.sort() {
+    match object.kind().sort() {
         Sort::Class => above_class(st, above(st, id)),
         Sort::Singleton => above_class(st, above(st, id)),
-        _ => object.class,
+        _ => object.class(),
     }
 }
 
 /// Gives an object a new singleton class. Where memory runs out all is as before.
-#[tactic(auto, using(crate::proofs::Attaching::attached, crate::proofs::Attaching::sound_attached, crate::proofs::Attaching::extends_attached, def_core::proofs::Grows::extends_itself, rb_store::proofs::Counted::counted_then))]
+#[tactic(auto, using(def_core::proofs::Roles::is_within, rb_store::proofs::Keeping::keeps_itself))]
 fn attach(st: &mut Store, id: ObjId) -> Result<(), AllocError>
     requires sound { Sound st.old.store }
-    requires there { id.0 < length st.old.store.objects }
+    requires there { Is (census st.old.store) Any id }
     ensures ok { OnOk result (st.new.store ≡
         record st.old.store { objects = with_new_singleton st.old.store.objects id }) }
     ensures err { OnErr result (st.new.store ≡ st.old.store) }
-    ensures more { length st.old.store.objects ≤ length st.new.store.objects }
-    ensures sound { Sound st.new.store }
-    ensures extends { Extends (census st.old.store) (census st.new.store) }
-    ensures counted { IsCounted st.old st.new }
+    ensures keeps { Keeps st.old st.new }
 {
     let superclass = superclass_for(st, id);
     let class = st.class_object(CoreClass::Class);
     let contents = empty_class(st.alloc(), ClassForm::Singleton, Some(superclass));
-    let object = fresh(st.alloc(), class, Kind::Class(contents));
-    let singleton = st.add(object)?;
-    st.put_singleton(id, singleton);
+    let object = class_object(st.alloc(), class, contents)?;
+    st.add_singleton(id, object)?;
     Ok(())
 }
 
 /// Gives each of these objects a new singleton class, the last first. Where memory runs out some of the last have
 /// theirs.
-#[tactic(auto, unfolding(def_core::specs::Changes::make_all))]
+#[tactic(auto, unfolding(def_core::specs::Changes::make_all), using(rb_store::proofs::Keeping::keeps_itself, rb_store::proofs::Keeping::keeps_then))]
 fn make_all(st: &mut Store, ids: &[ObjId]) -> Result<(), AllocError>
     requires sound { Sound st.old.store }
     requires there { AllAre (Is (census st.old.store) Any) ids.now }
     ensures ok { OnOk result (st.new.store ≡
         record st.old.store { objects = defined.make_all st.old.store.objects ids.now }) }
     ensures err { OnErr result (IsMadeInPart st.old.store ids.now st.new.store) }
-    ensures more { length st.old.store.objects ≤ length st.new.store.objects }
-    ensures sound { Sound st.new.store }
-    ensures extends { Extends (census st.old.store) (census st.new.store) }
-    ensures counted { IsCounted st.old st.new }
+    ensures keeps { Keeps st.old st.new }
 {
     let mut left = ids.len();
     'ids: while left > 0 {
@@ -130,11 +125,12 @@ fn make_all(st: &mut Store, ids: &[ObjId]) -> Result<(), AllocError>
 }
 
 /// Puts an object that has no singleton class after the others.
+#[tactic(auto, using(def_core::proofs::Roles::is_within))]
 fn push_missing(st: &Store, list: &mut Vec<ObjId>, id: ObjId) -> Result<(), AllocError>
-    requires { id.0 < length st.now.store.objects }
+    requires { Is (census st.now.store) Any id }
     ensures { OnOk result (list.new.items ≡ list.old.items ++ filter (is_missing st.now.store.objects) (id ∷ [])) }
 {
-    if st.get(id).singleton.is_none() {
+    if st.get(id).singleton().is_none() {
         list.push(id)?;
     }
     Ok(())
@@ -143,7 +139,7 @@ fn push_missing(st: &Store, list: &mut Vec<ObjId>, id: ObjId) -> Result<(), Allo
 /// The object, and where it is a class its superclasses, that have no singleton class.
 fn missing(st: &Store, id: ObjId) -> Result<Vec<ObjId>, AllocError>
     requires sound { Sound st.now.store }
-    requires there { id.0 < length st.now.store.objects }
+    requires there { Is (census st.now.store) Any id }
     ensures list { IfOk result (λ list. list.items ≡ defined.missing st.now.store.objects id) }
     ensures there { IfOk result (λ list. AllAre (Is (census st.now.store) Any) list.items) }
 {
@@ -159,7 +155,7 @@ fn missing(st: &Store, id: ObjId) -> Result<Vec<ObjId>, AllocError>
 }
 
 /// The singleton class of an object, which is made where it isn't there, as are those of its superclasses.
-#[tactic(auto, unfolding(def_core::specs::Changes::singleton, def_core::specs::Changes::with_singleton), using(def_core::proofs::Roles::is_within, crate::proofs::Making::made_nothing, crate::proofs::Making::made_is_class, def_core::proofs::Grows::extends_itself, rb_store::proofs::Counted::unchanged))]
+#[tactic(auto, unfolding(def_core::specs::Changes::singleton, def_core::specs::Changes::with_singleton), using(def_core::proofs::Roles::is_within, crate::proofs::Making::made_nothing, crate::proofs::Making::made_is_class, rb_store::proofs::Keeping::keeps_itself, crate::proofs::Kept::kept_sound, crate::proofs::Kept::kept_role))]
 fn singleton_of(st: &mut Store, id: ObjId) -> Result<Outcome, AllocError>
     requires sound { Sound st.old.store }
     requires object { Is (census st.old.store) Any id }
@@ -167,30 +163,27 @@ fn singleton_of(st: &mut Store, id: ObjId) -> Result<Outcome, AllocError>
     ensures store { OnOk result (st.new.store ≡ (defined.singleton st.old.store (Obj id)).store) }
     ensures class { IfOk result (GivesClass (census st.new.store)) }
     ensures err { OnErr result (IsMadeInPart st.old.store (defined.missing st.old.store.objects id) st.new.store) }
-    ensures sound { Sound st.new.store }
-    ensures extends { Extends (census st.old.store) (census st.new.store) }
-    ensures counted { IsCounted st.old st.new }
+    ensures keeps { Keeps st.old st.new }
 {
     let list = missing(st, id)?;
     make_all(st, &list)?;
-    let singleton = st.get(id).singleton.unwrap_or(id);
+    let singleton = st.get(id).singleton().unwrap_or(id);
     Ok(Outcome::Value(Value::Obj(singleton)))
 }
 
 /// The singleton class of a value, which is made where it isn't there; for a class those of its superclasses are made
 /// first (ISO/IEC 30170:2012, 13.4). Nil, true, false, an Integer and a Symbol have none: TypeError. Where memory
 /// runs out the singleton classes of some of the last superclasses may have been made, and nothing else changed.
-#[tactic(auto, unfolding(def_core::specs::Changes::singleton))]
+#[tactic(auto, unfolding(def_core::specs::Changes::singleton), using(crate::proofs::Belongs::class_belongs))]
 pub fn singleton(st: &mut Store, v: Value) -> Result<Outcome, AllocError>
     requires sound { Sound st.old.store }
     requires value { IsValue (census st.old.store) v }
     ensures outcome { IfOk result (λ o. o ≡ (defined.singleton st.old.store v).outcome) }
     ensures store { OnOk result (st.new.store ≡ (defined.singleton st.old.store v).store) }
     ensures class { IfOk result (GivesClass (census st.new.store)) }
+    ensures belongs { IfOk result (IsOutcome (census st.new.store)) }
     ensures err { OnErr result (IsHalfway st.old.store v st.new.store) }
-    ensures sound { Sound st.new.store }
-    ensures extends { Extends (census st.old.store) (census st.new.store) }
-    ensures counted { IsCounted st.old st.new }
+    ensures keeps { Keeps st.old st.new }
 {
     match v {
         Value::Obj(id) => singleton_of(st, id),

@@ -2,7 +2,7 @@
 use Rattle.std.proofs.Common.{◌≡◌, ℕ, suc, zero, ◌<◌, List, [], ◌∷◌, ◌++◌, refl, ap, sym, ◌∙◌, arith}
 use Rattle.std.specs.Prelude.{Option, Some, None}
 use Rattle.rb_value.specs.declared.value.ObjId.{ObjId}
-use Rattle.rb_value.specs.declared.object.Object.{Object}
+use Rattle.rb_value.specs.Object.{Object}
 use Rattle.def_core.specs.Store.{Store}
 use Rattle.def_core.specs.Classes.{class_at, chain_within, chain, lineage_within, lineage}
 use Rattle.def_core.specs.Sound.{census, Role, ClassOrModule, Is, OptionIs, IsSuperclass, Sound}

@@ -16,9 +16,9 @@ use Rattle.rb_value.specs.declared.key.KeyPart.{KeyPart}
 use Rattle.rb_value.specs.declared.key.KeyPart.TheVariants as part
 use Rattle.rb_value.specs.declared.key.Key.{Key}
 use Rattle.rb_value.specs.declared.key.Key.TheVariants as key
-use Rattle.rb_value.specs.declared.object.Object.{Object}
+use Rattle.rb_value.specs.Object.{Object}
 use Rattle.rb_value.specs.declared.kind.ClassContents.{ClassContents}
-use Rattle.rb_value.specs.declared.kind.HashPair.{HashPair}
+use Rattle.rb_value.specs.declared.hash.HashItem.{HashItem}
 use Rattle.rb_value.specs.declared.kind.EnumeratorSource.{EnumeratorSource}
 use Rattle.rb_value.specs.declared.kind.EnumeratorSource.TheVariants as source
 use Rattle.rb_value.specs.declared.kind.Kind.{Kind}
@@ -68,7 +68,7 @@ module _ (k l : Census) (e : Extends k l) where
         c.superclass h.superclass;
     module_root = h.module_root;
     included = all_grows (Is k Module) (Is l Module) (e.roles Module) c.included h.included;
-    constants = all_grows (SoundConstant k) (SoundConstant l) (λ x b. (symbol x.name b.0, value_grows x.value b.1))
+    constants = all_grows (SoundConstant k) (SoundConstant l) (λ x b. (e.names x.0 b.0, value_grows x.1 b.1))
         c.constants h.constants;
     methods = all_grows (SoundEntry k) (SoundEntry l) (λ x b. (e.names x.0 b.0, method_grows x.1.method b.1)) c.methods
         h.methods;
@@ -84,8 +84,8 @@ module _ (k l : Census) (e : Extends k l) where
   key_grows (key.Text t) h = tt
   key_grows (key.Array ps) h = all_grows (SoundPart k) (SoundPart l) part_grows ps h
 
-  pair_grows : (p : HashPair) → SoundPair k p → SoundPair l p
-  pair_grows p h = (key_grows p.key h.0, value_grows p.shown h.1, value_grows p.value h.2)
+  pair_grows : (p : Key × HashItem) → SoundPair k p → SoundPair l p
+  pair_grows p h = (key_grows p.0 h.0, value_grows p.1.shown h.1, value_grows p.1.value h.2)
 
   source_grows : (s : EnumeratorSource) → SoundSource k s → SoundSource l s
   source_grows (source.Call r n args) h = (
@@ -180,6 +180,12 @@ sound_with_object st sound o new = record {
   core = λ q. ap (λ (ss : List Sort). slice_get ss (number_of q)) (sorts_grow st (o ∷ []))
       ∙ there_still _ _ (number_of q) _ (sound.core q);
 }
+
+-- the core classes stand at their numbers still
+pub core_still : (st : Store) → Sound st → (more : List Object) → (c : CoreClass)
+    → slice_get (sorts_of (st.objects ++ more)) (number_of c) ≡ Some (core_sort (is_module c))
+core_still st sound more c = ap (λ (ss : List Sort). slice_get ss (number_of c)) (sorts_grow st more)
+    ∙ there_still _ _ (number_of c) _ (sound.core c)
 
 -- a core class is a class
 pub core_is_class : (st : Store) → Sound st → (c : CoreClass) → is_module c ≡ false

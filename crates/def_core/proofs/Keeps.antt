@@ -9,9 +9,8 @@ use Rattle.rb_value.specs.declared.value.SymId.{SymId}
 use Rattle.rb_value.specs.declared.method.Method.{Method}
 use Rattle.rb_value.specs.declared.method.MethodEntry.{MethodEntry}
 use Rattle.rb_value.specs.declared.method.Visibility.{Visibility}
-use Rattle.rb_value.specs.declared.object.Object.{Object}
+use Rattle.rb_value.specs.Object.{Object}
 use Rattle.rb_value.specs.declared.kind.ClassContents.{ClassContents}
-use Rattle.rb_value.specs.declared.kind.Constant.{Constant}
 use Rattle.rb_value.specs.declared.kind.Kind.TheVariants as kind
 use Rattle.rb_value.specs.declared.kind.Sort.{Sort}
 use Rattle.rb_value.specs.CoreClass.{number_of}
@@ -67,13 +66,17 @@ sound_with_singleton st sound id s within is =
     sound_with_set st sound id (record (object_at st.objects id) { singleton = Some s }) within refl
     (record { class = old.class; singleton = is; variables = old.variables; kind = old.kind })
 
-entry_kept : (k : Census) (table : List (ℕ × MethodEntry)) (n : ℕ) (e : MethodEntry) → AllAre (SoundEntry k) table
-    → SoundEntry k (n, e) → AllAre (SoundEntry k) (insert_entry nat_eq table n e)
-entry_kept k [] n e all new = (new, tt)
-entry_kept k (x ∷ xs) n e all new = elim (nat_eq n x.0) as
-    (λ b. AllAre (SoundEntry k) (cond b ((x.0, e) ∷ xs) (x ∷ insert_entry nat_eq xs n e))) [
+-- what stands under the name of a symbol
+abbrev pub IsNamed : {A : Type 0} → Census → (A → Type 0) → ℕ × A → Type 0
+IsNamed k P e = (e.0 < k.symbols) × P e.1
+
+pub named_kept : {A : Type 0} (k : Census) (P : A → Type 0) (table : List (ℕ × A)) (n : ℕ) (x : A)
+    → AllAre (IsNamed k P) table → IsNamed k P (n, x) → AllAre (IsNamed k P) (insert_entry nat_eq table n x)
+named_kept k P [] n x all new = (new, tt)
+named_kept k P (e ∷ es) n x all new = elim (nat_eq n e.0) as
+    (λ b. AllAre (IsNamed k P) (cond b ((e.0, x) ∷ es) (e ∷ insert_entry nat_eq es n x))) [
       | true ↦ ((all.0.0, new.1), all.1)
-      | false ↦ (all.0, entry_kept k xs n e all.1 new)
+      | false ↦ (all.0, named_kept k P es n x all.1 new)
     ]
 
 pub sound_with_method : (st : Store) → Sound st → (c : ObjId) (name : SymId) (m : Method) (v : Visibility)
@@ -88,7 +91,7 @@ sound_with_method st sound c name m v is symbol method =
       module_root = old.module_root;
       included = old.included;
       constants = old.constants;
-      methods = entry_kept (census st) (class_at st.objects c).methods name.0
+      methods = named_kept (census st) (λ e. SoundMethod (census st) e.method) (class_at st.objects c).methods name.0
           (record { method = m; visibility = visibility_for st name v }) old.methods (symbol.below, method);
     })
 
@@ -106,7 +109,7 @@ sound_with_default st sound c v is =
       methods = old.methods;
     })
 
--- a new constant that is one of the store
+-- a constant that is one of the store
 pub sound_with_constant : (st : Store) → Sound st → (c : ObjId) (name : SymId) (v : Value)
     → Is (census st) ClassOrModule c → IsSymbol (census st) name → IsValue (census st) v
     → Sound (record st { objects = with_constant st.objects c name v })
@@ -117,11 +120,7 @@ sound_with_constant st sound c name v is symbol value =
       superclass = old.superclass;
       module_root = old.module_root;
       included = old.included;
-      constants = behind (class_at st.objects c).constants old.constants;
+      constants = named_kept (census st) (IsValue (census st)) (class_at st.objects c).constants name.0 v
+          old.constants (symbol.below, value);
       methods = old.methods;
     })
-  where
-    behind : (ks : List Constant) → AllAre (SoundConstant (census st)) ks
-        → AllAre (SoundConstant (census st)) (ks ++ (record { name = name; value = v }) ∷ [])
-    behind [] h = ((symbol, value), tt)
-    behind (k ∷ ks) h = (h.0, behind ks h.1)

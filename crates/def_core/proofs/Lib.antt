@@ -2,4 +2,8 @@ pub mod Sorts
 pub mod Roles
 pub mod Chains
 pub mod Keeps
+pub mod PartsSound
 pub mod Grows
+pub mod More
+pub mod Binding
+pub mod Keys

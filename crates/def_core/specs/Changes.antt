@@ -1,7 +1,9 @@
 -- What the calls that define classes, modules and methods do to a store (ISO/IEC 30170:2012, 13.1 to 13.4).
 use Rattle.std.specs.Prelude.{ℕ, ◌+◌, List, [], ◌∷◌, ◌++◌, Bool, true, false, not, ◌&&◌, filter, length, nat_eq, codes, if◌then◌else◌, Option, Some, None, is_some, unwrap_or}
 use Rattle.std.specs.List.{position}
+use Rattle.std.specs.Map.{lookup}
 use Rattle.std.specs.Str.{bytes_eq}
+use Rattle.indexmap.specs.IndexMap.{insert_entry}
 use Rattle.rb_value.specs.declared.value.Value.{Value}
 use Rattle.rb_value.specs.declared.value.Value.TheVariants.{Nil, True, False, Int, Sym, Obj}
 use Rattle.rb_value.specs.declared.value.ObjId.{ObjId}
@@ -10,11 +12,10 @@ use Rattle.rb_value.specs.declared.method.Visibility.{Visibility}
 use Rattle.rb_value.specs.declared.method.Visibility.TheVariants.{Public, Private, Protected}
 use Rattle.rb_value.specs.declared.method.Method.{Method}
 use Rattle.rb_value.specs.declared.outcome.Outcome.TheVariants as outcome
-use Rattle.rb_value.specs.declared.object.Object.{Object}
+use Rattle.rb_value.specs.Object.{Object}
 use Rattle.rb_value.specs.declared.kind.ClassContents.{ClassContents}
 use Rattle.rb_value.specs.declared.kind.ClassForm.{ClassForm}
 use Rattle.rb_value.specs.declared.kind.ClassForm.TheVariants as form
-use Rattle.rb_value.specs.declared.kind.Constant.{Constant}
 use Rattle.rb_value.specs.declared.kind.Kind.{Kind}
 use Rattle.rb_value.specs.declared.kind.Kind.TheVariants as kind
 use Rattle.rb_value.specs.declared.kind.Sort.{Sort}
@@ -196,9 +197,8 @@ with_default objects c v = with_class objects c (record (class_at objects c) { v
 
 -- Classes and modules with names.
 
-abbrev pub constant_in : List Constant → SymId → Option Value
-constant_in [] name = None
-constant_in (k ∷ ks) name = if nat_eq k.name.0 name.0 then Some k.value else constant_in ks name
+abbrev pub constant_in : List (ℕ × Value) → SymId → Option Value
+constant_in constants name = lookup (nat_eq name.0) constants
 
 -- the name of a class or module of that name in the scope
 abbrev pub full_name : Store → ObjId → SymId → Interned
@@ -207,12 +207,11 @@ full_name st scope name =
     then (record { symbol = name; store = st })
     else intern st (texts.class_name st scope ++ codes "::" ++ name_at st name)
 
--- a new constant of the scope, behind the others
+-- a constant of the scope: one that is there keeps its place, and a new one goes last
 abbrev pub with_constant : List Object → ObjId → SymId → Value → List Object
 with_constant objects scope name v = with_class objects scope
     (record (class_at objects scope) {
-      constants = (class_at objects scope).constants
-          ++ (record { name = name; value = v }) ∷ [];
+      constants = insert_entry nat_eq (class_at objects scope).constants name.0 v;
     })
 
 -- a new class or module as a constant of the scope

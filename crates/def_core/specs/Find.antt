@@ -10,7 +10,7 @@ use Rattle.rb_value.specs.declared.method.Visibility.TheVariants.{Public, Privat
 use Rattle.rb_value.specs.declared.method.Method.{Method}
 use Rattle.rb_value.specs.declared.method.Method.TheVariants as method
 use Rattle.rb_value.specs.declared.method.MethodEntry.{MethodEntry}
-use Rattle.rb_value.specs.declared.object.Object.{Object}
+use Rattle.rb_value.specs.Object.{Object}
 use Rattle.def_core.specs.declared.found.Found.{Found}
 use Rattle.def_core.specs.Store.{same_object}
 use Rattle.def_core.specs.Classes.{class_at, chain, class_of, is_member}

@@ -1,5 +1,5 @@
 -- When a store is sound: every number in it is one of it, and what has to be a class, a module or a Proc is one.
-use Rattle.std.specs.Prelude.{ℕ, ◌<◌, ◌≡◌, List, ◌∷◌, [], map, length, get_or, slice_get, Bool, true, false, Option, Some, None, IfSome}
+use Rattle.std.specs.Prelude.{ℕ, ◌+◌, ◌<◌, ◌≡◌, List, ◌∷◌, [], map, length, get_or, slice_get, Bool, true, false, Option, Some, None, IfSome}
 use Rattle.std.specs.List.{All}
 use Rattle.rb_value.specs.declared.value.Value.{Value}
 use Rattle.rb_value.specs.declared.value.Value.TheVariants.{Nil, True, False, Int, Sym, Obj}
@@ -12,15 +12,14 @@ use Rattle.rb_value.specs.declared.key.KeyPart.{KeyPart}
 use Rattle.rb_value.specs.declared.key.KeyPart.TheVariants as part
 use Rattle.rb_value.specs.declared.key.Key.{Key}
 use Rattle.rb_value.specs.declared.key.Key.TheVariants as key
-use Rattle.rb_value.specs.declared.object.Object.{Object}
-use Rattle.rb_value.specs.declared.object.Variable.{Variable}
+use Rattle.rb_value.specs.Object.{Object}
+use Rattle.rb_value.specs.declared.variables.Variable.{Variable}
 use Rattle.rb_value.specs.declared.kind.ClassContents.{ClassContents}
 use Rattle.rb_value.specs.declared.kind.ClassForm.{ClassForm}
 use Rattle.rb_value.specs.declared.kind.ClassForm.TheVariants as form
-use Rattle.rb_value.specs.declared.kind.Constant.{Constant}
-use Rattle.rb_value.specs.declared.kind.HashPair.{HashPair}
-use Rattle.rb_value.specs.declared.kind.HashContents.{HashContents}
-use Rattle.rb_value.specs.declared.kind.ProcContents.{ProcContents}
+use Rattle.rb_value.specs.declared.hash.HashItem.{HashItem}
+use Rattle.rb_value.specs.declared.hash.HashContents.{HashContents}
+use Rattle.rb_value.specs.declared.procs.ProcContents.{ProcContents}
 use Rattle.rb_value.specs.declared.kind.EnumeratorSource.{EnumeratorSource}
 use Rattle.rb_value.specs.declared.kind.EnumeratorSource.TheVariants as source
 use Rattle.rb_value.specs.declared.kind.EnumeratorContents.{EnumeratorContents}
@@ -28,11 +27,14 @@ use Rattle.rb_value.specs.declared.kind.Kind.{Kind}
 use Rattle.rb_value.specs.declared.kind.Kind.TheVariants as kind
 use Rattle.rb_value.specs.declared.kind.Sort.{Sort}
 use Rattle.rb_value.specs.declared.kind.Sort.TheVariants as sort
+use Rattle.rb_value.specs.declared.outcome.Outcome.{Outcome}
+use Rattle.rb_value.specs.declared.outcome.Outcome.TheVariants as outcome
 use Rattle.rb_value.specs.declared.core_class.CoreClass.{CoreClass}
 use Rattle.rb_value.specs.CoreClass.{number_of, is_module}
 use Rattle.rb_value.specs.Sort.{sort_of}
+use Rattle.def_core.specs.declared.found.Found.{Found}
 use Rattle.def_core.specs.Store.{Store, absent}
-use Rattle.def_core.specs.Rows.{is_row, is_iteration}
+use Rattle.row_table.specs.RowTable.{is_row, is_iteration}
 
 -- What is known of the numbers of a store: the sort of each object, and how many symbols there are.
 pub record Census : Type 0 where
@@ -231,14 +233,18 @@ SoundMethod k (method.Writer n) = IsSymbol k n
 SoundMethod k (method.Block p) = Is k Proc p
 SoundMethod k method.Undefined = Unit {0}
 
+-- what a search finds: its owner is a class or module
+abbrev pub IsFound : Census → Found → Type 0
+IsFound k f = Is k ClassOrModule f.owner × SoundMethod k f.method
+
 abbrev pub SoundEntry : Census → ℕ × MethodEntry → Type 0
 SoundEntry k e = (e.0 < k.symbols) × SoundMethod k e.1.method
 
 abbrev pub SoundVariable : Census → Variable → Type 0
 SoundVariable k v = IsSymbol k v.name × IsValue k v.value
 
-abbrev pub SoundConstant : Census → Constant → Type 0
-SoundConstant k c = IsSymbol k c.name × IsValue k c.value
+abbrev pub SoundConstant : Census → ℕ × Value → Type 0
+SoundConstant k c = (c.0 < k.symbols) × IsValue k c.1
 
 -- a superclass is a class with a smaller number
 abbrev pub IsSuperclass : Census → ℕ → ObjId → Type 0
@@ -263,8 +269,8 @@ SoundKey k (key.Plain v) = IsValue k v
 SoundKey k (key.Text t) = Unit {0}
 SoundKey k (key.Array ps) = AllAre (SoundPart k) ps
 
-abbrev pub SoundPair : Census → HashPair → Type 0
-SoundPair k p = SoundKey k p.key × IsValue k p.shown × IsValue k p.value
+abbrev pub SoundPair : Census → Key × HashItem → Type 0
+SoundPair k p = SoundKey k p.0 × IsValue k p.1.shown × IsValue k p.1.value
 
 pub record SoundHash (k : Census) (h : HashContents) : Type 0 where
   pub pairs : AllAre (SoundPair k) h.pairs
@@ -307,6 +313,16 @@ pub record SoundObject (k : Census) (n : ℕ) (o : Object) : Type 0 where
   pub singleton : OptionIs (Is k SingletonClass) o.singleton
   pub variables : AllAre (SoundVariable k) o.variables
   pub kind : SoundKind k n o.kind
+
+-- the objects with the numbers from n on
+abbrev pub SoundFrom : Census → ℕ → List Object → Type 0
+SoundFrom k n [] = Unit {0}
+SoundFrom k n (o ∷ os) = SoundObject k n o × SoundFrom k (n + 1) os
+
+-- what an outcome names is of the store
+abbrev pub IsOutcome : Census → Outcome → Type 0
+IsOutcome k (outcome.Value v) = IsValue k v
+IsOutcome k (outcome.Raise f) = Is k String f.message × IsValue k f.detail
 
 abbrev pub core_sort : Bool → Sort
 core_sort true = sort.Module

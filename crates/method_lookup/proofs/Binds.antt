@@ -1,10 +1,10 @@
--- The Array of what remains is sound.
+-- What binding puts into a store is of it.
 use Rattle.std.proofs.Common.{◌≡◌, ℕ, ◌+◌, ◌-◌, ◌≤◌, List, [], ◌∷◌, length, take, replicate, true, false, not, refl, ap, sym, ◌∙◌, subst, arith, if◌then◌else◌, ◌++◌}
 use Rattle.std.specs.Prelude.{Option, Some, None, nat_lt, nat_eq, get_or, ◌&&◌, ◌||◌}
 use Rattle.std.proofs.lemmas.Bool.Decides.{nat_tests}
 use Rattle.rb_value.specs.declared.value.Value.{Value}
 use Rattle.rb_value.specs.declared.value.Value.TheVariants.{Nil, True, False, Int, Sym, Obj}
-use Rattle.rb_value.specs.declared.object.Object.{Object}
+use Rattle.rb_value.specs.Object.{Object}
 use Rattle.rb_value.specs.declared.method.Shape.{Shape}
 use Rattle.rb_value.specs.declared.kind.Kind.{Kind}
 use Rattle.rb_value.specs.declared.kind.Kind.TheVariants as kind
@@ -16,7 +16,10 @@ use Rattle.def_core.specs.Bind.{least, most, elements_of, elements_in, elements_
 use Rattle.def_core.specs.Sound.{census, Census, Any, IsValue, OptionIs, AllAre, SoundKind, Sound}
 use Rattle.def_core.proofs.Roles.{is_within}
 use Rattle.method_lookup.proofs.Lists.{all_append, all_take, all_drop, all_replicate, all_more}
-use Rattle.def_core.proofs.Grows.{core_is_class, sound_with_object, value_grows, one_more, new_role}
+use Rattle.def_core.proofs.Grows.{core_is_class, value_grows, one_more, new_role}
+use Rattle.rb_store.specs.Held.{Held}
+use Rattle.rb_store.specs.Keeps.{Keeps}
+use Rattle.rb_store.proofs.Keeping.{keeps_added}
 
 pub fits_least : (s : Shape) (n : ℕ) → fits s n ≡ true → least s ≤ n
 fits_least s n h = elim (nat_lt n (least s)) as
@@ -89,19 +92,20 @@ module _ (st : Store) (sound : Sound st) where
         | false ↦ h
       ])
 
-  -- the Array of the arguments that remain
-  pub sound_rest : (after : Store) (s : Shape) (k : BindKind) (args given others : List Value)
-      → AllAre (IsValue (census st)) args → given ≡ arguments st.objects s k args
-      → others ≡ remaining s given → after ≡ with_object st (fresh (core class.Array) (kind.Array others)) → Sound after
-  sound_rest after s k args given others all g o a =
-      let taken = arguments st.objects s k args in
-      let here : AllAre (IsValue (census st)) others =
-      subst (AllAre (IsValue (census st))) (sym (o ∙ ap (remaining s) g))
-      (all_drop (IsValue (census st)) (s.required + filled s (length taken)) (take (length taken - s.post) taken)
-      (all_take (IsValue (census st)) (length taken - s.post) taken (all_arguments s k args all))) in
-      subst Sound (sym a)
-      (sound_with_object st sound (fresh (core class.Array) (kind.Array others))
-      (record { class = core_is_class st sound class.Array refl; singleton = tt; variables = tt; kind = here }))
+-- the Array of the arguments that remain
+pub keeps_rest : (h g : Held) → Sound h.store → (s : Shape) (k : BindKind) (args given others : List Value)
+    → AllAre (IsValue (census h.store)) args → given ≡ arguments h.store.objects s k args
+    → others ≡ remaining s given → g.store ≡ with_object h.store (fresh (core class.Array) (kind.Array others))
+    → g.changes ≡ h.changes → Keeps h g
+keeps_rest h g sound s k args given others all e o a same =
+    let st = h.store in
+    let taken = arguments st.objects s k args in
+    let here : AllAre (IsValue (census st)) others =
+    subst (AllAre (IsValue (census st))) (sym (o ∙ ap (remaining s) e))
+    (all_drop (IsValue (census st)) (s.required + filled s (length taken)) (take (length taken - s.post) taken)
+    (all_take (IsValue (census st)) (length taken - s.post) taken (all_arguments st sound s k args all))) in
+    keeps_added h g (fresh (core class.Array) (kind.Array others)) sound
+    (record { class = core_is_class st sound class.Array refl; singleton = tt; variables = tt; kind = here }) a same
 
 -- the values of the parameters are values where the arguments and that of the rest are
 all_values : (k : Census) (s : Shape) (rest given : List Value) → AllAre (IsValue k) given → AllAre (IsValue k) rest

@@ -5,3 +5,6 @@ pub mod Goes
 pub mod Lists
 pub mod Probes
 pub mod Ranges
+pub mod Places
+pub mod Supers
+pub mod Required

@@ -6,10 +6,12 @@ ghost use Rattle.rb_value.specs.declared.kind.Kind.TheVariants as kind;
 ghost use Rattle.def_core.specs.Store.{core, fresh, next_number, with_object};
 ghost use Rattle.def_core.specs.Bind as defined;
 ghost use Rattle.def_core.specs.Sound.{Sound, census, IsValue, AllAre};
-ghost use Rattle.method_lookup.specs.Given.{all_of, rest_of, PadsToLeast, IsWrong, HasValues};
+ghost use Rattle.rb_store.specs.Keeps.{Keeps};
+ghost use Rattle.method_lookup.specs.Given.{all_of, rest_of, PadsToLeast, IsWrong, HasValues, only, as_given};
 
 use crate::given::{Given, least, most};
 use def_core::{BindKind, Bound};
+use list_queue::Queue;
 use rb_base::List;
 use rb_store::Store;
 use rb_value::{Args, CoreClass, Kind, ObjId, Object, Shape, Value};
@@ -119,21 +121,17 @@ fn add_array(st: &mut Store, values: List<Value>) -> Result<ObjId, AllocError>
     ensures err { OnErr result (st.new.store ≡ st.old.store) }
     ensures changes { st.new.changes ≡ st.old.changes }
 {
-    let object = Object {
-        class: st.class_object(CoreClass::Array),
-        singleton: None,
-        variables: List::new(st.alloc()),
-        kind: Kind::Array(values),
-    };
-    st.add(object)
+    let kind = Kind::Array(Queue::from_vec(values.into_vec()));
+    st.add(Object::new(st.class_object(CoreClass::Array), kind))
 }
 
 /// The values of the parameters of that shape for the arguments of a call (ISO/IEC 30170:2012, 11.3.3 and 13.3.3). A
 /// method and a lambda count their arguments; a Proc takes nil for what is missing, drops what is too much, and where it
 /// has more than one parameter, or one and a rest, takes the elements of one Array as its arguments. Optional parameters
-/// are filled from the left, and what remains is a new Array for the parameter for the rest. A wrong number needs no
-/// memory and changes nothing. Where memory runs out the store is as before.
-#[tactic(auto, unfolding(def_core::specs::Bind::bind))]
+/// are filled from the left, and what remains is a new Array for the parameter for the rest. Where all parameters are
+/// required and their number is given, the values are the arguments. A wrong number needs no memory and changes nothing.
+/// Where memory runs out the store is as before.
+#[tactic(auto, unfolding(def_core::specs::Bind::bind), using(rb_store::proofs::Keeping::keeps_itself, crate::proofs::Required::takes_all))]
 pub fn bind(
     st: &mut Store,
     shape: Shape,
@@ -147,8 +145,10 @@ pub fn bind(
     ensures wrong { IsWrong (defined.bind st.old.store shape args.now kind).bound → IsOk result }
     ensures err { OnErr result (st.new.store ≡ st.old.store) }
     ensures changes { st.new.changes ≡ st.old.changes }
-    ensures sound { Sound st.new.store }
+    ensures keeps { Keeps st.old st.new }
     ensures values { IfOk result (HasValues (census st.new.store)) }
+    ensures required_alone { shape ≡ only shape.required → length args.now ≡ shape.required →
+        defined.bind st.old.store shape args.now kind ≡ as_given st.old.store args.now }
 {
     let alloc = st.alloc();
     let given = Given::of(st, shape, kind, args);

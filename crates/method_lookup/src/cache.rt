@@ -1,8 +1,8 @@
 //! The cache of the search for methods.
-ghost use Rattle.std.specs.Prelude.{◌≡◌, ◌+◌, ◌-◌, ◌^◌, ◌<◌, ◌≤◌, [], None, length, nat_eq, IsOk, IfOk, IfSome, IsSome, OnOk, OnErr};
+ghost use Rattle.std.specs.Prelude.{◌≡◌, ◌+◌, ◌-◌, ◌^◌, ◌<◌, ◌≤◌, [], None, Some, length, nat_eq, IsOk, IfOk, IfSome, IsSome, OnOk, OnErr};
 ghost use Rattle.def_core.specs.Classes.{chain};
 ghost use Rattle.def_core.specs.Find as defined;
-ghost use Rattle.def_core.specs.Sound.{Sound, census, Is, ClassOrModule};
+ghost use Rattle.def_core.specs.Sound.{Sound, census, Is, ClassOrModule, OptionIs, IsFound};
 ghost use Rattle.rb_store.specs.Held.{Held};
 ghost use Rattle.method_lookup.specs.Cache as caches;
 ghost use Rattle.method_lookup.specs.Probes.{probes, counted};
@@ -43,6 +43,41 @@ pub fn new_cache(alloc: Global) -> Cache
 }
 
 impl Cache {
+    /// The number of changes under which it was filled.
+    pub fn number(&self) -> u64
+        ensures { result ≡ self.now.number }
+    {
+        self.number
+    }
+
+    /// The place of a pair among those that are kept. It takes no memory.
+    pub fn place_of(&self, class: ObjId, name: SymId) -> Option<usize>
+        ensures place { result ≡ caches.place_of self.now class name }
+        ensures reads { IfSome result (λ place.
+            caches.read_at self.now place class name ≡ caches.kept_of self.now class name) }
+        ensures missing { result ≡ None → caches.kept_of self.now class name ≡ None }
+    {
+        self.kept.get_index_of(&(class.0, name.0))
+    }
+
+    /// What was found for the class and the name whose pair stands at a place; nothing where another pair stands there,
+    /// or none. It takes no memory.
+    pub fn found_at(&self, place: usize, class: ObjId, name: SymId) -> Option<Found>
+        ensures found { result ≡ caches.read_at self.now place class name }
+        ensures kept { IfSome result (λ found. caches.kept_of self.now class name ≡ Some found) }
+    {
+        match self.kept.get_index(place) {
+            Some((pair, found)) => {
+                if pair.0 == class.0 && pair.1 == name.0 {
+                    Some(*found)
+                } else {
+                    None
+                }
+            }
+            None => None,
+        }
+    }
+
     /// What is known of the pair without a search.
     fn known(&self, changes: u64, class: ObjId, name: SymId) -> Option<Found>
         ensures { result ≡ caches.known self.now changes class name }
@@ -107,7 +142,7 @@ impl Cache {
 /// What [`find`](class_model::find) gives. A pair that is kept under the store's number of changes needs no search, no
 /// step and no memory; at the last number, 2^64 - 1, nothing is trusted. Else each class or module that is asked for
 /// the name ticks once, and what is found is kept. Where memory runs out the cache is as before.
-#[tactic(auto, using(crate::proofs::Caches::right_answer, crate::proofs::Caches::known_is_kept, crate::proofs::Caches::learned_goes, crate::proofs::Caches::learned_number, crate::proofs::Caches::learned_stays, crate::proofs::Caches::learned_keeps))]
+#[tactic(auto, using(crate::proofs::Caches::right_answer, crate::proofs::Caches::known_is_kept, crate::proofs::Caches::learned_goes, crate::proofs::Caches::learned_number, crate::proofs::Caches::learned_stays, crate::proofs::Caches::learned_keeps, crate::proofs::Places::same_places, crate::proofs::Places::learned_places, class_model::proofs::Found::found_is_sound))]
 pub fn find_cached(
     cache: &mut Cache,
     st: &Store,
@@ -119,6 +154,7 @@ pub fn find_cached(
     requires class { Is (census st.now.store) ClassOrModule class }
     requires goes_with { caches.GoesWith cache.old st.now }
     ensures found { IfOk result (λ f. f ≡ defined.find st.now.store.objects class name) }
+    ensures sound { IfOk result (OptionIs (IsFound (census st.now.store))) }
     ensures goes_with { caches.GoesWith cache.new st.now }
     ensures err { OnErr result (cache.new ≡ cache.old) }
     ensures hit { IsSome (caches.known cache.old st.now.changes class name) → steps.new ≡ steps.old }
@@ -128,6 +164,7 @@ pub fn find_cached(
     ensures probes { steps.new ≤ steps.old + length (chain st.now.store.objects class) }
     ensures number { OnOk result (cache.new.number ≡ st.now.changes) }
     ensures stays { OnOk result (caches.Stays cache.old cache.new st.now.changes) }
+    ensures places { OnOk result (caches.PlacesStay cache.old cache.new st.now.changes) }
     ensures keeps { IfOk result (λ f. IfSome f (λ x.
         st.now.changes < 2 ^ 64 - 1 → caches.kept_of cache.new class name ≡ Some x)) }
 {

@@ -44,7 +44,7 @@ fn elements_or<'a>(st: &'a Store, value: Value, others: &'a [Value]) -> &'a [Val
     ensures { result.now ≡ defined.elements_or (defined.elements_in st.now.store.objects value) others.now }
 {
     match value {
-        Value::Obj(id) => match &st.get(id).kind {
+        Value::Obj(id) => match st.get(id).kind() {
             Kind::Array(elements) => elements.as_slice(),
             _ => others,
         },

@@ -6,11 +6,12 @@ mod integers;
 mod ranges;
 
 use Wanted::{Gives, Integers, Raises, Text, Texts};
-use core_number::*;
+use core_methods::call;
 use rb_base::Bytes;
 use rb_store::Store;
 use rb_value::Value::{False, Int, Nil, Obj, Sym, True};
 use rb_value::{CoreClass, Kind, Method, ObjId, Outcome, SymId, Value};
+use row_table::line_at;
 use std::alloc::{AllocError, Global};
 
 /// What a call gives or raises.
@@ -101,10 +102,10 @@ const RANGE: Value = Obj(ObjId(15));
 const KERNEL: Value = Obj(ObjId(1));
 
 /// The row of `Range.new`.
-const NEW_RANGE: u16 = 51;
+const NEW_RANGE: u16 = 31 * 256;
 
 /// Whether the value is one of the store; not told of a Symbol.
-#[tactic(auto, using(core_number::proofs::Values::object_is))]
+#[tactic(auto, using(core_rows::proofs::Texts::object_is))]
 fn is_value(st: &Store, value: Value) -> bool
     ensures { result ≡ true → IsValue (census st.now.store) value }
 {
@@ -125,7 +126,7 @@ fn called(
     requires { Sound st.old.store }
     ensures { Sound st.new.store }
 {
-    if !NumberRow::is_row(row) || !is_value(st, receiver) {
+    if line_at(row).is_none() || !is_value(st, receiver) {
         return Ok(None);
     }
     if args.is_empty() {
@@ -158,8 +159,8 @@ fn row_of(st: &Store, class: CoreClass, name: SymId) -> Option<u16> {
     if id.0 >= st.len() {
         return None;
     }
-    match &st.get(id).kind {
-        Kind::Class(contents) => match contents.methods.get(name) {
+    match st.get(id).kind() {
+        Kind::Class(contents) => match contents.get().methods.get(name) {
             Some(entry) => match entry.method {
                 Method::Core(row) => Some(row),
                 _ => None,
@@ -175,7 +176,7 @@ fn is_text(st: &Store, id: ObjId, text: &[u8]) -> bool {
     if id.0 >= st.len() {
         return false;
     }
-    match &st.get(id).kind {
+    match st.get(id).kind() {
         Kind::String(bytes) => bytes.as_slice() == text,
         _ => false,
     }
@@ -222,7 +223,7 @@ fn items_of(st: &Store, id: ObjId) -> Option<&[Value]> {
     if id.0 >= st.len() {
         return None;
     }
-    match &st.get(id).kind {
+    match st.get(id).kind() {
         Kind::Array(items) => Some(items.as_slice()),
         _ => None,
     }

@@ -28,10 +28,10 @@ pub fn class_name(st: &Store, class: ObjId) -> &[u8]
     requires class { Is (census st.now.store) ClassOrModule class }
     ensures { result.now ≡ texts.class_name st.now.store class }
 {
-    match &st.get(class).kind {
-        Kind::Class(contents) => match contents.name {
+    match st.get(class).kind() {
+        Kind::Class(contents) => match contents.get().name {
             Some(name) => st.symbol_name(name),
-            None => anonymous(contents.form),
+            None => anonymous(contents.get().form),
         },
         _ => anonymous(ClassForm::Module),
     }
@@ -51,7 +51,7 @@ fn bytes_of(st: &Store, string: ObjId) -> &[u8]
     requires { Is (census st.now.store) String string }
     ensures { result.now ≡ texts.bytes_at st.now.store.objects string }
 {
-    match &st.get(string).kind {
+    match st.get(string).kind() {
         Kind::String(bytes) => bytes.as_slice(),
         _ => unreachable!(),
     }

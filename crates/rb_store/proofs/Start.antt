@@ -1,11 +1,15 @@
 -- The store at the start is sound.
-use Rattle.std.proofs.Common.{◌≡◌, ℕ, zero, suc, ◌+◌, ◌<◌, ◌≤◌, List, [], ◌∷◌, ◌++◌, length, map, filter, not, get_or, Bool, true, false, cond, if◌then◌else◌, refl, ap, sym, ◌∙◌, subst, arith, lit<, lit≤, length-append}
+use Rattle.std.proofs.Common.{◌≡◌, ℕ, zero, suc, ◌+◌, ◌<◌, ◌≤◌, List, [], ◌∷◌, ◌++◌, length, map, get_or, Bool, true, false, ◌&&◌, ◌*◌, cond, if◌then◌else◌, refl, ap, sym, ◌∙◌, subst, arith, lit<, lit≤, length-append}
 use Rattle.std.specs.Prelude.{Option, Some, None, nat_eq, nat_lt, slice_get, codes}
+use Rattle.std.specs.Cmp.{first_so, second_so}
 use Rattle.std.specs.List.{position}
 use Rattle.std.specs.Str.{bytes_eq}
 use Rattle.std.proofs.lemmas.Bool.Decides.{nat_tests}
 use Rattle.std.proofs.lemmas.List.Quantifiers.{position-Some}
-use Rattle.rb_value.specs.declared.object.Object.{Object}
+use Rattle.indexmap.specs.IndexMap.{insert_entry}
+use Rattle.rb_value.specs.Object.{Object}
+use Rattle.rb_value.specs.declared.value.Value.{Value}
+use Rattle.rb_value.specs.declared.value.Value.TheVariants.{Obj}
 use Rattle.rb_value.specs.declared.value.ObjId.{ObjId}
 use Rattle.rb_value.specs.declared.method.Method.TheVariants as method
 use Rattle.rb_value.specs.declared.method.Visibility.TheVariants.{Public}
@@ -18,13 +22,16 @@ use Rattle.rb_value.specs.declared.core_class.CoreClass.TheVariants as class
 use Rattle.rb_value.specs.CoreClass.{core_classes, number_of, is_module}
 use Rattle.def_core.specs.Store.{Store, absent, core, fresh}
 use Rattle.def_core.specs.Changes.{intern, intern_at}
-use Rattle.def_core.specs.Rows.{rows, is_row, integer_names, range_names}
-use Rattle.def_core.specs.Sound.{sorts_of, census, Census, Role, Any, Class, Module, ClassOrModule, Superclass, SingletonClass, plays, plays_at, Is, IsSymbol, OptionIs, AllAre, SoundConstant, IsSuperclass, SoundObject, core_sort, Sound}
-use Rattle.def_core.proofs.Roles.{is_plays}
+use Rattle.row_table.specs.RowTable.{is_row, line_at, segment}
+use Rattle.row_table.specs.Names.{names, integer_names, range_names, range_class_names}
+use Rattle.row_table.specs.Segments.{segments}
+use Rattle.def_core.specs.Sound.{sorts_of, census, Census, Role, Any, Class, Module, ClassOrModule, Superclass, SingletonClass, plays, plays_at, Is, IsSymbol, IsValue, OptionIs, AllAre, SoundConstant, IsSuperclass, SoundObject, core_sort, Sound}
+use Rattle.def_core.proofs.Roles.{is_plays, is_by_sort}
 use Rattle.def_core.proofs.Sorts.{sorts-with_method}
 use Rattle.def_core.proofs.Grows.{sound_with_interned, interned}
-use Rattle.def_core.proofs.Keeps.{sound_with_method}
-use Rattle.rb_store.specs.Opening.{constant_for, constants_for, object_constants, constants_of, included_in, superclass_of, core_contents, core_object, nameless, with_names, bare, with_row, with_rows, opening, object_singleton, range_singleton, singleton_of, singleton_object}
+use Rattle.def_core.proofs.Keeps.{sound_with_method, named_kept}
+use Rattle.rb_store.specs.Opening.{with_constant_for, with_constants_for, object_constants, constants_of, included_in, superclass_of, core_contents, core_object, nameless, with_names, bare, with_row, with_rows, IsHeld, holder, with_segment, with_segments, opening, object_singleton, range_singleton, singleton_of, singleton_object}
+use Rattle.rb_store.proofs.Rows.{held_still, nameless_held}
 
 -- the sorts of the core classes, the main object and the two singleton classes, in their order
 abbrev start_sorts : List Sort
@@ -204,26 +211,28 @@ module_root class.RuntimeError e = cc
 module_root class.TypeError e = cc
 module_root class.ZeroDivisionError e = cc
 
-constants_are : (cs : List CoreClass) → AllAre (SoundConstant start) (constants_for cs)
-constants_are [] = tt
-constants_are (c ∷ cs) = elim (not (nat_eq (number_of c) 19)) as
-    (λ b. AllAre (SoundConstant start) (map constant_for
-    (cond b (c ∷ filter (λ x. not (nat_eq (number_of x) 19)) cs) (filter (λ x. not (nat_eq (number_of x) 19)) cs)))) [
-      | true ↦ ((record { below = number_below c }, is_there c), constants_are cs)
-      | false ↦ constants_are cs
+one_constant_more : (table : List (ℕ × Value)) (c : CoreClass) → AllAre (SoundConstant start) table
+    → AllAre (SoundConstant start) (with_constant_for table c)
+one_constant_more table c all = elim (nat_eq (number_of c) 19) as
+    (λ b. AllAre (SoundConstant start) (if b then table else insert_entry nat_eq table (number_of c) (Obj (core c)))) [
+      | true ↦ all
+      | false ↦ named_kept start (IsValue start) table (number_of c) (Obj (core c)) all (number_below c, is_there c)
     ]
+
+constants_are : (table : List (ℕ × Value)) (cs : List CoreClass) → AllAre (SoundConstant start) table
+    → AllAre (SoundConstant start) (with_constants_for table cs)
+constants_are table [] all = all
+constants_are table (c ∷ cs) all = constants_are (with_constant_for table c) cs (one_constant_more table c all)
 
 own_constants : (c : CoreClass) → AllAre (SoundConstant start) (constants_of c)
 unfolding object_constants
 own_constants c = elim (nat_eq (number_of c) 0) as
     (λ b. AllAre (SoundConstant start) (if b then object_constants else
-    (if nat_eq (number_of c) 18 then (record { name = record { 0 = 38 }; value = (constant_for class.Yielder).value }) ∷
-    [] else []))) [
-      | true ↦ constants_are core_classes
+    (if nat_eq (number_of c) 18 then (38, Obj (core class.Yielder)) ∷ [] else []))) [
+      | true ↦ constants_are [] core_classes tt
       | false ↦ elim (nat_eq (number_of c) 18) as
-          (λ b. AllAre (SoundConstant start) (if b then
-          (record { name = record { 0 = 38 }; value = (constant_for class.Yielder).value }) ∷ [] else [])) [
-            | true ↦ ((record { below = lit< tt }, is_there class.Yielder), tt)
+          (λ b. AllAre (SoundConstant start) (if b then (38, Obj (core class.Yielder)) ∷ [] else [])) [
+            | true ↦ ((lit< tt, is_there class.Yielder), tt)
             | false ↦ tt
           ]
     ]
@@ -382,9 +391,12 @@ nameless_sound = (
                                                                             (
                                                                               main_sound,
                                                                               (
-                                                                                singleton_sound 39 (core class.Class) (record { holds = refl }) (lit< tt),
+                                                                                singleton_sound 39 (core class.Class)
+                                                                                    (record { holds = refl }) (lit< tt),
                                                                                 (
-                                                                                  singleton_sound 40 object_singleton (record { holds = refl }) (lit< tt),
+                                                                                  singleton_sound 40 object_singleton
+                                                                                      (record { holds = refl })
+                                                                                      (lit< tt),
                                                                                   tt,
                                                                                 ),
                                                                               ),
@@ -475,11 +487,10 @@ interned_symbol st name = by (position (bytes_eq name) st.symbols) refl
     by None e = record { below = rw length-append (omega arith) }
     by (Some i) e = record { below = (position-Some (bytes_eq name) st.symbols i [] e).0 }
 
-row_is : (n : ℕ) → n < 52 → is_row n ≡ true
-unfolding rows integer_names range_names
-row_is n h =
-    let enough : 52 ≤ length rows = lit≤ tt in
-    grind (arith, nat_tests, enough, h)
+-- the numbers from n on, as many as there are names, are of rows
+abbrev rows_from : ℕ → List (List ℕ) → Bool
+rows_from n [] = true
+rows_from n (name ∷ names) = is_row n && rows_from (n + 1) names
 
 -- a core method keeps the sort of each object
 row_sorts : (st : Store) (c : ObjId) (n : ℕ) (name : List ℕ) → Is (census st) ClassOrModule c
@@ -503,29 +514,42 @@ rows_sorts st c n (name ∷ names) is =
     rows_sorts (with_row c n (intern st name)) c (n + 1) names (same_role st _ ClassOrModule c e is) ∙ e
 
 rows_sound : (st : Store) → Sound st → (c : ObjId) → Is (census st) ClassOrModule c → (n : ℕ) (names : List (List ℕ))
-    → n + length names ≤ 52 → Sound (with_rows st c n names)
+    → rows_from n names ≡ true → Sound (with_rows st c n names)
 unfolding with_rows
 rows_sound st sound c is n [] h = sound
 rows_sound st sound c is n (name ∷ names) h =
     let there = (interned st name).roles ClassOrModule c is in
     rows_sound (with_row c n (intern st name))
     (sound_with_method (intern st name).store (sound_with_interned st sound name) c (intern st name).symbol
-    (method.Core n) Public there (interned_symbol st name) (row_is n (omega (arith, h))))
-    c (same_role st _ ClassOrModule c (row_sorts st c n name is) is) (n + 1) names (omega (arith, h))
+    (method.Core n) Public there (interned_symbol st name) (first_so (is_row n) (rows_from (n + 1) names) h))
+    c (same_role st _ ClassOrModule c (row_sorts st c n name is) is) (n + 1) names
+    (second_so (is_row n) (rows_from (n + 1) names) h)
 
-bare_role : (id : ObjId) → Is start ClassOrModule id → Is (census bare) ClassOrModule id
-bare_role id is = subst (λ (k : Census). Is k ClassOrModule id) (sym bare_census) is
+-- the rows of a segment are rows
+abbrev HasRows : ℕ → Type 0
+HasRows s = rows_from (s * 256) (names s) ≡ true
+
+segments_sound : (st : Store) → Sound st → (ss : List ℕ) → AllAre (IsHeld st.objects) ss → AllAre HasRows ss
+    → Sound (with_segments st ss)
+unfolding with_segments
+segments_sound st sound [] held rows = sound
+segments_sound st sound (s ∷ ss) held rows =
+    let is = is_by_sort st ClassOrModule (holder s) held.0.there held.0.is_class in
+    let e = rows_sorts st (holder s) (s * 256) (names s) is in
+    segments_sound (with_segment st s) (rows_sound st sound (holder s) is (s * 256) (names s) rows.0) ss
+    (all_held ss held.1 e) rows.1
+  where
+    all_held : (ss : List ℕ) → AllAre (IsHeld st.objects) ss
+        → sorts_of (with_segment st s).objects ≡ sorts_of st.objects → AllAre (IsHeld (with_segment st s).objects) ss
+    all_held [] all e = tt
+    all_held (q ∷ qs) all e = (held_still (with_segment st s).objects st.objects q e all.0, all_held qs all.1 e)
+
+segments_have_rows : AllAre HasRows segments
+unfolding line_at segment integer_names range_names range_class_names
+segments_have_rows = (refl, (refl, (refl, tt)))
 
 pub opening_sound : Sound opening
-unfolding opening integer_names range_names
-opening_sound =
-    let integer = bare_role (core class.Integer) (record { holds = refl }) in
-    let range = bare_role (core class.Range) (record { holds = refl }) in
-    let own = bare_role range_singleton (record { holds = refl }) in
-    let first = rows_sound bare bare_sound (core class.Integer) integer 0 integer_names (lit≤ tt) in
-    let with_integer = rows_sorts bare (core class.Integer) 0 integer_names integer in
-    let range_there = same_role bare _ ClassOrModule (core class.Range) with_integer range in
-    let second = rows_sound _ first (core class.Range) range_there 39 range_names (lit≤ tt) in
-    let own_there = same_role _ _ ClassOrModule range_singleton
-    (rows_sorts _ (core class.Range) 39 range_names range_there ∙ with_integer) own in
-    rows_sound _ second range_singleton own_there 51 (codes "new" ∷ []) (lit≤ tt)
+unfolding opening
+opening_sound = segments_sound bare bare_sound segments
+    (subst (λ (objects : List Object). AllAre (IsHeld objects) segments) (sym bare_objects) nameless_held)
+    segments_have_rows

@@ -1,41 +1,46 @@
 -- The store at the start (ISO/IEC 30170:2012, 15): the core classes and modules by their numbers, then the main
 -- object, with the core methods.
-use Rattle.std.specs.Prelude.{ℕ, ◌+◌, List, [], ◌∷◌, ◌++◌, map, filter, not, nat_eq, length, codes, Option, Some, None, if◌then◌else◌}
+use Rattle.std.specs.Prelude.{◌≡◌, ℕ, ◌+◌, ◌*◌, ◌/◌, ◌^◌, ◌<◌, true, List, [], ◌∷◌, ◌++◌, map, nat_eq, length, codes, Option, Some, None, if◌then◌else◌}
+use Rattle.indexmap.specs.IndexMap.{insert_entry}
+use Rattle.rb_value.specs.declared.value.Value.{Value}
 use Rattle.rb_value.specs.declared.value.Value.TheVariants.{Obj}
 use Rattle.rb_value.specs.declared.value.ObjId.{ObjId}
 use Rattle.rb_value.specs.declared.method.Visibility.TheVariants.{Public}
 use Rattle.rb_value.specs.declared.method.Method.TheVariants as method
-use Rattle.rb_value.specs.declared.object.Object.{Object}
+use Rattle.rb_value.specs.Object.{Object}
 use Rattle.rb_value.specs.declared.kind.ClassContents.{ClassContents}
 use Rattle.rb_value.specs.declared.kind.ClassForm.TheVariants as form
-use Rattle.rb_value.specs.declared.kind.Constant.{Constant}
 use Rattle.rb_value.specs.declared.kind.Kind.TheVariants as kind
 use Rattle.rb_value.specs.declared.core_class.CoreClass.{CoreClass}
 use Rattle.rb_value.specs.declared.core_class.CoreClass.TheVariants as class
 use Rattle.rb_value.specs.CoreClass as table
 pub use Rattle.rb_value.specs.CoreClass.{core_classes}
-use Rattle.def_core.specs.Store.{Store, core, fresh, object_number, symbol_number}
+use Rattle.def_core.specs.Store.{Store, core, fresh, object_number, symbol_number, sort_at}
 use Rattle.def_core.specs.Classes.{empty_class}
 use Rattle.def_core.specs.Changes.{intern, with_method, Interned}
-use Rattle.def_core.specs.Rows.{integer_names, range_names}
+use Rattle.def_core.specs.Sound.{plays, ClassOrModule}
+use Rattle.row_table.specs.Segments.{of_class_object, segments}
+use Rattle.row_table.specs.Names.{names}
 
--- the symbol of a core class's name has the class's number
-abbrev pub constant_for : CoreClass → Constant
-constant_for c = record { name = symbol_number (table.number_of c); value = Obj (core c) }
+-- One constant more: the class, where the symbol of its name has its number. Enumerator::Yielder has none here.
+abbrev pub with_constant_for : List (ℕ × Value) → CoreClass → List (ℕ × Value)
+with_constant_for constants c =
+    if nat_eq (table.number_of c) 19 then constants
+    else insert_entry nat_eq constants (table.number_of c) (Obj (core c))
 
--- all of these classes but Enumerator::Yielder
-abbrev pub constants_for : List CoreClass → List Constant
-constants_for classes = map constant_for (filter (λ c. not (nat_eq (table.number_of c) 19)) classes)
+-- the constants of these classes after others
+abbrev pub with_constants_for : List (ℕ × Value) → List CoreClass → List (ℕ × Value)
+with_constants_for constants [] = constants
+with_constants_for constants (c ∷ cs) = with_constants_for (with_constant_for constants c) cs
 
 -- the constants of Object
-unfoldable pub object_constants : List Constant
-object_constants = constants_for core_classes
+unfoldable pub object_constants : List (ℕ × Value)
+object_constants = with_constants_for [] core_classes
 
-abbrev pub constants_of : CoreClass → List Constant
+abbrev pub constants_of : CoreClass → List (ℕ × Value)
 constants_of c =
     if nat_eq (table.number_of c) 0 then object_constants
-    else (if nat_eq (table.number_of c) 18 then (record { name = symbol_number 38; value = Obj (core class.Yielder) }) ∷
-    [] else [])
+    else (if nat_eq (table.number_of c) 18 then (38, Obj (core class.Yielder)) ∷ [] else [])
 
 -- Object includes Kernel
 abbrev pub included_in : CoreClass → List ObjId
@@ -112,9 +117,24 @@ unfoldable pub with_rows : Store → ObjId → ℕ → List (List ℕ) → Store
 with_rows st c n [] = st
 with_rows st c n (name ∷ names) = with_rows (with_row c n (intern st name)) c (n + 1) names
 
--- the rows of the table (def_core, Rows): those of Integer, those of Range, and `new` of Range itself
+-- whose own methods stand in a segment of the table: the class, or the singleton class of the class object
+abbrev pub holder : ℕ → ObjId
+holder s = if nat_eq s (of_class_object class.Range) then range_singleton else object_number (s / 2)
+
+-- a class or module holds the methods of the segment, and its rows have numbers
+pub record IsHeld (objects : List Object) (s : ℕ) : Type 0 where
+  pub there : (holder s).0 < length objects
+  pub is_class : plays ClassOrModule (sort_at objects (holder s)) ≡ true
+  pub rows : s * 256 + length (names s) < 2 ^ 16
+
+-- the methods of a segment, whose rows have its number times 256 and their places
+abbrev pub with_segment : Store → ℕ → Store
+with_segment st s = with_rows st (holder s) (s * 256) (names s)
+
+unfoldable pub with_segments : Store → List ℕ → Store
+with_segments st [] = st
+with_segments st (s ∷ ss) = with_segments (with_segment st s) ss
+
+-- the rows of the table
 unfoldable pub opening : Store
-opening =
-    with_rows (with_rows (with_rows bare (core class.Integer) 0 integer_names) (core class.Range) (length integer_names)
-    range_names)
-    range_singleton (length integer_names + length range_names) (codes "new" ∷ [])
+opening = with_segments bare segments

@@ -1,17 +1,20 @@
 //! The store at the start: the core classes and modules, the main object, and the core methods.
 ghost use Rattle.std.specs.Prelude.{◌≡◌, ◌<◌, ◌+◌, ◌^◌, ◌++◌, ◌∷◌, [], map, length, true, IfOk, OnOk};
-ghost use Rattle.def_core.specs.Store.{sort_at, fresh};
-ghost use Rattle.def_core.specs.Sound.{plays, ClassOrModule, sorts_of, Sound};
+ghost use Rattle.def_core.specs.Store.{sort_at};
+ghost use Rattle.def_core.specs.Sound.{plays, ClassOrModule, sorts_of, AllAre, Sound};
 ghost use Rattle.rb_value.specs.CoreClass.{name_of};
 ghost use Rattle.rb_store.specs.Opening as opening;
 
 use crate::store::Store;
 use crate::symbols::Symbols;
+use chunk_list::ChunkList;
+use pair_table::PairTable;
 use rb_base::List;
 use rb_value::{
-    ClassContents, ClassForm, Constant, CoreClass, Kind, Method, MethodTable, ObjId, Object, SymId,
+    Boxed, ClassContents, ClassForm, CoreClass, Kind, Method, MethodTable, ObjId, Object, SymId,
     Value, Visibility,
 };
+use row_table::SEGMENTS;
 use std::alloc::{AllocError, Global};
 
 /// In the order of their numbers.
@@ -56,66 +59,6 @@ const CORE_CLASSES: [CoreClass; 38] = [
     CoreClass::ZeroDivisionError,
 ];
 
-const INTEGER_METHODS: [&[u8]; 39] = [
-    b"+",
-    b"-",
-    b"*",
-    b"/",
-    b"%",
-    b"**",
-    b"div",
-    b"modulo",
-    b"divmod",
-    b"-@",
-    b"+@",
-    b"~",
-    b"&",
-    b"|",
-    b"^",
-    b"<<",
-    b">>",
-    b"==",
-    b"<=>",
-    b"<",
-    b"<=",
-    b">",
-    b">=",
-    b"abs",
-    b"succ",
-    b"next",
-    b"pred",
-    b"chr",
-    b"ord",
-    b"to_i",
-    b"to_s",
-    b"inspect",
-    b"zero?",
-    b"even?",
-    b"odd?",
-    b"positive?",
-    b"negative?",
-    b"between?",
-    b"clamp",
-];
-
-const RANGE_METHODS: [&[u8]; 12] = [
-    b"first",
-    b"last",
-    b"begin",
-    b"end",
-    b"size",
-    b"exclude_end?",
-    b"include?",
-    b"member?",
-    b"===",
-    b"==",
-    b"to_s",
-    b"inspect",
-];
-
-/// The methods of Range itself.
-const RANGE_OWN_METHODS: [&[u8]; 1] = [b"new"];
-
 /// The number of the symbol `Yielder`.
 const YIELDER: u64 = 38;
 
@@ -124,43 +67,43 @@ const OBJECT_SINGLETON: u64 = 39;
 
 const RANGE_SINGLETON: u64 = 40;
 
-fn constant_for(class: CoreClass) -> Constant
-    ensures { result ≡ opening.constant_for class }
+/// The constants of a class or module by the numbers of their names.
+type Constants = PairTable<u64, Value>;
+
+/// Puts the constant of a class, where it isn't Enumerator::Yielder.
+fn put_constant_for(constants: &mut Constants, class: CoreClass) -> Result<(), AllocError>
+    ensures { OnOk result (constants.new ≡ opening.with_constant_for constants.old class) }
 {
-    Constant {
-        name: SymId(class.number()),
-        value: Value::Obj(ObjId(class.number())),
+    let number = class.number();
+    if number != 19 {
+        constants.insert(number, Value::Obj(ObjId(number)))?;
     }
+    Ok(())
 }
 
-/// The constants for all of these classes but Enumerator::Yielder.
-fn constants_for(alloc: Global, classes: &[CoreClass]) -> Result<List<Constant>, AllocError>
-    ensures { IfOk result (λ list. list ≡ opening.constants_for classes.now) }
+/// The constants of these classes.
+fn constants_for(alloc: Global, classes: &[CoreClass]) -> Result<Constants, AllocError>
+    ensures { IfOk result (λ constants. constants ≡ opening.with_constants_for [] classes.now) }
 {
-    let mut list = List::new(alloc);
+    let mut constants = PairTable::new(alloc);
     'classes: for class in classes {
-        if class.number() != 19 {
-            list.push(constant_for(*class))?;
-        }
+        put_constant_for(&mut constants, *class)?;
     }
-    Ok(list)
+    Ok(constants)
 }
 
 #[tactic(auto, unfolding(rb_value::specs::CoreClass::core_classes, crate::specs::Opening::object_constants))]
-fn constants_of(alloc: Global, class: CoreClass) -> Result<List<Constant>, AllocError>
-    ensures { IfOk result (λ list. list ≡ opening.constants_of class) }
+fn constants_of(alloc: Global, class: CoreClass) -> Result<Constants, AllocError>
+    ensures { IfOk result (λ constants. constants ≡ opening.constants_of class) }
 {
     if class.number() == 0 {
         return constants_for(alloc, &CORE_CLASSES);
     }
-    let mut list = List::new(alloc);
+    let mut constants = PairTable::new(alloc);
     if class.number() == 18 {
-        list.push(Constant {
-            name: SymId(YIELDER),
-            value: Value::Obj(ObjId(19)),
-        })?;
+        constants.insert(YIELDER, Value::Obj(ObjId(19)))?;
     }
-    Ok(list)
+    Ok(constants)
 }
 
 fn included_in(alloc: Global, class: CoreClass) -> Result<List<ObjId>, AllocError>
@@ -216,55 +159,72 @@ fn core_contents(alloc: Global, class: CoreClass) -> Result<ClassContents, Alloc
     })
 }
 
+/// An object with a class, contents and maybe a singleton class.
+fn object_with(
+    alloc: Global,
+    class: ObjId,
+    singleton: Option<ObjId>,
+    kind: Kind,
+) -> Result<Object, AllocError>
+    ensures { IfOk result (λ object. object ≡
+        record { class = class; singleton = singleton; variables = []; kind = kind }) }
+{
+    let mut object = Object::new(class, kind);
+    match singleton {
+        Some(singleton) => {
+            object.set_singleton(alloc, singleton)?;
+            Ok(object)
+        }
+        None => Ok(object),
+    }
+}
+
 #[tactic(auto, unfolding(crate::specs::Opening::core_object))]
 fn core_object(alloc: Global, class: CoreClass) -> Result<Object, AllocError>
     ensures { IfOk result (λ object. object ≡ opening.core_object class) }
 {
     let contents = core_contents(alloc, class)?;
-    Ok(Object {
-        class: ObjId(if class.is_module() { 2 } else { 3 }),
-        singleton: singleton_of(class),
-        variables: List::new(alloc),
-        kind: Kind::Class(contents),
-    })
+    let kind = Kind::Class(Boxed::new(alloc, contents)?);
+    let own_class = ObjId(if class.is_module() { 2 } else { 3 });
+    object_with(alloc, own_class, singleton_of(class), kind)
 }
 
-fn core_objects(alloc: Global, classes: &[CoreClass]) -> Result<Vec<Object>, AllocError>
-    ensures { IfOk result (λ objects. objects.items ≡ map opening.core_object classes.now) }
+fn core_objects(alloc: Global, classes: &[CoreClass]) -> Result<ChunkList<Object>, AllocError>
+    ensures { IfOk result (λ objects. objects ≡ map opening.core_object classes.now) }
 {
-    let mut objects = Vec::new(alloc);
+    let mut objects = ChunkList::new(alloc);
     'classes: for class in classes {
         objects.push(core_object(alloc, *class)?)?;
     }
     Ok(objects)
 }
 
-/// An object with a class and contents alone.
-fn plain_object(alloc: Global, class: ObjId, kind: Kind) -> Object
-    ensures { result ≡ fresh class kind }
-{
-    Object {
-        class,
-        singleton: None,
-        variables: List::new(alloc),
-        kind,
-    }
-}
-
 /// A singleton class without methods.
-fn singleton_object(alloc: Global, superclass: ObjId) -> Object
-    ensures { result ≡ opening.singleton_object superclass }
+fn singleton_object(alloc: Global, superclass: ObjId) -> Result<Object, AllocError>
+    ensures { IfOk result (λ object. object ≡ opening.singleton_object superclass) }
 {
     let contents = ClassContents {
         form: ClassForm::Singleton,
         name: None,
         superclass: Some(superclass),
         included: List::new(alloc),
-        constants: List::new(alloc),
+        constants: PairTable::new(alloc),
         visibility: Visibility::Public,
         methods: MethodTable::new(alloc),
     };
-    plain_object(alloc, ObjId(3), Kind::Class(contents))
+    let kind = Kind::Class(Boxed::new(alloc, contents)?);
+    Ok(Object::new(ObjId(3), kind))
+}
+
+/// Whose own methods stand in a segment of the table of core methods.
+fn holder(segment: u16) -> ObjId
+    ensures { result ≡ opening.holder segment }
+{
+    if segment == 31 {
+        ObjId(RANGE_SINGLETON)
+    } else {
+        ObjId(u64::from(segment / 2))
+    }
 }
 
 impl Store {
@@ -274,9 +234,9 @@ impl Store {
         ensures { IfOk result (λ store. store.store ≡ opening.nameless) }
     {
         let mut objects = core_objects(alloc, &CORE_CLASSES)?;
-        objects.push(plain_object(alloc, ObjId(0), Kind::Plain))?;
-        objects.push(singleton_object(alloc, ObjId(3)))?;
-        objects.push(singleton_object(alloc, ObjId(OBJECT_SINGLETON)))?;
+        objects.push(Object::new(ObjId(0), Kind::Plain))?;
+        objects.push(singleton_object(alloc, ObjId(3))?)?;
+        objects.push(singleton_object(alloc, ObjId(OBJECT_SINGLETON))?)?;
         Ok(Store {
             alloc,
             objects,
@@ -313,6 +273,26 @@ impl Store {
         Ok(())
     }
 
+    /// Adds the core methods of a segment of the table.
+    fn add_segment(&mut self, segment: u16) -> Result<(), AllocError>
+        requires { opening.IsHeld self.old.store.objects segment }
+        ensures ok { OnOk result (self.new.store ≡ opening.with_segment self.old.store segment) }
+        ensures objects { OnOk result (sorts_of self.new.store.objects ≡ sorts_of self.old.store.objects) }
+    {
+        self.add_rows(holder(segment), segment * 256, row_table::names(segment))
+    }
+
+    /// Adds the core methods of segments of the table, in their order.
+    fn add_segments(&mut self, segments: &[u16]) -> Result<(), AllocError>
+        requires { AllAre (opening.IsHeld self.old.store.objects) segments.now }
+        ensures { OnOk result (self.new.store ≡ opening.with_segments self.old.store segments.now) }
+    {
+        'segments: for segment in segments {
+            self.add_segment(*segment)?;
+        }
+        Ok(())
+    }
+
     /// The store at the start: the core classes and modules, the main object, and the core methods. No change of a
     /// class or module is counted yet.
     pub fn new(alloc: Global) -> Result<Store, AllocError>
@@ -323,9 +303,7 @@ impl Store {
         let mut store = Store::nameless(alloc)?;
         store.add_names(&CORE_CLASSES)?;
         store.intern(b"Yielder")?;
-        store.add_rows(ObjId(7), 0, &INTEGER_METHODS)?;
-        store.add_rows(ObjId(15), 39, &RANGE_METHODS)?;
-        store.add_rows(ObjId(RANGE_SINGLETON), 51, &RANGE_OWN_METHODS)?;
+        store.add_segments(&SEGMENTS)?;
         store.changes = 0;
         Ok(store)
     }

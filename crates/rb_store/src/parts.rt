@@ -1,15 +1,19 @@
-//! Changes of one part of an object, in place.
-ghost use Rattle.std.specs.Prelude.{◌≡◌, ◌<◌, ◌++◌, ◌∷◌, [], true, length, Some, OnOk, OnErr};
-ghost use Rattle.def_core.specs.Store.{object_at, sort_at, set_object};
+//! Changes of one part of a class or module, in place.
+ghost use Rattle.std.specs.Prelude.{◌≡◌, ◌<◌, true, length, Some, IfOk, OnOk, OnErr};
+ghost use Rattle.def_core.specs.Store.{object_at, sort_at, set_object, next_number};
 ghost use Rattle.def_core.specs.Classes.{class_at, with_class};
 ghost use Rattle.def_core.specs.Changes as defined;
-ghost use Rattle.def_core.specs.Sound.{plays, ClassOrModule};
-ghost use Rattle.rb_store.specs.Held.{changes_after};
+ghost use Rattle.def_core.specs.Parts.{with_objects, with_singleton_class};
+ghost use Rattle.def_core.specs.Sound.{plays, ClassOrModule, Module, Sound, SoundMethod, SoundObject, census, Is, IsSymbol, IsValue, AllAre};
+ghost use Rattle.rb_value.specs.Sort.{sort_of};
+ghost use Rattle.rb_value.specs.declared.kind.Sort.TheVariants as sorts;
+ghost use Rattle.rb_store.specs.Keeps.{Keeps};
+ghost use Rattle.rb_store.specs.Held.{one_more};
 ghost use Rattle.rb_store.specs.Counted.{IsCounted};
 
-use crate::store::{Store, raised};
+use crate::store::Store;
 use rb_base::List;
-use rb_value::{Constant, Kind, Method, MethodEntry, ObjId, SymId, Visibility};
+use rb_value::{Kind, Method, MethodEntry, ObjId, Object, SymId, Value, Visibility};
 use std::alloc::AllocError;
 
 impl Store {
@@ -25,8 +29,8 @@ impl Store {
         }
     }
 
-    /// Puts a method into the own list of a class or module. Where memory runs out the objects are as before.
-    #[tactic(auto, using(crate::proofs::Counted::class_counted), unfolding(def_core::specs::Changes::with_method))]
+    /// Puts a method into the own list of a class or module. Where memory runs out all is as before.
+    #[tactic(auto, using(crate::proofs::Counted::counted_more), unfolding(def_core::specs::Changes::with_method))]
     pub fn put_method(
         &mut self,
         class: ObjId,
@@ -38,61 +42,70 @@ impl Store {
         requires is_class { plays ClassOrModule (sort_at self.old.store.objects class) ≡ true }
         requires name { name.0 < length self.old.store.symbols }
         ensures ok { OnOk result (self.new.store ≡ defined.with_method self.old.store class name method visibility) }
-        ensures changes { self.new.changes ≡ changes_after self.old.changes (sort_at self.old.store.objects class) }
+        ensures changes { OnOk result (self.new.changes ≡ one_more self.old.changes) }
         ensures counted { IsCounted self.old self.new }
-        ensures err { OnErr result (self.new.store ≡ self.old.store) }
+        ensures err { OnErr result (self.new ≡ self.old) }
+        ensures keeps { Sound self.old.store → SoundMethod (census self.old.store) method → Keeps self.old self.new }
     {
         let visibility = self.visibility_for(name, visibility);
-        let object = &mut self.objects[class.0 as usize];
-        self.changes = raised(self.changes, object.kind.sort());
-        match &mut object.kind {
+        match self.objects.get_mut(class.0 as usize).kind_mut() {
             Kind::Class(contents) => contents
+                .get_mut()
                 .methods
-                .set(name, MethodEntry { method, visibility }),
+                .set(name, MethodEntry { method, visibility })?,
             _ => unreachable!(),
         }
+        self.changes = self.changes.saturating_add(1);
+        Ok(())
     }
 
     /// Sets the visibility of the next methods of a class or module. It takes no memory.
-    #[tactic(auto, using(crate::proofs::Counted::class_counted), unfolding(def_core::specs::Changes::with_default))]
+    #[tactic(auto, unfolding(def_core::specs::Changes::with_default))]
     pub fn put_default(&mut self, class: ObjId, visibility: Visibility)
         requires there { class.0 < length self.old.store.objects }
         requires is_class { plays ClassOrModule (sort_at self.old.store.objects class) ≡ true }
         ensures store { self.new.store ≡
             record self.old.store { objects = defined.with_default self.old.store.objects class visibility } }
-        ensures changes { self.new.changes ≡ changes_after self.old.changes (sort_at self.old.store.objects class) }
+        ensures changes { self.new.changes ≡ self.old.changes }
         ensures counted { IsCounted self.old self.new }
+        ensures keeps { Sound self.old.store → Keeps self.old self.new }
     {
-        let object = &mut self.objects[class.0 as usize];
-        self.changes = raised(self.changes, object.kind.sort());
-        match &mut object.kind {
-            Kind::Class(contents) => contents.visibility = visibility,
+        match self.objects.get_mut(class.0 as usize).kind_mut() {
+            Kind::Class(contents) => contents.get_mut().visibility = visibility,
             _ => unreachable!(),
         }
     }
 
-    /// Puts a constant after the others of a class or module. Where memory runs out the objects are as before.
-    #[tactic(auto, using(crate::proofs::Counted::class_counted))]
-    pub fn put_constant(&mut self, class: ObjId, constant: Constant) -> Result<(), AllocError>
+    /// Puts a constant into a class or module: one that is there keeps its place, and a new one goes last. Where memory
+    /// runs out all is as before.
+    pub fn put_constant(
+        &mut self,
+        class: ObjId,
+        name: SymId,
+        value: Value,
+    ) -> Result<(), AllocError>
         requires there { class.0 < length self.old.store.objects }
         requires is_class { plays ClassOrModule (sort_at self.old.store.objects class) ≡ true }
         ensures ok { OnOk result (self.new.store ≡ record self.old.store {
-          objects = defined.with_constant self.old.store.objects class constant.name constant.value;
+          objects = defined.with_constant self.old.store.objects class name value;
         }) }
-        ensures changes { self.new.changes ≡ changes_after self.old.changes (sort_at self.old.store.objects class) }
+        ensures changes { self.new.changes ≡ self.old.changes }
         ensures counted { IsCounted self.old self.new }
-        ensures err { OnErr result (self.new.store ≡ self.old.store) }
+        ensures err { OnErr result (self.new ≡ self.old) }
+        ensures keeps { Sound self.old.store → IsSymbol (census self.old.store) name
+            → IsValue (census self.old.store) value → Keeps self.old self.new }
     {
-        let object = &mut self.objects[class.0 as usize];
-        self.changes = raised(self.changes, object.kind.sort());
-        match &mut object.kind {
-            Kind::Class(contents) => contents.constants.push(constant),
+        match self.objects.get_mut(class.0 as usize).kind_mut() {
+            Kind::Class(contents) => {
+                contents.get_mut().constants.insert(name.0, value)?;
+                Ok(())
+            }
             _ => unreachable!(),
         }
     }
 
     /// Puts another list of included modules into a class or module. It takes no memory.
-    #[tactic(auto, using(crate::proofs::Counted::class_counted))]
+    #[tactic(auto, using(crate::proofs::Counted::counted_more))]
     pub fn put_included(&mut self, class: ObjId, included: List<ObjId>)
         requires there { class.0 < length self.old.store.objects }
         requires is_class { plays ClassOrModule (sort_at self.old.store.objects class) ≡ true }
@@ -100,30 +113,56 @@ impl Store {
           objects = with_class self.old.store.objects class
               (record (class_at self.old.store.objects class) { included = included });
         } }
-        ensures changes { self.new.changes ≡ changes_after self.old.changes (sort_at self.old.store.objects class) }
+        ensures changes { self.new.changes ≡ one_more self.old.changes }
         ensures counted { IsCounted self.old self.new }
+        ensures keeps { Sound self.old.store → AllAre (Is (census self.old.store) Module) included
+            → Keeps self.old self.new }
     {
-        let object = &mut self.objects[class.0 as usize];
-        self.changes = raised(self.changes, object.kind.sort());
-        match &mut object.kind {
-            Kind::Class(contents) => contents.included = included,
+        match self.objects.get_mut(class.0 as usize).kind_mut() {
+            Kind::Class(contents) => contents.get_mut().included = included,
             _ => unreachable!(),
         }
+        self.changes = self.changes.saturating_add(1);
     }
 
-    /// Gives an object a singleton class. It takes no memory.
-    #[tactic(auto, using(crate::proofs::Counted::set_counted))]
-    pub fn put_singleton(&mut self, id: ObjId, singleton: ObjId)
-        requires there { id.0 < length self.old.store.objects }
-        ensures store { self.new.store ≡ record self.old.store {
-          objects = set_object self.old.store.objects id
-              (record (object_at self.old.store.objects id) { singleton = Some singleton });
-        } }
-        ensures changes { self.new.changes ≡ changes_after self.old.changes (sort_at self.old.store.objects id) }
-        ensures counted { IsCounted self.old self.new }
+    /// Gives an object a singleton class. Where memory runs out all is as before.
+    fn set_singleton(&mut self, id: ObjId, singleton: ObjId) -> Result<(), AllocError>
+        requires { id.0 < length self.old.store.objects }
+        ensures ok { OnOk result (self.new ≡ record self.old {
+          store = with_objects self.old.store (set_object self.old.store.objects id
+              (record (object_at self.old.store.objects id) { singleton = Some singleton }));
+        }) }
+        ensures err { OnErr result (self.new ≡ self.old) }
     {
-        let object = &mut self.objects[id.0 as usize];
-        self.changes = raised(self.changes, object.kind.sort());
-        object.singleton = Some(singleton);
+        let alloc = self.alloc;
+        self.objects
+            .get_mut(id.0 as usize)
+            .set_singleton(alloc, singleton)
+    }
+
+    /// Puts a singleton class after the other objects and gives it to an object. Where memory runs out all is as before.
+    #[tactic(auto, using(crate::proofs::Attached::attached))]
+    pub fn add_singleton(&mut self, id: ObjId, class: Object) -> Result<ObjId, AllocError>
+        requires { id.0 < length self.old.store.objects }
+        ensures number { IfOk result (λ singleton. singleton ≡ next_number self.old.store) }
+        ensures ok { OnOk result (self.new.store ≡ record self.old.store {
+          objects = with_singleton_class self.old.store.objects id class;
+        }) }
+        ensures changes { self.new.changes ≡ self.old.changes }
+        ensures counted { IsCounted self.old self.new }
+        ensures err { OnErr result (self.new ≡ self.old) }
+        ensures keeps { Sound self.old.store → sort_of class.kind ≡ sorts.Singleton
+            → SoundObject (census self.old.store) (length self.old.store.objects) class → Keeps self.old self.new }
+    {
+        let count = self.objects.len();
+        self.objects.push(class)?;
+        let singleton = ObjId(count as u64);
+        match self.set_singleton(id, singleton) {
+            Ok(()) => Ok(singleton),
+            Err(error) => {
+                self.objects.truncate(count);
+                Err(error)
+            }
+        }
     }
 }

@@ -3,10 +3,14 @@ ghost use Rattle.rb_value.specs.CoreClass.{number_of};
 ghost use Rattle.rb_value.specs.Sort.{sort_of};
 ghost use Rattle.def_core.specs.Store.{object_at, sort_at, set_object, with_object, next_number, name_at, core};
 ghost use Rattle.def_core.specs.Changes as defined;
+ghost use Rattle.def_core.specs.Parts.{with_objects};
+ghost use Rattle.def_core.specs.Sound.{Sound, SoundObject, SoundFrom, census};
+ghost use Rattle.rb_store.specs.Keeps.{Keeps};
 ghost use Rattle.rb_store.specs.Held.{changes_after};
 ghost use Rattle.rb_store.specs.Counted.{IsCounted};
 
 use crate::symbols::Symbols;
+use chunk_list::ChunkList;
 use rb_base::List;
 use rb_value::{CoreClass, ObjId, Object, Sort, SymId};
 use std::alloc::{AllocError, Global};
@@ -17,7 +21,7 @@ use std::mem;
 #[derive(Drop)]
 pub struct Store {
     pub(crate) alloc: Global,
-    pub(crate) objects: Vec<Object>,
+    pub(crate) objects: ChunkList<Object>,
     pub(crate) symbols: Symbols,
     pub(crate) changes: u64,
 }
@@ -28,7 +32,7 @@ impl Model for Store {
     ghost Value = { Held };
 
     ghost view = { λ s. record {
-      store = record { objects = s.objects.items; symbols = s.symbols };
+      store = record { objects = s.objects; symbols = s.symbols };
       changes = s.changes;
     } };
 }
@@ -71,7 +75,7 @@ impl Store {
         requires { id.0 < length self.now.store.objects }
         ensures { result.now ≡ object_at self.now.store.objects id }
     {
-        &self.objects[id.0 as usize]
+        self.objects.get(id.0 as usize)
     }
 
     /// Puts an object after the others, and gives its number. Where memory runs out all is as before.
@@ -82,22 +86,27 @@ impl Store {
         ensures changes { self.new.changes ≡ self.old.changes }
         ensures counted { IsCounted self.old self.new }
         ensures err { OnErr result (self.new.store ≡ self.old.store) }
+        ensures keeps { Sound self.old.store
+            → SoundObject (census self.old.store) (length self.old.store.objects) object → Keeps self.old self.new }
     {
         let id = ObjId(self.objects.len() as u64);
         self.objects.push(object)?;
         Ok(id)
     }
 
-    /// Puts objects after the others, in their order. Where memory runs out all is as before.
+    /// Puts objects after the others, in their order; they may name each other by the numbers that they get. Where memory
+    /// runs out all is as before.
     pub fn add_all(&mut self, objects: List<Object>) -> Result<(), AllocError>
+        requires sound { Sound self.old.store }
+        requires objects { SoundFrom (census (with_objects self.old.store (self.old.store.objects ++ objects)))
+            (length self.old.store.objects) objects }
+        ensures keeps { Keeps self.old self.new }
         ensures ok { OnOk result (self.new.store ≡ record self.old.store
             { objects = self.old.store.objects ++ objects }) }
         ensures changes { self.new.changes ≡ self.old.changes }
         ensures err { OnErr result (self.new.store ≡ self.old.store) }
     {
-        let mut more = objects.into_vec();
-        self.objects.append(&mut more)?;
-        Ok(())
+        self.objects.append(objects.into_vec())
     }
 
     /// Puts an object of the same sort in the place of another, which it gives back. It takes no memory.
@@ -110,9 +119,11 @@ impl Store {
             { objects = set_object self.old.store.objects id object } }
         ensures changes { self.new.changes ≡ changes_after self.old.changes (sort_of object.kind) }
         ensures counted { IsCounted self.old self.new }
+        ensures keeps { Sound self.old.store → SoundObject (census self.old.store) id.0 object
+            → Keeps self.old self.new }
     {
-        self.changes = raised(self.changes, object.kind.sort());
-        mem::replace(&mut self.objects[id.0 as usize], object)
+        self.changes = raised(self.changes, object.kind().sort());
+        mem::replace(self.objects.get_mut(id.0 as usize), object)
     }
 
     /// The name of a symbol.
@@ -133,6 +144,7 @@ impl Store {
         ensures changes { self.new.changes ≡ self.old.changes }
         ensures counted { IsCounted self.old self.new }
         ensures err { OnErr result (self.new.store ≡ self.old.store) }
+        ensures keeps { Sound self.old.store → Keeps self.old self.new }
     {
         match self.symbols.place_of(name) {
             Some(place) => Ok(SymId(place as u64)),

@@ -1,5 +1,14 @@
 pub mod Value
 pub mod Slot
+pub mod Cell
 pub mod CoreClass
 pub mod MethodTable
 pub mod Sort
+pub mod Key
+pub mod Hash
+pub mod Sending
+pub mod Variables
+pub mod Object
+pub mod RareParts
+pub mod BoxLending
+pub mod ObjectLending

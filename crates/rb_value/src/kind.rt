@@ -2,10 +2,14 @@
 ghost use Rattle.std.specs.Prelude.{◌≡◌};
 ghost use Rattle.rb_value.specs.Sort.{sort_of, sort_of_form};
 
-use crate::key::Key;
-use crate::method::{Shape, Visibility};
+use crate::boxed::Boxed;
+use crate::hash::HashContents;
+use crate::method::Visibility;
 use crate::method_table::MethodTable;
+use crate::procs::ProcContents;
 use crate::value::{ObjId, SymId, Value};
+use list_queue::Queue;
+use pair_table::PairTable;
 use rb_base::{Bytes, List};
 
 /// What a class object is: a class, the singleton class of an object, or a module.
@@ -14,13 +18,6 @@ pub enum ClassForm {
     Class,
     Singleton,
     Module,
-}
-
-/// A constant of a class or module.
-#[derive(Clone, Copy, Debug, PartialEq, Eq)]
-pub struct Constant {
-    pub name: SymId,
-    pub value: Value,
 }
 
 /// The contents of a class or module (ISO/IEC 30170:2012, 13.1 to 13.4).
@@ -33,27 +30,11 @@ pub struct ClassContents {
     pub superclass: Option<ObjId>,
     /// The included modules, in the order in which look-up goes through them.
     pub included: List<ObjId>,
-    pub constants: List<Constant>,
+    /// Its constants by the numbers of their names, in the order in which the names came.
+    pub constants: PairTable<u64, Value>,
     /// The visibility of the next method that is defined.
     pub visibility: Visibility,
     pub methods: MethodTable,
-}
-
-/// A pair of a Hash: the key, the value that is shown as the key, and the value.
-#[derive(Drop)]
-pub struct HashPair {
-    pub key: Key,
-    pub shown: Value,
-    pub value: Value,
-}
-
-/// The contents of a Hash: its pairs in the order of insertion, and what an absent key gives.
-#[derive(Drop)]
-pub struct HashContents {
-    pub pairs: List<HashPair>,
-    pub default: Value,
-    /// A Proc that is called for an absent key.
-    pub block: Option<ObjId>,
 }
 
 /// The ends of a Range: Integers, or the bytes of Strings of one byte.
@@ -68,31 +49,6 @@ pub enum RangeEnds {
 pub struct RangeContents {
     pub ends: RangeEnds,
     pub exclusive: bool,
-}
-
-/// The contents of a Proc with a body of code.
-#[derive(Debug, Drop)]
-pub struct ProcContents {
-    /// The number of the body, depth first.
-    pub code: u32,
-    pub shape: Shape,
-    /// The numbers of the scopes around the body, innermost first.
-    pub scopes: List<u64>,
-    /// The value of `self` in the body.
-    pub receiver: Value,
-    /// The class that has the method in whose text the body stands.
-    pub owner: Option<ObjId>,
-    /// The name by which that method was called.
-    pub name: Option<SymId>,
-    /// The number of the list of classes around the text.
-    pub classes: u64,
-    /// The number of the activation that a `return` ends.
-    pub home: u64,
-    /// The number of the activation that a `break` ends.
-    pub target: Option<u64>,
-    /// The Proc that a `yield` calls.
-    pub block: Option<ObjId>,
-    pub lambda: bool,
 }
 
 /// Where the items of an Enumerator come from: a call with a block, or a Proc that is called with a Yielder.
@@ -118,23 +74,23 @@ pub struct EnumeratorContents {
     pub result: Option<Value>,
 }
 
-/// What an object holds, by what it is.
+/// What an object holds, by what it is. Contents that are long stand apart.
 #[derive(Drop)]
 pub enum Kind {
     /// Nothing but its instance variables.
     Plain,
-    Class(ClassContents),
+    Class(Boxed<ClassContents>),
     String(Bytes),
-    Array(List<Value>),
-    Hash(HashContents),
+    Array(Queue<Value>),
+    Hash(Boxed<HashContents>),
     Range(RangeContents),
-    Proc(ProcContents),
+    Proc(Boxed<ProcContents>),
     /// A Proc whose call enters the row, with the kept value as the receiver.
     CoreProc { row: u16, kept: Value },
     /// A fiber: the Proc that it runs, and whether it has ended.
     Fiber { block: ObjId, ended: bool },
     Exception { message: Value, detail: Value },
-    Enumerator(EnumeratorContents),
+    Enumerator(Boxed<EnumeratorContents>),
     /// What the Proc of an Enumerator is called with: the Proc that takes each item.
     Yielder { block: ObjId },
 }
@@ -177,7 +133,7 @@ impl Kind {
     {
         match self {
             Kind::Plain => Sort::Plain,
-            Kind::Class(contents) => contents.form.sort(),
+            Kind::Class(contents) => contents.get().form.sort(),
             Kind::String(_) => Sort::String,
             Kind::Array(_) => Sort::Array,
             Kind::Hash(_) => Sort::Hash,

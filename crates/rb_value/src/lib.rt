@@ -1,33 +1,43 @@
 //! Values and what a store holds: the values of the language, the core classes, methods, objects with their kinds,
 //! and what calls hand on.
 //!
-//! Types: [`Value`] with [`SymId`] and [`ObjId`], [`Exit`], [`Slot`]; [`CoreClass`]; [`Method`] and [`Visibility`]
+//! Types: [`Value`] with [`SymId`] and [`ObjId`], [`Exit`], [`Slot`], [`Cell`]; [`CoreClass`]; [`Method`] and [`Visibility`]
 //! in a [`MethodEntry`] of a [`MethodTable`], [`Shape`]; [`Object`] with its [`Variable`]s and [`Kind`], whose
-//! [`Sort`] is what it is without its contents; [`Key`]; [`Args`]; [`Failure`] and [`Outcome`].
-//! Their contents are public. Contracts see lists where they hold vectors, texts and maps.
+//! [`Sort`] is what it is without its contents; [`Boxed`]; [`Key`]; [`Args`]; [`Failure`] and [`Outcome`].
+//! What a [`Kind`] holds is public. Contracts see lists where vectors, texts and maps stand, and no box.
 #![tactic(auto)]
 
 pub mod args;
+pub mod boxed;
+pub mod cell;
 pub mod core_class;
 pub mod exit;
+pub mod hash;
 pub mod key;
 pub mod kind;
 pub mod method;
 pub mod method_table;
 pub mod object;
 pub mod outcome;
+pub mod procs;
 pub mod value;
+pub mod variables;
 
 pub use args::Args;
+pub use boxed::Boxed;
+pub use cell::Cell;
 pub use core_class::CoreClass;
 pub use exit::{Exit, Slot};
+pub use hash::{HashContents, HashItem, put_pair};
 pub use key::{Key, KeyPart};
 pub use kind::{
-    ClassContents, ClassForm, Constant, EnumeratorContents, EnumeratorSource, HashContents,
-    HashPair, Kind, ProcContents, RangeContents, RangeEnds, Sort,
+    ClassContents, ClassForm, EnumeratorContents, EnumeratorSource, Kind, RangeContents, RangeEnds,
+    Sort,
 };
 pub use method::{Method, MethodEntry, Shape, Visibility};
 pub use method_table::MethodTable;
-pub use object::{Object, Variable};
+pub use object::Object;
 pub use outcome::{Failure, Outcome};
+pub use procs::{ProcContents, Sending};
 pub use value::{ObjId, SymId, Value};
+pub use variables::{Variable, Variables};

@@ -31,7 +31,7 @@ fn class(st: &Store, v: Value) -> Option<ObjId>
     if id.0 >= st.len() {
         return None;
     }
-    match st.get(id).kind.sort() {
+    match st.get(id).kind().sort() {
         Sort::Class | Sort::Singleton | Sort::Module => Some(id),
         _ => None,
     }
@@ -198,7 +198,7 @@ fn raised(st: &Store, outcome: Outcome, class: CoreClass, text: &[u8]) -> bool {
     if failure.message.0 >= st.len() {
         return false;
     }
-    match &st.get(failure.message).kind {
+    match st.get(failure.message).kind() {
         Kind::String(bytes) => failure.class == class && bytes.as_slice() == text,
         _ => false,
     }

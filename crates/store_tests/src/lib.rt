@@ -8,4 +8,6 @@ mod lookup;
 #[cfg(test)]
 mod objects;
 #[cfg(test)]
+mod parts;
+#[cfg(test)]
 mod values;

@@ -93,7 +93,7 @@ fn numbers(alloc: Global, count: i64) -> Result<Vec<Value>, AllocError>
 /// Whether a value is an Array of these elements.
 fn is_array(st: &Store, value: Value, elements: &[Value]) -> bool {
     match value {
-        Value::Obj(id) if id.0 < st.len() => match &st.get(id).kind {
+        Value::Obj(id) if id.0 < st.len() => match st.get(id).kind() {
             Kind::Array(found) => found.as_slice() == elements,
             _ => false,
         },

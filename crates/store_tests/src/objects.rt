@@ -1,6 +1,5 @@
-use rb_base::List;
 use rb_store::*;
-use rb_value::{CoreClass, Kind, Object, SymId};
+use rb_value::{CoreClass, Kind, Object, Sort, SymId};
 use std::test::Fail;
 
 #[test]
@@ -13,9 +12,9 @@ fn the_store_at_the_start(rt: HostRuntime) -> Result<(), Fail> {
     assert_eq!(rt; store.symbol_name(succ), b"succ".as_slice());
     let integer = store.class_object(CoreClass::Integer);
     assert!(rt; integer.0 < store.len());
-    if let Kind::Class(contents) = &store.get(integer).kind {
-        assert!(rt; contents.methods.get(succ).is_some());
-        assert!(rt; contents.methods.get(class).is_none());
+    if let Kind::Class(contents) = store.get(integer).kind() {
+        assert!(rt; contents.get().methods.get(succ).is_some());
+        assert!(rt; contents.get().methods.get(class).is_none());
     }
     Ok(())
 }
@@ -27,17 +26,11 @@ fn changes_count_classes_alone(rt: HostRuntime) -> Result<(), Fail> {
     let main = store.main_object();
     let object = store.class_object(CoreClass::Object);
     assert!(rt; main.0 < store.len());
-    store.put_singleton(main, object);
+    let singleton = store.add_singleton(main, Object::new(object, Kind::Plain))?;
+    assert_eq!(rt; singleton.0, 41);
+    assert!(rt; main.0 < store.len());
+    assert!(rt; store.get(main).kind().sort() == Sort::Plain);
+    store.set(main, Object::new(object, Kind::Plain));
     assert_eq!(rt; store.changes(), before);
-    assert!(rt; object.0 < store.len());
-    store.put_singleton(object, object);
-    assert!(rt; store.changes() > before);
-    let id = store.add(Object {
-        class: object,
-        singleton: None,
-        variables: List::new(rt.alloc()),
-        kind: Kind::Plain,
-    })?;
-    assert_eq!(rt; id.0, 41);
     Ok(())
 }

@@ -1,4 +1,4 @@
-use rb_base::{Bytes, List};
+use key_list::KeyList;
 use rb_value::*;
 use std::test::Fail;
 
@@ -38,20 +38,27 @@ fn an_entry_keeps_its_place(rt: HostRuntime) -> Result<(), Fail> {
     Ok(())
 }
 
+fn text_part(rt: &HostRuntime, text: &[u8]) -> Result<KeyPart, Fail> {
+    Ok(KeyPart::Text(KeyList::from_slice(rt.alloc(), text)?))
+}
+
+/// The key of an Array of one String.
+fn array_key(rt: &HostRuntime, text: &[u8]) -> Result<Key, Fail> {
+    let mut parts = Vec::new(rt.alloc());
+    parts.push(KeyPart::Array(1))?;
+    parts.push(text_part(rt, text)?)?;
+    Ok(Key::Array(KeyList::from_vec(parts)))
+}
+
 #[test]
 fn keys_by_contents(rt: HostRuntime) -> Result<(), Fail> {
-    let mut parts = List::new(rt.alloc());
-    parts.push(KeyPart::Array(1))?;
-    parts.push(KeyPart::Text(Bytes::from_slice(rt.alloc(), b"a")?))?;
-    let mut others = List::new(rt.alloc());
-    others.push(KeyPart::Array(1))?;
-    others.push(KeyPart::Text(Bytes::from_slice(rt.alloc(), b"b")?))?;
-    let key = Key::Array(parts);
-    assert!(rt; key.is_same(&key));
-    assert!(rt; !key.is_same(&Key::Array(others)));
-    assert!(rt; !Key::Plain(Value::Int(1)).is_same(&Key::Plain(Value::True)));
-    let text = Key::Text(Bytes::from_slice(rt.alloc(), b"a")?);
-    assert!(rt; text.is_same(&Key::Text(Bytes::from_slice(rt.alloc(), b"a")?)));
+    let key = array_key(&rt, b"a")?;
+    assert!(rt; key == array_key(&rt, b"a")?);
+    assert!(rt; key != array_key(&rt, b"b")?);
+    assert!(rt; Key::Plain(Value::Int(1)) != Key::Plain(Value::True));
+    let text = Key::Text(KeyList::from_slice(rt.alloc(), b"a")?);
+    assert!(rt; text == Key::Text(KeyList::from_slice(rt.alloc(), b"a")?));
+    assert!(rt; text != key);
     Ok(())
 }
 

@@ -1,6 +1,7 @@
-use Rattle.std.proofs.Common.{List, ap, sym, ◌∙◌, subst}
-use Rattle.rb_value.specs.declared.object.Object.{Object}
-use Rattle.rb_value.specs.declared.kind.Constant.{Constant}
+use Rattle.std.proofs.Common.{ℕ, List, ap, sym, ◌∙◌, subst}
+use Rattle.rb_value.specs.Object.{Object}
+use Rattle.rb_value.specs.declared.value.Value.{Value}
+use Rattle.rb_value.specs.declared.kind.ClassContents.{ClassContents}
 use Rattle.rb_value.specs.declared.kind.Kind.{Kind}
 use Rattle.def_core.specs.Classes.{contents_of}
 use Rattle.def_core.specs.Changes.{constant_in}
@@ -12,8 +13,9 @@ pub returns-in-Class-clause-there : goal.returns-in-Class-clause-there
 returns-in-Class-clause-there c =
     let st = c.args.st.now.store in
     let class = ap (λ (k : Kind). (contents_of k).constants)
-    (sym (ap (λ (o : Object). o.kind) c.get.ensures) ∙ c.in-Class.is) in
-    let value = c.constant_in.ensures ∙ ap (λ (ks : List Constant). constant_in ks c.args.name)
-    (c.as_slice.ensures ∙ sym class) in
+    (sym (ap (λ (o : Object). o.kind) c.get.ensures) ∙ sym c.kind.ensures ∙ c.in-Class.is) in
+    let own = ap (λ (k : ClassContents). constant_in k.constants c.args.name) c.get-in-Class.ensures in
+    let value = c.constant_in.ensures ∙ own
+    ∙ ap (λ (ks : List (ℕ × Value)). constant_in ks c.args.name) (sym class) in
     subst (OptionIs (IsValue (census st))) (sym value)
     (own_is_value st c.requires.sound c.args.class c.args.name c.requires.class)

@@ -4,7 +4,7 @@ use Rattle.rb_value.specs.declared.value.ObjId.{ObjId}
 use Rattle.def_core.specs.Classes.{lineage}
 use Rattle.def_core.specs.Sound.{census, Any, Is, AllAre}
 use Rattle.class_model.specs.Singletons.{is_missing}
-use Rattle.class_model.proofs.Lineages.{above_is_below, there}
+use Rattle.class_model.proofs.Lineages.{above_is_below}
 use Rattle.class_model.proofs.Members.{all_append, all_filter}
 use Rattle.class_model.proofs.Making.{missing_above, missing_last, missing_is}
 use Rattle.class_model.proofs.singletons.missing.Goals as goal
@@ -19,7 +19,7 @@ superclasses-preserved c =
       there = (above_is_below st c.requires.sound c.superclasses.at c.in-Some.superclass is.there above).0;
       all = subst (AllAre (Is (census st) Any)) (sym c.in_ok-push_missing.ensures)
           (all_append (Is (census st) Any) _ _ is.all
-          (all_filter (Is (census st) Any) p (c.superclasses.at ∷ []) (there st c.superclasses.at is.there, tt)));
+          (all_filter (Is (census st) Any) p (c.superclasses.at ∷ []) (is.there, tt)));
       same =
           ap (λ (xs : List ObjId). xs ++ filter p (lineage st.objects c.in-Some.superclass))
           c.in_ok-push_missing.ensures
@@ -47,4 +47,4 @@ returns-in-None-clause-there c =
     subst (AllAre (Is (census st) Any)) (sym c.in_ok-push_missing.ensures)
     (all_append (Is (census st) Any) _ _ is.all
     (all_filter (Is (census st) Any) (is_missing st.objects) (c.superclasses.at ∷ [])
-    (there st c.superclasses.at is.there, tt)))
+    (is.there, tt)))

@@ -1,4 +1,4 @@
-use Rattle.std.proofs.Common.{◌≡◌, ◌<◌, ◌++◌, length, filter}
+use Rattle.std.proofs.Common.{◌≡◌, ◌++◌, filter}
 use Rattle.class_model.specs.Singletons.{is_missing}
 use Rattle.def_core.specs.Classes.{lineage}
 use Rattle.def_core.specs.Sound.{census, Any, Is, AllAre}
@@ -6,7 +6,7 @@ use Rattle.class_model.proofs.singletons.missing.Given as goal
 
 abbrev pub invariant-superclasses : goal.invariant-superclasses
 invariant-superclasses l = record {
-  there : l.at.0 < length l.st.store.objects;
+  there : Is (census l.st.store) Any l.at;
   all : AllAre (Is (census l.st.store) Any) l.list.items;
   same : l.list.items ++ filter (is_missing l.st.store.objects) (lineage l.st.store.objects l.at) ≡ filter
       (is_missing l.st.store.objects) (lineage l.st.store.objects l.fn.id);

@@ -1,4 +1,4 @@
-use Rattle.method_lookup.proofs.Binds.{sound_rest, values_without_rest, values_with_rest}
+use Rattle.method_lookup.proofs.Binds.{keeps_rest, values_without_rest, values_with_rest}
 use Rattle.method_lookup.proofs.binding.bind.Goals as goal
 
 pub returns-then-not-shape-clause-values : goal.returns-then-not-shape-clause-values
@@ -6,9 +6,10 @@ returns-then-not-shape-clause-values c =
     values_without_rest c.args.st.now.store c.requires.sound c.args.shape c.args.kind c.args.args.now _ _
     c.requires.args c.of-given.ensures.all c.in_ok-list.ensures
 
-pub returns-clause-sound : goal.returns-clause-sound
-returns-clause-sound c = sound_rest c.args.st.now.store c.requires.sound _ c.args.shape c.args.kind c.args.args.now _ _
+pub returns-clause-keeps : goal.returns-clause-keeps
+returns-clause-keeps c = keeps_rest c.args.st.now _ c.requires.sound c.args.shape c.args.kind c.args.args.now _ _
     c.requires.args c.of-given.ensures.all c.in_ok-others.ensures c.in_ok-add_array.ensures.ok
+    c.in_ok-add_array.ensures.changes
 
 pub returns-clause-values : goal.returns-clause-values
 returns-clause-values c =

@@ -1,0 +1,2 @@
+pub mod SameEnds
+pub mod MoreItems

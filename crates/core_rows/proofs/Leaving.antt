@@ -1,0 +1,109 @@
+-- What an answer leaves of a store, whatever code makes it.
+use Rattle.std.proofs.Common.{◌≡◌, ℕ, ℤ, ◌<◌, List, [], ◌∷◌, ◌++◌, length, map, Bool, true, false, refl, ap, sym, ◌∙◌, arith, length-append, if◌then◌else◌}
+use Rattle.std.specs.Prelude.{Option, Some, None}
+use Rattle.std.proofs.lemmas.List.{get_or_append_left}
+use Rattle.rb_value.specs.declared.value.Value.{Value}
+use Rattle.rb_value.specs.declared.value.Value.TheVariants.{Nil, True, False, Int, Sym, Obj}
+use Rattle.rb_value.specs.declared.value.ObjId.{ObjId}
+use Rattle.rb_value.specs.declared.core_class.CoreClass.TheVariants as class
+use Rattle.rb_value.specs.declared.kind.Kind.{Kind}
+use Rattle.rb_value.specs.declared.kind.Kind.TheVariants as kind
+use Rattle.rb_value.specs.declared.kind.RangeContents.{RangeContents}
+use Rattle.rb_value.specs.declared.kind.Sort.TheVariants as sort
+use Rattle.rb_value.specs.Object.{Object}
+use Rattle.rb_value.specs.Sort.{sort_of}
+use Rattle.def_core.specs.Store.{Store, Done, absent, object_at, object_number, set_object, sort_at, with_object}
+use Rattle.def_core.specs.Classes.{contents_of}
+use Rattle.def_core.specs.Changes.{gives}
+use Rattle.def_core.specs.Parts.{with_kind, with_objects}
+use Rattle.def_core.specs.Sound.{Census, census, Sound, SoundObject, SoundKind, Any, Class, ClassOrModule, Is, IsOutcome, IsValue, AllAre, plays, Extends}
+use Rattle.def_core.proofs.Sorts.{sorts-set}
+use Rattle.def_core.proofs.Roles.{is_within}
+use Rattle.def_core.proofs.PartsSound.{sound_with_kind}
+use Rattle.def_core.proofs.Grows.{more_objects, one_more, sound_with_object, core_is_class, extends_itself, extends_both, same_objects}
+use Rattle.rb_store.specs.Counted.{SameLooks, looks_of}
+use Rattle.rb_store.proofs.Counted.{same_looks, same_then, other_changed}
+use Rattle.def_rows.specs.Answers.{text_object, items_object, makes, numbered, with_texts, makes_texts}
+use Rattle.core_rows.proofs.Texts.{object_is, texts_sound, numbered_are, length-with_texts}
+
+-- what a call gives and leaves, beside a sound store
+pub record Leaves (st : Store) (d : Done) : Type 0 where
+  pub sound : Sound d.store
+  pub extends : Extends (census st) (census d.store)
+  pub looks : SameLooks st d.store
+  pub belongs : IsOutcome (census d.store) d.outcome
+
+pub given : (st : Store) → Sound st → (v : Value) → IsValue (census st) v → Leaves st (gives v st)
+given st sound v is = record {
+  sound = sound;
+  extends = extends_itself (census st);
+  looks = same_looks st;
+  belongs = is;
+}
+
+-- New objects.
+
+pub more_same : (st : Store) (more : List Object) → SameLooks st (record st { objects = st.objects ++ more })
+more_same st more = record {
+  roles = λ c is. (more_objects st more).roles ClassOrModule c is;
+  looks = λ c is. ap (λ (x : Object). looks_of (contents_of x.kind))
+      (get_or_append_left st.objects more absent c.0 (is_within st ClassOrModule c is));
+}
+
+pub made : (st : Store) → Sound st → (o : Object) → SoundObject (census st) (length st.objects) o → Leaves st (makes st o)
+made st sound o new =
+    let longer : length st.objects < length (st.objects ++ o ∷ []) = rw length-append (omega arith) in
+    record {
+      sound = sound_with_object st sound o new;
+      extends = one_more st o;
+      looks = more_same st (o ∷ []);
+      belongs = object_is (with_object st o) (object_number (length st.objects)) longer;
+    }
+
+pub text_made : (st : Store) → Sound st → (bytes : List ℕ) → Leaves st (makes st (text_object bytes))
+text_made st sound bytes = made st sound _
+    (record { class = core_is_class st sound class.String refl; singleton = tt; variables = tt; kind = tt })
+
+pub items_made : (st : Store) → Sound st → (items : List Value) → AllAre (IsValue (census st)) items
+    → Leaves st (makes st (items_object items))
+items_made st sound items all = made st sound _
+    (record { class = core_is_class st sound class.Array refl; singleton = tt; variables = tt; kind = all })
+
+pub range_made : (st : Store) → Sound st → (c : ObjId) (r : RangeContents) → Is (census st) Class c
+    → Leaves st (makes st (record { class = c; singleton = None; variables = []; kind = kind.Range r }))
+range_made st sound c r is = made st sound _ (record { class = is; singleton = tt; variables = tt; kind = tt })
+
+pub texts_made : (st : Store) → Sound st → (texts : List (List ℕ)) → Leaves st (makes_texts st texts)
+texts_made st sound texts =
+    let all = numbered_are (with_texts st texts) (length st.objects) (length texts)
+    (omega (arith, length-with_texts st texts)) in
+    let k = items_made (with_texts st texts) (texts_sound st sound texts) (numbered (length st.objects) (length texts)) all in
+    record {
+      sound = k.sound;
+      extends = extends_both _ _ _ (more_objects st _) k.extends;
+      looks = same_then _ _ _ (more_same st _) k.looks;
+      belongs = k.belongs;
+    }
+
+numbers_are : (k : Census) (zs : List ℤ) → AllAre (IsValue k) (map Int zs)
+numbers_are k [] = tt
+numbers_are k (z ∷ zs) = (tt, numbers_are k zs)
+
+pub numbers_made : (st : Store) → Sound st → (zs : List ℤ) → Leaves st (makes st (items_object (map Int zs)))
+numbers_made st sound zs = items_made st sound (map Int zs) (numbers_are (census st) zs)
+
+-- An object that is no class with other contents of its sort.
+
+pub changed : (st : Store) → Sound st → (id : ObjId) → Is (census st) Any id → (k : Kind)
+    → sort_of k ≡ sort_at st.objects id → plays ClassOrModule (sort_at st.objects id) ≡ false
+    → SoundKind (census st) id.0 k → Leaves st (gives (Obj id) (with_objects st (with_kind st.objects id k)))
+changed st sound id is k same other new =
+    let within = is_within st Any id is in
+    let o : Object = record (object_at st.objects id) { kind = k } in
+    let e = same_objects st (set_object st.objects id o) (sorts-set st.objects id o same) in
+    record {
+      sound = sound_with_kind st sound id k within same new;
+      extends = e;
+      looks = other_changed st id o same other;
+      belongs = e.roles Any id is;
+    }

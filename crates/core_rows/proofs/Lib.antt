@@ -1,0 +1,6 @@
+pub mod Objects
+pub mod Checked
+pub mod Texts
+pub mod Leaving
+pub mod Places
+pub mod Keeping

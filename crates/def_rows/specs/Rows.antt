@@ -1,0 +1,32 @@
+-- What each core method gives, and what its call then gives and leaves, by its row.
+use Rattle.std.specs.Prelude.{ℕ, List, Option, Some, None}
+use Rattle.rb_value.specs.declared.value.Value.{Value}
+use Rattle.rb_value.specs.declared.value.Value.TheVariants.{Nil}
+use Rattle.rb_value.specs.declared.value.ObjId.{ObjId}
+use Rattle.rb_value.specs.Object.{Object}
+use Rattle.def_core.specs.Store.{Store, Done}
+use Rattle.def_core.specs.Changes.{gives as outcome_of}
+use Rattle.row_table.specs.declared.line.CoreRow.{CoreRow}
+use Rattle.row_table.specs.declared.line.CoreRow.TheVariants.{Integer, Range, RangeClass}
+use Rattle.row_table.specs.declared.range.RangeClassMethod.TheVariants.{New}
+use Rattle.row_table.specs.declared.line.Line.{Line}
+use Rattle.row_table.specs.RowTable.{line_at}
+use Rattle.def_rows.specs.declared.answer.Answer.{Answer}
+use Rattle.def_rows.specs.declared.answer.Answer.TheVariants as answer
+use Rattle.def_rows.specs.Answers.{called}
+use Rattle.def_rows.specs.IntegerRows as integers
+use Rattle.def_rows.specs.RangeRows as ranges
+
+abbrev pub gives : CoreRow → List Object → Value → List Value → Answer
+gives (Integer m) objects recv args = answer.Plain (integers.gives m recv args)
+gives (Range m) objects recv args = answer.Plain (ranges.gives m objects recv args)
+gives (RangeClass New) objects recv args = ranges.new_range objects recv args
+
+-- a number that is of no row gives nil
+abbrev pub by_line : Option Line → Value → List Value → Option ObjId → Store → Done
+by_line None recv args block st = outcome_of Nil st
+by_line (Some line) recv args block st = called line.signature (gives line.row) st recv args block
+
+-- the call of the row of that number
+unfoldable pub prim : ℕ → Value → List Value → Option ObjId → Store → Done
+prim row recv args block st = by_line (line_at row) recv args block st

@@ -1,0 +1,143 @@
+//! The elements of Arrays, in place.
+ghost use Rattle.std.specs.Prelude.{◌≡◌, ◌<◌, ◌-◌, ◌∷◌, [], length, slice_get, OnOk, OnErr};
+ghost use Rattle.rb_value.specs.declared.kind.Sort.TheVariants as sorts;
+ghost use Rattle.def_core.specs.Store.{sort_at};
+ghost use Rattle.def_core.specs.Parts as parts;
+ghost use Rattle.def_core.specs.Sound.{Sound, census, IsValue, AllAre};
+ghost use Rattle.rb_store.specs.Keeps.{Keeps};
+
+use crate::store::Store;
+use list_queue::Queue;
+use rb_value::{Kind, ObjId, Value};
+use std::alloc::AllocError;
+use std::mem;
+
+impl Store {
+    /// The elements of an Array; none of any other object. It takes no memory.
+    pub fn elements(&self, id: ObjId) -> &[Value]
+        requires { id.0 < length self.now.store.objects }
+        ensures { result.now ≡ parts.elements_at self.now.store.objects id }
+    {
+        match self.get(id).kind() {
+            Kind::Array(elements) => elements.as_slice(),
+            _ => &[],
+        }
+    }
+
+    /// Puts a value in the place of an element. It takes no memory.
+    pub fn set_element(&mut self, id: ObjId, place: usize, value: Value)
+        requires there { id.0 < length self.old.store.objects }
+        requires array { sort_at self.old.store.objects id ≡ sorts.Array }
+        requires within { place < length (parts.elements_at self.old.store.objects id) }
+        ensures element { self.new ≡ record self.old {
+          store = parts.with_objects self.old.store (parts.with_element self.old.store.objects id place value);
+        } }
+        ensures keeps { Sound self.old.store → IsValue (census self.old.store) value → Keeps self.old self.new }
+    {
+        match self.objects.get_mut(id.0 as usize).kind_mut() {
+            Kind::Array(elements) => elements.set(place, value),
+            _ => unreachable!(),
+        }
+    }
+
+    /// Puts a value after the elements. Where memory runs out all is as before.
+    pub fn push(&mut self, id: ObjId, value: Value) -> Result<(), AllocError>
+        requires there { id.0 < length self.old.store.objects }
+        requires array { sort_at self.old.store.objects id ≡ sorts.Array }
+        ensures ok { OnOk result (self.new ≡ record self.old {
+          store = parts.with_objects self.old.store (parts.with_more self.old.store.objects id (value ∷ []));
+        }) }
+        ensures err { OnErr result (self.new ≡ self.old) }
+        ensures keeps { Sound self.old.store → IsValue (census self.old.store) value → Keeps self.old self.new }
+    {
+        match self.objects.get_mut(id.0 as usize).kind_mut() {
+            Kind::Array(elements) => elements.push(value),
+            _ => unreachable!(),
+        }
+    }
+
+    /// Puts values after the elements, in their order. Where memory runs out all is as before.
+    pub fn append(&mut self, id: ObjId, values: &[Value]) -> Result<(), AllocError>
+        requires there { id.0 < length self.old.store.objects }
+        requires array { sort_at self.old.store.objects id ≡ sorts.Array }
+        ensures ok { OnOk result (self.new ≡ record self.old {
+          store = parts.with_objects self.old.store (parts.with_more self.old.store.objects id values.now);
+        }) }
+        ensures err { OnErr result (self.new ≡ self.old) }
+        ensures keeps { Sound self.old.store → AllAre (IsValue (census self.old.store)) values.now
+            → Keeps self.old self.new }
+    {
+        match self.objects.get_mut(id.0 as usize).kind_mut() {
+            Kind::Array(elements) => elements.append(values),
+            _ => unreachable!(),
+        }
+    }
+
+    /// Takes the last element off. It takes no memory.
+    pub fn pop(&mut self, id: ObjId) -> Option<Value>
+        requires there { id.0 < length self.old.store.objects }
+        requires array { sort_at self.old.store.objects id ≡ sorts.Array }
+        ensures last { result ≡ slice_get (parts.elements_at self.old.store.objects id)
+            (length (parts.elements_at self.old.store.objects id) - 1) }
+        ensures rest { self.new ≡ record self.old {
+          store = parts.with_objects self.old.store (parts.without_last self.old.store.objects id);
+        } }
+        ensures keeps { Sound self.old.store → Keeps self.old self.new }
+    {
+        match self.objects.get_mut(id.0 as usize).kind_mut() {
+            Kind::Array(elements) => elements.pop(),
+            _ => unreachable!(),
+        }
+    }
+
+    /// Takes the first element off. It moves none of the others and takes no memory.
+    pub fn shift(&mut self, id: ObjId) -> Option<Value>
+        requires there { id.0 < length self.old.store.objects }
+        requires array { sort_at self.old.store.objects id ≡ sorts.Array }
+        ensures first { result ≡ slice_get (parts.elements_at self.old.store.objects id) 0 }
+        ensures rest { self.new ≡ record self.old {
+          store = parts.with_objects self.old.store (parts.without_first self.old.store.objects id);
+        } }
+        ensures keeps { Sound self.old.store → Keeps self.old self.new }
+    {
+        match self.objects.get_mut(id.0 as usize).kind_mut() {
+            Kind::Array(elements) => elements.shift(),
+            _ => unreachable!(),
+        }
+    }
+
+    /// Puts a value before the elements. Where memory runs out all is as before.
+    pub fn unshift(&mut self, id: ObjId, value: Value) -> Result<(), AllocError>
+        requires there { id.0 < length self.old.store.objects }
+        requires array { sort_at self.old.store.objects id ≡ sorts.Array }
+        ensures ok { OnOk result (self.new ≡ record self.old {
+          store = parts.with_objects self.old.store (parts.with_elements self.old.store.objects id
+              (value ∷ parts.elements_at self.old.store.objects id));
+        }) }
+        ensures err { OnErr result (self.new ≡ self.old) }
+        ensures keeps { Sound self.old.store → IsValue (census self.old.store) value → Keeps self.old self.new }
+    {
+        let alloc = self.alloc;
+        match self.objects.get_mut(id.0 as usize).kind_mut() {
+            Kind::Array(elements) => elements.unshift(alloc, value),
+            _ => unreachable!(),
+        }
+    }
+
+    /// Puts other elements into an Array, and hands the ones before back. It takes no memory.
+    pub fn replace_elements(&mut self, id: ObjId, elements: Queue<Value>) -> Queue<Value>
+        requires there { id.0 < length self.old.store.objects }
+        requires array { sort_at self.old.store.objects id ≡ sorts.Array }
+        ensures before { result ≡ parts.elements_at self.old.store.objects id }
+        ensures after { self.new ≡ record self.old {
+          store = parts.with_objects self.old.store (parts.with_elements self.old.store.objects id elements);
+        } }
+        ensures keeps { Sound self.old.store → AllAre (IsValue (census self.old.store)) elements
+            → Keeps self.old self.new }
+    {
+        match self.objects.get_mut(id.0 as usize).kind_mut() {
+            Kind::Array(own) => mem::replace(own, elements),
+            _ => unreachable!(),
+        }
+    }
+}

@@ -1,0 +1,110 @@
+//! The pairs of Hashes, in place.
+ghost use Rattle.std.specs.Prelude.{◌≡◌, ◌<◌, length, map, slice_get, option_map, OnOk, OnErr};
+ghost use Rattle.rb_value.specs.declared.kind.Sort.TheVariants as sorts;
+ghost use Rattle.def_core.specs.Store.{sort_at};
+ghost use Rattle.def_core.specs.Parts as parts;
+ghost use Rattle.def_core.specs.Sound.{Sound, census, Proc, Is, IsValue, OptionIs, SoundKey};
+ghost use Rattle.rb_store.specs.Keeps.{Keeps};
+
+use crate::store::Store;
+use rb_value::{HashItem, Key, Kind, ObjId, Value, put_pair};
+use std::alloc::AllocError;
+
+impl Store {
+    /// What stands under a key of a Hash. It takes no memory.
+    pub fn pair(&self, id: ObjId, key: &Key) -> Option<HashItem>
+        requires { id.0 < length self.now.store.objects }
+        ensures { result ≡ parts.pair_of self.now.store.objects id key.now }
+    {
+        match self.get(id).kind() {
+            Kind::Hash(contents) => contents.get().pairs.get(key).copied(),
+            _ => None,
+        }
+    }
+
+    /// What stands at a place among the pairs of a Hash. It takes no memory.
+    pub fn pair_at(&self, id: ObjId, place: usize) -> Option<HashItem>
+        requires { id.0 < length self.now.store.objects }
+        ensures { result ≡ option_map (λ p. p.1) (slice_get (parts.hash_at self.now.store.objects id).pairs place) }
+    {
+        match self.get(id).kind() {
+            Kind::Hash(contents) => match contents.get().pairs.pair_at(place) {
+                Some((_, item)) => Some(*item),
+                None => None,
+            },
+            _ => None,
+        }
+    }
+
+    /// How many pairs a Hash has; none has any other object. It takes no memory.
+    pub fn pair_count(&self, id: ObjId) -> usize
+        requires { id.0 < length self.now.store.objects }
+        ensures { result ≡ length (parts.hash_at self.now.store.objects id).pairs }
+    {
+        match self.get(id).kind() {
+            Kind::Hash(contents) => contents.get().pairs.len(),
+            _ => 0,
+        }
+    }
+
+    /// Gives a key of a Hash a value. A key that is there keeps its place and what is shown as the key, and a new one
+    /// goes last. Where memory runs out all is as before.
+    pub fn put_pair(
+        &mut self,
+        id: ObjId,
+        key: Key,
+        shown: Value,
+        value: Value,
+    ) -> Result<(), AllocError>
+        requires there { id.0 < length self.old.store.objects }
+        requires hash { sort_at self.old.store.objects id ≡ sorts.Hash }
+        ensures ok { OnOk result (self.new ≡ record self.old {
+          store = parts.with_objects self.old.store (parts.with_pair self.old.store.objects id key shown value);
+        }) }
+        ensures err { OnErr result (self.new ≡ self.old) }
+        ensures keeps { Sound self.old.store → SoundKey (census self.old.store) key
+            → IsValue (census self.old.store) shown → IsValue (census self.old.store) value
+            → Keeps self.old self.new }
+    {
+        match self.objects.get_mut(id.0 as usize).kind_mut() {
+            Kind::Hash(contents) => put_pair(&mut contents.get_mut().pairs, key, shown, value),
+            _ => unreachable!(),
+        }
+    }
+
+    /// Takes the pair of a key out of a Hash, and hands it back. The others keep their order. It takes no memory.
+    pub fn remove_pair(&mut self, id: ObjId, key: &Key) -> Option<HashItem>
+        requires there { id.0 < length self.old.store.objects }
+        requires hash { sort_at self.old.store.objects id ≡ sorts.Hash }
+        ensures item { result ≡ parts.pair_of self.old.store.objects id key.now }
+        ensures rest { self.new ≡ record self.old {
+          store = parts.with_objects self.old.store (parts.without_key self.old.store.objects id key.now);
+        } }
+        ensures keeps { Sound self.old.store → Keeps self.old self.new }
+    {
+        match self.objects.get_mut(id.0 as usize).kind_mut() {
+            Kind::Hash(contents) => contents.get_mut().pairs.remove(key),
+            _ => unreachable!(),
+        }
+    }
+
+    /// Sets what an absent key of a Hash gives: a value, or what the block gives where there is one. It takes no memory.
+    pub fn set_absent(&mut self, id: ObjId, default: Value, block: Option<ObjId>)
+        requires there { id.0 < length self.old.store.objects }
+        requires hash { sort_at self.old.store.objects id ≡ sorts.Hash }
+        ensures absent { self.new ≡ record self.old {
+          store = parts.with_objects self.old.store (parts.with_absent self.old.store.objects id default block);
+        } }
+        ensures keeps { Sound self.old.store → IsValue (census self.old.store) default
+            → OptionIs (Is (census self.old.store) Proc) block → Keeps self.old self.new }
+    {
+        match self.objects.get_mut(id.0 as usize).kind_mut() {
+            Kind::Hash(contents) => {
+                let contents = contents.get_mut();
+                contents.default = default;
+                contents.block = block;
+            }
+            _ => unreachable!(),
+        }
+    }
+}

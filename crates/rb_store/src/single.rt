@@ -1,0 +1,67 @@
+//! Changes of single facts of objects, in place: an instance variable, the sending of a Proc, the end of a fiber.
+ghost use Rattle.std.specs.Prelude.{◌≡◌, ◌<◌, length, OnOk, OnErr};
+ghost use Rattle.rb_value.specs.declared.kind.Sort.TheVariants as sorts;
+ghost use Rattle.def_core.specs.Store.{sort_at};
+ghost use Rattle.def_core.specs.Parts as parts;
+ghost use Rattle.def_core.specs.Sound.{Sound, census, IsSymbol, IsValue};
+ghost use Rattle.rb_store.specs.Keeps.{Keeps};
+
+use crate::store::Store;
+use rb_value::{Kind, ObjId, SymId, Value};
+use std::alloc::AllocError;
+
+impl Store {
+    /// The value of an instance variable, where it was set. It takes no memory.
+    pub fn variable(&self, id: ObjId, name: SymId) -> Option<Value>
+        requires { id.0 < length self.now.store.objects }
+        ensures { result ≡ parts.variable_of self.now.store.objects id name }
+    {
+        self.get(id).variable(name)
+    }
+
+    /// Sets an instance variable: one that was set before keeps its place. Where memory runs out all is as before.
+    pub fn set_variable(&mut self, id: ObjId, name: SymId, value: Value) -> Result<(), AllocError>
+        requires { id.0 < length self.old.store.objects }
+        ensures ok { OnOk result (self.new ≡ record self.old {
+          store = parts.with_objects self.old.store (parts.with_variable self.old.store.objects id name value);
+        }) }
+        ensures err { OnErr result (self.new ≡ self.old) }
+        ensures keeps { Sound self.old.store → IsSymbol (census self.old.store) name
+            → IsValue (census self.old.store) value → Keeps self.old self.new }
+    {
+        let alloc = self.alloc;
+        self.objects
+            .get_mut(id.0 as usize)
+            .set_variable(alloc, name, value)
+    }
+
+    /// Notes that a Proc was the block of a call that opened that activation, or none. Only the first call counts; a
+    /// Proc of a core method has no such fact. It takes no memory.
+    pub fn send_proc(&mut self, id: ObjId, activation: Option<u64>)
+        requires { id.0 < length self.old.store.objects }
+        ensures sent { self.new ≡ record self.old {
+          store = parts.with_objects self.old.store (parts.with_sent self.old.store.objects id activation);
+        } }
+        ensures keeps { Sound self.old.store → Keeps self.old self.new }
+    {
+        if let Kind::Proc(contents) = self.objects.get_mut(id.0 as usize).kind_mut() {
+            let contents = contents.get_mut();
+            contents.sending = contents.sending.sent_to(activation);
+        }
+    }
+
+    /// Notes that a fiber has ended. It takes no memory.
+    pub fn end_fiber(&mut self, id: ObjId)
+        requires there { id.0 < length self.old.store.objects }
+        requires fiber { sort_at self.old.store.objects id ≡ sorts.Fiber }
+        ensures ended { self.new ≡ record self.old {
+          store = parts.with_objects self.old.store (parts.with_ended self.old.store.objects id);
+        } }
+        ensures keeps { Sound self.old.store → Keeps self.old self.new }
+    {
+        match self.objects.get_mut(id.0 as usize).kind_mut() {
+            Kind::Fiber { block: _, ended } => *ended = true,
+            _ => unreachable!(),
+        }
+    }
+}
