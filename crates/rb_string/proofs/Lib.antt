@@ -1,0 +1,11 @@
+pub mod Apart
+pub mod Digits
+pub mod Escapes
+pub mod Expansions
+pub mod Limits
+pub mod Orders
+pub mod Pads
+pub mod PartLaws
+pub mod Places
+pub mod Searches
+pub mod Within

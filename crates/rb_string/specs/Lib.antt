@@ -1,0 +1,13 @@
+pub mod Comparison
+pub mod Editing
+pub mod Failure
+pub mod Inspection
+pub mod Letters
+pub mod Limit
+pub mod Numeral
+pub mod Padding
+pub mod Parts
+pub mod Searching
+pub mod Slicing
+pub mod Stripping
+pub mod Substitution
