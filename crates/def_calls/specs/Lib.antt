@@ -1,0 +1,12 @@
+pub mod Seen
+pub mod World
+pub mod Views
+pub mod Checks
+pub mod Constants
+pub mod Values
+pub mod Definitions
+pub mod Rows
+pub mod Plain
+pub mod Plans
+pub mod Fibers
+pub mod Calls

@@ -1,0 +1,7 @@
+pub mod Ended
+pub mod Running
+pub mod Writing
+pub mod Closures
+pub mod Exits
+pub mod Classes
+pub mod Values

@@ -1,0 +1,5 @@
+pub mod State
+pub mod Unwind
+pub mod Entering
+pub mod Turn
+pub mod Fits
