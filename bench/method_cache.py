@@ -15,7 +15,8 @@ from program import built, seconds
 ROUNDS = 200_000_000
 
 # The crates below the program, lowest first.
-BELOW = ("rb_base", "rb_value", "def_core", "rb_store", "rb_raise", "class_model", "method_lookup")
+BELOW = ("rb_base", "chunk_list", "key_list", "list_queue", "pair_table", "rb_value", "def_core", "rb_store", "rb_raise", "class_model",
+         "method_lookup")
 
 PROGRAM = """//! Looks kept methods up, or gets objects.
 #![tactic(auto)]
@@ -57,7 +58,7 @@ fn get(st: &Store, rounds: u64) -> u64
 {
     let mut sum: u64 = 0;
     for round in 0..rounds {
-        sum = sum.wrapping_add(st.get(ObjId(round % 16)).class.0);
+        sum = sum.wrapping_add(st.get(ObjId(round % 16)).class().0);
     }
     sum
 }

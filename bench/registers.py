@@ -13,7 +13,7 @@ import tempfile
 from program import built, seconds
 
 # The crates below the program, lowest first.
-BELOW = ("rb_base", "slot_pool", "rb_value", "stack_bank")
+BELOW = ("rb_base", "slot_pool", "key_list", "list_queue", "pair_table", "rb_value", "stack_bank")
 
 PROGRAM = """//! Reads and writes registers through a window of a stack, or places of a vector.
 #![tactic(auto)]
