@@ -17,7 +17,9 @@ def built(folder, name, below, files):
     """The program of that name over these crates, the lowest first. `files` has its files by their paths in its crate."""
     for crate in below:
         target = os.path.join(folder, "crates", crate)
-        shutil.copytree(os.path.join(TOP, "crates", crate), target, ignore=shutil.ignore_patterns("out"))
+        top = os.path.join(TOP, "crates", crate)
+        # (a proof may have a folder named `out`, after its function)
+        shutil.copytree(top, target, ignore=lambda at, names: {"out"} & set(names) if at == top else set())
     with open(os.path.join(TOP, "crates.txt")) as file:
         lines = {line.split(":")[0]: line.split(":")[1].split() for line in file if ":" in line}
     others = {crate for one in below for crate in lines[one]} - set(below)
