@@ -25,4 +25,3 @@ pub mod Programs
 pub mod Budgets
 pub mod Scopes
 pub mod Within
-pub mod Absent

@@ -1,7 +1,7 @@
 -- The form that a core form stands for, where the generator builds it.
 use Rattle.std.specs.Prelude.{ℕ, ◌-◌, nat_le, Bool, true, false, ◌&&◌, [], length, Option, Some, None, codes, bytes_eq, if◌then◌else◌}
 use Rattle.ir_core.specs.CoreForm as core
-use Rattle.ir_core.specs.CoreForm.{CoreForm, CoreForms}
+use Rattle.ir_core.specs.CoreForm.{Local, CoreForm, Body, Items, Branches, Receiver}
 use Rattle.path_core.specs.Form.{Name, give_nil, give_true, give_int, call_operator, call_puts, Form, strict, local, set_local, seq, cond, while_form, Forms, none, more, one, two}
 use Rattle.code_generator.specs.Limits.{is_plain, is_scoped, has_short_sums, parts}
 use Rattle.code_generator.specs.Names.{names_of}
@@ -22,10 +22,18 @@ operation_of a x none = None
 operation_of a x (more b none) = operator_named x >>= (λ o. Some (strict (call_operator o) (two a b)))
 operation_of a x (more b (more c cs)) = None
 
--- what a call on self with arguments or parentheses is sent to
-abbrev pub is_absent : CoreForm → Bool
-is_absent core.absent = true
-is_absent r = false
+-- the read of a local of the source, and an assignment to one
+abbrev pub read_of : Local → Option Form
+read_of (core.named x) = Some (local x)
+read_of (core.hidden d) = None
+read_of (core.pattern k) = None
+read_of core.rest = None
+
+abbrev pub set_of : Local → Option Form → Option Form
+set_of (core.named x) e = e >>= (λ v. Some (set_local x v))
+set_of (core.hidden d) e = None
+set_of (core.pattern k) e = None
+set_of core.rest e = None
 
 -- a call without a block: on self, or on a receiver with a form
 abbrev pub call_of : Bool → Option Form → Name → Option Forms → Option Form
@@ -44,24 +52,35 @@ abbrev mutual
   form_of core.nil = Some (strict give_nil none)
   form_of core.truth = Some (strict give_true none)
   form_of (core.int n) = Some (strict (give_int n) none)
-  form_of (core.local x) = Some (local x)
-  form_of (core.set_local x e) = form_of e >>= (λ v. Some (set_local x v))
+  form_of (core.local x) = read_of x
+  form_of (core.set_local x e) = set_of x (form_of e)
   form_of (core.seq es) = lines_of (all_of es)
   form_of (core.cond bs o) = cond_of bs (form_of o)
   form_of (core.while_form first t b) = loop_of first (form_of t) (form_of b)
-  form_of (core.call r x is core.none) = call_of (is_absent r) (form_of r) x (all_of is)
+  form_of (core.call r x is core.absent) = called r x (all_items is)
   form_of _ = None
 
-  pub all_of : CoreForms → Option Forms
+  -- a call without a block, by what it is sent to
+  pub called : Receiver → Name → Option Forms → Option Form
+  called (core.to r) x is = call_of false (form_of r) x is
+  called core.on_self x is = call_of true None x is
+  called core.bare x is = None
+
+  pub all_of : core.Forms → Option Forms
   all_of core.none = Some none
   all_of (core.more f fs) = form_of f >>= (λ x. all_of fs >>= (λ xs. Some (more x xs)))
 
+  -- the elements of a value are no form
+  pub all_items : Items → Option Forms
+  all_items core.no_items = Some none
+  all_items (core.plain f is) = form_of f >>= (λ x. all_items is >>= (λ xs. Some (more x xs)))
+  all_items (core.splat f is) = None
+
   -- several branches are a branch in the place of the other form of the one before
-  pub cond_of : CoreForms → Option Form → Option Form
-  cond_of core.none other = other
-  cond_of (core.more (core.branch t b) bs) other =
+  pub cond_of : Branches → Option Form → Option Form
+  cond_of core.no_branches other = other
+  cond_of (core.branch t b bs) other =
       form_of t >>= (λ test. form_of b >>= (λ body. cond_of bs other >>= (λ o. Some (cond test body o))))
-  cond_of _ other = None
 
 -- what the generator asks of a form: known names, numbers that fit, and sizes
 abbrev pub is_within : Form → Bool
@@ -76,15 +95,15 @@ abbrev pub of_program : Form → Form
 of_program (strict give_nil none) = seq none
 of_program f = f
 
--- the form of a core that the generator builds
-abbrev pub built : CoreForm → Option Form
-built c = form_of c >>= (λ f. within (of_program f))
+-- the form of a program that the generator builds
+abbrev pub built : Body → Option Form
+built b = form_of (core.form_of b) >>= (λ f. within (of_program f))
 
--- the code of a form within the limits, and of a core that the generator builds
+-- the code of a form within the limits, and of a program that the generator builds
 abbrev pub code_within : Form → Option Program
 code_within f = within f >>= (λ g. Some (code_of g))
 
-abbrev pub code_built : CoreForm → Option Program
+abbrev pub code_built : Body → Option Program
 code_built c = built c >>= (λ f. Some (code_of f))
 
 -- what is left of a number where so many are taken from it

@@ -3,12 +3,11 @@ use Rattle.std.specs.Prelude.{List, [], ◌∷◌, map, Option, Some, None, true
 use Rattle.std.specs.declared.alloc.Global.{Global}
 use Rattle.path_core.specs.Form.{Name, Action, Form, Forms, none, more, forms, one, two, give_nil, give_true, give_int, call_operator, call_puts, strict, local, set_local, seq, cond, while_form}
 use Rattle.code_generator.specs.Limits.{is_number}
-use Rattle.ir_core.specs.CoreForm as core
-use Rattle.ir_core.specs.CoreForm.{CoreForm, CoreForms}
-use Rattle.ir_core.specs.declared.term.Receiver.{Receiver}
-use Rattle.ir_core.specs.declared.term.Receiver.TheVariants.{To, Absent, Bare}
-use Rattle.ir_core.specs.PartsBy.{Boxed}
-use Rattle.code_generator.specs.Built.{form_of, all_of, call_of}
+use Rattle.rb_syntax.specs.declared.core_form.Item.{Item}
+use Rattle.rb_syntax.specs.declared.core_form.Item.TheVariants.{Plain, Splat}
+use Rattle.ir_core.specs.CoreForm.{CoreForm}
+use Rattle.ir_core.specs.PartsBy.{Boxed, core_by}
+use Rattle.code_generator.specs.Built.{form_of}
 use Rattle.rb_base.specs.Option.{◌>>=◌}
 use Rattle.code_generator.specs.declared.tree.Tree.{Tree, fold-Tree}
 use Rattle.code_generator.specs.declared.tree.Tree.TheOpen.{Tree-F}
@@ -56,12 +55,10 @@ abbrev pub before_all : List Form → Option Forms → Option Forms
 before_all fs None = None
 before_all fs (Some xs) = Some (before fs xs)
 
--- the form of a call, by what it is sent to
-abbrev pub called : {T : Type 0} → (T → CoreForm) → Receiver (Boxed T) → Name → CoreForms → CoreForms → Option Form
-called v (To a) x is core.none = call_of false (form_of (v a.value)) x (all_of is)
-called v Absent x is core.none = call_of true None x (all_of is)
-called v Bare x is core.none = None
-called v r x is (core.more b bs) = None
+-- the form of an item, by the form of the core in it
+abbrev pub item_form_by : {T : Type 0} → (T → CoreForm) → Item (Boxed T) → Option Form
+item_form_by v (Plain c) = form_of (core_by v c)
+item_form_by v (Splat c) = None
 
 -- forms from the forms of their parts
 abbrev pub set_form : Name → Option Form → Option Form

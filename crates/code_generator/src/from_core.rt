@@ -2,24 +2,23 @@
 ghost use Rattle.ir_core.specs.View.{term_view};
 
 use crate::formed::{Formed, Made};
-use crate::parts::{call_tree, cond_tree, seq_tree, set_tree, while_tree};
+use crate::parts::{call_tree, cond_tree, local_tree, seq_tree, set_tree, while_tree};
 use crate::tree::Tree;
 use ir_core::Term;
-use rb_base::Bytes;
 use std::alloc::Global;
 
 impl Formed for Term {
     ghost core = { λ t. term_view t };
 
     #[cycle(trees)]
-    #[tactic(auto, using(ir_core::proofs::ViewsBy::views))]
+    #[tactic(auto, using(ir_core::proofs::Views::core_views))]
     fn tree(&self, alloc: Global) -> Made {
         match self {
             Term::Nil => Ok(Some(Tree::Nil)),
             Term::True => Ok(Some(Tree::True)),
             Term::Int(n) => Ok(Some(Tree::Int(*n))),
-            Term::Local(name) => Ok(Some(Tree::Local(Bytes::from_slice(alloc, name.as_slice())?))),
-            Term::SetLocal(name, value) => set_tree(alloc, name, value),
+            Term::Local(variable) => local_tree(alloc, variable),
+            Term::SetLocal(variable, value) => set_tree(alloc, variable, value),
             Term::Seq(list) => seq_tree(alloc, list),
             Term::Cond(branches, otherwise) => cond_tree(alloc, branches, otherwise),
             Term::While {
@@ -31,10 +30,12 @@ impl Formed for Term {
                 receiver,
                 name,
                 items,
-                block,
-            } => call_tree(alloc, receiver, name, items, block),
-            Term::False
+            } => call_tree(alloc, receiver, name, items),
+            Term::BlockCall { .. }
+            | Term::False
             | Term::SelfRef
+            | Term::Own(_)
+            | Term::Exception
             | Term::Str(_)
             | Term::Sym(_)
             | Term::Ivar(_)
@@ -71,7 +72,8 @@ impl Formed for Term {
             | Term::Undef(_)
             | Term::Defined(_, _, _)
             | Term::Item(_, _)
-            | Term::Rest { .. } => Ok(None),
+            | Term::Rest { .. }
+            | Term::Tail { .. } => Ok(None),
         }
     }
 }

@@ -1,23 +1,44 @@
 //! The trees of cores by the trees of their parts.
 ghost use Rattle.std.specs.Prelude.{◌≡◌, IfOk};
+ghost use Rattle.ir_core.specs.CoreForm as core;
+ghost use Rattle.ir_core.specs.View.{local_of};
 ghost use Rattle.ir_core.specs.PartsBy as by;
-ghost use Rattle.code_generator.specs.Built.{all_of, cond_of, form_of, lines_of, loop_of};
-ghost use Rattle.code_generator.specs.Emission.{called, form_in, forms_in, set_form};
+ghost use Rattle.code_generator.specs.Built.{all_items, all_of, cond_of, form_of, lines_of, loop_of, read_of, set_of};
+ghost use Rattle.code_generator.specs.Emission.{form_in, forms_in, item_form_by};
 
 use crate::formed::{Formed, Made};
 use crate::node;
 use crate::tree::Tree;
-use ir_core::Receiver;
+use ir_core::{Local, Receiver};
 use rb_base::Bytes;
 use rb_syntax::{Branch, Item};
 use std::alloc::{AllocError, Global};
 
-/// The assignment of a value to a name.
-pub fn set_tree<T: Formed>(alloc: Global, name: &Bytes, value: &Box<T>) -> Made
-    ensures { IfOk result (λ tree. set_form name.now (form_of (by.core_by T.core value.now)) ≡ form_in tree) }
+/// The read of a local of the source.
+pub fn local_tree(alloc: Global, variable: &Local) -> Made
+    ensures { IfOk result (λ tree. read_of (local_of variable.now) ≡ form_in tree) }
 {
-    let value = value.tree(alloc)?;
-    node::set_local(alloc, name, value)
+    match variable {
+        Local::Named(name) => {
+            let name = Bytes::from_slice(alloc, name.as_slice())?;
+            Ok(Some(Tree::Local(name)))
+        }
+        Local::Hidden(_) | Local::Pattern(_) | Local::Rest => Ok(None),
+    }
+}
+
+/// The assignment of a value to a local of the source.
+pub fn set_tree<T: Formed>(alloc: Global, variable: &Local, value: &Box<T>) -> Made
+    ensures { IfOk result (λ tree.
+        set_of (local_of variable.now) (form_of (by.core_by T.core value.now)) ≡ form_in tree) }
+{
+    match variable {
+        Local::Named(name) => {
+            let value = value.tree(alloc)?;
+            node::set_local(alloc, name, value)
+        }
+        Local::Hidden(_) | Local::Pattern(_) | Local::Rest => Ok(None),
+    }
 }
 
 /// The trees of cores, where each is a form of the language.
@@ -44,7 +65,7 @@ pub fn seq_tree<T: Formed>(alloc: Global, list: &Vec<Box<T>>) -> Made
 
 /// The tree of an item; the elements of a value are no form of the language.
 fn item_tree<T: Formed>(alloc: Global, item: &Item<Box<T>>) -> Made
-    ensures { IfOk result (λ tree. form_of (by.item_by T.core item.now) ≡ form_in tree) }
+    ensures { IfOk result (λ tree. item_form_by T.core item.now ≡ form_in tree) }
 {
     match item {
         Item::Plain(core) => core.tree(alloc),
@@ -57,7 +78,7 @@ fn item_trees<T: Formed>(
     alloc: Global,
     items: &Vec<Item<Box<T>>>,
 ) -> Result<Option<Vec<Tree>>, AllocError>
-    ensures { IfOk result (λ trees. all_of (by.items_by T.core items.now.items) ≡ forms_in trees) }
+    ensures { IfOk result (λ trees. all_items (by.items_by T.core items.now.items) ≡ forms_in trees) }
 {
     let mut trees = Vec::new(alloc);
     for item in items {
@@ -75,22 +96,17 @@ pub fn call_tree<T: Formed>(
     receiver: &Receiver<Box<T>>,
     name: &Bytes,
     items: &Vec<Item<Box<T>>>,
-    block: &Option<Box<T>>,
 ) -> Made
-    ensures { IfOk result (λ tree.
-        called T.core receiver.now name.now (by.items_by T.core items.now.items) (by.boxed_by T.core block.now)
-        ≡ form_in tree) }
+    ensures { IfOk result (λ tree. form_of (core.call (by.receiver_by T.core receiver.now) name.now
+        (by.items_by T.core items.now.items) core.absent) ≡ form_in tree) }
 {
-    if block.is_some() {
-        return Ok(None);
-    }
     match receiver {
         Receiver::To(a) => {
             let a = a.tree(alloc)?;
             let items = item_trees(alloc, items)?;
             node::operate(alloc, a, name.as_slice(), items)
         }
-        Receiver::Absent => {
+        Receiver::OnSelf => {
             let items = item_trees(alloc, items)?;
             node::puts(alloc, name.as_slice(), items)
         }

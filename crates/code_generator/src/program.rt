@@ -2,7 +2,7 @@
 ghost use Rattle.std.specs.Prelude.{◌≡◌, [], ◌∷◌, IfOk};
 ghost use Rattle.rite_code.specs.Code.{IsWhole};
 ghost use Rattle.code_generator.specs.Limits.{IsWithin};
-ghost use Rattle.ir_core.specs.View.{core_view};
+ghost use Rattle.ir_core.specs.View.{body_view};
 ghost use Rattle.code_generator.specs.Built as built;
 ghost use Rattle.code_generator.specs.Gen.{any_calls_puts, code_of, symbols_of};
 ghost use Rattle.code_generator.specs.Gen as gen;
@@ -15,7 +15,7 @@ use crate::limits::is_within;
 use crate::measure::width_of;
 use crate::names::collect;
 use crate::tree::Tree;
-use ir_core::Core;
+use ir_core::Program;
 use rb_base::{Bytes, List};
 use rite_code::{Code, Irep, Operation};
 use std::alloc::{AllocError, Global};
@@ -154,11 +154,11 @@ fn code_within(alloc: Global, tree: &Tree) -> Result<Option<Code>, AllocError>
     Ok(Some(main_program(alloc, tree)?))
 }
 
-/// The code of a core that the generator builds, or none where it doesn't. The error is that memory ran out.
-pub fn generate(alloc: Global, core: &Core) -> Result<Option<Code>, AllocError>
-    ensures { IfOk result (λ code. code ≡ built.code_built (core_view core.now)) }
+/// The code of a program that the generator builds, or none where it doesn't. The error is that memory ran out.
+pub fn generate(alloc: Global, source: &Program) -> Result<Option<Code>, AllocError>
+    ensures { IfOk result (λ code. code ≡ built.code_built (body_view source.now)) }
 {
-    match core.tree(alloc)? {
+    match source.form.tree(alloc)? {
         Some(tree) => code_within(alloc, &of_program(alloc, tree)),
         None => Ok(None),
     }

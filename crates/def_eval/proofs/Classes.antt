@@ -1,7 +1,7 @@
 -- Small programs about classes and methods, evaluated: their output is what Ruby gives.
 use Rattle.std.specs.Prelude.{◌≡◌, pos, [], ◌∷◌, codes}
 use mathlib.Core.Path.{refl}
-use Rattle.def_forms.specs.CoreForm.{named, self_ref, int, str, sym, local, own, set_local, ivar, set_ivar, constant, in_constant, set_constant, seq, call, super_form, function, begin_form, define, define_on, class_form, module_form, alias_form, undef_form, body, absent, there, none, more, no_items, plain, no_clauses, clause, to, on_self, bare}
+use Rattle.ir_core.specs.CoreForm.{named, self_ref, int, str, sym, local, own, set_local, ivar, set_ivar, constant, in_constant, set_constant, seq, call, super_form, function, begin_form, define, define_on, class_form, module_form, alias_form, undef_form, body, absent, there, none, more, no_items, plain, no_clauses, clause, to, on_self, bare}
 use Rattle.def_calls.specs.Seen.{Over, Ended}
 use Rattle.def_eval.specs.Source.{Source, source_of, no_parameters}
 use Rattle.def_eval.specs.Transition.{evaluation}

@@ -1,7 +1,7 @@
 -- Small programs about blocks, lambdas and parameters, evaluated: their output is what Ruby gives.
 use Rattle.std.specs.Prelude.{◌≡◌, pos, [], ◌∷◌, codes}
 use mathlib.Core.Path.{refl}
-use Rattle.def_forms.specs.CoreForm.{named, hidden, pattern, nil, int, local, exception, set_local, constant, array, seq, cond, call, yield_form, function, lambda, begin_form, return_form, break_form, next_form, define, item, body, absent, there, none, more, no_items, plain, no_branches, branch, no_clauses, clause, to, on_self, bare}
+use Rattle.ir_core.specs.CoreForm.{named, hidden, pattern, nil, int, local, exception, set_local, constant, array, seq, cond, call, yield_form, function, lambda, begin_form, return_form, break_form, next_form, define, item, body, absent, there, none, more, no_items, plain, no_branches, branch, no_clauses, clause, to, on_self, bare}
 use Rattle.def_calls.specs.Seen.{Over, Ended}
 use Rattle.def_eval.specs.Source.{Source, source_of, no_parameters}
 use Rattle.def_eval.specs.Transition.{evaluation}

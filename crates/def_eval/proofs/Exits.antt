@@ -1,7 +1,7 @@
 -- Small programs about exits, evaluated: their output is what Ruby gives.
 use Rattle.std.specs.Prelude.{◌≡◌, pos, [], ◌∷◌, codes, false, true}
 use mathlib.Core.Path.{refl}
-use Rattle.def_forms.specs.CoreForm.{named, nil, truth, int, str, local, exception, set_local, constant, array, seq, cond, while_form, call, function, begin_form, return_form, break_form, retry, define, body, absent, there, none, more, no_items, plain, no_branches, branch, no_clauses, clause, to, on_self, bare}
+use Rattle.ir_core.specs.CoreForm.{named, nil, truth, int, str, local, exception, set_local, constant, array, seq, cond, while_form, call, function, begin_form, return_form, break_form, retry, define, body, absent, there, none, more, no_items, plain, no_branches, branch, no_clauses, clause, to, on_self, bare}
 use Rattle.def_calls.specs.Seen.{Over, Ended, Uncaught}
 use Rattle.def_eval.specs.Source.{Source, source_of, no_parameters}
 use Rattle.def_eval.specs.Transition.{evaluation}

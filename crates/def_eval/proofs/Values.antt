@@ -1,7 +1,7 @@
 -- Small programs about values, input and fibers, evaluated: their output is what Ruby gives.
 use Rattle.std.specs.Prelude.{◌≡◌, pos, [], ◌∷◌, codes, false}
 use mathlib.Core.Path.{refl}
-use Rattle.def_forms.specs.CoreForm.{named, hidden, int, str, local, exception, set_local, constant, array, range, text, seq, while_form, call, function, begin_form, item, rest_of, body, absent, there, none, more, no_items, plain, splat, no_clauses, clause, to, on_self, bare}
+use Rattle.ir_core.specs.CoreForm.{named, hidden, int, str, local, exception, set_local, constant, array, range, text, seq, while_form, call, function, begin_form, item, rest_of, body, absent, there, none, more, no_items, plain, splat, no_clauses, clause, to, on_self, bare}
 use Rattle.def_calls.specs.Seen.{Over, Ended}
 use Rattle.def_eval.specs.Source.{Source, source_of, no_parameters}
 use Rattle.def_eval.specs.Transition.{evaluation}

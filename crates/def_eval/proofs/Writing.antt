@@ -1,6 +1,6 @@
 -- Short words for the core forms of the programs here.
 use Rattle.std.specs.Prelude.{List, [], ℕ, codes}
-use Rattle.def_forms.specs.CoreForm.{Local, CoreForm, call, Items, no_items, plain, absent, to, on_self, Parameters}
+use Rattle.ir_core.specs.CoreForm.{Local, CoreForm, call, Items, no_items, plain, absent, to, on_self, Parameters}
 
 -- a call with one item
 abbrev pub on : CoreForm → List ℕ → CoreForm → CoreForm

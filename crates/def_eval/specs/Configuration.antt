@@ -9,7 +9,7 @@ use Rattle.def_calls.specs.Calls.{Sending, opening_world}
 use Rattle.def_calls.specs.Plans.{Iteration}
 use Rattle.def_calls.specs.Fibers.{Fibers}
 use Rattle.def_calls.specs.Fibers as fibers
-use Rattle.def_forms.specs.CoreForm.{Name, Local, CoreForm, Maybe, Forms, Items, Pairs, Branches, Clauses}
+use Rattle.ir_core.specs.CoreForm.{Name, Local, CoreForm, Maybe, Forms, Items, Pairs, Branches, Clauses}
 use Rattle.def_calls.specs.Seen.{End, Seen, Going, Over}
 use Rattle.def_eval.specs.Source.{Source, body_at, form_of, locals_of, all_names, span}
 

@@ -20,7 +20,7 @@ use Rattle.def_calls.specs.Calls.{Entry, answers, enters, begins, Opening, is_fu
 use Rattle.def_calls.specs.Plans.{Iteration}
 use Rattle.def_calls.specs.Views.{object_in}
 use Rattle.def_calls.specs.Values.{wrong_value}
-use Rattle.def_forms.specs.CoreForm.{Name, CoreForm, seq, Forms, none, more, Body}
+use Rattle.ir_core.specs.CoreForm.{Name, CoreForm, seq, Forms, none, more, Body}
 use Rattle.def_eval.specs.Source.{Source, body_at, form_of, parameters_of, locals_of, span}
 use Rattle.def_eval.specs.Configuration.{Place, Scope, raise, perform, give, travel, Item, part, activation, iteration, ensuring, rest, Memory, with_world, Config, Run}
 use Rattle.def_eval.specs.Scopes.{scopes_around, shape_of, first_variables, running}

@@ -7,7 +7,7 @@ use Rattle.def_calls.specs.Calls.{Unrescued, unrescued}
 use Rattle.def_calls.specs.Plans.{Iteration, caught}
 use Rattle.def_calls.specs.Fibers.{Onward}
 use Rattle.def_calls.specs.Fibers as fibers
-use Rattle.def_forms.specs.CoreForm.{CoreForm}
+use Rattle.ir_core.specs.CoreForm.{CoreForm}
 use Rattle.def_calls.specs.Seen.{Ended, Uncaught}
 use Rattle.def_eval.specs.Configuration.{Exit, raise, return, break, leave_loop, next, begin_anew, Rescue, Part, loop_test, Stop, passes, loops, rescues, assigns, retries, ensures, stop_of, exit, Item, part, activation, iteration, ensuring, Kept, perform, give, travel, Memory, Config, Run, Halt}
 use Rattle.def_eval.specs.Giving.{next_clause, begin_rescue, returned, end_fiber}

@@ -19,7 +19,7 @@ use Rattle.def_calls.specs.Values as values
 use Rattle.def_calls.specs.Definitions as definitions
 use Rattle.def_calls.specs.Calls.{Sending, by_name, by_bare_name, to_proc, to_super, break_target}
 use Rattle.def_calls.specs.Calls as calls
-use Rattle.def_forms.specs.CoreForm.{Name, CoreForm, nil, truth, falsehood, self_ref, int, str, sym, local, own, exception, set_local, ivar, set_ivar, gvar, set_gvar, constant, top_constant, in_constant, set_constant as constant_set, set_in_constant, array, hash, range, text, intern, seq, cond, and_form, or_form, while_form, call, yield_form, super_form, function, lambda, begin_form, return_form, break_form, next_form, retry, define, define_on as form_on, class_form, module_form, singleton_class, alias_form, undef_form, defined, item, rest_of, tail_of, Maybe, absent, there, Forms, none, more, Items, no_items, plain, splat, Pairs, no_pairs, pair, Branches, no_branches, branch, Clauses, Receiver, to, on_self, bare}
+use Rattle.ir_core.specs.CoreForm.{Name, CoreForm, nil, truth, falsehood, self_ref, int, str, sym, local, own, exception, set_local, ivar, set_ivar, gvar, set_gvar, constant, top_constant, in_constant, set_constant as constant_set, set_in_constant, array, hash, range, text, intern, seq, cond, and_form, or_form, while_form, call, yield_form, super_form, function, lambda, begin_form, return_form, break_form, next_form, retry, define, define_on as form_on, class_form, module_form, singleton_class, alias_form, undef_form, defined, item, rest_of, tail_of, Maybe, absent, there, Forms, none, more, Items, no_items, plain, splat, Pairs, no_pairs, pair, Branches, no_branches, branch, Clauses, Receiver, to, on_self, bare}
 use Rattle.def_eval.specs.Source.{Source, span, span_maybe, span_clauses}
 use Rattle.def_eval.specs.Configuration.{Exit, return, break, leave_loop, next, begin_anew, Action, assign, assign_ivar, assign_gvar, constant_in, assign_constant, assign_constant_in, make_range, make_symbol, element, elements_between, last_elements, leave_method, leave_call, leave_round, define_on, open_class, open_module, open_singleton, tell, Gathering, an_array, arguments_of, Part, operands, receiver, items, block, elements, hash_key, hash_value, pieces, rest, test, and_then, or_else, loop_test, loop_body, rescued, ensured, Stop, passes, loops, rescues, assigns, retries, ensures, stop_of, Item, part, activation, iteration, ensuring, perform, give, travel, Memory, with_world, Config, Run}
 use Rattle.def_eval.specs.Scopes.{variable, with_variable, own_variable, running}

@@ -15,7 +15,7 @@ use Rattle.def_calls.specs.Plans.{Plan, Planned, finishes, fails, raises, sends,
 use Rattle.def_calls.specs.Plans as plans
 use Rattle.def_calls.specs.Fibers.{Onward, Resumed, refused, begins, continues}
 use Rattle.def_calls.specs.Fibers as fibers
-use Rattle.def_forms.specs.CoreForm.{CoreForm, Maybe, absent, there, Forms, none, more, Pairs, Branches, Clauses, no_clauses, clause}
+use Rattle.ir_core.specs.CoreForm.{CoreForm, Maybe, absent, there, Forms, none, more, Pairs, Branches, Clauses, no_clauses, clause}
 use Rattle.def_calls.specs.Seen.{Ended}
 use Rattle.def_eval.specs.Source.{Source, span, span_maybe, span_forms, span_clauses}
 use Rattle.def_eval.specs.Configuration.{Place, raise, Rescue, Part, operands, receiver, items, block, elements, hash_key, hash_value, pieces, rest, test, chosen, and_then, or_else, loop_test, loop_body, rescued, clause_class, clause_target, clause_body, ensured, Outgoing, value, exit, Item, part, activation, iteration, ensuring, Kept, Focus, perform, give, travel, Memory, with_world, Config, Run, Halt}

@@ -5,7 +5,7 @@ use Rattle.rb_value.specs.declared.value.Value.TheVariants.{Nil, Obj}
 use Rattle.rb_value.specs.declared.value.ObjId.{ObjId}
 use Rattle.rb_value.specs.declared.method.Shape.{Shape}
 use Rattle.def_calls.specs.World.{Activation, activation_at}
-use Rattle.def_forms.specs.CoreForm.{Local, named, hidden, pattern, rest, Parameters}
+use Rattle.ir_core.specs.CoreForm.{Local, named, hidden, pattern, rest, Parameters}
 use Rattle.def_eval.specs.Configuration.{Scope, Memory, all_nil}
 
 abbrev pub same_local : Local → Local → Bool

@@ -82,6 +82,9 @@ fn primaries(rt: HostRuntime) -> Result<(), Fail> {
     begins(&rt, alloc, &["f"], Primary::Name)?;
     begins(&rt, alloc, &["C"], Primary::Leaf)?;
     begins(&rt, alloc, &["C", ".(", "1", ")"], Primary::Name)?;
+    begins(&rt, alloc, &["x", "x"], Primary::Name)?;
+    begins(&rt, alloc, &["x", "[", "1", "]"], Primary::Local)?;
+    begins(&rt, alloc, &["C", "1"], Primary::Name)?;
     begins(&rt, alloc, &["->"], Primary::Lambda)?;
     begins(&rt, alloc, &["begin"], Primary::Compound(Compound::Body))?;
     begins(&rt, alloc, &["defined?", "(", "x", ")"], Primary::Defined)?;

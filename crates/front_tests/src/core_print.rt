@@ -1,39 +1,71 @@
 //! Cores as text, for tests. A call of a name alone has a `~` before it.
 use crate::page::{Done, Page, Printed, array, forms, hash, integer, items, maybe, name};
-use ir_core::{BeginForm, Clause, Function, Receiver, Term};
-use rb_base::{Bytes, List};
-use rb_syntax::{Branch, DefinedKind, Item, Parameters};
+use ir_core::{BeginForm, Body, Clause, Local, Parameters, Receiver, Term};
+use rb_base::Bytes;
+use rb_syntax::{Branch, DefinedKind, Item};
 
-fn names(page: &mut Page, list: &List<Bytes>, behind: &[u8]) -> Done {
-    for word in list.as_slice() {
-        name(page, b" ", word, behind)?;
+/// A local: a hidden one by its number, the parameter of a pattern by its place.
+fn local(page: &mut Page, variable: &Local) -> Done {
+    match variable {
+        Local::Named(word) => name(page, b"", word, b""),
+        Local::Hidden(number) => {
+            let number = format!(in page.alloc; "%{number}")?;
+            page.put(number.as_bytes())
+        }
+        Local::Pattern(place) => {
+            let place = format!(in page.alloc; "%p{place}")?;
+            page.put(place.as_bytes())
+        }
+        Local::Rest => page.put(b"%rest"),
+    }
+}
+
+fn locals(page: &mut Page, list: &Vec<Local>, behind: &[u8]) -> Done {
+    for variable in list {
+        page.put(b" ")?;
+        local(page, variable)?;
+        page.put(behind)?;
     }
     Ok(())
 }
 
-fn maybe_name(page: &mut Page, before: &[u8], word: &Option<Bytes>) -> Done {
-    match word {
-        Some(word) => name(page, before, word, b""),
+fn maybe_local(page: &mut Page, before: &[u8], variable: &Option<Local>) -> Done {
+    match variable {
+        Some(variable) => {
+            page.put(before)?;
+            local(page, variable)
+        }
         None => Ok(()),
     }
 }
 
 fn parameters(page: &mut Page, list: &Parameters) -> Done {
     page.put(b"{|")?;
-    names(page, &list.required, b"")?;
-    names(page, &list.optional, b"?")?;
-    maybe_name(page, b" *", &list.rest)?;
-    names(page, &list.post, b"")?;
-    maybe_name(page, b" &", &list.block)
+    locals(page, &list.required, b"")?;
+    locals(page, &list.optional, b"?")?;
+    maybe_local(page, b" *", &list.rest)?;
+    locals(page, &list.post, b"")?;
+    maybe_local(page, b" &", &list.block)
 }
 
-fn function<T: Printed>(page: &mut Page, function: &Function<Box<T>>) -> Done {
-    parameters(page, &function.parameters)?;
+fn function<T: Printed>(page: &mut Page, body: &Body<Box<T>>) -> Done {
+    parameters(page, &body.parameters)?;
     page.put(b";")?;
-    names(page, &function.locals, b"")?;
+    locals(page, &body.locals, b"")?;
     page.put(b"| ")?;
-    function.body.print(page)?;
+    body.form.print(page)?;
     page.put(b"}")
+}
+
+/// The body of a class or module, with its locals where it has some.
+fn plain_body<T: Printed>(page: &mut Page, body: &Body<Box<T>>) -> Done {
+    if !body.locals.is_empty() {
+        page.put(b" |;")?;
+        locals(page, &body.locals, b"")?;
+        page.put(b"|")?;
+    }
+    page.put(b" ")?;
+    body.form.print(page)
 }
 
 fn one<T: Printed>(page: &mut Page, before: &[u8], core: &Box<T>) -> Done {
@@ -58,6 +90,14 @@ fn two<T: Printed>(
 
 fn set<T: Printed>(page: &mut Page, word: &Bytes, value: &Box<T>) -> Done {
     name(page, b"(", word, b" = ")?;
+    value.print(page)?;
+    page.put(b")")
+}
+
+fn set_local<T: Printed>(page: &mut Page, variable: &Local, value: &Box<T>) -> Done {
+    page.put(b"(")?;
+    local(page, variable)?;
+    page.put(b" = ")?;
     value.print(page)?;
     page.put(b")")
 }
@@ -101,7 +141,7 @@ fn receiver<T: Printed>(page: &mut Page, receiver: &Receiver<Box<T>>) -> Done {
             page.put(b".")
         }
         Receiver::Bare => page.put(b"~"),
-        Receiver::Absent => Ok(()),
+        Receiver::OnSelf => Ok(()),
     }
 }
 
@@ -110,13 +150,23 @@ fn call<T: Printed>(
     to: &Receiver<Box<T>>,
     word: &Bytes,
     list: &Vec<Item<Box<T>>>,
-    block: &Option<Box<T>>,
 ) -> Done {
     receiver(page, to)?;
     name(page, b"", word, b"(")?;
     items(page, list)?;
-    page.put(b")")?;
-    maybe(page, b"&", block)
+    page.put(b")")
+}
+
+fn block_call<T: Printed>(
+    page: &mut Page,
+    to: &Receiver<Box<T>>,
+    word: &Bytes,
+    list: &Vec<Item<Box<T>>>,
+    block: &Box<T>,
+) -> Done {
+    call(page, to, word, list)?;
+    page.put(b"&")?;
+    block.print(page)
 }
 
 fn passed<T: Printed>(page: &mut Page, word: &[u8], list: &Vec<Item<Box<T>>>) -> Done {
@@ -134,7 +184,7 @@ fn super_call<T: Printed>(
     maybe(page, b"&", block)
 }
 
-fn lambda<T: Printed>(page: &mut Page, inner: &Function<Box<T>>) -> Done {
+fn lambda<T: Printed>(page: &mut Page, inner: &Body<Box<T>>) -> Done {
     page.put(b"->")?;
     function(page, inner)
 }
@@ -159,18 +209,13 @@ fn begin<T: Printed>(page: &mut Page, form: &BeginForm<Box<T>>) -> Done {
     page.put(b")")
 }
 
-fn define<T: Printed>(page: &mut Page, word: &Bytes, inner: &Function<Box<T>>) -> Done {
+fn define<T: Printed>(page: &mut Page, word: &Bytes, inner: &Body<Box<T>>) -> Done {
     name(page, b"(def ", word, b" ")?;
     function(page, inner)?;
     page.put(b")")
 }
 
-fn define_on<T: Printed>(
-    page: &mut Page,
-    of: &Box<T>,
-    word: &Bytes,
-    inner: &Function<Box<T>>,
-) -> Done {
+fn define_on<T: Printed>(page: &mut Page, of: &Box<T>, word: &Bytes, inner: &Body<Box<T>>) -> Done {
     page.put(b"(def ")?;
     of.print(page)?;
     name(page, b".", word, b" ")?;
@@ -183,13 +228,19 @@ fn class<T: Printed>(
     scope: &Option<Box<T>>,
     word: &Bytes,
     parent: &Option<Box<T>>,
-    body: &Box<T>,
+    body: &Body<Box<T>>,
 ) -> Done {
     page.put(b"(class ")?;
     scoped(page, scope, word)?;
     maybe(page, b" < ", parent)?;
-    page.put(b" ")?;
-    body.print(page)?;
+    plain_body(page, body)?;
+    page.put(b")")
+}
+
+fn singleton_class<T: Printed>(page: &mut Page, of: &Box<T>, body: &Body<Box<T>>) -> Done {
+    page.put(b"(class << ")?;
+    of.print(page)?;
+    plain_body(page, body)?;
     page.put(b")")
 }
 
@@ -204,12 +255,11 @@ fn module<T: Printed>(
     page: &mut Page,
     scope: &Option<Box<T>>,
     word: &Bytes,
-    body: &Box<T>,
+    body: &Body<Box<T>>,
 ) -> Done {
     page.put(b"(module ")?;
     scoped(page, scope, word)?;
-    page.put(b" ")?;
-    body.print(page)?;
+    plain_body(page, body)?;
     page.put(b")")
 }
 
@@ -238,6 +288,12 @@ fn rest<T: Printed>(page: &mut Page, of: &Box<T>, from: u8, post: u8) -> Done {
     page.put(places.as_bytes())
 }
 
+fn tail<T: Printed>(page: &mut Page, of: &Box<T>, from: u8, count: u8) -> Done {
+    of.print(page)?;
+    let places = format!(in page.alloc; "<{from};{count}>")?;
+    page.put(places.as_bytes())
+}
+
 impl Printed for Term {
     #[cycle(print)]
     fn print(&self, page: &mut Page) -> Done {
@@ -249,14 +305,17 @@ impl Printed for Term {
             Term::Int(value) => integer(page, *value),
             Term::Str(bytes) => name(page, b"'", bytes, b"'"),
             Term::Sym(word) => name(page, b":", word, b""),
-            Term::Local(word) | Term::Ivar(word) | Term::Gvar(word) | Term::Const(word) => name(
-                page, b"", word, b"",
-            ),
+            Term::Local(variable) => local(page, variable),
+            Term::Own(variable) => {
+                page.put(b"^")?;
+                local(page, variable)
+            }
+            Term::Exception => page.put(b"%exception"),
+            Term::SetLocal(variable, value) => set_local(page, variable, value),
+            Term::Ivar(word) | Term::Gvar(word) | Term::Const(word) => name(page, b"", word, b""),
             Term::TopConst(word) => name(page, b"::", word, b""),
-            Term::SetLocal(word, value)
-            | Term::SetIvar(word, value)
-            | Term::SetGvar(word, value)
-            | Term::SetConst(word, value) => set(page, word, value),
+            Term::SetIvar(word, value) | Term::SetGvar(word, value) | Term::SetConst(word, value) =>
+                set(page, word, value),
             Term::InConst(of, word) => in_constant(page, of, word),
             Term::SetInConst(of, word, value) => set_in_constant(page, of, word, value),
             Term::Array(list) => array(page, list),
@@ -283,27 +342,32 @@ impl Printed for Term {
                 receiver,
                 name,
                 items,
+            } => call(page, receiver, name, items),
+            Term::BlockCall {
+                receiver,
+                name,
+                items,
                 block,
-            } => call(page, receiver, name, items, block),
+            } => block_call(page, receiver, name, items, block),
             Term::Yield(list) => passed(page, b"yield(", list),
             Term::Super(list, block) => super_call(page, list, block),
-            Term::Fn(inner) => function(page, inner),
-            Term::Lambda(inner) => lambda(page, inner),
-            Term::Begin(form) => begin(page, form),
+            Term::Fn(inner) => function(page, &**inner),
+            Term::Lambda(inner) => lambda(page, &**inner),
+            Term::Begin(form) => begin(page, &**form),
             Term::Return(value) => one(page, b"(return ", value),
             Term::Break(value) => one(page, b"(break ", value),
             Term::Next(value) => one(page, b"(next ", value),
             Term::Retry => page.put(b"(retry)"),
-            Term::Def(word, inner) => define(page, word, inner),
-            Term::DefOn(of, word, inner) => define_on(page, of, word, inner),
+            Term::Def(word, inner) => define(page, word, &**inner),
+            Term::DefOn(of, word, inner) => define_on(page, of, word, &**inner),
             Term::Class {
                 scope,
                 name,
                 parent,
                 body,
-            } => class(page, scope, name, parent, body),
-            Term::Module { scope, name, body } => module(page, scope, name, body),
-            Term::SingletonClass(of, body) => two(page, b"(class << ", of, b" ", body),
+            } => class(page, scope, name, parent, &**body),
+            Term::Module { scope, name, body } => module(page, scope, name, &**body),
+            Term::SingletonClass(of, body) => singleton_class(page, of, &**body),
             Term::Alias(new, old) => {
                 name(page, b"(alias ", new, b" ")?;
                 name(page, b"", old, b")")
@@ -312,6 +376,7 @@ impl Printed for Term {
             Term::Defined(kind, word, of) => defined(page, *kind, word, of),
             Term::Item(of, place) => element(page, of, *place),
             Term::Rest { of, from, post } => rest(page, of, *from, *post),
+            Term::Tail { of, from, count } => tail(page, of, *from, *count),
         }
     }
 }

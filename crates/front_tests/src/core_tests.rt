@@ -405,14 +405,22 @@ fn targets(rt: HostRuntime) -> Result<(), Fail> {
             ),
             (
                 "a, *b, c = d",
-                "((%0 = ~d()); (a = %0<0>); (b = %0<1:1>); (c = %0<-1>); %0)",
+                "((%0 = ~d()); (a = %0<0>); (b = %0<1:1>); (%1 = %0<1;1>); (c = %1<0>); %0)",
+            ),
+            (
+                "a, *b, c = [1]",
+                "((%0 = [1]); (a = %0<0>); (b = %0<1:1>); (%1 = %0<1;1>); (c = %1<0>); %0)",
             ),
             (
                 "*a, b, c = 1",
-                "((%0 = 1); (a = %0<0:2>); (b = %0<-2>); (c = %0<-1>); %0)",
+                "((%0 = 1); (a = %0<0:2>); (%1 = %0<0;2>); (b = %1<0>); (c = %1<1>); %0)",
             ),
             ("*a = 1", "((%0 = 1); (a = %0<0:0>); %0)"),
-            ("*, a = 1", "((%0 = 1); (a = %0<-1>); %0)"),
+            ("*, a = 1", "((%0 = 1); (%1 = %0<0;1>); (a = %1<0>); %0)"),
+            (
+                "*a, b.c = 1",
+                "((%0 = 1); (a = %0<0:1>); (%1 = %0<0;1>); ((%2 = ~b()); (%3 = %1<0>); %2.c=(%3); %3); %0)",
+            ),
             ("a, = 1", "((%0 = 1); (a = %0<0>); %0)"),
             (
                 "a, (b, c), d = 1",
@@ -477,6 +485,9 @@ fn definitions(rt: HostRuntime) -> Result<(), Fail> {
             ("def f(&b) b end", "(def f {| &b;| b})"),
             ("private def f; end", "private((def f {|;| nil}))"),
             ("class A; end", "(class A nil)"),
+            ("class A; x = 1; end", "(class A |; x| (x = 1))"),
+            ("class << self; x = 1; end", "(class << self |; x| (x = 1))"),
+            ("module A; x = 1; end", "(module A |; x| (x = 1))"),
             ("class A < B; 1; end", "(class A < B 1)"),
             ("class A::B; end", "(class A::B nil)"),
             ("class ::A; end", "(class ::Object::A nil)"),
@@ -490,23 +501,34 @@ fn definitions(rt: HostRuntime) -> Result<(), Fail> {
             ("def f; super; end", "(def f {|;| super()})"),
             (
                 "def f(a, b = 1, *c, d, &e); super; end",
-                "(def f {| a b? *c d &e;| ((b = 1); super(a b *c d))})",
+                "(def f {| a b? *c d &e;| ((b = 1); super(^a ^b *^c ^d))})",
             ),
             ("def f(a); super(); end", "(def f {| a;| super()})"),
             ("def f(a); super 1, *a; end", "(def f {| a;| super(1 *a)})"),
             (
                 "def f(a); super { |x| x }; end",
-                "(def f {| a;| super(a)&{| x;| x}})",
+                "(def f {| a;| super(^a)&{| x;| x}})",
             ),
             ("def f(&b); super(&b); end", "(def f {| &b;| super()&b})"),
             (
                 "def f(a); foo { super }; end",
-                "(def f {| a;| foo()&{|;| super(a)}})",
+                "(def f {| a;| foo()&{|;| super(^a)}})",
             ),
-            ("def f(*); super; end", "(def f {| *%rest;| super(*%rest)})"),
+            (
+                "def f(a); foo { |a| super }; end",
+                "(def f {| a;| foo()&{| a;| super(^a)}})",
+            ),
+            (
+                "def f((a, b)); foo { |(c, d)| super }; end",
+                "(def f {| %p0; a b| (((%0 = %p0); (a = %0<0>); (b = %0<1>); %0); foo()&{| %p0; c d| (((%0 = %p0); (c = %0<0>); (d = %0<1>); %0); super(^%p0))})})",
+            ),
+            (
+                "def f(*); super; end",
+                "(def f {| *%rest;| super(*^%rest)})",
+            ),
             (
                 "def f((a, b)); super; end",
-                "(def f {| %p0; a b| (((%0 = %p0); (a = %0<0>); (b = %0<1>); %0); super(%p0))})",
+                "(def f {| %p0; a b| (((%0 = %p0); (a = %0<0>); (b = %0<1>); %0); super(^%p0))})",
             ),
             ("def f; yield; end", "(def f {|;| yield()})"),
             ("def f; yield 1, *a; end", "(def f {|;| yield(1 *~a())})"),

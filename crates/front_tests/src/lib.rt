@@ -10,10 +10,14 @@ mod core_tests;
 #[cfg(test)]
 mod page;
 #[cfg(test)]
+mod place_tests;
+#[cfg(test)]
 mod refusal_tests;
 #[cfg(test)]
 mod rows;
 #[cfg(test)]
 mod tree_print;
+#[cfg(test)]
+mod tree_rows;
 #[cfg(test)]
 mod tree_tests;

@@ -9,7 +9,7 @@ use std::test::Fail;
 fn line_of(alloc: Global, text: &[u8]) -> Result<Vec<u8>, Fail> {
     let mut page = Page::new(alloc);
     match read(alloc, text) {
-        Ok(core) => core.print(&mut page)?,
+        Ok(program) => program.form.print(&mut page)?,
         Err(error) => {
             let refusal = format!(in alloc; "{error:?}")?;
             page.text.extend_from_slice(refusal.as_bytes())?;

@@ -1,8 +1,8 @@
 //! Trees as text, for tests. A local is its name; a name that is called without arguments has a `~` before it.
 use crate::page::{Done, Page, Printed, array, forms, hash, integer, items, maybe, name};
 use parser_tree::{
-    Arguments, AssignmentOperator, Definition, Parameter, ParameterList, Piece, RescueBody,
-    RestParameter, Scope, TargetList, TreeForm, WhenClause,
+    Arguments, AssignmentOperator, Definition, Parameter, ParameterList, Piece, PlainBody,
+    RescueBody, RestParameter, Scope, TargetList, TreeForm, WhenClause,
 };
 use rb_base::{Bytes, List};
 use rb_syntax::{Branch, Item, Outside};
@@ -261,14 +261,20 @@ fn class<T: Printed>(
     around: &Scope<Box<T>>,
     name: &Bytes,
     parent: &Option<Box<T>>,
-    body: &Box<T>,
+    body: &PlainBody<Box<T>>,
 ) -> Done {
     page.put(b"(class ")?;
     scope(page, around)?;
     page.put(name.as_slice())?;
     maybe(page, b" < ", parent)?;
-    page.put(b" ")?;
-    body.print(page)?;
+    plain_body(page, body)?;
+    page.put(b")")
+}
+
+fn singleton_class<T: Printed>(page: &mut Page, of: &Box<T>, body: &PlainBody<Box<T>>) -> Done {
+    page.put(b"(class << ")?;
+    of.print(page)?;
+    plain_body(page, body)?;
     page.put(b")")
 }
 
@@ -276,14 +282,24 @@ fn module<T: Printed>(
     page: &mut Page,
     around: &Scope<Box<T>>,
     name: &Bytes,
-    body: &Box<T>,
+    body: &PlainBody<Box<T>>,
 ) -> Done {
     page.put(b"(module ")?;
     scope(page, around)?;
     page.put(name.as_slice())?;
-    page.put(b" ")?;
-    body.print(page)?;
+    plain_body(page, body)?;
     page.put(b")")
+}
+
+/// The body of a class or module, with its variables where it has some.
+fn plain_body<T: Printed>(page: &mut Page, body: &PlainBody<Box<T>>) -> Done {
+    if !body.locals.is_empty() {
+        page.put(b" |;")?;
+        names(page, &body.locals)?;
+        page.put(b"|")?;
+    }
+    page.put(b" ")?;
+    body.body.print(page)
 }
 
 fn alias(page: &mut Page, new: &Bytes, old: &Bytes) -> Done {
@@ -495,7 +511,7 @@ impl Printed for TreeForm {
                 parent,
                 body,
             } => class(page, scope, name, parent, body),
-            TreeForm::SingletonClass(of, body) => two(page, b"class <<", of, body),
+            TreeForm::SingletonClass(of, body) => singleton_class(page, of, body),
             TreeForm::Module { scope, name, body } => module(page, scope, name, body),
             TreeForm::Alias(new, old) => alias(page, new, old),
             TreeForm::Undef(list) => listed_names(page, b"(undef", list, b")"),

@@ -1,65 +1,6 @@
 //! Sources and their trees as the grammar derives them.
-use crate::page::{Page, Printed};
-use parser_tree::Tree;
-use rb_lexer::{LexError, lex};
-use rb_parser::{ParseError, derive, parse};
-use rb_syntax::Token;
-use std::alloc::Global;
-use std::process::Abort;
+use crate::tree_rows::all_read;
 use std::test::Fail;
-
-/// Whether words that may not stand where they stand are refused.
-#[derive(Clone, Copy)]
-enum Rules {
-    Grammar,
-    All,
-}
-
-fn read(alloc: Global, tokens: &[Token], size: u32, rules: Rules) -> Result<Tree, ParseError> {
-    match rules {
-        Rules::Grammar => derive(alloc, tokens, size),
-        Rules::All => parse(alloc, tokens, size),
-    }
-}
-
-/// The tree as text, or the refusal. The parentheses of the whole are left out.
-fn line_of(rt: &impl Abort, alloc: Global, text: &[u8], rules: Rules) -> Result<Vec<u8>, Fail> {
-    assert!(rt; text.len() < 4294967296);
-    let size = text.len() as u32;
-    let mut page = Page::new(alloc);
-    match lex(alloc, text) {
-        Ok(tokens) => match read(alloc, &tokens, size, rules) {
-            Ok(tree) => tree.print(&mut page)?,
-            Err(error) => {
-                let refusal = format!(in alloc; "{error:?}")?;
-                page.text.extend_from_slice(refusal.as_bytes())?;
-            }
-        },
-        Err(LexError::Syntax { at }) => {
-            let refusal = format!(in alloc; "lexing {at}")?;
-            page.text.extend_from_slice(refusal.as_bytes())?;
-        }
-        Err(LexError::NoMemory) => page.text.extend_from_slice(b"no memory")?,
-    }
-    Ok(page.text)
-}
-
-fn all_read(rt: &impl Abort, alloc: Global, rows: &[(&str, &str)]) -> Result<(), Fail> {
-    all_lines(rt, alloc, rows, Rules::Grammar)
-}
-
-fn all_lines(
-    rt: &impl Abort,
-    alloc: Global,
-    rows: &[(&str, &str)],
-    rules: Rules,
-) -> Result<(), Fail> {
-    for (text, tree) in rows {
-        let line = line_of(rt, alloc, text.as_bytes(), rules)?;
-        assert_eq!(rt; line.as_slice(), tree.as_bytes(), "{text}");
-    }
-    Ok(())
-}
 
 #[test]
 fn operators(rt: HostRuntime) -> Result<(), Fail> {
@@ -122,6 +63,9 @@ fn calls(rt: HostRuntime) -> Result<(), Fail> {
             ("foo - 1", "((- ~foo 1))"),
             ("foo -1 + 2", "(foo((+ -1 2)))"),
             ("foo [1]", "(foo([1]))"),
+            ("foo [ 1, 2 ]", "(foo([1 2]))"),
+            ("foo [ 1 ].max", "(foo([1].max))"),
+            ("a = 1; a [ 2 ]", "((= a 1); a[2])"),
             ("foo[1]", "(~foo[1])"),
             ("foo [1].bar", "(foo([1].bar))"),
             ("foo *a", "(foo(*~a))"),
@@ -152,6 +96,16 @@ fn calls(rt: HostRuntime) -> Result<(), Fail> {
             ("foo! 1", "(foo!(1))"),
             ("a = 1; a(2)", "((= a 1); a(2))"),
             ("a = 1; a (2)", "Syntax { at: 9 }"),
+            ("a = 1; a a", "((= a 1); a(a))"),
+            ("a = 1; a :b", "Syntax { at: 9 }"),
+            ("a = 1; a %q(b)", "Syntax { at: 9 }"),
+            ("a = 1; a -> { 2 }", "((= a 1); a(->{|;| (2)}))"),
+            ("A b", "(A(~b))"),
+            ("A \"b\"", "(A((str 'b')))"),
+            ("foo\"b\"", "(foo((str 'b')))"),
+            ("foo@a", "(foo(@a))"),
+            ("foo$a", "(foo($a))"),
+            ("A :b", "Syntax { at: 2 }"),
             ("super", "(super)"),
             ("super()", "(super())"),
             ("super 1, 2", "(super(1 2))"),
@@ -159,6 +113,14 @@ fn calls(rt: HostRuntime) -> Result<(), Fail> {
             ("yield(1, 2)", "((yield 1 2))"),
             ("yield 1, *a", "((yield 1 *~a))"),
             ("yield [1]", "((yield [1]))"),
+            ("yield [ 1 ]", "((yield [1]))"),
+            ("yield[0]", "((yield)[0])"),
+            ("yield -1", "((yield -1))"),
+            ("yield + 1", "((+ (yield) 1))"),
+            ("x = yield * 2", "((= x (* (yield) 2)))"),
+            ("yield / 2", "((/ (yield) 2))"),
+            ("yield & 2", "((& (yield) 2))"),
+            ("yield if 1", "((if 1 (yield)))"),
             ("yield &a", "Syntax { at: 6 }"),
             ("return", "((return))"),
             ("return 1, 2", "((return 1 2))"),
@@ -227,6 +189,9 @@ fn blocks(rt: HostRuntime) -> Result<(), Fail> {
             ("-> { 1 }", "(->{|;| (1)})"),
             ("->(a, b = 2) { a }", "(->{| a b=2;| (a)})"),
             ("-> a, b do a end", "(->{| a b;| (a)})"),
+            ("->(a; b) { b }", "(->{| a; b| (b)})"),
+            ("->(; a, b) { a }", "(->{|; a b| (a)})"),
+            ("->(a; ) { }", "Syntax { at: 6 }"),
             ("foo -> do 1 end", "(foo(->{|;| (1)}))"),
             ("lambda { |x| x }.call", "(~lambda{| x;| (x)}.call)"),
             (
@@ -284,15 +249,28 @@ fn assignments(rt: HostRuntime) -> Result<(), Fail> {
             ("a = 1 rescue 2", "((= a (rescue 1 2)))"),
             ("a rescue 2", "((rescue ~a 2))"),
             ("a = b = 1 rescue 2", "((= a (= b (rescue 1 2))))"),
+            ("a = foo 1 rescue 2", "((= a (rescue foo(1) 2)))"),
+            ("a += foo 1 rescue 2", "((+= a (rescue foo(1) 2)))"),
+            ("a = 1, 2 rescue 3", "((rescue (= a [1 2]) 3))"),
+            ("a, b = foo 1 rescue 2", "((rescue (= < a b> foo(1)) 2))"),
             ("a[1] = 2", "((= ~a[1] 2))"),
             ("a[1] ||= 2", "((||= ~a[1] 2))"),
             ("A = 1; A::B = 2", "((= A 1); (= (:: A B) 2))"),
-            ("a + b = 1", "Syntax { at: 6 }"),
+            ("a + b = 1", "((+ ~a (= b 1)))"),
+            ("-a = 1", "((-@ (= a 1)))"),
+            ("!a = 1", "((not (= a 1)))"),
+            ("!a.b += 1", "((not (+= ~a.b 1)))"),
+            ("1 + a = 2 ? 3 : 4", "((+ 1 (= a (if 2 3 else 4))))"),
+            ("1 == a = 2 == 3", "((== 1 (= a (== 2 3))))"),
+            ("a || b.c = 1 rescue 2", "((or ~a (= ~b.c (rescue 1 2))))"),
+            ("a && b[0] += 1", "((and ~a (+= ~b[0] 1)))"),
+            ("a && foo? = 1", "Syntax { at: 10 }"),
+            ("a && b = c 1", "Syntax { at: 11 }"),
             ("1 = 2", "Syntax { at: 2 }"),
             ("foo? = 2", "Syntax { at: 5 }"),
             ("a = 1 if b", "((if ~b (= a 1)))"),
             ("a = not b", "Syntax { at: 4 }"),
-            ("a && b = 1", "Syntax { at: 7 }"),
+            ("a && b = 1", "((and ~a (= b 1)))"),
             ("a ? b = 1 : c = 2", "((if ~a (= b 1) else (= c 2)))"),
             ("@@a = 1", "((= !ClassVariable@0 1))"),
             ("foo a = 1", "(foo((= a 1)))"),
@@ -438,6 +416,15 @@ fn forms(rt: HostRuntime) -> Result<(), Fail> {
             ("class A::B < C.d(1)\nend", "((class A::B < C.d(1) ()))"),
             ("class ::A; end", "((class ::A ()))"),
             ("class << self; 1; end", "((class << self (1)))"),
+            (
+                "class A; x = 1; f { y = 2 }; z = x; end",
+                "((class A |; x z| ((= x 1); ~f{|; y| ((= y 2))}; (= z x))))",
+            ),
+            (
+                "class << self; x = 1; end",
+                "((class << self |; x| ((= x 1))))",
+            ),
+            ("module A; x = 1; end", "((module A |; x| ((= x 1))))"),
             ("class a; end", "Syntax { at: 6 }"),
             (
                 "module A; def f; end; end",
@@ -445,7 +432,10 @@ fn forms(rt: HostRuntime) -> Result<(), Fail> {
             ),
             ("alias a b", "((alias a b))"),
             ("alias $a $b", "(!GlobalAlias@0)"),
-            ("alias :a :b", "Syntax { at: 6 }"),
+            ("alias :a :b", "((alias a b))"),
+            ("alias :+ if", "((alias + if))"),
+            ("alias a :b", "((alias a b))"),
+            ("undef :a, if, :b", "((undef a if b))"),
             ("undef a, b", "((undef a b))"),
             ("BEGIN { 1 }", "(!BeginBlock@0( (1)))"),
             ("END { 1 }", "(!EndBlock@0( (1)))"),
@@ -469,123 +459,4 @@ fn forms(rt: HostRuntime) -> Result<(), Fail> {
             ("raise A, 'b' unless c", "((unless ~c raise(A (str 'b'))))"),
         ],
     )
-}
-
-/// Words that the grammar derives and that may not stand where they stand, beside those that may.
-#[test]
-fn places(rt: HostRuntime) -> Result<(), Fail> {
-    all_lines(
-        &rt,
-        rt.alloc(),
-        &[
-            ("break", "Syntax { at: 0 }"),
-            ("1; next 2", "Syntax { at: 3 }"),
-            (
-                "def f(x = a.break); yield; :next; { next: 1 }; end; next",
-                "Syntax { at: 52 }",
-            ),
-            ("return if 1; def f() = super; retry", "Syntax { at: 30 }"),
-            ("while 1; break; end", "((while 1 ((break))))"),
-            (
-                "until 1; f = -> { next }; end",
-                "((until 1 ((= f ->{|;| ((next))}))))",
-            ),
-            ("while 1; def f; break; end; end", "Syntax { at: 16 }"),
-            ("while 1; class A; next; end; end", "Syntax { at: 18 }"),
-            ("f { break }", "(~f{|;| ((break))})"),
-            ("for i in 1; next; end", "((for i in 1 ((next))))"),
-            ("while break; end", "((while (break) ()))"),
-            ("retry", "Syntax { at: 0 }"),
-            ("begin; retry; rescue; end", "Syntax { at: 7 }"),
-            (
-                "begin; rescue; retry; else; end",
-                "((begin () rescue ((retry)) else ()))",
-            ),
-            ("begin; rescue; 1; else; retry; end", "Syntax { at: 24 }"),
-            ("begin; rescue; f { retry }; end", "Syntax { at: 19 }"),
-            (
-                "begin; rescue; for i in 1; retry; end; end",
-                "Syntax { at: 27 }",
-            ),
-            (
-                "begin; rescue; while 1; retry; end; end",
-                "((begin () rescue ((while 1 ((retry))))))",
-            ),
-            ("1 rescue retry", "((rescue 1 (retry)))"),
-            ("return", "((return))"),
-            ("class A; return 1; end", "Syntax { at: 9 }"),
-            (
-                "module A; f { return 1 }; end",
-                "((module A (~f{|;| ((return 1))})))",
-            ),
-            ("class << self; return; end", "Syntax { at: 15 }"),
-            ("yield", "Syntax { at: 0 }"),
-            ("f { super }", "Syntax { at: 4 }"),
-            (
-                "def f; g { yield 1 }; end",
-                "((def  f {|;| (~g{|;| ((yield 1))})}))",
-            ),
-            ("def f; class << self; super; end; end", "Syntax { at: 22 }"),
-            ("def f; class A; end; end", "Syntax { at: 0 }"),
-            ("1; def f; module A; end; end", "Syntax { at: 3 }"),
-            (
-                "def f; class << self; end; end",
-                "((def  f {|;| ((class << self ()))}))",
-            ),
-            ("def f; A = 1; end", "Syntax { at: 0 }"),
-            ("def f; A::B ||= 1; end", "Syntax { at: 0 }"),
-            ("def f; g { a, (b, *C) = 1 }; end", "Syntax { at: 0 }"),
-            ("def f; for A in 1; end; end", "Syntax { at: 0 }"),
-            ("def f; begin; rescue => A; end; end", "Syntax { at: 0 }"),
-            ("class A; B = 1; end", "((class A ((= B 1))))"),
-            ("def f(a, a); end", "Syntax { at: 0 }"),
-            ("def f(a, b = 1, *a); end", "Syntax { at: 0 }"),
-            ("def f(a, (b, (*a, c))); end", "Syntax { at: 0 }"),
-            ("def f(a, &a); end", "Syntax { at: 0 }"),
-            ("def f(_, a, _); end", "((def  f {| _ a _;| ()}))"),
-            ("1; ->(x, *x) { }", "Syntax { at: 16 }"),
-            ("f { |x, (y, x)| }", "Syntax { at: 17 }"),
-            ("def f; g { |x, x| }; end", "Syntax { at: 0 }"),
-            ("f do |x, x| end", "Syntax { at: 15 }"),
-            ("x = 1; f { |x| x }", "((= x 1); ~f{| x;| (x)})"),
-        ],
-        Rules::All,
-    )
-}
-
-/// Whole programs of the language; they have trees.
-#[test]
-fn programs(rt: HostRuntime) -> Result<(), Fail> {
-    let sources = [
-        "def c; n = 0; [lambda { n += 1 }, lambda { n }]; end\na = c\nb = c\na[0].call\na[0].call\np a[1].call, b[1].call\n",
-        "x = 0; f = Fiber.new { 3.times { |i| x += 10; Fiber.yield i } }; x += 1; p f.resume; x += 1; p f.resume; p x",
-        "def f; [1, 2].each { |v| begin; return v; ensure; puts \"e\"; end }; 3; end; puts f",
-        "def m; Proc.new { return 1 }; end; b = m; begin; b.call; rescue LocalJumpError => e; puts e.message; end",
-        "def hold(f, &b); $b = b; p f.resume; :held; end\nf = Fiber.new {\n  begin; $b.call; rescue LocalJumpError => e; puts e.message; end\n  Fiber.yield 5\n}\np hold(f) { break 1 }\n",
-        "class Integer; def +(o); 42; end; end; puts 1 + 1",
-        "$n = 0; def f; begin; f; ensure; $n += 1; end; end; begin; f; rescue SystemStackError => e; puts e.message; end; puts $n",
-        "module Shout\n  def line(w, n)\n    \"#{w.upcase}: #{n}\"\n  end\nend\nclass Counter\n  include Shout\n  def initialize; @h = Hash.new(0); end\n  def add(text)\n    text.split.each { |w| @h[w] += 1 }\n  end\n  def each_line\n    @h.sort_by { |w, n| -n }.each { |w, n| yield line(w, n) }\n  end\nend\nc = Counter.new\nwhile s = gets\n  c.add s\nend\nc.each_line { |t| puts t }\n",
-        "module M; end; class A; include M; end; class B < A; include M; end; p B.ancestors",
-        "p [[1, 2], [3, 4]].map { |a, b| a + b }",
-        "k = \"a\"; h = {k => 1}; k << \"b\"; p h, k",
-        "n = 0; begin; n += 1; raise \"a\" if n < 3; p n; rescue; retry; end",
-        "class G; def method_missing(n, a); p n, a; end; end; G.new.go 4; q",
-        "E = Class.new(StandardError); module M; class C; end; end; p E, M::C, Class.new",
-        "x = 0; while x < 3; begin; x += 1; next if x == 2; p x; ensure; puts \"e\"; end; end",
-        "class A; private; def x; 1; end; public; def y; self.x; end; end; p A.new.y; A.new.x",
-        "class L; include Enumerable; def each; yield 3; yield 1; yield 2; end; end; p L.new.sort, L.new.map { |x| x * 2 }, L.new.inject(:+)",
-        "class V; include Comparable; attr_reader :n; def initialize(n); @n = n; end; def <=>(o); n <=> o.n; end; end; p V.new(1) < V.new(2), V.new(2).between?(V.new(1), V.new(3))",
-        "e = Enumerator.new { |y| n = 0; loop { y << n; n += 1 } }; 3.times { p e.next }",
-        "a = nil\na = lambda { |x| a }\na[0][0][0]\n",
-        "def g; begin; raise \"a\"; ensure; return 7; end; end; p g",
-        "x = [1, 2, 3].select do |v|\n  v > 1 && v != 2 || !v.nil?\nend\nputs x.inspect, x.size unless x.empty?\n",
-        "case x = 3\nwhen 1..2, Integer then puts 'i'\nelse puts 'o' end\n",
-        "h = Hash.new { |hash, key| hash[key] = [] }\nh[:a] << 1\nh.each_pair { |k, (v, w)| puts \"#{k}=#{v || w}\" }\n",
-    ];
-    for source in sources {
-        let line = line_of(&rt, rt.alloc(), source.as_bytes(), Rules::All)?;
-        let front = line.get(..1);
-        assert_eq!(rt; front, Some(b"(".as_slice()), "{source}");
-    }
-    Ok(())
 }

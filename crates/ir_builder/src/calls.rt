@@ -1,14 +1,15 @@
 //! Calls, and what is asked by `defined?`.
-ghost use Rattle.std.specs.Prelude.{◌≡◌, IfOk, codes};
+ghost use Rattle.std.specs.Prelude.{◌≡◌, IfOk, codes, map};
+ghost use Rattle.ir_builder.specs.Forms.{map_item};
 ghost use Rattle.ir_core.specs.CoreForm as form;
-ghost use Rattle.ir_core.specs.View.{core_view, term_view};
+ghost use Rattle.ir_core.specs.View.{core_view, local_of, term_view};
 ghost use Rattle.ir_core.specs.Parts as part;
 ghost use Rattle.ir_core.specs.Forms.{send_form, asks_form, asks_of_form};
 ghost use Rattle.ir_builder.specs.Forms as lowered;
 
 use crate::control::{choice, nil_on_error};
-use crate::leaf::{local, object};
-use ir_core::{Core, Receiver, Term};
+use crate::leaf::{object, own, same_local};
+use ir_core::{Core, Local, Receiver, Term};
 use rb_base::Bytes;
 use rb_syntax::{DefinedKind, Item};
 use std::alloc::{AllocError, Global};
@@ -23,11 +24,18 @@ fn call_term(
     ensures { term_view result ≡ form.call (part.receiver_form receiver) name (part.items items.items)
         (part.boxed block) }
 {
-    Term::Call {
-        receiver,
-        name,
-        items,
-        block,
+    match block {
+        None => Term::Call {
+            receiver,
+            name,
+            items,
+        },
+        Some(block) => Term::BlockCall {
+            receiver,
+            name,
+            items,
+            block,
+        },
     }
 }
 
@@ -60,14 +68,14 @@ pub fn send(
 
 /// The call of a method on a value, without arguments.
 pub fn send_alone(alloc: Global, receiver: Core, name: &[u8]) -> Result<Core, AllocError>
-    ensures { IfOk result (λ c. core_view c ≡ send_form (core_view receiver) name.now form.none) }
+    ensures { IfOk result (λ c. core_view c ≡ send_form (core_view receiver) name.now form.no_items) }
 {
     send(alloc, receiver, name, Vec::new(alloc))
 }
 
 /// A list of one item.
 pub fn one_item(alloc: Global, value: Core) -> Result<Vec<Item<Core>>, AllocError>
-    ensures { IfOk result (λ v. part.items v.items ≡ form.one (core_view value)) }
+    ensures { IfOk result (λ v. part.items v.items ≡ form.one_item (core_view value)) }
 {
     let mut items = Vec::new(alloc);
     items.push(Item::Plain(value))?;
@@ -76,7 +84,7 @@ pub fn one_item(alloc: Global, value: Core) -> Result<Vec<Item<Core>>, AllocErro
 
 /// The call of a method on a value with one argument.
 pub fn send_one(alloc: Global, receiver: Core, name: &[u8], value: Core) -> Result<Core, AllocError>
-    ensures { IfOk result (λ c. core_view c ≡ send_form (core_view receiver) name.now (form.one (core_view value))) }
+    ensures { IfOk result (λ c. core_view c ≡ send_form (core_view receiver) name.now (form.one_item (core_view value))) }
 {
     let items = one_item(alloc, value)?;
     send(alloc, receiver, name, items)
@@ -84,7 +92,7 @@ pub fn send_one(alloc: Global, receiver: Core, name: &[u8], value: Core) -> Resu
 
 /// The text of a value.
 pub fn text_item(alloc: Global, value: Core) -> Result<Core, AllocError>
-    ensures { IfOk result (λ c. core_view c ≡ send_form (core_view value) (codes "to_s") form.none) }
+    ensures { IfOk result (λ c. core_view c ≡ send_form (core_view value) (codes "to_s") form.no_items) }
 {
     send_alone(alloc, value, b"to_s")
 }
@@ -147,24 +155,26 @@ pub fn has_block(alloc: Global) -> Result<Core, AllocError>
     choice(alloc, asked, given, absent)
 }
 
-fn passed_item(alloc: Global, item: &Item<Bytes>) -> Result<Item<Core>, AllocError>
-    ensures { IfOk result (λ i. part.item_form i ≡ lowered.passed_form item.now) }
+fn passed_item(alloc: Global, item: &Item<Local>) -> Result<Item<Core>, AllocError>
+    ensures { IfOk result (λ i. (is : form.Items) → part.item_then i is ≡ lowered.passed_item (map_item local_of item.now)
+        is) }
 {
     match item {
-        Item::Plain(name) => {
-            let name = local(alloc, name.as_slice())?;
-            Ok(Item::Plain(name))
+        Item::Plain(variable) => {
+            let variable = same_local(alloc, variable)?;
+            Ok(Item::Plain(own(alloc, variable)?))
         }
-        Item::Splat(name) => {
-            let name = local(alloc, name.as_slice())?;
-            Ok(Item::Splat(name))
+        Item::Splat(variable) => {
+            let variable = same_local(alloc, variable)?;
+            Ok(Item::Splat(own(alloc, variable)?))
         }
     }
 }
 
 /// What a `super` without arguments passes.
-pub fn passed_items(alloc: Global, passed: &[Item<Bytes>]) -> Result<Vec<Item<Core>>, AllocError>
-    ensures { IfOk result (λ v. part.items v.items ≡ lowered.passed_forms passed.now) }
+#[tactic(auto, using(ir_core::proofs::Lists::item_turns))]
+pub fn passed_items(alloc: Global, passed: &[Item<Local>]) -> Result<Vec<Item<Core>>, AllocError>
+    ensures { IfOk result (λ v. part.items v.items ≡ lowered.passed_items (map (map_item local_of) passed.now)) }
 {
     let mut items = Vec::new(alloc);
     for item in passed {

@@ -55,7 +55,7 @@ pub fn cond(alloc: Global, branches: Vec<Branch<Core>>, otherwise: Core) -> Resu
 
 /// One test.
 pub fn choice(alloc: Global, test: Core, body: Core, otherwise: Core) -> Result<Core, AllocError>
-    ensures { IfOk result (λ c. core_view c ≡ form.cond (form.one (form.branch (core_view test) (core_view body)))
+    ensures { IfOk result (λ c. core_view c ≡ form.cond (form.branch (core_view test) (core_view body) form.no_branches)
         (core_view otherwise)) }
 {
     let mut branches = Vec::new(alloc);
@@ -164,8 +164,8 @@ pub fn repetition(
 }
 
 #[tactic(auto, using(ir_core::proofs::Views::core_views))]
-fn begin_term(form: BeginForm<Core>) -> Term
-    ensures { term_view result ≡ part.begin_form form }
+fn begin_term(form: Box<BeginForm<Core>>) -> Term
+    ensures { term_view result ≡ part.begin_form form.value }
 {
     Term::Begin(form)
 }
@@ -174,7 +174,7 @@ fn begin_term(form: BeginForm<Core>) -> Term
 pub fn begin(alloc: Global, form: BeginForm<Core>) -> Result<Core, AllocError>
     ensures { IfOk result (λ c. core_view c ≡ part.begin_form form) }
 {
-    begin_term(form).into_core(alloc)
+    begin_term(Box::new(alloc, form)?).into_core(alloc)
 }
 
 /// A form, and another where it raises a StandardError.

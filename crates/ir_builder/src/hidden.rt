@@ -7,8 +7,7 @@ ghost use Rattle.ir_builder.specs.Forms as lowered;
 
 use crate::calls::send;
 use crate::leaf::{local, set_local};
-use crate::names::hidden_name;
-use ir_core::{Core, Term};
+use ir_core::{Core, Local, Term};
 use rb_syntax::Item;
 use std::alloc::{AllocError, Global};
 
@@ -16,16 +15,14 @@ use std::alloc::{AllocError, Global};
 pub fn local_number(alloc: Global, number: usize) -> Result<Core, AllocError>
     ensures { IfOk result (λ c. core_view c ≡ lowered.local_number number) }
 {
-    let name = hidden_name(alloc, number)?;
-    local(alloc, name.as_slice())
+    local(alloc, Local::Hidden(number))
 }
 
 /// The store of a value in a hidden local.
 pub fn keep(alloc: Global, number: usize, value: Core) -> Result<Core, AllocError>
     ensures { IfOk result (λ c. core_view c ≡ lowered.keep number (core_view value)) }
 {
-    let name = hidden_name(alloc, number)?;
-    set_local(alloc, name.as_slice(), value)
+    set_local(alloc, Local::Hidden(number), value)
 }
 
 /// The store of a value by a call on what hidden local `receiver` holds; the value is kept in hidden local `kept`.
@@ -56,28 +53,12 @@ pub fn stored(
 }
 
 /// Element `place` of the Array in a hidden local.
-
 pub fn element(alloc: Global, number: usize, place: usize) -> Result<Core, AllocError>
     ensures { IfOk result (λ c. core_view c ≡ lowered.element number place) }
 {
     let of = local_number(alloc, number)?;
     let place = i32::try_from(place).unwrap_or(i32::MAX);
     Term::Item(of, place).into_core(alloc)
-}
-
-/// The element that is number `place` of the last `count` ones of the Array in a hidden local.
-
-pub fn element_behind(
-    alloc: Global,
-    number: usize,
-    count: usize,
-    place: usize,
-) -> Result<Core, AllocError>
-    ensures { IfOk result (λ c. core_view c ≡ lowered.element_behind number count place) }
-{
-    let of = local_number(alloc, number)?;
-    let back = i32::try_from(count.saturating_sub(place)).unwrap_or(i32::MAX);
-    Term::Item(of, -back).into_core(alloc)
 }
 
 /// The elements between the first `from` and the last `post` ones of the Array in a hidden local.
@@ -93,4 +74,19 @@ pub fn elements_between(
     let from = u8::try_from(from).unwrap_or(u8::MAX);
     let post = u8::try_from(post).unwrap_or(u8::MAX);
     Term::Rest { of, from, post }.into_core(alloc)
+}
+
+/// The last `count` elements of the Array in a hidden local, none of them before the first `from`.
+pub fn last_elements(
+    alloc: Global,
+    number: usize,
+    from: usize,
+    count: usize,
+) -> Result<Core, AllocError>
+    ensures { IfOk result (λ c. core_view c ≡ lowered.last_elements number from count) }
+{
+    let of = local_number(alloc, number)?;
+    let from = u8::try_from(from).unwrap_or(u8::MAX);
+    let count = u8::try_from(count).unwrap_or(u8::MAX);
+    Term::Tail { of, from, count }.into_core(alloc)
 }

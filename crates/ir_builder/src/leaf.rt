@@ -2,13 +2,13 @@
 ghost use Rattle.std.specs.Prelude.{◌≡◌, IfOk, map};
 ghost use Rattle.ir_core.specs.CoreForm as form;
 ghost use Rattle.ir_core.specs.CoreForm.{forms};
-ghost use Rattle.ir_core.specs.View.{core_view, term_view};
+ghost use Rattle.ir_core.specs.View.{core_view, local_of, term_view};
 ghost use Rattle.ir_core.specs.Parts as part;
 ghost use Rattle.ir_core.specs.Forms as built;
 ghost use Rattle.ir_builder.specs.Forms as lowered;
 
 use crate::control::sequence;
-use ir_core::{Core, Term};
+use ir_core::{Core, Local, Term};
 use rb_base::Bytes;
 use rb_syntax::Item;
 use std::alloc::{AllocError, Global};
@@ -37,19 +37,43 @@ pub fn symbol(alloc: Global, name: &[u8]) -> Result<Core, AllocError>
 }
 
 /// What a local variable holds.
-pub fn local(alloc: Global, name: &[u8]) -> Result<Core, AllocError>
-    ensures { IfOk result (λ c. core_view c ≡ form.local name.now) }
+pub fn local(alloc: Global, variable: Local) -> Result<Core, AllocError>
+    ensures { IfOk result (λ c. core_view c ≡ form.local (local_of variable)) }
 {
-    let name = Bytes::from_slice(alloc, name)?;
-    Term::Local(name).into_core(alloc)
+    Term::Local(variable).into_core(alloc)
+}
+
+/// What a parameter of the method around the text holds.
+pub fn own(alloc: Global, variable: Local) -> Result<Core, AllocError>
+    ensures { IfOk result (λ c. core_view c ≡ form.own (local_of variable)) }
+{
+    Term::Own(variable).into_core(alloc)
 }
 
 /// The store of a value in a local variable.
-pub fn set_local(alloc: Global, name: &[u8], value: Core) -> Result<Core, AllocError>
-    ensures { IfOk result (λ c. core_view c ≡ form.set_local name.now (core_view value)) }
+pub fn set_local(alloc: Global, variable: Local, value: Core) -> Result<Core, AllocError>
+    ensures { IfOk result (λ c. core_view c ≡ form.set_local (local_of variable) (core_view value)) }
 {
-    let name = Bytes::from_slice(alloc, name)?;
-    Term::SetLocal(name, value).into_core(alloc)
+    Term::SetLocal(variable, value).into_core(alloc)
+}
+
+/// A local variable of the source.
+pub fn named(alloc: Global, name: &[u8]) -> Result<Local, AllocError>
+    ensures { IfOk result (λ l. local_of l ≡ form.named name.now) }
+{
+    Ok(Local::Named(Bytes::from_slice(alloc, name)?))
+}
+
+/// The same local variable.
+pub fn same_local(alloc: Global, variable: &Local) -> Result<Local, AllocError>
+    ensures { IfOk result (λ l. local_of l ≡ local_of variable.now) }
+{
+    match variable {
+        Local::Named(name) => named(alloc, name.as_slice()),
+        Local::Hidden(number) => Ok(Local::Hidden(*number)),
+        Local::Pattern(place) => Ok(Local::Pattern(*place)),
+        Local::Rest => Ok(Local::Rest),
+    }
 }
 
 /// What an instance variable holds.
@@ -180,8 +204,9 @@ pub fn array(alloc: Global, items: Vec<Item<Core>>) -> Result<Core, AllocError>
 }
 
 /// An Array of Strings.
+#[tactic(auto, using(ir_core::proofs::Lists::item_turns))]
 pub fn word_array(alloc: Global, words: &[Bytes]) -> Result<Core, AllocError>
-    ensures { IfOk result (λ c. core_view c ≡ form.array (forms (map form.str words.now))) }
+    ensures { IfOk result (λ c. core_view c ≡ form.array (lowered.plain_items (map form.str words.now))) }
 {
     let mut items = Vec::new(alloc);
     for word in words {
@@ -192,8 +217,9 @@ pub fn word_array(alloc: Global, words: &[Bytes]) -> Result<Core, AllocError>
 }
 
 /// An Array of Symbols.
+#[tactic(auto, using(ir_core::proofs::Lists::item_turns))]
 pub fn symbol_array(alloc: Global, names: &[Bytes]) -> Result<Core, AllocError>
-    ensures { IfOk result (λ c. core_view c ≡ form.array (forms (map form.sym names.now))) }
+    ensures { IfOk result (λ c. core_view c ≡ form.array (lowered.plain_items (map form.sym names.now))) }
 {
     let mut items = Vec::new(alloc);
     for name in names {

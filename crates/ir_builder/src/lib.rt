@@ -1,12 +1,10 @@
-//! Cores that are built from their parts, and the names that lowering makes. What they are stands in ir_core's
-//! specs/Forms.antt and in specs/: Names and Forms.
+//! Cores that are built from their parts. What they are stands in ir_core's specs/Forms.antt and in specs/Forms.antt.
 //!
 //! Calls, all of which take memory: leaves and variables in [`leaf`], calls in [`calls`], branches, statements and
-//! clauses in [`control`], hidden locals in [`hidden`], and names in [`names`].
+//! clauses in [`control`], and hidden locals in [`hidden`].
 #![tactic(auto)]
 
 pub mod calls;
 pub mod control;
 pub mod hidden;
 pub mod leaf;
-pub mod names;

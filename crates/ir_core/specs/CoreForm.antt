@@ -1,12 +1,30 @@
 -- A core form: what is left of a source once names are known and every construct of the surface language is
--- written with a few.
+-- written with a few. Each part that is no form by itself has a type of its own.
 use Rattle.std.specs.Prelude.{ℕ, ℤ, Bool, List, [], ◌∷◌, Option, Some, None}
 use Rattle.rb_syntax.specs.declared.core_form.DefinedKind.{DefinedKind}
-use Rattle.rb_syntax.specs.declared.core_form.Parameters.{Parameters}
 
 -- a name, by its bytes
 abbrev pub Name : Type 0
 Name = List ℕ
+
+-- a local variable of a body
+pub data Local : Type 0 where
+  -- one of the source
+  named : Name → Local
+  -- one that lowering keeps a value in; blocks don't see it
+  hidden : ℕ → Local
+  -- the parameter at that place whose source is a pattern, or a target of a for
+  pattern : ℕ → Local
+  -- a rest parameter without a name
+  rest : Local
+
+-- the parameters of a body: required ones, optional ones, one for the rest, required ones after it, one for the block
+pub record Parameters : Type 0 where
+  pub required : List Local
+  pub optional : List Local
+  pub rest : List Local
+  pub post : List Local
+  pub block : List Local
 
 mutual
   pub data CoreForm : Type 0 where
@@ -17,8 +35,12 @@ mutual
     int : ℤ → CoreForm
     str : List ℕ → CoreForm
     sym : Name → CoreForm
-    local : Name → CoreForm
-    set_local : Name → CoreForm → CoreForm
+    local : Local → CoreForm
+    -- a parameter of the method around the text, whatever blocks between name theirs
+    own : Local → CoreForm
+    -- the exception of the rescue clause whose target is assigned
+    exception : CoreForm
+    set_local : Local → CoreForm → CoreForm
     ivar : Name → CoreForm
     set_ivar : Name → CoreForm → CoreForm
     gvar : Name → CoreForm
@@ -29,76 +51,109 @@ mutual
     set_constant : Name → CoreForm → CoreForm
     -- the scope, the name and the value
     set_in_constant : CoreForm → Name → CoreForm → CoreForm
-    -- items
-    array : CoreForms → CoreForm
-    -- pairs
-    hash : CoreForms → CoreForm
+    array : Items → CoreForm
+    hash : Pairs → CoreForm
     -- whether the end is left out
     range : CoreForm → CoreForm → Bool → CoreForm
-    text : CoreForms → CoreForm
+    text : Forms → CoreForm
     intern : CoreForm → CoreForm
-    seq : CoreForms → CoreForm
+    seq : Forms → CoreForm
     -- branches, and the form done where no test is true
-    cond : CoreForms → CoreForm → CoreForm
+    cond : Branches → CoreForm → CoreForm
     and_form : CoreForm → CoreForm → CoreForm
     or_form : CoreForm → CoreForm → CoreForm
     -- whether the body is done before the test, the test, the body
     while_form : Bool → CoreForm → CoreForm → CoreForm
-    -- the receiver, the name, items, and a block or none
-    call : CoreForm → Name → CoreForms → CoreForms → CoreForm
-    yield_form : CoreForms → CoreForm
-    super_form : CoreForms → CoreForms → CoreForm
-    -- parameters, named locals, and the body
-    function : Parameters → List Name → CoreForm → CoreForm
-    lambda : Parameters → List Name → CoreForm → CoreForm
-    -- the body, clauses, and the part for where nothing was raised and the ensure part, each or none
-    begin_form : CoreForm → CoreForms → CoreForms → CoreForms → CoreForm
+    call : Receiver → Name → Items → Maybe → CoreForm
+    yield_form : Items → CoreForm
+    super_form : Items → Maybe → CoreForm
+    -- a block, and a lambda
+    function : Body → CoreForm
+    lambda : Body → CoreForm
+    -- the body, its clauses, what is done where nothing was raised, and the ensure part
+    begin_form : CoreForm → Clauses → Maybe → Maybe → CoreForm
     return_form : CoreForm → CoreForm
     break_form : CoreForm → CoreForm
     next_form : CoreForm → CoreForm
     retry : CoreForm
-    define : Name → Parameters → List Name → CoreForm → CoreForm
-    define_on : CoreForm → Name → Parameters → List Name → CoreForm → CoreForm
-    -- a scope or none, the name, a parent or none, and the body
-    class_form : CoreForms → Name → CoreForms → CoreForm → CoreForm
-    module_form : CoreForms → Name → CoreForm → CoreForm
-    singleton_class : CoreForm → CoreForm → CoreForm
+    define : Name → Body → CoreForm
+    define_on : CoreForm → Name → Body → CoreForm
+    -- a scope, the name, a parent, and the body
+    class_form : Maybe → Name → Maybe → Body → CoreForm
+    module_form : Maybe → Name → Body → CoreForm
+    singleton_class : CoreForm → Body → CoreForm
     -- the new name, and the old one
     alias_form : Name → Name → CoreForm
     undef_form : Name → CoreForm
-    -- what is asked about, its name, and a receiver or none
-    defined : DefinedKind → Name → CoreForms → CoreForm
+    defined : DefinedKind → Name → Maybe → CoreForm
     -- element k of an Array, from the end where k is negative
     item : CoreForm → ℤ → CoreForm
     -- the new Array of the elements from one place up to the last so many
     rest_of : CoreForm → ℕ → ℕ → CoreForm
-    -- Parts of forms, which are no forms by themselves.
-    -- an item: the elements of a value
-    splat : CoreForm → CoreForm
-    -- a key and a value of a Hash
-    pair : CoreForm → CoreForm → CoreForm
-    -- a test, and the body done where it is true
-    branch : CoreForm → CoreForm → CoreForm
-    -- classes (none stand for StandardError), an assignment of the exception or none, and the body
-    clause : CoreForms → CoreForms → CoreForm → CoreForm
-    -- the receiver of a call on self with arguments or parentheses, and that of a name alone
-    absent : CoreForm
-    bare : CoreForm
+    -- the new Array of the last so many elements, none of them before a place
+    tail_of : CoreForm → ℕ → ℕ → CoreForm
 
-  pub data CoreForms : Type 0 where
-    none : CoreForms
-    more : CoreForm → CoreForms → CoreForms
+  -- what stands in a function, a class, a module or the main program: parameters, locals besides them, and the form
+  pub data Body : Type 0 where
+    body : Parameters → List Local → CoreForm → Body
 
-abbrev pub forms : List CoreForm → CoreForms
+  pub data Maybe : Type 0 where
+    absent : Maybe
+    there : CoreForm → Maybe
+
+  pub data Forms : Type 0 where
+    none : Forms
+    more : CoreForm → Forms → Forms
+
+  pub data Items : Type 0 where
+    no_items : Items
+    plain : CoreForm → Items → Items
+    splat : CoreForm → Items → Items
+
+  pub data Pairs : Type 0 where
+    no_pairs : Pairs
+    pair : CoreForm → CoreForm → Pairs → Pairs
+
+  -- a test and what is done where it is true
+  pub data Branches : Type 0 where
+    no_branches : Branches
+    branch : CoreForm → CoreForm → Branches → Branches
+
+  -- classes (none stand for StandardError), an assignment of the exception, and the body
+  pub data Clauses : Type 0 where
+    no_clauses : Clauses
+    clause : Forms → Maybe → CoreForm → Clauses → Clauses
+
+  pub data Receiver : Type 0 where
+    to : CoreForm → Receiver
+    -- a call on self with arguments or parentheses, and a name alone
+    on_self : Receiver
+    bare : Receiver
+
+-- the form of a body
+abbrev pub form_of : Body → CoreForm
+form_of (body p ls f) = f
+
+abbrev pub no_parameters : Parameters
+no_parameters = record { required = []; optional = []; rest = []; post = []; block = [] }
+
+-- a body without parameters
+abbrev pub plain_body : List Local → CoreForm → Body
+plain_body locals f = body no_parameters locals f
+
+abbrev pub maybe : Option CoreForm → Maybe
+maybe None = absent
+maybe (Some f) = there f
+
+abbrev pub forms : List CoreForm → Forms
 forms [] = none
 forms (f ∷ fs) = more f (forms fs)
 
-abbrev pub maybe : Option CoreForm → CoreForms
-maybe None = none
-maybe (Some f) = more f none
-
-abbrev pub one : CoreForm → CoreForms
+abbrev pub one : CoreForm → Forms
 one f = more f none
 
-abbrev pub two : CoreForm → CoreForm → CoreForms
+abbrev pub two : CoreForm → CoreForm → Forms
 two f g = more f (more g none)
+
+abbrev pub one_item : CoreForm → Items
+one_item f = plain f no_items

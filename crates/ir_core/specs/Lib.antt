@@ -1,5 +1,6 @@
 pub mod CoreForm
 pub mod View
+pub mod PartsBy
 pub mod Parts
 pub mod Forms
-pub mod PartsBy
+pub mod Program

@@ -1,7 +1,9 @@
+//! Core forms.
 ghost use Rattle.std.specs.Prelude.{◌≡◌, IfOk};
 
-use rb_base::{Bytes, List};
-use rb_syntax::{Branch, DefinedKind, Item, Pair, Parameters};
+use crate::local::{Local, Parameters};
+use rb_base::Bytes;
+use rb_syntax::{Branch, DefinedKind, Item, Pair};
 use std::alloc::{AllocError, Global};
 
 /// What a call is sent to.
@@ -9,7 +11,7 @@ use std::alloc::{AllocError, Global};
 pub enum Receiver<T> {
     To(T),
     /// A call on self with arguments or parentheses.
-    Absent,
+    OnSelf,
     /// A name alone.
     Bare,
 }
@@ -31,19 +33,22 @@ pub struct BeginForm<T> {
     pub ensure: Option<T>,
 }
 
-/// The body of a method, a block or a lambda.
+/// What stands in a function, a class, a module or the main program: its parameters, its locals besides them, and its
+/// form. Only functions have parameters.
 #[derive(Drop)]
-pub struct Function<T> {
+pub struct Body<T> {
     pub parameters: Parameters,
-    pub locals: List<Bytes>,
-    pub body: T,
+    pub locals: Vec<Local>,
+    pub form: T,
 }
 
 /// A core form.
 pub type Core = Box<Term>;
 
-/// What a core form is. `Item` is element k of an Array, from the end where k is negative; `Rest` is the new Array of
-/// the elements from `from` up to the last `post`.
+/// The core of a whole source: the body of its main program.
+pub type Program = Body<Core>;
+
+/// What a core form is. What few forms have stands after a pointer, so that a form takes at most 80 bytes.
 pub enum Term {
     Nil,
     True,
@@ -52,8 +57,12 @@ pub enum Term {
     Int(i64),
     Str(Bytes),
     Sym(Bytes),
-    Local(Bytes),
-    SetLocal(Bytes, Core),
+    Local(Local),
+    /// A parameter of the method around the text, whatever the blocks between name theirs.
+    Own(Local),
+    /// The exception of the rescue clause whose target is assigned.
+    Exception,
+    SetLocal(Local, Core),
     Ivar(Bytes),
     SetIvar(Bytes, Core),
     Gvar(Bytes),
@@ -62,6 +71,7 @@ pub enum Term {
     TopConst(Bytes),
     InConst(Core, Bytes),
     SetConst(Bytes, Core),
+    /// The scope, the name and the value.
     SetInConst(Core, Bytes, Core),
     Array(Vec<Item<Core>>),
     Hash(Vec<Pair<Core>>),
@@ -73,6 +83,7 @@ pub enum Term {
     Text(Vec<Core>),
     Intern(Core),
     Seq(Vec<Core>),
+    /// Branches, and the form that is done where no test is true.
     Cond(Vec<Branch<Core>>, Core),
     And(Core, Core),
     Or(Core, Core),
@@ -81,45 +92,63 @@ pub enum Term {
         test: Core,
         body: Core,
     },
+    /// A call without a block.
     Call {
         receiver: Receiver<Core>,
         name: Bytes,
         items: Vec<Item<Core>>,
-        block: Option<Core>,
+    },
+    /// A call with a block, or with what follows `&`.
+    BlockCall {
+        receiver: Receiver<Core>,
+        name: Bytes,
+        items: Vec<Item<Core>>,
+        block: Core,
     },
     Yield(Vec<Item<Core>>),
     Super(Vec<Item<Core>>, Option<Core>),
-    Fn(Function<Core>),
-    Lambda(Function<Core>),
-    Begin(BeginForm<Core>),
+    Fn(Box<Body<Core>>),
+    Lambda(Box<Body<Core>>),
+    Begin(Box<BeginForm<Core>>),
     Return(Core),
     Break(Core),
     Next(Core),
     Retry,
-    Def(Bytes, Function<Core>),
-    DefOn(Core, Bytes, Function<Core>),
+    Def(Bytes, Box<Body<Core>>),
+    DefOn(Core, Bytes, Box<Body<Core>>),
     Class {
         scope: Option<Core>,
         name: Bytes,
         parent: Option<Core>,
-        body: Core,
+        body: Box<Body<Core>>,
     },
     Module {
         scope: Option<Core>,
         name: Bytes,
-        body: Core,
+        body: Box<Body<Core>>,
     },
-    SingletonClass(Core, Core),
+    SingletonClass(Core, Box<Body<Core>>),
+    /// The new name, and the old one.
     Alias(Bytes, Bytes),
     Undef(Bytes),
     Defined(DefinedKind, Bytes, Option<Core>),
+    /// Element k of an Array, from the end where k is negative.
     Item(Core, i32),
+    /// The new Array of the elements from `from` up to the last `post`.
     Rest {
         of: Core,
         from: u8,
         post: u8,
     },
+    /// The new Array of the last `count` elements, but of none before `from`.
+    Tail {
+        of: Core,
+        from: u8,
+        count: u8,
+    },
 }
+
+const _: () = prove!(size_of::<Term>() <= 80);
 
 impl Term {
     /// The core of this form.
@@ -142,6 +171,8 @@ impl Drop for Term {
             Term::Str(_a) => {}
             Term::Sym(_a) => {}
             Term::Local(_a) => {}
+            Term::Own(_a) => {}
+            Term::Exception => {}
             Term::SetLocal(_a, _b) => {}
             Term::Ivar(_a) => {}
             Term::SetIvar(_a, _b) => {}
@@ -171,6 +202,11 @@ impl Drop for Term {
                 body: _body,
             } => {}
             Term::Call {
+                receiver: _receiver,
+                name: _name,
+                items: _items,
+            } => {}
+            Term::BlockCall {
                 receiver: _receiver,
                 name: _name,
                 items: _items,
@@ -207,6 +243,11 @@ impl Drop for Term {
                 of: _of,
                 from: _from,
                 post: _post,
+            } => {}
+            Term::Tail {
+                of: _of,
+                from: _from,
+                count: _count,
             } => {}
         }
     }

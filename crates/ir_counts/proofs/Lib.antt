@@ -1,3 +1,3 @@
-pub mod Fronts
 pub mod Limits
+pub mod Locals
 pub mod PartCounts

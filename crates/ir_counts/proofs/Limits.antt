@@ -5,7 +5,9 @@ use Rattle.rb_syntax.specs.declared.count.Count.{Count}
 use Rattle.rb_syntax.specs.declared.count.Count.TheVariants.{Parameters, Registers, Pool, Symbols, Children, Code}
 use Rattle.ir_counts.specs.declared.counts.Counts.{Counts}
 use Rattle.ir_counts.specs.declared.excess.Excess.{Excess}
-use Rattle.ir_walk.specs.declared.body.Body.{Body}
+use Rattle.std.specs.Borrow.{Bor}
+use Rattle.ir_core.specs.declared.term.Body.{Body}
+use Rattle.ir_core.specs.View.{Core}
 use Rattle.ir_walk.specs.Steps.{body}
 use Rattle.ir_counts.specs.Counts.{counts}
 use Rattle.ir_counts.specs.Limits.{past, of_body}
@@ -45,7 +47,7 @@ of_body-None c b h = of_body_else c b ∙ ap (λ a. otherwise a b) h
 pub of_body-Some : (c : Counts) (b : Option Excess) (e : Excess) → of_body c None ≡ Some e → of_body c b ≡ Some e
 of_body-Some c b e h = of_body_else c b ∙ ap (λ a. otherwise a b) h
 
-pub length-counts : (bs : List Body) → length (map counts (map body bs)) ≡ length bs
+pub length-counts : (bs : List (Bor (Body Core))) → length (map counts (map body bs)) ≡ length bs
 length-counts [] = refl
 length-counts (b ∷ bs) = let e : length (map counts (map body bs)) ≡ length bs = length-counts bs in omega (arith, e)
 

@@ -1,31 +1,33 @@
 -- How many parts a list has.
-use Rattle.std.proofs.Common.{◌≡◌, List, [], ◌∷◌, map, length, refl, arith}
+use Rattle.std.proofs.Common.{◌≡◌, List, [], ◌∷◌, length, refl, arith}
 use Rattle.rb_syntax.specs.declared.core_form.Item.{Item}
+use Rattle.rb_syntax.specs.declared.core_form.Item.TheVariants.{Plain, Splat}
 use Rattle.rb_syntax.specs.declared.core_form.Pair.{Pair}
 use Rattle.rb_syntax.specs.declared.core_form.Branch.{Branch}
 use Rattle.ir_core.specs.declared.term.Clause.{Clause}
-use Rattle.ir_core.specs.CoreForm.{CoreForm, forms}
-use Rattle.ir_core.specs.View.{Core, term_view}
-use Rattle.ir_core.specs.PartsBy as by
-use Rattle.ir_counts.specs.Tables.{count}
+use Rattle.ir_core.specs.View.{Core}
+use Rattle.ir_core.specs.Parts as part
+use Rattle.ir_counts.specs.Tables.{count, item_count, pair_count, branch_count, clause_count}
 
-count-forms : {A : Type 0} (f : A → CoreForm) (xs : List A) → count (forms (map f xs)) ≡ length xs
-count-forms f [] = refl
-count-forms f (x ∷ xs) = let e : count (forms (map f xs)) ≡ length xs = count-forms f xs in omega (arith, e)
+pub count-cores : (cs : List Core) → count (part.cores cs) ≡ length cs
+count-cores [] = refl
+count-cores (c ∷ cs) = let e : count (part.cores cs) ≡ length cs = count-cores cs in omega (arith, e)
 
-pub count-cores : (cs : List Core) → count (by.cores_by term_view cs) ≡ length cs
-count-cores cs = count-forms (by.core_by term_view) cs
+pub count-items : (is : List (Item Core)) → item_count (part.items is) ≡ length is
+count-items [] = refl
+count-items (Plain c ∷ is) = let e : item_count (part.items is) ≡ length is = count-items is in omega (arith, e)
+count-items (Splat c ∷ is) = let e : item_count (part.items is) ≡ length is = count-items is in omega (arith, e)
 
-pub count-items : (is : List (Item Core)) → count (by.items_by term_view is) ≡ length is
-count-items is = count-forms (by.item_by term_view) is
+pub count-pairs : (ps : List (Pair Core)) → pair_count (part.pairs ps) ≡ length ps
+count-pairs [] = refl
+count-pairs (p ∷ ps) = let e : pair_count (part.pairs ps) ≡ length ps = count-pairs ps in omega (arith, e)
 
-pub count-pairs : (ps : List (Pair Core)) → count (by.pairs_by term_view ps) ≡ length ps
-count-pairs ps = count-forms (by.pair_by term_view) ps
+pub count-branches : (bs : List (Branch Core)) → branch_count (part.branches bs) ≡ length bs
+count-branches [] = refl
+count-branches (b ∷ bs) = let e : branch_count (part.branches bs) ≡ length bs = count-branches bs in omega (arith, e)
 
-pub count-branches : (bs : List (Branch Core)) → count (by.branches_by term_view bs) ≡ length bs
-count-branches bs = count-forms (by.branch_by term_view) bs
-
-pub count-clauses : (cs : List (Clause Core)) → count (by.clauses_by term_view cs) ≡ length cs
-count-clauses cs = count-forms (by.clause_by term_view) cs
+pub count-clauses : (cs : List (Clause Core)) → clause_count (part.clauses cs) ≡ length cs
+count-clauses [] = refl
+count-clauses (c ∷ cs) = let e : clause_count (part.clauses cs) ≡ length cs = count-clauses cs in omega (arith, e)
 
 pub ruleset count_laws = (count-cores, count-items, count-pairs, count-branches, count-clauses)

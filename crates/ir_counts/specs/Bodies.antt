@@ -1,7 +1,6 @@
 -- The bodies of a program, depth first.
 use Rattle.std.specs.Prelude.{List, [], ◌∷◌}
-use Rattle.ir_core.specs.CoreForm.{CoreForm}
-use Rattle.ir_walk.specs.Body.{Body, open_body}
+use Rattle.ir_core.specs.CoreForm.{Body, form_of}
 use Rattle.ir_walk.specs.Walk.{Step, at, enter, leave, walked}
 use Rattle.ir_walk.specs.declared.extent.Extent.TheVariants as extent
 
@@ -12,5 +11,5 @@ begun (at f ∷ ss) = begun ss
 begun (enter b ∷ ss) = b ∷ begun ss
 begun (leave ∷ ss) = begun ss
 
-abbrev pub bodies : CoreForm → List Body
-bodies program = open_body program ∷ begun (walked extent.Program [] program)
+abbrev pub bodies : Body → List Body
+bodies program = program ∷ begun (walked extent.Program [] (form_of program))

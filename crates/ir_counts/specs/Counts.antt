@@ -1,9 +1,7 @@
 -- The counts of a body.
-use Rattle.std.specs.Prelude.{ℕ, ◌+◌, ◌*◌, max, List, [], ◌∷◌, length, Option, Some, None, map}
-use Rattle.ir_core.specs.CoreForm.{CoreForm}
+use Rattle.std.specs.Prelude.{ℕ, ◌+◌, ◌*◌, max, List, [], ◌∷◌, length, map}
+use Rattle.ir_core.specs.CoreForm.{Body, body, form_of}
 use Rattle.ir_counts.specs.Bodies.{bodies}
-use Rattle.ir_walk.specs.Body.{Body, open_body, function_body, form_of}
-use Rattle.ir_counts.specs.Scopes.{named, no_scope}
 use Rattle.ir_counts.specs.Tally.{tallied, no_form}
 use Rattle.ir_walk.specs.Walk.{walked}
 use Rattle.ir_walk.specs.Width.{width}
@@ -11,23 +9,16 @@ use Rattle.ir_counts.specs.declared.counts.Counts.{Counts}
 use Rattle.ir_walk.specs.declared.extent.Extent.TheVariants as extent
 use Rattle.ir_counts.specs.declared.tally.Tally.{Tally}
 
-abbrev pub one_if : Option (List ℕ) → ℕ
-one_if None = 0
-one_if (Some x) = 1
-
 -- how many parameters a body has; a named block isn't one
 abbrev pub parameter_count : Body → ℕ
-parameter_count (open_body f) = 0
-parameter_count (function_body p l f) = length p.required + length p.optional + one_if p.rest + length p.post
+parameter_count (body p ls f) = length p.required + length p.optional + length p.rest + length p.post
 
 -- the greatest of its numbers of required, optional and post parameters
 abbrev pub of_a_kind : Body → ℕ
-of_a_kind (open_body f) = 0
-of_a_kind (function_body p l f) = max (length p.required) (max (length p.optional) (length p.post))
+of_a_kind (body p ls f) = max (length p.required) (max (length p.optional) (length p.post))
 
 abbrev pub local_count : Body → ℕ
-local_count (open_body f) = length (named [] no_scope (walked extent.Scope [] f))
-local_count (function_body p l f) = length l
+local_count (body p ls f) = length ls
 
 -- what texts take in a file
 abbrev pub text_bytes : ℕ → List (List ℕ) → ℕ
@@ -66,5 +57,5 @@ abbrev pub counts : Body → Counts
 counts b = counts_from b (tally b)
 
 -- the counts of each body of a program, depth first
-abbrev pub need : CoreForm → List Counts
+abbrev pub need : Body → List Counts
 need program = map counts (bodies program)

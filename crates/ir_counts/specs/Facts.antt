@@ -6,7 +6,7 @@ use Rattle.ir_counts.specs.declared.facts.Facts.{Facts}
 abbrev pub view : Facts → Added
 view f = record {
   kind = f.kind;
-  local = option_copied f.local;
+  hidden = f.hidden;
   code = f.code;
   handlers = f.handlers;
   children = f.children;

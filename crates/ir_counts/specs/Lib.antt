@@ -2,7 +2,6 @@ pub mod Bodies
 pub mod Counts
 pub mod Facts
 pub mod Limits
-pub mod Scopes
 pub mod Sets
 pub mod Tables
 pub mod Tally

@@ -1,20 +1,11 @@
--- Lists of different names, texts and integers, in the order in which they were added.
-use Rattle.std.specs.Prelude.{ℕ, ℤ, List, [], ◌∷◌, ◌++◌, Option, Some, None, if◌then◌else◌}
-use Rattle.std.specs.List.{list_any}
-use Rattle.std.specs.Ordering.{int_eq}
+-- Lists of different texts and integers, with one more where there is one.
+use Rattle.std.specs.Prelude.{ℕ, ℤ, List, Option, Some, None}
+use Rattle.integer_set.specs.Sets.{with_integer}
 use Rattle.text_set.specs.Sets.{with_text}
 
--- the names before, and then the new ones
-abbrev pub with_names : List (List ℕ) → List (List ℕ) → List (List ℕ)
-with_names names [] = names
-with_names names (x ∷ xs) = with_names (with_text names x) xs
-
 abbrev pub with_optional : List (List ℕ) → Option (List ℕ) → List (List ℕ)
-with_optional names None = names
-with_optional names (Some x) = with_text names x
-
-abbrev pub with_integer : List ℤ → ℤ → List ℤ
-with_integer ns n = if list_any (int_eq n) ns then ns else ns ++ n ∷ []
+with_optional texts None = texts
+with_optional texts (Some x) = with_text texts x
 
 abbrev pub with_optional_integer : List ℤ → Option ℤ → List ℤ
 with_optional_integer ns None = ns

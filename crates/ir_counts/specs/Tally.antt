@@ -2,7 +2,7 @@
 use Rattle.std.specs.Prelude.{◌+◌, max, List, [], ◌∷◌}
 use Rattle.ir_core.specs.CoreForm.{CoreForm}
 use Rattle.ir_counts.specs.Sets.{with_optional, with_optional_integer}
-use Rattle.ir_counts.specs.Tables.{Added, added, hidden_of}
+use Rattle.ir_counts.specs.Tables.{Added, added}
 use Rattle.ir_walk.specs.Walk.{Step, at, enter, leave}
 use Rattle.ir_counts.specs.declared.tally.Tally.{Tally}
 
@@ -13,7 +13,7 @@ no_form = record { kind = 0; hidden = 0; code = 0; handlers = 0; children = 0; s
 abbrev pub with_numbers : Tally → Added → Tally
 with_numbers t a = record {
   kind = max t.kind a.kind;
-  hidden = max t.hidden (hidden_of a.local);
+  hidden = max t.hidden a.hidden;
   code = t.code + a.code;
   handlers = t.handlers + a.handlers;
   children = t.children + a.children;

@@ -1,17 +1,13 @@
 //! The counts of a body.
-ghost use Rattle.std.specs.Prelude.{◌≡◌, IfOk};
-ghost use Rattle.ir_core.specs.View.{core_view};
-ghost use Rattle.ir_walk.specs.Body.{open_body};
+ghost use Rattle.std.specs.Prelude.{◌≡◌, length, IfOk};
+ghost use Rattle.ir_core.specs.View.{body_view, maybe_local};
 ghost use Rattle.ir_counts.specs.Counts as spec;
 ghost use Rattle.text_set.specs.Sets.{texts as shown};
-ghost use Rattle.ir_walk.specs.Steps.{body as view};
 
-use crate::naming::named_locals;
 use crate::tally::{Tally, tally_of};
-use ir_core::Core;
+use ir_core::{Body, Core, Local};
 use ir_walk::sums::{add, scaled, scaled_by};
-use ir_walk::{Body, Extent, Measured, Walked, form};
-use rb_base::Bytes;
+use ir_walk::{Extent, Measured, Walked};
 use std::alloc::{AllocError, Global};
 use std::cmp::max;
 
@@ -27,62 +23,43 @@ pub struct Counts {
     pub bytes: u64,
 }
 
-fn one_if(name: &Option<Bytes>) -> u64
-    ensures { result ≡ spec.one_if name.now }
+fn one_if(variable: &Option<Local>) -> u64
+    ensures { result ≡ length (maybe_local variable.now) }
 {
-    match name {
+    match variable {
         Some(_) => 1,
         None => 0,
     }
 }
 
 /// How many parameters a body has.
-fn parameter_count(body: Body) -> Result<u64, AllocError>
-    ensures { IfOk result (λ n. n ≡ spec.parameter_count (view body.entry)) }
+#[tactic(auto, using(crate::proofs::Locals::local_laws))]
+fn parameter_count(body: &Body<Core>) -> Result<u64, AllocError>
+    ensures { IfOk result (λ n. n ≡ spec.parameter_count (body_view body.now)) }
 {
-    match body {
-        Body::Open(_) => Ok(0),
-        Body::Function(function) => {
-            let parameters = &function.parameters;
-            let required = parameters.required.len() as u64;
-            let optional = parameters.optional.len() as u64;
-            let front = add(add(required, optional)?, one_if(&parameters.rest))?;
-            add(front, parameters.post.len() as u64)
-        }
-    }
+    let parameters = &body.parameters;
+    let required = parameters.required.len() as u64;
+    let optional = parameters.optional.len() as u64;
+    let front = add(add(required, optional)?, one_if(&parameters.rest))?;
+    add(front, parameters.post.len() as u64)
 }
 
 /// The greatest of the numbers of parameters of one kind.
-fn of_a_kind(body: Body) -> u64
-    ensures { result ≡ spec.of_a_kind (view body.entry) }
+#[tactic(auto, using(crate::proofs::Locals::local_laws))]
+fn of_a_kind(body: &Body<Core>) -> u64
+    ensures { result ≡ spec.of_a_kind (body_view body.now) }
 {
-    match body {
-        Body::Open(_) => 0,
-        Body::Function(function) => {
-            let parameters = &function.parameters;
-            let behind = max(parameters.optional.len(), parameters.post.len());
-            max(parameters.required.len(), behind) as u64
-        }
-    }
+    let parameters = &body.parameters;
+    let behind = max(parameters.optional.len(), parameters.post.len());
+    max(parameters.required.len(), behind) as u64
 }
 
-/// How many different names the main program, or what stands in a class or module, has.
-fn open_local_count(alloc: Global, form: &Core) -> Result<u64, AllocError>
-    ensures { IfOk result (λ n. n ≡ spec.local_count (open_body (core_view form.now))) }
+/// How many locals besides its parameters a body has.
+#[tactic(auto, using(crate::proofs::Locals::local_laws))]
+fn local_count(body: &Body<Core>) -> u64
+    ensures { result ≡ spec.local_count (body_view body.now) }
 {
-    let mut steps = Vec::new(alloc);
-    form.walk(Extent::Scope, &mut steps)?;
-    Ok(named_locals(alloc, &steps)?.len() as u64)
-}
-
-/// How many named locals a body has.
-fn local_count(alloc: Global, body: Body) -> Result<u64, AllocError>
-    ensures { IfOk result (λ n. n ≡ spec.local_count (view body.entry)) }
-{
-    match body {
-        Body::Open(form) => open_local_count(alloc, form),
-        Body::Function(function) => Ok(function.locals.len() as u64),
-    }
+    body.locals.len() as u64
 }
 
 /// Adds what texts take in a file.
@@ -106,20 +83,20 @@ fn byte_count(code: u64, tally: &Tally) -> Result<u64, AllocError>
     text_bytes(texts, tally.symbols.as_slice())
 }
 
-fn own_tally<'a>(alloc: Global, body: Body<'a>) -> Result<Tally<'a>, AllocError>
-    ensures { IfOk result (λ t. t ≡ spec.tally (view body.entry)) }
+fn own_tally<'a>(alloc: Global, body: &'a Body<Core>) -> Result<Tally<'a>, AllocError>
+    ensures { IfOk result (λ t. t ≡ spec.tally (body_view body.now)) }
 {
     let mut steps = Vec::new(alloc);
-    form(body).walk(Extent::Body, &mut steps)?;
+    body.form.walk(Extent::Body, &mut steps)?;
     tally_of(alloc, &steps)
 }
 
-fn register_count(alloc: Global, body: Body, tally: &Tally) -> Result<u64, AllocError>
-    ensures { IfOk result (λ n. n ≡ spec.registers_of (view body.entry) tally.now) }
+fn register_count(alloc: Global, body: &Body<Core>, tally: &Tally) -> Result<u64, AllocError>
+    ensures { IfOk result (λ n. n ≡ spec.registers_of (body_view body.now) tally.now) }
 {
     let fixed = add(2, parameter_count(body)?)?;
-    let locals = add(fixed, local_count(alloc, body)?)?;
-    let width = form(body).width(alloc)?;
+    let locals = add(fixed, local_count(body))?;
+    let width = body.form.width(alloc)?;
     add(add(locals, tally.hidden)?, width)
 }
 
@@ -131,15 +108,15 @@ fn pool_count(tally: &Tally) -> Result<u64, AllocError>
 }
 
 /// Bytes of code.
-fn code_count(body: Body, tally: &Tally) -> Result<u64, AllocError>
-    ensures { IfOk result (λ n. n ≡ spec.code_of (view body.entry) tally.now) }
+fn code_count(body: &Body<Core>, tally: &Tally) -> Result<u64, AllocError>
+    ensures { IfOk result (λ n. n ≡ spec.code_of (body_view body.now) tally.now) }
 {
     add(scaled_by(16, 32, parameter_count(body)?)?, tally.code)
 }
 
 /// The counts of a body whose forms have the tally.
-fn counts_from(alloc: Global, body: Body, tally: &Tally) -> Result<Counts, AllocError>
-    ensures { IfOk result (λ c. c ≡ spec.counts_from (view body.entry) tally.now) }
+fn counts_from(alloc: Global, body: &Body<Core>, tally: &Tally) -> Result<Counts, AllocError>
+    ensures { IfOk result (λ c. c ≡ spec.counts_from (body_view body.now) tally.now) }
 {
     let registers = register_count(alloc, body, tally)?;
     let pool = pool_count(tally)?;
@@ -157,8 +134,8 @@ fn counts_from(alloc: Global, body: Body, tally: &Tally) -> Result<Counts, Alloc
 }
 
 /// The counts of a body.
-pub fn counts_of(alloc: Global, body: Body) -> Result<Counts, AllocError>
-    ensures { IfOk result (λ c. c ≡ spec.counts (view body.entry)) }
+pub fn counts_of(alloc: Global, body: &Body<Core>) -> Result<Counts, AllocError>
+    ensures { IfOk result (λ c. c ≡ spec.counts (body_view body.now)) }
 {
     let tally = own_tally(alloc, body)?;
     counts_from(alloc, body, &tally)

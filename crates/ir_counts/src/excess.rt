@@ -1,14 +1,13 @@
 //! The first count of a program that exceeds its limit.
 ghost use Rattle.std.specs.Prelude.{◌≡◌, map, IfOk, None};
-ghost use Rattle.ir_core.specs.View.{core_view};
+ghost use Rattle.ir_core.specs.View.{body_view};
 ghost use Rattle.ir_walk.specs.Steps.{body as view};
 ghost use Rattle.ir_counts.specs.Counts.{counts, need};
 ghost use Rattle.ir_counts.specs.Limits as limits;
 
 use crate::bodies::bodies_of;
 use crate::counts::{Counts, counts_of};
-use ir_core::Core;
-use ir_walk::Body;
+use ir_core::{Body, Core, Program};
 use ir_walk::sums::add;
 use rb_syntax::Count;
 use std::alloc::{AllocError, Global};
@@ -52,7 +51,7 @@ fn file_count(bodies: usize, bytes: u64) -> u64
 
 /// The first count of the bodies that exceeds its limit, the file last.
 #[tactic(auto, using(crate::proofs::Limits::limit_laws))]
-fn first_of_bodies(alloc: Global, bodies: &[Body]) -> Result<Option<Excess>, AllocError>
+fn first_of_bodies(alloc: Global, bodies: &[&Body<Core>]) -> Result<Option<Excess>, AllocError>
     ensures { IfOk result (λ excess. excess ≡ limits.first_excess (map counts (map view bodies.now))) }
 {
     let mut bytes = 64;
@@ -69,8 +68,8 @@ fn first_of_bodies(alloc: Global, bodies: &[Body]) -> Result<Option<Excess>, All
 
 /// The first count that exceeds its limit: bodies depth first, in each body in the order of `Count`, the file
 /// last. A sum past 2^64 - 1, which no memory can hold the forms of, is answered as if memory ran out.
-pub fn first_past_limit(alloc: Global, program: &Core) -> Result<Option<Excess>, AllocError>
-    ensures { IfOk result (λ excess. excess ≡ limits.first_excess (need (core_view program.now))) }
+pub fn first_past_limit(alloc: Global, program: &Program) -> Result<Option<Excess>, AllocError>
+    ensures { IfOk result (λ excess. excess ≡ limits.first_excess (need (body_view program.now))) }
 {
     let bodies = bodies_of(alloc, program)?;
     first_of_bodies(alloc, &bodies)

@@ -1,12 +1,12 @@
 //! What a core adds to the counts of its body.
 ghost use Rattle.std.specs.Prelude.{◌≡◌, ◌+◌, ◌*◌, [], IfOk};
-ghost use Rattle.ir_core.specs.View.{term_view};
-ghost use Rattle.ir_core.specs.PartsBy as by;
+ghost use Rattle.ir_core.specs.View.{local_of, term_view};
+ghost use Rattle.ir_core.specs.Parts as part;
 ghost use Rattle.ir_counts.specs.Facts.{view};
 ghost use Rattle.ir_counts.specs.Tables as tables;
 
 use crate::shares::{answer, asked_name, classes, items_code, kind_of_item, wide};
-use ir_core::{Clause, Core, Term};
+use ir_core::{Clause, Core, Local, Term};
 use ir_walk::sums::{add, scaled, scaled_by};
 use rb_base::Bytes;
 use rb_syntax::{Branch, DefinedKind, Item, Pair};
@@ -18,8 +18,8 @@ use std::cmp::max;
 pub struct Facts<'a> {
     /// How many parameters of one kind it speaks of.
     pub kind: u64,
-    /// The local that it reads or sets.
-    pub local: Option<&'a [u8]>,
+    /// How many hidden locals are in use, where it reads or sets one.
+    pub hidden: u64,
     /// Bytes of code.
     pub code: u64,
     /// A Begin and its clauses.
@@ -42,7 +42,7 @@ fn plain<'a>(code: u64) -> Facts<'a>
 {
     Facts {
         kind: 0,
-        local: None,
+        hidden: 0,
         code,
         handlers: 0,
         children: 0,
@@ -95,14 +95,25 @@ fn parental<'a>(code: u64) -> Facts<'a>
     }
 }
 
-/// A read of a local, or a store into one.
-fn at_local<'a>(name: &'a Bytes) -> Facts<'a>
-    ensures { view result ≡ tables.at_local name.now }
+/// How many hidden locals are in use at a local.
+fn hidden_by(variable: &Local) -> Result<u64, AllocError>
+    ensures { IfOk result (λ n. n ≡ tables.hidden_by (local_of variable.now)) }
 {
-    Facts {
-        local: Some(name.as_slice()),
-        ..plain(16)
+    match variable {
+        Local::Hidden(number) => add(*number as u64, 1),
+        Local::Named(_) | Local::Pattern(_) | Local::Rest => Ok(0),
     }
+}
+
+/// A read of a local, or a store into one.
+fn at_local<'a>(variable: &Local) -> Found<'a>
+    ensures { IfOk result (λ f. view f ≡ tables.at_local (local_of variable.now)) }
+{
+    let hidden = hidden_by(variable)?;
+    Ok(Facts {
+        hidden,
+        ..plain(16)
+    })
 }
 
 /// Parts of an Array, which ask for so many parameters of one kind.
@@ -135,34 +146,34 @@ fn asking<'a>(kind: DefinedKind, name: &'a Bytes) -> Facts<'a>
 
 #[tactic(auto, using(crate::proofs::PartCounts::count_laws))]
 fn of_array<'a>(items: &[Item<Core>]) -> Found<'a>
-    ensures { IfOk result (λ f. view f ≡ tables.plain (16 + 8 * tables.count (by.items_by term_view items.now))) }
+    ensures { IfOk result (λ f. view f ≡ tables.plain (16 + 8 * tables.item_count (part.items items.now))) }
 {
     Ok(plain(scaled(16, 8, items.len())?))
 }
 
 #[tactic(auto, using(crate::proofs::PartCounts::count_laws))]
 fn of_hash<'a>(pairs: &[Pair<Core>]) -> Found<'a>
-    ensures { IfOk result (λ f. view f ≡ tables.plain (16 + 8 * tables.count (by.pairs_by term_view pairs.now))) }
+    ensures { IfOk result (λ f. view f ≡ tables.plain (16 + 8 * tables.pair_count (part.pairs pairs.now))) }
 {
     Ok(plain(scaled(16, 8, pairs.len())?))
 }
 
 #[tactic(auto, using(crate::proofs::PartCounts::count_laws))]
 fn of_text<'a>(pieces: &[Core]) -> Found<'a>
-    ensures { IfOk result (λ f. view f ≡ tables.textual (16 + 8 * tables.count (by.cores_by term_view pieces.now)) []) }
+    ensures { IfOk result (λ f. view f ≡ tables.textual (16 + 8 * tables.count (part.cores pieces.now)) []) }
 {
     Ok(textual(scaled(16, 8, pieces.len())?, b""))
 }
 
 #[tactic(auto, using(crate::proofs::PartCounts::count_laws))]
 fn of_cond<'a>(branches: &[Branch<Core>]) -> Found<'a>
-    ensures { IfOk result (λ f. view f ≡ tables.plain (16 + 16 * tables.count (by.branches_by term_view branches.now))) }
+    ensures { IfOk result (λ f. view f ≡ tables.plain (16 + 16 * tables.branch_count (part.branches branches.now))) }
 {
     Ok(plain(scaled(16, 16, branches.len())?))
 }
 
 fn of_call<'a>(name: &'a Bytes, items: &[Item<Core>]) -> Found<'a>
-    ensures { IfOk result (λ f. view f ≡ tables.symbolic (16 + tables.items_code (by.items_by term_view items.now)) 0
+    ensures { IfOk result (λ f. view f ≡ tables.symbolic (16 + tables.items_code (part.items items.now)) 0
         name.now) }
 {
     let code = add(16, items_code(items)?)?;
@@ -171,7 +182,7 @@ fn of_call<'a>(name: &'a Bytes, items: &[Item<Core>]) -> Found<'a>
 
 /// A yield or a super.
 fn passing<'a>(code: u64, items: &[Item<Core>]) -> Found<'a>
-    ensures { IfOk result (λ f. view f ≡ tables.plain (code + tables.items_code (by.items_by term_view items.now))) }
+    ensures { IfOk result (λ f. view f ≡ tables.plain (code + tables.items_code (part.items items.now))) }
 {
     Ok(plain(add(code, items_code(items)?)?))
 }
@@ -179,8 +190,8 @@ fn passing<'a>(code: u64, items: &[Item<Core>]) -> Found<'a>
 #[tactic(auto, using(crate::proofs::PartCounts::count_laws))]
 fn of_begin<'a>(clauses: &[Clause<Core>]) -> Found<'a>
     ensures { IfOk result (λ f. view f ≡ tables.handling
-        (96 + 48 * tables.classes (by.clauses_by term_view clauses.now))
-        (1 + tables.count (by.clauses_by term_view clauses.now))) }
+        (96 + 48 * tables.classes (part.clauses clauses.now))
+        (1 + tables.clause_count (part.clauses clauses.now))) }
 {
     let code = scaled_by(96, 48, classes(clauses)?)?;
     let handlers = scaled(1, 1, clauses.len())?;
@@ -191,7 +202,7 @@ fn of_begin<'a>(clauses: &[Clause<Core>]) -> Found<'a>
 }
 
 /// What the core adds. A count past 2^64 - 1 is answered as if memory ran out.
-#[tactic(auto, using(ir_core::proofs::ViewsBy::views))]
+#[tactic(auto, using(ir_core::proofs::Views::core_views))]
 pub fn facts_of<'a>(core: &'a Term) -> Found<'a>
     ensures { IfOk result (λ f. view f ≡ tables.added (term_view core.now)) }
 {
@@ -200,6 +211,8 @@ pub fn facts_of<'a>(core: &'a Term) -> Found<'a>
         | Term::True
         | Term::False
         | Term::SelfRef
+        | Term::Own(_)
+        | Term::Exception
         | Term::Range { .. }
         | Term::Intern(_)
         | Term::Seq(_)
@@ -211,7 +224,7 @@ pub fn facts_of<'a>(core: &'a Term) -> Found<'a>
         | Term::Retry => Ok(plain(16)),
         Term::Int(n) => Ok(numeric(*n)),
         Term::Str(text) => Ok(textual(16, text.as_slice())),
-        Term::Local(name) | Term::SetLocal(name, _) => Ok(at_local(name)),
+        Term::Local(variable) | Term::SetLocal(variable, _) => at_local(variable),
         Term::Sym(name)
         | Term::Ivar(name)
         | Term::SetIvar(name, _)
@@ -229,6 +242,7 @@ pub fn facts_of<'a>(core: &'a Term) -> Found<'a>
         Term::Cond(branches, _) => of_cond(branches),
         Term::While { .. } => Ok(plain(64)),
         Term::Call { name, items, .. } => of_call(name, items),
+        Term::BlockCall { name, items, .. } => of_call(name, items),
         Term::Yield(items) => passing(16, items),
         Term::Super(items, _) => passing(32, items),
         Term::Fn(_) => Ok(parental(16)),
@@ -241,5 +255,6 @@ pub fn facts_of<'a>(core: &'a Term) -> Found<'a>
         Term::Defined(kind, name, _) => Ok(asking(*kind, name)),
         Term::Item(_, k) => Ok(of_kind(kind_of_item(*k))),
         Term::Rest { from, post, .. } => Ok(of_kind(u64::from(max(*from, *post)))),
+        Term::Tail { from, count, .. } => Ok(of_kind(u64::from(max(*from, *count)))),
     }
 }

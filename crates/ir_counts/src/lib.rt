@@ -4,21 +4,16 @@
 //!
 //! [`first_past_limit`] gives the first count that exceeds its limit. What is counted is said in
 //! specs/Counts.antt (a body), specs/Tables.antt (what a form adds), ir_walk's specs/Width.antt (registers of a
-//! form), specs/Scopes.antt (local names), specs/Bodies.antt (the order of bodies) and specs/Limits.antt.
+//! form), specs/Bodies.antt (the order of bodies) and specs/Limits.antt.
 //!
 //! A walk (of ir_walk) notes the forms of a body in a list; each count is then a loop over that list.
 #![tactic(auto)]
 
-mod binding;
 mod bodies;
 mod counts;
 mod excess;
 mod facts;
-mod hidden;
-mod integer_set;
 mod names;
-mod naming;
-mod scopes;
 mod shares;
 mod tally;
 

@@ -1,9 +1,8 @@
-//! Names and texts that are added to a set.
+//! A text that is added to a set.
 ghost use Rattle.std.specs.Prelude.{◌≡◌, OnOk};
 ghost use Rattle.std.specs.Option.{option_copied};
-ghost use Rattle.ir_counts.specs.Sets.{with_optional, with_names};
+ghost use Rattle.ir_counts.specs.Sets.{with_optional};
 
-use rb_base::Bytes;
 use std::alloc::AllocError;
 use text_set::TextSet;
 
@@ -18,14 +17,4 @@ pub fn add_optional<'a>(set: &mut TextSet<'a>, text: Option<&'a [u8]>) -> Result
         }
         None => Ok(()),
     }
-}
-
-/// Adds names in order.
-pub fn add_names<'a>(set: &mut TextSet<'a>, names: &'a [Bytes]) -> Result<(), AllocError>
-    ensures { OnOk result (set.new ≡ with_names set.old names.now) }
-{
-    for name in names {
-        set.add(name.as_slice())?;
-    }
-    Ok(())
 }

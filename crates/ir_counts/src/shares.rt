@@ -1,9 +1,8 @@
 //! The shares of a form's parts and values in what it adds.
-ghost use Rattle.std.specs.Prelude.{◌≡◌, IfOk, Some};
+ghost use Rattle.std.specs.Prelude.{◌≡◌, max, IfOk, Some};
 ghost use Rattle.std.specs.Option.{option_copied};
-ghost use Rattle.ir_core.specs.View.{term_view};
 ghost use Rattle.ir_core.specs.CoreForm.{int};
-ghost use Rattle.ir_core.specs.PartsBy as by;
+ghost use Rattle.ir_core.specs.Parts as part;
 ghost use Rattle.ir_counts.specs.Tables as tables;
 
 use ir_core::{Clause, Core};
@@ -38,7 +37,7 @@ pub fn wide(n: i64) -> Option<i64>
 /// Whether the items of a call go into an Array: there is a splat, or there are more than 253.
 #[tactic(auto, using(crate::proofs::PartCounts::count_laws))]
 fn are_gathered(items: &[Item<Core>]) -> bool
-    ensures { result ≡ tables.are_gathered (by.items_by term_view items.now) }
+    ensures { result ≡ tables.are_gathered (part.items items.now) }
 {
     has_splat(items) || items.len() > 253
 }
@@ -46,7 +45,7 @@ fn are_gathered(items: &[Item<Core>]) -> bool
 /// The bytes that the items of a call take where they go into an Array.
 #[tactic(auto, using(crate::proofs::PartCounts::count_laws))]
 pub fn items_code(items: &[Item<Core>]) -> Result<u64, AllocError>
-    ensures { IfOk result (λ n. n ≡ tables.items_code (by.items_by term_view items.now)) }
+    ensures { IfOk result (λ n. n ≡ tables.items_code (part.items items.now)) }
 {
     if are_gathered(items) {
         scaled(0, 8, items.len())
@@ -57,14 +56,14 @@ pub fn items_code(items: &[Item<Core>]) -> Result<u64, AllocError>
 
 #[tactic(auto, using(crate::proofs::PartCounts::count_laws))]
 fn class_count(clause: &Clause<Core>) -> u64
-    ensures { result ≡ tables.classes_of (by.clause_by term_view clause.now) }
+    ensures { result ≡ max 1 (tables.count (part.cores clause.now.classes.items)) }
 {
     max(1, clause.classes.len() as u64)
 }
 
 /// The classes of clauses, where no class counts as one.
 pub fn classes(clauses: &[Clause<Core>]) -> Result<u64, AllocError>
-    ensures { IfOk result (λ n. n ≡ tables.classes (by.clauses_by term_view clauses.now)) }
+    ensures { IfOk result (λ n. n ≡ tables.classes (part.clauses clauses.now)) }
 {
     let mut sum = 0;
     for clause in clauses {

@@ -3,14 +3,12 @@ ghost use Rattle.std.specs.Prelude.{◌≡◌, IfOk, OnOk};
 ghost use Rattle.ir_core.specs.View.{term_view};
 ghost use Rattle.ir_counts.specs.Facts.{view};
 ghost use Rattle.ir_walk.specs.Steps.{steps as seen};
-ghost use Rattle.ir_counts.specs.Tables.{hidden_of};
+ghost use Rattle.ir_counts.specs.Sets.{with_optional_integer};
 ghost use Rattle.ir_counts.specs.Tally.{no_form, counted, tallied, with_numbers, with_values};
-ghost use Rattle.std.specs.Option.{option_copied};
 
 use crate::facts::{Facts, facts_of};
-use crate::hidden::hidden_by;
-use crate::integer_set::{IntegerSet, add_integer};
 use crate::names::add_optional;
+use integer_set::IntegerSet;
 use ir_core::Term;
 use ir_walk::Step;
 use ir_walk::sums::add;
@@ -52,26 +50,29 @@ fn empty_tally<'a>(alloc: Global) -> Tally<'a>
     }
 }
 
-/// How many hidden locals are in use at a local.
-fn hidden_at(local: Option<&[u8]>) -> u64
-    ensures { result ≡ hidden_of (option_copied local.entry) }
-{
-    match local {
-        Some(name) => hidden_by(name),
-        None => 0,
-    }
-}
-
 /// Counts the numbers of one more form.
 fn add_numbers<'a>(tally: &mut Tally<'a>, facts: Facts<'a>) -> Result<(), AllocError>
     ensures { OnOk result (tally.new ≡ with_numbers tally.old (view facts.entry)) }
 {
     tally.kind = max(tally.kind, facts.kind);
-    tally.hidden = max(tally.hidden, hidden_at(facts.local));
+    tally.hidden = max(tally.hidden, facts.hidden);
     tally.code = add(tally.code, facts.code)?;
     tally.handlers = add(tally.handlers, facts.handlers)?;
     tally.children = add(tally.children, facts.children)?;
     Ok(())
+}
+
+/// Adds an integer where there is one.
+fn add_integer(set: &mut IntegerSet, integer: Option<i64>) -> Result<(), AllocError>
+    ensures { OnOk result (set.new ≡ with_optional_integer set.old integer) }
+{
+    match integer {
+        Some(integer) => {
+            set.add(integer)?;
+            Ok(())
+        }
+        None => Ok(()),
+    }
 }
 
 /// Counts the names, the text and the integer of one more form.

@@ -1,9 +1,8 @@
 use crate::counts::{Counts, counts_of};
 use crate::excess::{Excess, first_past_limit};
-use ir_core::{Core, Function, Receiver, Term};
-use ir_walk::Body;
-use rb_base::{Bytes, List};
-use rb_syntax::{Count, Item, Parameters};
+use ir_core::{Body, Core, Local, Parameters, Program, Receiver, Term};
+use rb_base::Bytes;
+use rb_syntax::{Count, Item};
 use std::alloc::{AllocError, Global};
 use std::test::Fail;
 
@@ -11,17 +10,29 @@ fn integer(alloc: Global, n: i64) -> Result<Core, AllocError> {
     Term::Int(n).into_core(alloc)
 }
 
-/// A call with one item and maybe a block.
-fn call(
-    alloc: Global,
-    name: &[u8],
-    item: Item<Core>,
-    block: Option<Core>,
-) -> Result<Core, AllocError> {
+/// A call with one item.
+fn call(alloc: Global, name: &[u8], item: Item<Core>) -> Result<Core, AllocError> {
     let mut items = Vec::new(alloc);
     items.push(item)?;
     Term::Call {
-        receiver: Receiver::Absent,
+        receiver: Receiver::OnSelf,
+        name: Bytes::from_slice(alloc, name)?,
+        items,
+    }
+    .into_core(alloc)
+}
+
+/// A call with one item and a block.
+fn block_call(
+    alloc: Global,
+    name: &[u8],
+    item: Item<Core>,
+    block: Core,
+) -> Result<Core, AllocError> {
+    let mut items = Vec::new(alloc);
+    items.push(item)?;
+    Term::BlockCall {
+        receiver: Receiver::OnSelf,
         name: Bytes::from_slice(alloc, name)?,
         items,
         block,
@@ -29,23 +40,29 @@ fn call(
     .into_core(alloc)
 }
 
-/// A block with one parameter.
-fn block(alloc: Global, parameter: &[u8], body: Core) -> Result<Core, AllocError> {
-    let mut required = List::new(alloc);
-    required.push(Bytes::from_slice(alloc, parameter)?)?;
+fn named(alloc: Global, name: &[u8]) -> Result<Local, AllocError> {
+    Ok(Local::Named(Bytes::from_slice(alloc, name)?))
+}
+
+/// A body with these parameters and locals.
+fn body_of(alloc: Global, required: Vec<Local>, locals: Vec<Local>, form: Core) -> Body<Core> {
     let parameters = Parameters {
         required,
-        optional: List::new(alloc),
+        optional: Vec::new(alloc),
         rest: None,
-        post: List::new(alloc),
+        post: Vec::new(alloc),
         block: None,
     };
-    let function = Function {
+    Body {
         parameters,
-        locals: List::new(alloc),
-        body,
-    };
-    Term::Fn(function).into_core(alloc)
+        locals,
+        form,
+    }
+}
+
+/// A program without locals.
+fn program(alloc: Global, form: Core) -> Program {
+    body_of(alloc, Vec::new(alloc), Vec::new(alloc), form)
 }
 
 /// So many symbols of four bytes each.
@@ -62,7 +79,7 @@ fn symbols(alloc: Global, count: u32) -> Result<Core, AllocError> {
 fn counts_of_a_call(rt: HostRuntime) -> Result<(), Fail> {
     // puts 1
     let item = Item::Plain(integer(rt.alloc(), 1)?);
-    let program = call(rt.alloc(), b"puts", item, None)?;
+    let program = program(rt.alloc(), call(rt.alloc(), b"puts", item)?);
     let expected = Counts {
         parameters: 0,
         registers: 7,
@@ -72,18 +89,36 @@ fn counts_of_a_call(rt: HostRuntime) -> Result<(), Fail> {
         code: 48,
         bytes: 124,
     };
-    assert_eq!(rt; counts_of(rt.alloc(), Body::Open(&program))?, expected);
+    assert_eq!(rt; counts_of(rt.alloc(), &program)?, expected);
     assert_eq!(rt; first_past_limit(rt.alloc(), &program)?, None);
     Ok(())
 }
 
 #[test]
-fn names_of_a_block_count_where_no_function_binds_them(rt: HostRuntime) -> Result<(), Fail> {
-    // f(*2147483648) { |x| y }, where y is a local of the program
-    let inner = Term::Local(Bytes::from_slice(rt.alloc(), b"y")?).into_core(rt.alloc())?;
-    let block = block(rt.alloc(), b"x", inner)?;
-    let item = Item::Splat(integer(rt.alloc(), 2147483648)?);
-    let program = call(rt.alloc(), b"f", item, Some(block))?;
+fn locals_of_a_program_and_hidden_ones_take_registers(rt: HostRuntime) -> Result<(), Fail> {
+    // f(*2147483648) { |x| %0 = y }, where y is a local of the program
+    let alloc = rt.alloc();
+    let inner = Term::Local(named(alloc, b"y")?).into_core(alloc)?;
+    let kept = Term::SetLocal(Local::Hidden(0), inner).into_core(alloc)?;
+    let mut required = Vec::new(alloc);
+    required.push(named(alloc, b"x")?)?;
+    let block = body_of(alloc, required, Vec::new(alloc), kept);
+    let expected = Counts {
+        parameters: 1,
+        registers: 8,
+        pool: 0,
+        symbols: 0,
+        children: 0,
+        code: 80,
+        bytes: 144,
+    };
+    assert_eq!(rt; counts_of(alloc, &block)?, expected);
+    let block = Term::Fn(Box::new(alloc, block)?).into_core(alloc)?;
+    let item = Item::Splat(integer(alloc, 2147483648)?);
+    let form = block_call(alloc, b"f", item, block)?;
+    let mut locals = Vec::new(alloc);
+    locals.push(named(alloc, b"y")?)?;
+    let program = body_of(alloc, Vec::new(alloc), locals, form);
     let expected = Counts {
         parameters: 0,
         registers: 10,
@@ -93,15 +128,15 @@ fn names_of_a_block_count_where_no_function_binds_them(rt: HostRuntime) -> Resul
         code: 72,
         bytes: 154,
     };
-    assert_eq!(rt; counts_of(rt.alloc(), Body::Open(&program))?, expected);
+    assert_eq!(rt; counts_of(alloc, &program)?, expected);
     Ok(())
 }
 
 #[test]
 fn symbols_have_a_limit(rt: HostRuntime) -> Result<(), Fail> {
-    let most = symbols(rt.alloc(), 65535)?;
+    let most = program(rt.alloc(), symbols(rt.alloc(), 65535)?);
     assert_eq!(rt; first_past_limit(rt.alloc(), &most)?, None);
-    let more = symbols(rt.alloc(), 65536)?;
+    let more = program(rt.alloc(), symbols(rt.alloc(), 65536)?);
     let excess = Excess {
         what: Count::Symbols,
         count: 65536,

@@ -1,2 +1,2 @@
-pub mod Splats
+pub mod Items
 pub mod Widths

@@ -1,4 +1,3 @@
 pub mod Width
-pub mod Body
-pub mod Steps
 pub mod Walk
+pub mod Steps

@@ -1,16 +1,16 @@
 -- The steps that code notes on a walk, as steps over forms.
 use Rattle.std.specs.Prelude.{List, map}
-use Rattle.ir_core.specs.View.{core_view, term_view}
-use Rattle.ir_walk.specs.Body as bodies
+use Rattle.std.specs.Borrow.{Bor}
+use Rattle.ir_core.specs.declared.term.Body as made
+use Rattle.ir_core.specs.CoreForm.{Body}
+use Rattle.ir_core.specs.View.{Core, term_view, body_view}
 use Rattle.ir_walk.specs.Walk as walk
-use Rattle.ir_walk.specs.declared.body.Body.{Body}
-use Rattle.ir_walk.specs.declared.body.Body.TheVariants.{Open, Function}
 use Rattle.ir_walk.specs.declared.step.Step.{Step}
 use Rattle.ir_walk.specs.declared.step.Step.TheVariants.{At, Enter, Leave}
 
-abbrev pub body : Body → bodies.Body
-body (Open c) = bodies.open_body (core_view c.now)
-body (Function f) = bodies.function_body f.now.parameters f.now.locals (core_view f.now.body)
+-- a body that is shown
+abbrev pub body : Bor (made.Body Core) → Body
+body b = body_view b.now
 
 abbrev pub step : Step → walk.Step
 step (At t) = walk.at (term_view t.now)

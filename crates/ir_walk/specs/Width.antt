@@ -1,7 +1,7 @@
 -- How many registers a form takes from its lowest one on.
 use Rattle.std.specs.Prelude.{ℕ, ◌+◌, max, List, [], ◌∷◌, ◌++◌, Bool, true, false, if◌then◌else◌}
 use Rattle.ir_core.specs.CoreForm as form
-use Rattle.ir_core.specs.CoreForm.{CoreForm, CoreForms}
+use Rattle.ir_core.specs.CoreForm.{CoreForm, Maybe, Forms, Items, Pairs, Branches, Clauses, Receiver}
 
 -- the greatest of a number and a list of numbers
 abbrev pub greatest_of : ℕ → List ℕ → ℕ
@@ -35,13 +35,10 @@ abbrev pub of_call : Bool → List ℕ → ℕ
 of_call true ws = into_one ws
 of_call false ws = in_order ws
 
-abbrev pub is_splat : CoreForm → Bool
-is_splat (form.splat f) = true
-is_splat _ = false
-
-abbrev pub has_splat : CoreForms → Bool
-has_splat form.none = false
-has_splat (form.more f fs) = if is_splat f then true else has_splat fs
+abbrev pub has_splat : Items → Bool
+has_splat form.no_items = false
+has_splat (form.plain f is) = has_splat is
+has_splat (form.splat f is) = true
 
 -- what stands for a part that isn't there
 abbrev pub or_leaf : List ℕ → ℕ
@@ -58,6 +55,8 @@ abbrev mutual
   width (form.str t) = 3
   width (form.sym x) = 3
   width (form.local x) = 3
+  width (form.own x) = 3
+  width form.exception = 3
   width (form.set_local x f) = in_order (width f ∷ [])
   width (form.ivar x) = 3
   width (form.set_ivar x f) = in_order (width f ∷ [])
@@ -68,48 +67,69 @@ abbrev mutual
   width (form.in_constant f x) = in_order (width f ∷ [])
   width (form.set_constant x f) = in_order (width f ∷ [])
   width (form.set_in_constant f x g) = in_order (width f ∷ width g ∷ [])
-  width (form.array is) = into_one (widths is)
-  width (form.hash ps) = into_one (widths ps)
+  width (form.array is) = into_one (item_widths is)
+  width (form.hash ps) = into_one (pair_widths ps)
   width (form.range f g x) = in_order (width f ∷ width g ∷ [])
-  width (form.text ps) = into_one (widths ps)
+  width (form.text fs) = into_one (widths fs)
   width (form.intern f) = in_order (width f ∷ [])
   width (form.seq fs) = in_turn (widths fs)
-  width (form.cond bs f) = in_turn (widths bs ++ width f ∷ [])
+  width (form.cond bs f) = in_turn (branch_widths bs ++ width f ∷ [])
   width (form.and_form f g) = in_order (width f ∷ width g ∷ [])
   width (form.or_form f g) = in_order (width f ∷ width g ∷ [])
   width (form.while_form first f g) = in_turn (width f ∷ width g ∷ [])
-  width (form.call r x is b) = of_call (has_splat is) ((width r ∷ widths is) ++ widths b)
+  width (form.call r x is b) = of_call (has_splat is) ((receiver_width r ∷ item_widths is) ++ maybe_widths b)
   -- after the Proc that is called
-  width (form.yield_form is) = of_call (has_splat is) (3 ∷ widths is)
+  width (form.yield_form is) = of_call (has_splat is) (3 ∷ item_widths is)
   -- after self
-  width (form.super_form is b) = of_call (has_splat is) ((3 ∷ widths is) ++ widths b)
+  width (form.super_form is b) = of_call (has_splat is) ((3 ∷ item_widths is) ++ maybe_widths b)
   -- the form of a function stands in a body of its own
-  width (form.function p l b) = 3
-  width (form.lambda p l b) = in_order (3 ∷ [])
-  width (form.begin_form b cs o e) = in_turn (((width b ∷ widths cs) ++ widths o) ++ widths e)
+  width (form.function b) = 3
+  width (form.lambda b) = in_order (3 ∷ [])
+  width (form.begin_form b cs o e) = in_turn (((width b ∷ clause_widths cs) ++ maybe_widths o) ++ maybe_widths e)
   width (form.return_form f) = in_order (width f ∷ [])
   width (form.break_form f) = in_order (width f ∷ [])
   width (form.next_form f) = in_order (width f ∷ [])
   width form.retry = 3
-  width (form.define x p l b) = in_order (3 ∷ [])
-  width (form.define_on f x p l b) = in_order (width f ∷ 3 ∷ [])
+  width (form.define x b) = in_order (3 ∷ [])
+  width (form.define_on f x b) = in_order (width f ∷ 3 ∷ [])
   -- the scope and the parent
-  width (form.class_form c x p b) = in_order (or_leaf (widths c) ∷ or_leaf (widths p) ∷ [])
-  width (form.module_form c x b) = in_order (or_leaf (widths c) ∷ [])
+  width (form.class_form c x p b) = in_order (or_leaf (maybe_widths c) ∷ or_leaf (maybe_widths p) ∷ [])
+  width (form.module_form c x b) = in_order (or_leaf (maybe_widths c) ∷ [])
   width (form.singleton_class f b) = in_order (width f ∷ [])
   width (form.alias_form x y) = 3
   width (form.undef_form x) = 3
-  width (form.defined k x fs) = in_order (widths fs)
+  width (form.defined k x o) = in_order (maybe_widths o)
   width (form.item f k) = in_order (width f ∷ [])
   width (form.rest_of f from post) = in_order (width f ∷ [])
-  -- parts
-  width (form.splat f) = width f
-  width (form.pair f g) = max (width f) (width g)
-  width (form.branch f g) = max (width f) (width g)
-  width (form.clause fs t f) = max (greatest_of (greatest (widths fs)) (widths t)) (width f)
-  width form.absent = 3
-  width form.bare = 3
+  width (form.tail_of f from count) = in_order (width f ∷ [])
 
-  pub widths : CoreForms → List ℕ
+  pub widths : Forms → List ℕ
   widths form.none = []
   widths (form.more f fs) = width f ∷ widths fs
+
+  pub maybe_widths : Maybe → List ℕ
+  maybe_widths form.absent = []
+  maybe_widths (form.there f) = width f ∷ []
+
+  pub item_widths : Items → List ℕ
+  item_widths form.no_items = []
+  item_widths (form.plain f is) = width f ∷ item_widths is
+  item_widths (form.splat f is) = width f ∷ item_widths is
+
+  pub pair_widths : Pairs → List ℕ
+  pair_widths form.no_pairs = []
+  pair_widths (form.pair k v ps) = max (width k) (width v) ∷ pair_widths ps
+
+  pub branch_widths : Branches → List ℕ
+  branch_widths form.no_branches = []
+  branch_widths (form.branch t f bs) = max (width t) (width f) ∷ branch_widths bs
+
+  pub clause_widths : Clauses → List ℕ
+  clause_widths form.no_clauses = []
+  clause_widths (form.clause cs t f ds) =
+      max (greatest_of (greatest (widths cs)) (maybe_widths t)) (width f) ∷ clause_widths ds
+
+  pub receiver_width : Receiver → ℕ
+  receiver_width (form.to f) = width f
+  receiver_width form.on_self = 3
+  receiver_width form.bare = 3

@@ -5,13 +5,12 @@
 //!
 //! **Walk.** What is met on a walk over a core, in order (specs/Walk.antt; specs/Steps.antt says how the steps show it). A
 //! core belongs to the innermost body around it: the main program, a function, or what stands in a class or module. An
-//! [`Extent`] says which bodies within the walk goes into.
+//! [`Extent`] says whether the walk goes into the bodies within.
 //!
-//! Traits: [`Measured`] and [`Walked`], of a [`Term`](ir_core::Term). Types: [`Step`], [`Body`] and [`Extent`]. Calls:
+//! Traits: [`Measured`] and [`Walked`], of a [`Term`](ir_core::Term). Types: [`Step`] and [`Extent`]. Calls:
 //! [`has_splat`], and the sums of counts in [`sums`].
 #![tactic(auto)]
 
-pub mod body;
 pub mod extent;
 mod measured;
 mod splat;
@@ -26,7 +25,6 @@ mod width;
 mod width_forms;
 mod width_parts;
 
-pub use body::{Body, form};
 pub use extent::Extent;
 pub use measured::Measured;
 pub use splat::has_splat;

@@ -7,22 +7,22 @@ ghost use Rattle.ir_walk.specs.Width as widths;
 use ir_core::Core;
 use rb_syntax::Item;
 
-#[tactic(auto, using(crate::proofs::Splats::splat_laws))]
-fn is_splat(item: &Item<Core>) -> bool
-    ensures { result ≡ widths.is_splat (by.item_by term_view item.now) }
+fn is_plain(item: &Item<Core>) -> bool
+    ensures { result ≡ by.is_plain item.now }
 {
     match item {
-        Item::Splat(_) => true,
-        Item::Plain(_) => false,
+        Item::Plain(_) => true,
+        Item::Splat(_) => false,
     }
 }
 
 /// Whether one of the items is a splat.
+#[tactic(auto, using(crate::proofs::Items::item_laws))]
 pub fn has_splat(items: &[Item<Core>]) -> bool
     ensures { result ≡ widths.has_splat (by.items_by term_view items.now) }
 {
     for item in items {
-        if is_splat(item) {
+        if !is_plain(item) {
             return true;
         }
     }

@@ -1,10 +1,9 @@
 //! What is met on a walk, in order.
-ghost use Rattle.std.specs.Prelude.{◌≡◌, OnOk};
+ghost use Rattle.std.specs.Prelude.{◌≡◌, ◌++◌, ◌∷◌, [], OnOk};
 ghost use Rattle.ir_core.specs.View.{term_view};
-ghost use Rattle.ir_walk.specs.Steps.{body as view, steps};
-ghost use Rattle.ir_walk.specs.Walk.{met, entering, leaving};
+ghost use Rattle.ir_walk.specs.Steps.{step, steps};
+ghost use Rattle.ir_walk.specs.Walk.{met, leaving};
 
-use crate::body::Body;
 use crate::step::Step;
 use ir_core::Term;
 use std::alloc::AllocError;
@@ -20,10 +19,10 @@ pub fn meet<'a>(trail: &mut Vec<Step<'a>>, core: &'a Term) -> Result<(), AllocEr
 
 /// Notes the beginning of a body.
 #[tactic(auto, using(std::proofs::lemmas::Grind::common_steps))]
-pub fn enter<'a>(trail: &mut Vec<Step<'a>>, body: Body<'a>) -> Result<(), AllocError>
-    ensures { OnOk result (steps trail.new.items ≡ entering (steps trail.old.items) (view body.entry)) }
+pub fn enter<'a>(trail: &mut Vec<Step<'a>>, beginning: Step<'a>) -> Result<(), AllocError>
+    ensures { OnOk result (steps trail.new.items ≡ steps trail.old.items ++ step beginning.entry ∷ []) }
 {
-    trail.push(Step::Enter(body))?;
+    trail.push(beginning)?;
     Ok(())
 }
 

@@ -1,17 +1,16 @@
 //! Walks over cores with several parts.
 ghost use Rattle.std.specs.Prelude.{◌≡◌, OnOk};
 ghost use Rattle.ir_core.specs.PartsBy as by;
-ghost use Rattle.ir_walk.specs.Steps.{body as view, steps};
+ghost use Rattle.ir_walk.specs.Steps.{step, steps};
 ghost use Rattle.ir_walk.specs.Walk as walks;
 
-use crate::body::Body;
 use crate::extent::Extent;
 use crate::step::Step;
 use crate::walk_parts::{
     walk_branches, walk_clauses, walk_inside, walk_items, walk_optional, walk_receiver,
 };
 use crate::walked::{Noted, Walked};
-use ir_core::{BeginForm, Function, Receiver};
+use ir_core::{BeginForm, Receiver};
 use rb_syntax::{Branch, Item};
 
 /// Two cores.
@@ -35,27 +34,42 @@ pub fn walk_cond<'a, T: Walked>(
     otherwise: &'a Box<T>,
 ) -> Noted
     ensures { OnOk result (steps trail.new.items ≡ walks.walked extent
-        (walks.walked_all extent (steps trail.old.items) (by.branches_by T.form branches.now.items))
+        (walks.walked_branches extent (steps trail.old.items) (by.branches_by T.form branches.now.items))
         (by.core_by T.form otherwise.now)) }
 {
     walk_branches(extent, trail, branches)?;
     otherwise.walk(extent, trail)
 }
 
+/// A call with a block.
 pub fn walk_call<'a, T: Walked>(
     extent: Extent,
     trail: &mut Vec<Step<'a>>,
     receiver: &'a Receiver<Box<T>>,
     items: &'a Vec<Item<Box<T>>>,
-    block: &'a Option<Box<T>>,
+    block: &'a Box<T>,
 ) -> Noted
-    ensures { OnOk result (steps trail.new.items ≡ walks.walked_all extent
-        (walks.walked_all extent (walks.walked extent (steps trail.old.items) (by.receiver_by T.form receiver.now))
-        (by.items_by T.form items.now.items)) (by.boxed_by T.form block.now)) }
+    ensures { OnOk result (steps trail.new.items ≡ walks.walked extent
+        (walks.walked_items extent (walks.walked_receiver extent (steps trail.old.items)
+        (by.receiver_by T.form receiver.now)) (by.items_by T.form items.now.items)) (by.core_by T.form block.now)) }
+{
+    walk_plain_call(extent, trail, receiver, items)?;
+    block.walk(extent, trail)
+}
+
+/// A call without a block.
+pub fn walk_plain_call<'a, T: Walked>(
+    extent: Extent,
+    trail: &mut Vec<Step<'a>>,
+    receiver: &'a Receiver<Box<T>>,
+    items: &'a Vec<Item<Box<T>>>,
+) -> Noted
+    ensures { OnOk result (steps trail.new.items ≡ walks.walked_items extent
+        (walks.walked_receiver extent (steps trail.old.items) (by.receiver_by T.form receiver.now))
+        (by.items_by T.form items.now.items)) }
 {
     walk_receiver(extent, trail, receiver)?;
-    walk_items(extent, trail, items)?;
-    walk_optional(extent, trail, block)
+    walk_items(extent, trail, items)
 }
 
 pub fn walk_super<'a, T: Walked>(
@@ -64,8 +78,8 @@ pub fn walk_super<'a, T: Walked>(
     items: &'a Vec<Item<Box<T>>>,
     block: &'a Option<Box<T>>,
 ) -> Noted
-    ensures { OnOk result (steps trail.new.items ≡ walks.walked_all extent
-        (walks.walked_all extent (steps trail.old.items) (by.items_by T.form items.now.items))
+    ensures { OnOk result (steps trail.new.items ≡ walks.walked_maybe extent
+        (walks.walked_items extent (steps trail.old.items) (by.items_by T.form items.now.items))
         (by.boxed_by T.form block.now)) }
 {
     walk_items(extent, trail, items)?;
@@ -77,8 +91,8 @@ pub fn walk_begin<'a, T: Walked>(
     trail: &mut Vec<Step<'a>>,
     begin: &'a BeginForm<Box<T>>,
 ) -> Noted
-    ensures { OnOk result (steps trail.new.items ≡ walks.walked_all extent
-        (walks.walked_all extent (walks.walked_all extent
+    ensures { OnOk result (steps trail.new.items ≡ walks.walked_maybe extent
+        (walks.walked_maybe extent (walks.walked_clauses extent
         (walks.walked extent (steps trail.old.items) (by.core_by T.form begin.now.body))
         (by.clauses_by T.form begin.now.clauses.items)) (by.boxed_by T.form begin.now.otherwise))
         (by.boxed_by T.form begin.now.ensure)) }
@@ -89,34 +103,20 @@ pub fn walk_begin<'a, T: Walked>(
     walk_optional(extent, trail, &begin.ensure)
 }
 
-/// A function, which `body` shows, where `inside` says so.
-pub fn walk_function<'a, T: Walked>(
-    extent: Extent,
-    inside: bool,
-    trail: &mut Vec<Step<'a>>,
-    body: Body<'a>,
-    function: &'a Function<Box<T>>,
-) -> Noted
-    ensures { OnOk result (steps trail.new.items ≡ walks.inside_body extent inside (steps trail.old.items)
-        (view body.entry) (by.core_by T.form function.now.body)) }
-{
-    walk_inside(extent, inside, trail, body, &function.body)
-}
-
-/// A core, and a method of it.
-pub fn walk_define_on<'a, T: Walked>(
+/// A core, and a body of it: that of a method or of its singleton class.
+pub fn walk_core_and_body<'a, T: Walked>(
     extent: Extent,
     trail: &mut Vec<Step<'a>>,
     core: &'a Box<T>,
-    body: Body<'a>,
-    function: &'a Function<Box<T>>,
+    beginning: Step<'a>,
+    form: &'a Box<T>,
 ) -> Noted
-    ensures { OnOk result (steps trail.new.items ≡ walks.inside_body extent (walks.enters_bodies extent)
-        (walks.walked extent (steps trail.old.items) (by.core_by T.form core.now)) (view body.entry)
-        (by.core_by T.form function.now.body)) }
+    ensures { OnOk result (steps trail.new.items ≡ walks.inside_body extent
+        (walks.walked extent (steps trail.old.items) (by.core_by T.form core.now)) (step beginning.entry)
+        (by.core_by T.form form.now)) }
 {
     core.walk(extent, trail)?;
-    walk_inside(extent, extent.enters_bodies(), trail, body, &function.body)
+    walk_inside(extent, trail, beginning, form)
 }
 
 /// The scope and the parent of a class, and what stands in it.
@@ -125,16 +125,16 @@ pub fn walk_class<'a, T: Walked>(
     trail: &mut Vec<Step<'a>>,
     scope: &'a Option<Box<T>>,
     parent: &'a Option<Box<T>>,
-    body: Body<'a>,
-    core: &'a Box<T>,
+    beginning: Step<'a>,
+    form: &'a Box<T>,
 ) -> Noted
-    ensures { OnOk result (steps trail.new.items ≡ walks.inside_body extent (walks.enters_bodies extent)
-        (walks.walked_all extent (walks.walked_all extent (steps trail.old.items) (by.boxed_by T.form scope.now))
-        (by.boxed_by T.form parent.now)) (view body.entry) (by.core_by T.form core.now)) }
+    ensures { OnOk result (steps trail.new.items ≡ walks.inside_body extent
+        (walks.walked_maybe extent (walks.walked_maybe extent (steps trail.old.items) (by.boxed_by T.form scope.now))
+        (by.boxed_by T.form parent.now)) (step beginning.entry) (by.core_by T.form form.now)) }
 {
     walk_optional(extent, trail, scope)?;
     walk_optional(extent, trail, parent)?;
-    walk_inside(extent, extent.enters_bodies(), trail, body, core)
+    walk_inside(extent, trail, beginning, form)
 }
 
 /// The scope of a module, and what stands in it.
@@ -142,29 +142,13 @@ pub fn walk_module<'a, T: Walked>(
     extent: Extent,
     trail: &mut Vec<Step<'a>>,
     scope: &'a Option<Box<T>>,
-    body: Body<'a>,
-    core: &'a Box<T>,
+    beginning: Step<'a>,
+    form: &'a Box<T>,
 ) -> Noted
-    ensures { OnOk result (steps trail.new.items ≡ walks.inside_body extent (walks.enters_bodies extent)
-        (walks.walked_all extent (steps trail.old.items) (by.boxed_by T.form scope.now)) (view body.entry)
-        (by.core_by T.form core.now)) }
+    ensures { OnOk result (steps trail.new.items ≡ walks.inside_body extent
+        (walks.walked_maybe extent (steps trail.old.items) (by.boxed_by T.form scope.now)) (step beginning.entry)
+        (by.core_by T.form form.now)) }
 {
     walk_optional(extent, trail, scope)?;
-    walk_inside(extent, extent.enters_bodies(), trail, body, core)
-}
-
-/// A core, and what stands in its singleton class.
-pub fn walk_singleton<'a, T: Walked>(
-    extent: Extent,
-    trail: &mut Vec<Step<'a>>,
-    of: &'a Box<T>,
-    body: Body<'a>,
-    core: &'a Box<T>,
-) -> Noted
-    ensures { OnOk result (steps trail.new.items ≡ walks.inside_body extent (walks.enters_bodies extent)
-        (walks.walked extent (steps trail.old.items) (by.core_by T.form of.now)) (view body.entry)
-        (by.core_by T.form core.now)) }
-{
-    of.walk(extent, trail)?;
-    walk_inside(extent, extent.enters_bodies(), trail, body, core)
+    walk_inside(extent, trail, beginning, form)
 }

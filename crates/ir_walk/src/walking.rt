@@ -1,15 +1,14 @@
 //! The walk over a core.
 ghost use Rattle.ir_core.specs.View.{term_view};
 
-use crate::body::Body;
 use crate::extent::Extent;
 use crate::step::Step;
 use crate::trail::meet;
 use crate::walk_forms::{
-    walk_begin, walk_call, walk_class, walk_cond, walk_define_on, walk_function, walk_module,
-    walk_singleton, walk_super, walk_two,
+    walk_begin, walk_call, walk_class, walk_cond, walk_core_and_body, walk_module, walk_plain_call,
+    walk_super, walk_two,
 };
-use crate::walk_parts::{walk_all, walk_items, walk_optional, walk_pairs};
+use crate::walk_parts::{walk_all, walk_inside, walk_items, walk_optional, walk_pairs};
 use crate::walked::{Noted, Walked};
 use ir_core::Term;
 
@@ -17,7 +16,7 @@ impl Walked for Term {
     ghost form = { λ t. term_view t };
 
     #[cycle(walk)]
-    #[tactic(auto, using(ir_core::proofs::ViewsBy::views))]
+    #[tactic(auto, using(ir_core::proofs::Views::core_views))]
     fn walk<'a>(&'a self, extent: Extent, trail: &mut Vec<Step<'a>>) -> Noted {
         meet(trail, self)?;
         match self {
@@ -29,6 +28,8 @@ impl Walked for Term {
             | Term::Str(_)
             | Term::Sym(_)
             | Term::Local(_)
+            | Term::Own(_)
+            | Term::Exception
             | Term::Ivar(_)
             | Term::Gvar(_)
             | Term::Const(_)
@@ -46,7 +47,8 @@ impl Walked for Term {
             | Term::Break(e)
             | Term::Next(e)
             | Term::Item(e, _)
-            | Term::Rest { of: e, .. } => e.walk(extent, trail),
+            | Term::Rest { of: e, .. }
+            | Term::Tail { of: e, .. } => e.walk(extent, trail),
             Term::SetInConst(a, _, b)
             | Term::Range { from: a, to: b, .. }
             | Term::And(a, b)
@@ -59,33 +61,33 @@ impl Walked for Term {
             Term::Call {
                 receiver,
                 items,
+                ..
+            } => walk_plain_call(extent, trail, receiver, items),
+            Term::BlockCall {
+                receiver,
+                items,
                 block,
                 ..
             } => walk_call(extent, trail, receiver, items, block),
             Term::Super(items, block) => walk_super(extent, trail, items, block),
-            Term::Fn(function) | Term::Lambda(function) => {
-                let body = Body::Function(function);
-                walk_function(extent, extent.enters_blocks(), trail, body, function)
+            Term::Fn(body) | Term::Lambda(body) | Term::Def(_, body) => {
+                walk_inside(extent, trail, Step::Enter(&**body), &body.form)
             }
-            Term::Begin(begin) => walk_begin(extent, trail, begin),
-            Term::Def(_, function) => {
-                let body = Body::Function(function);
-                walk_function(extent, extent.enters_bodies(), trail, body, function)
-            }
-            Term::DefOn(e, _, function) => {
-                walk_define_on(extent, trail, e, Body::Function(function), function)
+            Term::Begin(begin) => walk_begin(extent, trail, &**begin),
+            Term::DefOn(e, _, body) | Term::SingletonClass(e, body) => {
+                walk_core_and_body(extent, trail, e, Step::Enter(&**body), &body.form)
             }
             Term::Class {
                 scope,
                 parent,
                 body,
                 ..
-            } => walk_class(extent, trail, scope, parent, Body::Open(body), body),
-            Term::Module { scope, body, .. } => {
-                walk_module(extent, trail, scope, Body::Open(body), body)
+            } => {
+                let beginning = Step::Enter(&**body);
+                walk_class(extent, trail, scope, parent, beginning, &body.form)
             }
-            Term::SingletonClass(e, body) => {
-                walk_singleton(extent, trail, e, Body::Open(body), body)
+            Term::Module { scope, body, .. } => {
+                walk_module(extent, trail, scope, Step::Enter(&**body), &body.form)
             }
             Term::Defined(_, _, e) => walk_optional(extent, trail, e),
         }

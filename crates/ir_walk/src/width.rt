@@ -6,8 +6,8 @@ use crate::splat::has_splat;
 use crate::sums::in_order;
 use crate::width_forms::{
     array_width, begin_width, call_width, class_width, cond_width, defined_width, hash_width,
-    module_width, one, one_and_leaf, seq_width, super_width, text_width, two, while_width,
-    yield_width,
+    module_width, one, one_and_leaf, plain_call_width, seq_width, super_width, text_width, two,
+    while_width, yield_width,
 };
 use crate::width_parts::Measure;
 use ir_core::Term;
@@ -17,7 +17,7 @@ impl Measured for Term {
     ghost form = { λ t. term_view t };
 
     #[cycle(width)]
-    #[tactic(auto, using(ir_core::proofs::ViewsBy::views))]
+    #[tactic(auto, using(ir_core::proofs::Views::core_views))]
     fn width(&self, alloc: Global) -> Measure {
         match self {
             Term::Nil
@@ -28,6 +28,8 @@ impl Measured for Term {
             | Term::Str(_)
             | Term::Sym(_)
             | Term::Local(_)
+            | Term::Own(_)
+            | Term::Exception
             | Term::Ivar(_)
             | Term::Gvar(_)
             | Term::Const(_)
@@ -48,7 +50,8 @@ impl Measured for Term {
             | Term::Next(e)
             | Term::SingletonClass(e, _)
             | Term::Item(e, _)
-            | Term::Rest { of: e, .. } => one(alloc, e),
+            | Term::Rest { of: e, .. }
+            | Term::Tail { of: e, .. } => one(alloc, e),
             Term::DefOn(e, _, _) => one_and_leaf(alloc, e),
             Term::SetInConst(a, _, b)
             | Term::Range { from: a, to: b, .. }
@@ -63,12 +66,17 @@ impl Measured for Term {
             Term::Call {
                 receiver,
                 items,
+                ..
+            } => plain_call_width(alloc, has_splat(items), receiver, items),
+            Term::BlockCall {
+                receiver,
+                items,
                 block,
                 ..
             } => call_width(alloc, has_splat(items), receiver, items, block),
             Term::Yield(items) => yield_width(alloc, has_splat(items), items),
             Term::Super(items, block) => super_width(alloc, has_splat(items), items, block),
-            Term::Begin(begin) => begin_width(alloc, begin),
+            Term::Begin(begin) => begin_width(alloc, &**begin),
             Term::Class { scope, parent, .. } => class_width(alloc, scope, parent),
             Term::Module { scope, .. } => module_width(alloc, scope),
             Term::Defined(_, _, e) => defined_width(alloc, e),

@@ -50,7 +50,7 @@ pub fn while_width<T: Measured>(alloc: Global, test: &Box<T>, body: &Box<T>) -> 
 }
 
 pub fn array_width<T: Measured>(alloc: Global, items: &Vec<Item<Box<T>>>) -> Measure
-    ensures { IfOk result (λ w. w ≡ widths.into_one (widths.widths (by.items_by T.form items.now.items))) }
+    ensures { IfOk result (λ w. w ≡ widths.into_one (widths.item_widths (by.items_by T.form items.now.items))) }
 {
     let mut all = Vec::new(alloc);
     add_items(alloc, &mut all, items)?;
@@ -58,7 +58,7 @@ pub fn array_width<T: Measured>(alloc: Global, items: &Vec<Item<Box<T>>>) -> Mea
 }
 
 pub fn hash_width<T: Measured>(alloc: Global, pairs: &Vec<Pair<Box<T>>>) -> Measure
-    ensures { IfOk result (λ w. w ≡ widths.into_one (widths.widths (by.pairs_by T.form pairs.now.items))) }
+    ensures { IfOk result (λ w. w ≡ widths.into_one (widths.pair_widths (by.pairs_by T.form pairs.now.items))) }
 {
     let mut all = Vec::new(alloc);
     add_pairs(alloc, &mut all, pairs)?;
@@ -87,7 +87,7 @@ pub fn cond_width<T: Measured>(
     otherwise: &Box<T>,
 ) -> Measure
     ensures { IfOk result (λ w. w ≡ widths.in_turn
-        (widths.widths (by.branches_by T.form branches.now.items)
+        (widths.branch_widths (by.branches_by T.form branches.now.items)
         ++ widths.width (by.core_by T.form otherwise.now) ∷ [])) }
 {
     let mut all = Vec::new(alloc);
@@ -96,28 +96,47 @@ pub fn cond_width<T: Measured>(
     in_turn(&all)
 }
 
-/// A call, by whether it has a splat.
+/// A call without a block, by whether it has a splat.
+#[tactic(auto, using(crate::proofs::Widths::append_laws))]
+pub fn plain_call_width<T: Measured>(
+    alloc: Global,
+    splat: bool,
+    receiver: &Receiver<Box<T>>,
+    items: &Vec<Item<Box<T>>>,
+) -> Measure
+    ensures { IfOk result (λ w. w ≡ widths.of_call splat
+        ((widths.receiver_width (by.receiver_by T.form receiver.now)
+        ∷ widths.item_widths (by.items_by T.form items.now.items)) ++ [])) }
+{
+    let mut all = Vec::new(alloc);
+    all.push(receiver_width(alloc, receiver)?)?;
+    add_items(alloc, &mut all, items)?;
+    of_call(splat, &all)
+}
+
+/// A call with a block, by whether it has a splat.
 pub fn call_width<T: Measured>(
     alloc: Global,
     splat: bool,
     receiver: &Receiver<Box<T>>,
     items: &Vec<Item<Box<T>>>,
-    block: &Option<Box<T>>,
+    block: &Box<T>,
 ) -> Measure
     ensures { IfOk result (λ w. w ≡ widths.of_call splat
-        ((widths.width (by.receiver_by T.form receiver.now) ∷ widths.widths (by.items_by T.form items.now.items))
-        ++ widths.widths (by.boxed_by T.form block.now))) }
+        ((widths.receiver_width (by.receiver_by T.form receiver.now)
+        ∷ widths.item_widths (by.items_by T.form items.now.items))
+        ++ widths.width (by.core_by T.form block.now) ∷ [])) }
 {
     let mut all = Vec::new(alloc);
     all.push(receiver_width(alloc, receiver)?)?;
     add_items(alloc, &mut all, items)?;
-    add_optional(alloc, &mut all, block)?;
+    all.push(block.width(alloc)?)?;
     of_call(splat, &all)
 }
 
 /// A yield, after the Proc that is called.
 pub fn yield_width<T: Measured>(alloc: Global, splat: bool, items: &Vec<Item<Box<T>>>) -> Measure
-    ensures { IfOk result (λ w. w ≡ widths.of_call splat (3 ∷ widths.widths (by.items_by T.form items.now.items))) }
+    ensures { IfOk result (λ w. w ≡ widths.of_call splat (3 ∷ widths.item_widths (by.items_by T.form items.now.items))) }
 {
     let mut all = Vec::new(alloc);
     all.push(3)?;
@@ -133,7 +152,7 @@ pub fn super_width<T: Measured>(
     block: &Option<Box<T>>,
 ) -> Measure
     ensures { IfOk result (λ w. w ≡ widths.of_call splat
-        ((3 ∷ widths.widths (by.items_by T.form items.now.items)) ++ widths.widths (by.boxed_by T.form block.now))) }
+        ((3 ∷ widths.item_widths (by.items_by T.form items.now.items)) ++ widths.maybe_widths (by.boxed_by T.form block.now))) }
 {
     let mut all = Vec::new(alloc);
     all.push(3)?;
@@ -160,8 +179,8 @@ pub fn class_width<T: Measured>(
     parent: &Option<Box<T>>,
 ) -> Measure
     ensures { IfOk result (λ w. w ≡ widths.in_order
-        (widths.or_leaf (widths.widths (by.boxed_by T.form scope.now)) ∷ widths.or_leaf
-        (widths.widths (by.boxed_by T.form parent.now)) ∷ [])) }
+        (widths.or_leaf (widths.maybe_widths (by.boxed_by T.form scope.now)) ∷ widths.or_leaf
+        (widths.maybe_widths (by.boxed_by T.form parent.now)) ∷ [])) }
 {
     let scope = optional_width(alloc, scope)?;
     let parent = optional_width(alloc, parent)?;
@@ -171,7 +190,7 @@ pub fn class_width<T: Measured>(
 /// The scope of a module.
 pub fn module_width<T: Measured>(alloc: Global, scope: &Option<Box<T>>) -> Measure
     ensures { IfOk result (λ w. w ≡ widths.in_order
-        (widths.or_leaf (widths.widths (by.boxed_by T.form scope.now)) ∷ [])) }
+        (widths.or_leaf (widths.maybe_widths (by.boxed_by T.form scope.now)) ∷ [])) }
 {
     let scope = optional_width(alloc, scope)?;
     in_order(&[scope])
@@ -179,7 +198,7 @@ pub fn module_width<T: Measured>(alloc: Global, scope: &Option<Box<T>>) -> Measu
 
 /// The part of a `defined?`.
 pub fn defined_width<T: Measured>(alloc: Global, receiver: &Option<Box<T>>) -> Measure
-    ensures { IfOk result (λ w. w ≡ widths.in_order (widths.widths (by.boxed_by T.form receiver.now))) }
+    ensures { IfOk result (λ w. w ≡ widths.in_order (widths.maybe_widths (by.boxed_by T.form receiver.now))) }
 {
     let mut all = Vec::new(alloc);
     add_optional(alloc, &mut all, receiver)?;

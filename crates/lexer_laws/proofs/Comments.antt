@@ -1,6 +1,5 @@
 -- A comment is passed over to its end.
-use Rattle.std.proofs.Common.{◌≡◌, ℕ, ◌+◌, List, [], ◌∷◌, drop, get_or, arith, refl, sym, ◌∙◌, inl, inr}
-use Rattle.std.proofs.lemmas.Bool.{cases_Bool}
+use Rattle.std.proofs.Common.{◌≡◌, ℕ, ◌+◌, List, drop, get_or, arith, refl, sym, ◌∙◌}
 use Rattle.lexer_steps.specs.Scan.{comment_end, is_comment_byte, run_end}
 use Rattle.lexer_steps.specs.State.{State, spaced}
 use Rattle.lexer_steps.specs.Trivia.{trivia_step}

@@ -1,6 +1,5 @@
 -- Names with a byte past ASCII.
-use Rattle.std.proofs.Common.{◌≡◌, ℕ, suc, zero, ◌+◌, ◌<◌, List, [], ◌∷◌, drop, length, get_or, arith, refl, sym, ◌∙◌, true, inl, inr}
-use Rattle.std.proofs.lemmas.Bool.{cases_Bool}
+use Rattle.std.proofs.Common.{◌≡◌, ℕ, suc, zero, ◌+◌, ◌<◌, List, [], ◌∷◌, drop, length, get_or, arith, refl, sym, ◌∙◌, true, inr}
 use Rattle.rb_syntax.specs.declared.outside.Outside.TheVariants.{NonAsciiName}
 use Rattle.rb_syntax.specs.declared.token.TokenKind.TheVariants as kinds
 use Rattle.lexer_tables.specs.ByteClass.{is_name_start, is_wide}

@@ -2,12 +2,14 @@
 use Rattle.std.specs.Prelude.{◌≡◌, ℕ, suc, ◌+◌, ◌<◌, ◌⊎◌, true, false, List, [], ◌∷◌, ◌++◌, Option, Some, None, Ok, length, take, slice_index}
 use Rattle.lexer_literals.specs.declared.escaped.Escape.{Escape}
 use Rattle.lexer_literals.specs.declared.plain_escapes.Delimiters.{Delimiters}
-use Rattle.lexer_literals.specs.Escaping.{bytes_of, full_escape_at}
+use Rattle.lexer_literals.specs.Escaping.{bytes_of}
+use Rattle.lexer_literals.specs.Modified.{full_escape_at}
 use Rattle.lexer_literals.specs.PlainEscapes.{plain_escape_at, word_escape_at}
 use Rattle.rb_syntax.specs.declared.token.TokenKind.{TokenKind}
 use Rattle.rb_syntax.specs.declared.token.TokenKind.TheVariants as kinds
-use Rattle.lexer_tables.specs.ByteClass.{is_name_start, is_white}
+use Rattle.lexer_tables.specs.ByteClass.{is_digit, is_name_byte, is_name_start, is_white}
 use Rattle.lexer_tables.specs.Following.{expects_value, is_question, wants_name}
+use Rattle.lexer_steps.specs.Names.{names_global}
 use Rattle.lexer_steps.specs.Signs.{is_delimiter}
 use Rattle.lexer_laws.specs.Closed.{delimited_by}
 use Rattle.lexer_laws.specs.Place.{Place}
@@ -28,13 +30,27 @@ pub record Literal : Type 0 where
   pub contents : Contents
   pub key : Option ℕ
 
--- #{, and #@ or #$ before a name
+-- @name or @@name
+abbrev pub BeginsAtVariable : List ℕ → ℕ → Type 0
+BeginsAtVariable text at =
+    (slice_index text at ≡ 64)
+    × ((is_name_start (slice_index text (at + 1)) ≡ true)
+    ⊎ ((slice_index text (at + 1) ≡ 64) × (is_name_start (slice_index text (at + 2)) ≡ true)))
+
+-- $name, or $ before digits, a mark that names a special global variable, or - and what a name goes on with
+abbrev pub BeginsGlobal : List ℕ → ℕ → Type 0
+BeginsGlobal text at =
+    (slice_index text at ≡ 36)
+    × ((is_name_start (slice_index text (at + 1)) ≡ true)
+    ⊎ ((is_digit (slice_index text (at + 1)) ≡ true)
+    ⊎ ((names_global (slice_index text (at + 1)) ≡ true)
+    ⊎ ((slice_index text (at + 1) ≡ 45) × (is_name_byte (slice_index text (at + 2)) ≡ true)))))
+
+-- #{, and # before a variable
 abbrev pub BeginsInterpolation : List ℕ → ℕ → Type 0
 BeginsInterpolation text at =
     (slice_index text at ≡ 35)
-    × ((slice_index text (at + 1) ≡ 123)
-    ⊎ (((slice_index text (at + 1) ≡ 64) ⊎ (slice_index text (at + 1) ≡ 36))
-    × (is_name_start (slice_index text (at + 2)) ≡ true)))
+    × ((slice_index text (at + 1) ≡ 123) ⊎ (BeginsAtVariable text (at + 1) ⊎ BeginsGlobal text (at + 1)))
 
 -- the byte that closes a literal, and the one that nests in it, which differs
 abbrev pub IsCloser : Option Delimiters → ℕ → Type 0

@@ -6,7 +6,7 @@ use Rattle.rb_syntax.specs.declared.token.TokenKind.{TokenKind}
 use Rattle.rb_syntax.specs.declared.token.TokenKind.TheVariants as kinds
 use Rattle.lexer_tables.specs.declared.context.Context.{Context}
 use Rattle.lexer_tables.specs.declared.context.Context.TheVariants as contexts
-use Rattle.lexer_tables.specs.Following.{after_name, after_constant, after_keyword, after_mark}
+use Rattle.lexer_tables.specs.Following.{after_name, after_symbol, after_constant, after_keyword, after_mark}
 
 pub record Place : Type 0 where
   pub at : ℕ
@@ -74,7 +74,7 @@ after c (kinds.Keyword k) = after_keyword k
 after c (kinds.Punctuator m) = after_mark c m
 after c (kinds.Integer n) = contexts.Operand
 after c (kinds.Character b) = contexts.Operand
-after c (kinds.Symbol bytes) = contexts.Operand
+after c (kinds.Symbol bytes) = after_symbol c
 after c kinds.StringBegin = contexts.Operand
 after c kinds.SymbolBegin = contexts.Operand
 after c kinds.WordsBegin = contexts.Operand

@@ -14,7 +14,7 @@ use Rattle.rb_lexer.specs.declared.heads.HeadPlace.{HeadPlace}
 use Rattle.lexer_steps.specs.Names.{spelled, is_end_marker}
 use Rattle.lexer_laws.specs.Gaps.{IsGap, IsNewline, LeadsDot}
 use Rattle.lexer_laws.specs.Closed.{IsBackquote, IsPercentLiteral, IsRegexp}
-use Rattle.lexer_laws.specs.Literals.{Literal, Words, Double, IsClosing, IsElement, IsLongPiece, IsPiece, OpensLiteral, piece_kind}
+use Rattle.lexer_laws.specs.Literals.{BeginsGlobal, Literal, Words, Double, IsClosing, IsElement, IsLongPiece, IsPiece, OpensLiteral, piece_kind}
 use Rattle.lexer_laws.specs.Longest.{IsLongest, IsRun, Stands}
 use Rattle.lexer_laws.specs.Names.{IsName, IsVariable}
 use Rattle.lexer_laws.specs.Numbers.{IsNarrowInteger, IsTailed, IsWideInteger}
@@ -265,12 +265,14 @@ IsEnd text p = (p.at ≡ length text) ⊎ ((p.at < length text) × (is_end_marke
 abbrev pub moved : Place → ℕ → Place
 moved p at = record p { at = at }
 
--- @name or $name after the # of an interpolation
+-- a variable after the # of an interpolation, maybe one outside the language
 abbrev pub IsInterpolated : List ℕ → ℕ → TokenKind → ℕ → Type 0
 IsInterpolated text at kind end =
     (bytes : List ℕ)
     × (((kind ≡ kinds.InstanceVariable bytes) × IsVariableToken 64 text at bytes end)
-    ⊎ ((kind ≡ kinds.GlobalVariable bytes) × IsVariableToken 36 text at bytes end))
+    ⊎ (((kind ≡ kinds.GlobalVariable bytes) × IsVariableToken 36 text at bytes end)
+    ⊎ (((kind ≡ kinds.Outside outsides.ClassVariable) × IsClassVariable text at end)
+    ⊎ ((kind ≡ kinds.Outside outsides.SpecialGlobal) × IsSpecialGlobal text at end × BeginsGlobal text at))))
 
 -- a colon after the end of a string makes it a key
 abbrev pub EndsKey : List ℕ → Literal → ℕ → ℕ → Type 0
@@ -322,7 +324,7 @@ pub data ReadsFrom (text : List ℕ) : Stretch → List Open → Place → List 
   Closes : (s : Stretch) (around : List Open) (p : Place) (tokens : List Token) → slice_index (shown text s) p.at ≡ 125
       → ReadsFrom text s around (behind p kinds.InterpolationEnd (p.at + 1)) tokens
       → ReadsFrom text s (Interpolation ∷ around) p (token_at p kinds.InterpolationEnd ∷ tokens)
-  -- #@name or #$name
+  -- # and a variable
   Inserts : (s : Stretch) (around : List Open) (p : Place) (l : Literal) (depth : ℕ) (kind : TokenKind) (end : ℕ)
       (tokens : List Token) → l.contents ≡ Double → slice_index (shown text s) p.at ≡ 35
       → IsInterpolated (shown text s) (p.at + 1) kind end → ReadsFrom text s (Inside l depth ∷ around)

@@ -60,14 +60,19 @@ braced_at text at =
     let n = up_to 16 6 0 at (drop at text) in
     if (n.1 == at) || not (slice_index text n.1 == 125) then fault_at at else character n.0 at (n.1 + 1)
 
--- the escape after a backslash of a literal with interpolation
-unfoldable pub full_escape_at : List ℕ → ℕ → Result Escape Fault
-full_escape_at text at =
+-- c, C and M begin a control or a meta character
+abbrev pub is_modifier : ℕ → Bool
+is_modifier b = (b == 99) || (b == 67) || (b == 77)
+
+-- the escape after a backslash of a literal with interpolation, where it is no control or meta character
+unfoldable pub plain_character_at : List ℕ → ℕ → Result Escape Fault
+plain_character_at text at =
     let first = slice_index text at in
     if nat_le (length text) at then fault_at at
     else (if first == 10 then Ok (escape_to (at + 1) Nothing)
     else (if between 48 55 first then Ok (octal_at text at)
     else (if first == 120 then hexadecimal_at text (at + 1)
+    else (if is_modifier first then fault_at at
     else (if not (first == 117) then Ok (escape_to (at + 1) (Byte (letter first)))
     else (if slice_index text (at + 1) == 123 then braced_at text (at + 2)
-    else short_at text (at + 1))))))
+    else short_at text (at + 1)))))))

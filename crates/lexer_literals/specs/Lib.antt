@@ -2,4 +2,5 @@ pub mod Kinds
 pub mod Integers
 pub mod Numbers
 pub mod Escaping
+pub mod Modified
 pub mod PlainEscapes

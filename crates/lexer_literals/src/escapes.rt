@@ -1,22 +1,22 @@
 //! Escapes of literals with interpolation.
 ghost use Rattle.std.specs.Prelude.{◌≡◌, ◌≤◌, ◌<◌, ◌^◌, length, drop, IfOk, IfErr};
-ghost use Rattle.lexer_literals.specs.Escaping.{letter, up_to, character, octal_at, hexadecimal_at, short_at, braced_at, full_escape_at};
+ghost use Rattle.lexer_literals.specs.Escaping.{letter, up_to, character, octal_at, hexadecimal_at, short_at, braced_at, plain_character_at};
 
 use crate::bytes::{byte_at, digit_value};
 use crate::escaped::{Escape, Escaped};
 use crate::fault::Fault;
 
-/// The escape of a literal as `".."` after the backslash before `at`, a byte offset: `n t r a b e f v s` are
-/// control characters and the space; one to three octal digits are a byte, of a value above 255 the lowest
-/// eight bits; `x` with one or two hexadecimal digits is a byte; `u` with four hexadecimal digits, or with one
-/// to six in braces, is a character; a newline is nothing; any other byte stands for itself.
+/// The escape of a literal as `".."` after the backslash before `at`, a byte offset, where it is no control or meta
+/// character: `n t r a b e f v s` are control characters and the space; one to three octal digits are a byte, of a
+/// value above 255 the lowest eight bits; `x` with one or two hexadecimal digits is a byte; `u` with four hexadecimal
+/// digits, or with one to six in braces, is a character; a newline is nothing; any other byte stands for itself.
 ///
-/// A fault where the text ends at the backslash, where `x` lacks a digit, and where the digits of `u` are too
-/// few or too many, or are the number of a surrogate or above 10FFFF.
-#[tactic(auto, unfolding(crate::specs::Escaping::full_escape_at))]
-pub fn full_escape(text: &[u8], at: usize) -> Result<Escape, Fault>
+/// A fault where the text ends at the backslash, where `x` lacks a digit, where the digits of `u` are too few or too
+/// many, or are the number of a surrogate or above 10FFFF, and at `c`, `C` and `M`.
+#[tactic(auto, unfolding(crate::specs::Escaping::plain_character_at))]
+pub(crate) fn plain_character(text: &[u8], at: usize) -> Result<Escape, Fault>
     requires { at ≤ length text.now }
-    ensures value { result ≡ full_escape_at text.now at }
+    ensures value { result ≡ plain_character_at text.now at }
     ensures forward { IfOk result (λ e. at ≤ e.end) }
     ensures within { IfOk result (λ e. e.end ≤ length text.now) }
     ensures fault { IfErr result (λ f. f.at ≤ length text.now) }
@@ -38,6 +38,7 @@ pub fn full_escape(text: &[u8], at: usize) -> Result<Escape, Fault>
                 short(text, at + 1)
             }
         }
+        b'c' | b'C' | b'M' => Err(Fault { at }),
         byte => Ok(Escape {
             end: at + 1,
             stands_for: Escaped::Byte(letter(byte)),

@@ -10,12 +10,13 @@ pub mod escaped;
 pub mod escapes;
 pub mod fault;
 pub mod integers;
+pub mod modified;
 pub mod numbers;
 pub mod plain_escapes;
 
 pub use escaped::{Escape, Escaped};
-pub use escapes::full_escape;
 pub use fault::Fault;
 pub use integers::{Scanned, integer};
+pub use modified::full_escape;
 pub use numbers::{Number, Tail, numeral};
 pub use plain_escapes::{Delimiters, is_word_space, plain_escape, word_escape};

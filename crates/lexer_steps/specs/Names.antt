@@ -6,7 +6,7 @@ use Rattle.rb_syntax.specs.declared.keyword.Keyword.{Keyword}
 use Rattle.rb_syntax.specs.declared.outside.Outside.TheVariants.{NonAsciiName, ClassVariable, SpecialGlobal}
 use Rattle.rb_syntax.specs.declared.token.TokenKind.TheVariants as kinds
 use Rattle.lexer_tables.specs.declared.context.Context.TheVariants as contexts
-use Rattle.lexer_tables.specs.ByteClass.{is_capital, is_digit, is_name_start, is_punctuation, is_wide}
+use Rattle.lexer_tables.specs.ByteClass.{is_capital, is_digit, is_name_byte, is_name_start, is_punctuation, is_wide}
 use Rattle.lexer_tables.specs.Following.{after_name, after_constant, wants_name, is_def}
 use Rattle.lexer_tables.specs.Keyword.{keyword_of}
 use Rattle.lexer_tables.specs.Marks.{operator_name}
@@ -112,6 +112,27 @@ variable_step text at s =
     if is_name_start (slice_index text (at + 1)) then variable_of text at s
     else if slice_index text at == 64 then class_variable text at s
     else special_global text at s
+
+-- the marks that name special global variables after a $: ~ * $ ? ! @ / \ ; , . = : < > " & ` ' +
+abbrev pub names_global : ℕ → Bool
+names_global b =
+    (b == 126) || (b == 42) || (b == 36) || (b == 63) || (b == 33) || (b == 64) || (b == 47) || (b == 92) || (b == 59)
+    || (b == 44) || (b == 46) || (b == 61) || (b == 58) || (b == 60) || (b == 62) || (b == 34) || (b == 38) || (b == 96)
+    || (b == 39) || (b == 43)
+
+-- a $ before digits, before such a mark, and before - and what a name goes on with
+unfoldable pub begins_special : List ℕ → ℕ → Bool
+begins_special text at =
+    let next = slice_index text (at + 1) in
+    is_digit next || names_global next || ((next == 45) && is_name_byte (slice_index text (at + 2)))
+
+-- in a literal: @name, @@name, $name or a special global variable
+unfoldable pub begins_variable : List ℕ → ℕ → Bool
+begins_variable text at =
+    let first = slice_index text at in
+    let next = slice_index text (at + 1) in
+    if first == 64 then is_name_start next || ((next == 64) && is_name_start (slice_index text (at + 2)))
+    else (first == 36) && (is_name_start next || begins_special text at)
 
 -- where the name of an operator's method ends; the place itself where none begins there
 abbrev pub operator_end : List ℕ → ℕ → ℕ

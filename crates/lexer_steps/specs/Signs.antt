@@ -13,7 +13,7 @@ use Rattle.rb_syntax.specs.declared.token.TokenKind.TheVariants as kinds
 use Rattle.lexer_tables.specs.declared.context.Context.TheVariants as contexts
 use Rattle.lexer_tables.specs.declared.marks.Mark.{Mark}
 use Rattle.lexer_tables.specs.ByteClass.{between, is_letter, is_name_byte, is_punctuation, is_white}
-use Rattle.lexer_tables.specs.Following.{expects_value, is_block, is_name, is_question, after_mark}
+use Rattle.lexer_tables.specs.Following.{expects_value, is_block, is_name, is_question, after_mark, after_symbol}
 use Rattle.lexer_tables.specs.Marks.{mark_of}
 use Rattle.lexer_steps.specs.declared.mode.Literal.{Literal}
 use Rattle.lexer_steps.specs.declared.mode.Mode.{Mode}
@@ -80,7 +80,7 @@ quote_step text at s =
 abbrev pub symbol_or_mark : List ℕ → ℕ → ℕ → State → Result (State × ℕ) ℕ
 symbol_or_mark text at end s =
     if end == at + 1 then mark_step text at s
-    else Ok (pushed s at (kinds.Symbol (spelled text (at + 1) end)) contexts.Operand, end)
+    else Ok (pushed s at (kinds.Symbol (spelled text (at + 1) end)) (after_symbol s.context), end)
 
 -- a symbol where a value is expected or white space stands before, and else a mark
 unfoldable pub colon_step : List ℕ → ℕ → State → Result (State × ℕ) ℕ

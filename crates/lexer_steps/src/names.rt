@@ -1,5 +1,5 @@
 //! Names: identifiers, constants, keywords, labels, variables and symbols.
-ghost use Rattle.std.specs.Prelude.{◌≡◌, ◌≤◌, ◌<◌, ◌+◌, true, length, drop, IfOk, IfErr};
+ghost use Rattle.std.specs.Prelude.{◌≡◌, ◌≤◌, ◌<◌, ◌+◌, true, length, drop, IfOk, IfErr, IsTrue};
 ghost use Rattle.lexer_steps.specs.LexError.{Gives, IsWithin};
 ghost use Rattle.lexer_steps.specs.State.{state_of};
 ghost use Rattle.lexer_steps.specs.Names as names;
@@ -8,7 +8,9 @@ use crate::error::LexError;
 use crate::scan::{byte_at, def_end, digit_end, mark_end, name_end, symbol_end, wide_end};
 use crate::state::Lexer;
 use crate::trivia::begins_line;
-use lexer_tables::bytes::{is_capital, is_digit, is_name_start, is_punctuation, is_wide};
+use lexer_tables::bytes::{
+    is_capital, is_digit, is_name_byte, is_name_start, is_punctuation, is_wide,
+};
 use lexer_tables::{Context, keyword_of, operator_name};
 use rb_base::Bytes;
 use rb_syntax::{Outside, TokenKind};
@@ -169,7 +171,7 @@ pub fn word_step(
 
 /// `@name` or `$name`.
 #[tactic(auto, unfolding(crate::specs::Names::variable_of))]
-pub fn push_variable(
+fn push_variable(
     alloc: Global,
     lexer: &mut Lexer,
     text: &[u8],
@@ -238,6 +240,60 @@ fn special_global(lexer: &mut Lexer, text: &[u8], at: usize) -> Result<usize, Le
         Context::Operand,
     )?;
     Ok(end)
+}
+
+/// Whether a mark of ASCII names a special global variable after a `$`.
+fn names_global(byte: u8) -> bool
+    ensures { result ≡ names.names_global byte }
+{
+    matches!(
+        byte,
+        b'~' | b'*'
+            | b'$'
+            | b'?'
+            | b'!'
+            | b'@'
+            | b'/'
+            | b'\\'
+            | b';'
+            | b','
+            | b'.'
+            | b'='
+            | b':'
+            | b'<'
+            | b'>'
+            | b'"'
+            | b'&'
+            | b'`'
+            | b'\''
+            | b'+'
+    )
+}
+
+/// Whether the `$` at a place, in a literal, begins a special global variable: before digits, before a mark that names
+/// one, and before `-` and what a name goes on with.
+#[tactic(auto, unfolding(crate::specs::Names::begins_special))]
+fn begins_special(text: &[u8], at: usize) -> bool
+    requires { at < length text.now }
+    ensures { result ≡ names.begins_special text.now at }
+{
+    let next = byte_at(text, at + 1);
+    is_digit(next) || names_global(next) || next == b'-' && is_name_byte(byte_at(text, at + 2))
+}
+
+/// Whether a variable stands at a place of a literal, whatever its kind; after a `#` it is put in.
+#[tactic(auto, unfolding(crate::specs::Names::begins_variable))]
+pub fn begins_variable(text: &[u8], at: usize) -> bool
+    requires { at ≤ length text.now }
+    ensures value { result ≡ names.begins_variable text.now at }
+    ensures within { IsTrue result → at < length text.now }
+{
+    let next = byte_at(text, at + 1);
+    match byte_at(text, at) {
+        b'@' => is_name_start(next) || next == b'@' && is_name_start(byte_at(text, at + 2)),
+        b'$' => is_name_start(next) || begins_special(text, at),
+        _ => false,
+    }
 }
 
 /// What begins with `@` or `$`.

@@ -182,7 +182,8 @@ fn colon_step(alloc: Global, lexer: &mut Lexer, text: &[u8], at: usize) -> Resul
         return mark_step(lexer, text, at);
     }
     let name = Bytes::from_slice(alloc, &text[at + 1..end])?;
-    lexer.push(at, TokenKind::Symbol(name), Context::Operand)?;
+    let context = lexer.context.after_symbol();
+    lexer.push(at, TokenKind::Symbol(name), context)?;
     Ok(end)
 }
 

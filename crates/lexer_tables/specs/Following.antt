@@ -309,6 +309,24 @@ can_modify keys.When = false
 can_modify keys.While = true
 can_modify keys.Yield = false
 
+-- after a symbol: alias and undef take symbols for names
+abbrev pub after_symbol : Context → Context
+after_symbol contexts.Start = contexts.Operand
+after_symbol contexts.Question = contexts.Operand
+after_symbol contexts.Block = contexts.Operand
+after_symbol contexts.Value = contexts.Operand
+after_symbol contexts.Jump = contexts.Operand
+after_symbol contexts.Name = contexts.Operand
+after_symbol contexts.Operand = contexts.Operand
+after_symbol contexts.Def = contexts.Operand
+after_symbol contexts.DefName = contexts.Operand
+after_symbol contexts.DefDot = contexts.Operand
+after_symbol contexts.Dot = contexts.Operand
+after_symbol contexts.Alias = contexts.AliasName
+after_symbol contexts.AliasName = contexts.Operand
+after_symbol contexts.Undef = contexts.UndefName
+after_symbol contexts.UndefName = contexts.Operand
+
 -- after a keyword
 unfoldable pub after_keyword : Keyword → Context
 after_keyword keys.EncodingName = contexts.Operand
@@ -351,9 +369,9 @@ after_keyword keys.Unless = contexts.Start
 after_keyword keys.Until = contexts.Start
 after_keyword keys.When = contexts.Start
 after_keyword keys.While = contexts.Start
-after_keyword keys.Yield = contexts.Jump
+after_keyword keys.Yield = contexts.Operand
 
--- what can be a modifier is one after return, break, next and yield
+-- what can be a modifier is one after return, break and next
 abbrev pub is_cut_off : Context → Keyword → Bool
 is_cut_off c k = is_jump c && can_modify k
 

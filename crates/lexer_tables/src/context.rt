@@ -12,7 +12,7 @@ pub enum Context {
     Block,
     /// A label, `rescue`, `case` or the `|` that closes parameters.
     Value,
-    /// `return`, `break`, `next` or `yield`.
+    /// `return`, `break` or `next`.
     Jump,
     /// An identifier or the name of a method.
     Name,
@@ -170,6 +170,29 @@ impl Context {
         }
     }
 
+    /// What stands after a symbol here: `alias` and `undef` take symbols for names.
+    pub fn after_symbol(self) -> Context
+        ensures { result ≡ following.after_symbol self }
+    {
+        match self {
+            Context::Alias => Context::AliasName,
+            Context::Undef => Context::UndefName,
+            Context::Start
+            | Context::Question
+            | Context::Block
+            | Context::Value
+            | Context::Jump
+            | Context::Name
+            | Context::Operand
+            | Context::Def
+            | Context::DefName
+            | Context::DefDot
+            | Context::Dot
+            | Context::AliasName
+            | Context::UndefName => Context::Operand,
+        }
+    }
+
     /// What stands after a mark here.
     #[tactic(auto, unfolding(crate::specs::Following::after_mark))]
     pub fn after_mark(self, mark: Punctuator) -> Context
@@ -240,7 +263,7 @@ pub fn after_keyword(keyword: Keyword) -> Context
         Keyword::Undef => Context::Undef,
         Keyword::Def => Context::Def,
         Keyword::Do => Context::Block,
-        Keyword::Return | Keyword::Break | Keyword::Next | Keyword::Yield => Context::Jump,
+        Keyword::Return | Keyword::Break | Keyword::Next => Context::Jump,
         Keyword::Rescue | Keyword::Case => Context::Value,
         Keyword::And
         | Keyword::Begin

@@ -126,6 +126,20 @@ fn reads_escapes(rt: HostRuntime) -> Result<(), Fail> {
         ("u{41}", 5, b"A".as_slice()),
         ("u{1F600}", 8, b"\xF0\x9F\x98\x80".as_slice()),
         ("u{10ffff}", 9, b"\xF4\x8F\xBF\xBF".as_slice()),
+        ("ca", 2, b"\x01".as_slice()),
+        ("C-a", 3, b"\x01".as_slice()),
+        ("c?", 2, b"\x7F".as_slice()),
+        ("c\\?", 3, b"\x1F".as_slice()),
+        ("c\n", 2, b"\n".as_slice()),
+        ("c\\\n", 3, b"\n".as_slice()),
+        ("c\\x41", 5, b"\x01".as_slice()),
+        ("M-a", 3, b"\xE1".as_slice()),
+        ("M-\\n", 4, b"\x8A".as_slice()),
+        ("M-\\101", 6, b"\xC1".as_slice()),
+        ("M-\\ca", 5, b"\x81".as_slice()),
+        ("C-\\M-a", 6, b"\x81".as_slice()),
+        ("c\\M-?", 5, b"\x9F".as_slice()),
+        ("M-\\C-?", 6, b"\xFF".as_slice()),
     ] {
         let Ok(escape) = full_escape(text.as_bytes(), 0) else {
             assert!(rt; false);
@@ -148,6 +162,19 @@ fn reads_escapes(rt: HostRuntime) -> Result<(), Fail> {
         "uD800",
         "uDFFF",
         "u{110000}",
+        "c",
+        "C",
+        "Ca",
+        "C-",
+        "M",
+        "M a",
+        "M-",
+        "c\u{e9}",
+        "c\\u0041",
+        "M-\\x",
+        "M-\\M-a",
+        "c\\C-a",
+        "M-\\c\\M-a",
     ] {
         assert!(rt; full_escape(text.as_bytes(), 0).is_err());
     }

@@ -67,8 +67,8 @@ pub fn find(best: Option<Found>, form: &TreeForm) -> Option<Found>
         | TreeForm::Or(a, b)
         | TreeForm::RescueModifier(a, b)
         | TreeForm::Assign(a, b)
-        | TreeForm::OperatorAssign(a, _, b)
-        | TreeForm::SingletonClass(a, b) => find(find(best, a), b),
+        | TreeForm::OperatorAssign(a, _, b) => find(find(best, a), b),
+        TreeForm::SingletonClass(e, body) => find(find(best, e), &body.body),
         TreeForm::Range { from, to, .. } => find(find(best, from), to),
         TreeForm::If {
             branches,
@@ -116,8 +116,8 @@ pub fn find(best: Option<Found>, form: &TreeForm) -> Option<Found>
             parent,
             body,
             ..
-        } => find(find_boxed(find_scope(best, scope), parent), body),
-        TreeForm::Module { scope, body, .. } => find(find_scope(best, scope), body),
+        } => find(find_boxed(find_scope(best, scope), parent), &body.body),
+        TreeForm::Module { scope, body, .. } => find(find_scope(best, scope), &body.body),
         TreeForm::Outside { what, at, parts } => find_all(earlier_of(best, *what, *at), parts),
     }
 }

@@ -5,6 +5,7 @@ use Rattle.parser_tree.specs.declared.tree.TreeForm as form
 use Rattle.parser_tree.specs.declared.tree.TreeForm.{TreeForm}
 use Rattle.parser_tree.specs.declared.tree.Arguments.{Arguments}
 use Rattle.parser_tree.specs.declared.tree.Definition.{Definition}
+use Rattle.parser_tree.specs.declared.tree.PlainBody.{PlainBody}
 use Rattle.parser_tree.specs.declared.tree.Scope.{Scope}
 use Rattle.parser_tree.specs.Node as node
 use Rattle.parser_tree.specs.Node.{Node}
@@ -13,7 +14,7 @@ use Rattle.ir_core.specs.CoreForm.{CoreForm}
 use Rattle.ir_core.specs.View.{Core, core_view}
 use Rattle.lower_table.specs.Lowering.{Passed, core}
 use Rattle.parser_tree.specs.PartsBy as by
-use Rattle.parser_tree.proofs.ViewsBy.{view-Call, view-Define, view-Class}
+use Rattle.parser_tree.proofs.ViewsBy.{view-Call, view-Define, view-Class, view-Module}
 
 pub shown-by : {E : Type 0} (r : Result Core E) (g : Node → CoreForm) (t s : TreeForm) (n : Node) → t ≡ s
     → form_view s ≡ n
@@ -39,9 +40,16 @@ pub define-by : (s : Option Tree) (x : Bytes) (y : List ℕ) (d : Definition Tre
 define-by s x y d same =
     view-Define s x d ∙ ap (λ z. node.define (by.boxed_by form_view s) z (by.definition_by form_view d)) (sym same)
 
-pub class-by : (s : Scope Tree) (x : Bytes) (y : List ℕ) (p : Option Tree) (b : Tree) → y ≡ x
+pub class-by : (s : Scope Tree) (x : Bytes) (y : List ℕ) (p : Option Tree) (b : PlainBody Tree) → y ≡ x
     → form_view (form.Class s x p b)
-    ≡ node.class_node (by.scope_by form_view s) y (by.boxed_by form_view p) (by.tree_by form_view b)
+    ≡ node.class_node (by.scope_by form_view s) y (by.boxed_by form_view p) b.locals (by.tree_by form_view b.body)
 class-by s x y p b same =
     view-Class s x p b ∙ ap (λ z. node.class_node (by.scope_by form_view s) z (by.boxed_by form_view p)
-    (by.tree_by form_view b)) (sym same)
+    b.locals (by.tree_by form_view b.body)) (sym same)
+
+pub module-by : (s : Scope Tree) (x : Bytes) (y : List ℕ) (b : PlainBody Tree) → y ≡ x
+    → form_view (form.Module s x b)
+    ≡ node.module_node (by.scope_by form_view s) y b.locals (by.tree_by form_view b.body)
+module-by s x y b same =
+    view-Module s x b ∙ ap (λ z. node.module_node (by.scope_by form_view s) z b.locals (by.tree_by form_view b.body))
+    (sym same)

@@ -1,22 +1,29 @@
--- Lists that grow.
-use Rattle.std.proofs.Common.{◌≡◌, ℕ, true, List, [], ◌∷◌, ◌++◌, map, ap, sym, ◌∙◌, if◌then◌else◌}
-use Rattle.std.proofs.lemmas.List.{map-append, append-nil}
+-- Lists of forms that grow.
+use Rattle.std.proofs.Common.{◌≡◌, ℕ, true, List, [], ◌∷◌, ◌++◌, refl, ap, sym, ◌∙◌, if◌then◌else◌}
+use Rattle.std.proofs.lemmas.List.{drop_all, drop_more}
 use Rattle.parser_tree.specs.Node.{Node}
 use Rattle.ir_core.specs.CoreForm as form
+use Rattle.ir_core.specs.CoreForm.{Forms, none, more, one}
 use Rattle.ir_core.specs.View.{Core, core_view}
-use Rattle.ir_core.proofs.Lists.{cores-append}
-use Rattle.ir_builder.specs.Names.{pattern_name}
+use Rattle.ir_core.specs.Forms.{append}
+use Rattle.ir_core.specs.Parts.{cores}
+use Rattle.ir_core.proofs.Lists.{cores-push, cores-append, forms-end}
 use Rattle.lower_table.specs.Parts.{is_tree}
-use Rattle.lower_table.specs.Lowering.{Passed, store}
-use Rattle.lower_table.specs.Numbered.{patterned}
-use Rattle.lower_table.proofs.Numbers.{count-map}
+use Rattle.lower_table.specs.Lowering.{Passed, patterned, store}
+use Rattle.lower_table.proofs.Counts.{count-map}
+
+pub append-assoc : (fs gs hs : Forms) → append (append fs gs) hs ≡ append fs (append gs hs)
+append-assoc none gs hs = refl
+append-assoc (more f fs) gs hs = ap (more f) (append-assoc fs gs hs)
 
 pub pattern-pushed : (p : Passed) (k : ℕ) (n : Node) (old new : List Core) (c : Core) → is_tree n ≡ true
-    → new ≡ old ++ c ∷ []
-    → core_view c ≡ store p 0 n (form.local (pattern_name k)) → map core_view new ≡ map core_view old ++ patterned p k n
+    → new ≡ old ++ c ∷ [] → core_view c ≡ store p 0 n (form.local (form.pattern k))
+    → cores new ≡ append (cores old) (patterned p k n)
 pattern-pushed p k n old new c whole pushed is =
-    let shown : patterned p k n ≡ core_view c ∷ [] =
-    ap (λ t. if t then store p 0 n (form.local (pattern_name k)) ∷ [] else []) whole ∙ ap (λ f. f ∷ []) (sym is) in
-    ap (map core_view) pushed ∙ (map-append core_view old (c ∷ []) ∙ ap (λ fs. map core_view old ++ fs) (sym shown))
+    let shown : patterned p k n ≡ one (core_view c) =
+    ap (λ t. if t then one (store p 0 n (form.local (form.pattern k))) else none) whole ∙ ap one (sym is) in
+    ap cores pushed ∙ (cores-push old c ∙ ap (append (cores old)) (sym shown))
 
-pub ruleset pushes = (map-append, append-nil, cores-append, count-map)
+pub ruleset pushes = (append-assoc, forms-end, drop_more, drop_all)
+
+pub ruleset appends = (append-assoc, forms-end, cores-push, cores-append, count-map)

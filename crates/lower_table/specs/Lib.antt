@@ -3,7 +3,7 @@ pub mod Lowering
 pub mod TreeNodes
 pub mod Subject
 pub mod Pieces
-pub mod Numbered
+pub mod Kept
 pub mod Sources
-pub mod Clauses
+pub mod Joined
 pub mod Targets

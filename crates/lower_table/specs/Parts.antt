@@ -1,13 +1,13 @@
 -- What lowering reads off nodes without their cores.
 use Rattle.std.specs.Prelude.{ℕ, ◌+◌, Bool, true, false, List, [], ◌∷◌, ◌++◌, Option, Some, None, if◌then◌else◌}
-use Rattle.rb_syntax.specs.declared.core_form.Parameters.{Parameters}
 use Rattle.rb_syntax.specs.declared.core_form.Item.{Item}
 use Rattle.rb_syntax.specs.declared.core_form.Item.TheVariants.{Plain, Splat}
 use Rattle.parser_tree.specs.declared.tree.RestParameter.{RestParameter}
 use Rattle.parser_tree.specs.declared.tree.RestParameter.TheVariants as rests
 use Rattle.parser_tree.specs.Node as node
 use Rattle.parser_tree.specs.Node.{Name, Node, Nodes, none, more}
-use Rattle.ir_builder.specs.Names.{pattern_name, rest_name}
+use Rattle.ir_core.specs.CoreForm as form
+use Rattle.ir_core.specs.CoreForm.{Local, Parameters}
 
 -- whether it is the node of a tree, and no part of one
 abbrev pub is_tree : Node → Bool
@@ -18,7 +18,7 @@ is_tree (node.branch a b) = false
 is_tree (node.when_clause a b) = false
 is_tree (node.rescue_clause a b c) = false
 is_tree (node.arguments a b) = false
-is_tree (node.definition a b c d e f g h) = false
+is_tree (node.definition at a b c d e f g h) = false
 is_tree (node.name_parameter a) = false
 is_tree (node.optional_parameter a b) = false
 is_tree node.innermost = false
@@ -56,52 +56,56 @@ abbrev pub passed_block : Nodes → Nodes
 passed_block (more (node.arguments is b) ns) = b
 passed_block ns = none
 
--- the name of the parameter at place k: a pattern has one that no source can spell
-abbrev pub parameter_name : ℕ → Node → Name
-parameter_name k (node.name_parameter x) = x
-parameter_name k n = pattern_name k
+-- the parameter at place k: a pattern has a local of its own
+abbrev pub parameter_local : ℕ → Node → Local
+parameter_local k (node.name_parameter x) = form.named x
+parameter_local k n = form.pattern k
 
--- the names of parameters from place k on
-abbrev pub parameter_names : ℕ → Nodes → List Name
-parameter_names k none = []
-parameter_names k (more n ns) = parameter_name k n ∷ parameter_names (k + 1) ns
+-- the parameters from place k on
+abbrev pub parameter_locals : ℕ → Nodes → List Local
+parameter_locals k none = []
+parameter_locals k (more n ns) = parameter_local k n ∷ parameter_locals (k + 1) ns
 
 -- a parameter for each target of `for`
-abbrev pub target_names : ℕ → Nodes → List Name
-target_names k none = []
-target_names k (more n ns) = pattern_name k ∷ target_names (k + 1) ns
+abbrev pub target_locals : ℕ → Nodes → List Local
+target_locals k none = []
+target_locals k (more n ns) = form.pattern k ∷ target_locals (k + 1) ns
 
 abbrev pub optional_name : Node → Name
 optional_name (node.optional_parameter x e) = x
 optional_name n = []
 
-abbrev pub optional_names : Nodes → List Name
-optional_names none = []
-optional_names (more n ns) = optional_name n ∷ optional_names ns
+abbrev pub optional_locals : Nodes → List Local
+optional_locals none = []
+optional_locals (more n ns) = form.named (optional_name n) ∷ optional_locals ns
 
-abbrev pub rest_of : RestParameter → Option Name
-rest_of rests.Absent = None
-rest_of rests.Unnamed = Some rest_name
-rest_of (rests.Named x) = Some x
+abbrev pub rest_of : RestParameter → List Local
+rest_of rests.Absent = []
+rest_of rests.Unnamed = form.rest ∷ []
+rest_of (rests.Named x) = form.named x ∷ []
+
+abbrev pub block_of : Option Name → List Local
+block_of None = []
+block_of (Some x) = form.named x ∷ []
 
 -- the parameters of a definition; those after the rest are numbered after the required ones
 abbrev pub parameters : Nodes → Nodes → RestParameter → Nodes → Option Name → Parameters
 parameters r o rest p b = record {
-  required = parameter_names 0 r;
-  optional = optional_names o;
+  required = parameter_locals 0 r;
+  optional = optional_locals o;
   rest = rest_of rest;
-  post = parameter_names (count r) p;
-  block = b;
+  post = parameter_locals (count r) p;
+  block = block_of b;
 }
 
-abbrev pub plain : List Name → List (Item Name)
+abbrev pub plain : List Local → List (Item Local)
 plain [] = []
 plain (x ∷ xs) = Plain x ∷ plain xs
 
-abbrev pub passed_rest : Option Name → List (Item Name)
-passed_rest None = []
-passed_rest (Some x) = Splat x ∷ []
+abbrev pub splats : List Local → List (Item Local)
+splats [] = []
+splats (x ∷ xs) = Splat x ∷ splats xs
 
 -- what a `super` without arguments passes in a method with these parameters
-abbrev pub passed : Parameters → List (Item Name)
-passed p = plain p.required ++ plain p.optional ++ passed_rest p.rest ++ plain p.post
+abbrev pub passed : Parameters → List (Item Local)
+passed p = plain p.required ++ plain p.optional ++ splats p.rest ++ plain p.post

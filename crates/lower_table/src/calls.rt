@@ -12,20 +12,19 @@ use crate::functions::lower_function;
 use crate::lists::{lower_items, lower_maybe};
 use crate::lower::Lower;
 use ir_builder::calls::{call, has_block, passed_items, super_call};
-use ir_core::{Core, Receiver};
+use ir_core::{Core, Local, Receiver};
 use parser_tree::{Arguments, Definition};
-use rb_base::Bytes;
 use rb_syntax::Item;
 use std::alloc::{AllocError, Global};
 
 fn lower_arguments<T: Lower>(
     alloc: Global,
-    passed: &[Item<Bytes>],
+    passed: &[Item<Local>],
     depth: usize,
     arguments: &Option<Arguments<Box<T>>>,
 ) -> Result<Vec<Item<Core>>, AllocError>
     ensures { IfOk result (λ v. part.items v.items ≡
-        table.carried_items (table.core_all passed.now depth (arguments_by T.node arguments.now))) }
+        table.call_items (table.passes passed.now) depth (arguments_by T.node arguments.now)) }
 {
     match arguments {
         None => Ok(Vec::new(alloc)),
@@ -39,12 +38,12 @@ fn lower_arguments<T: Lower>(
 /// What follows `&`.
 fn lower_passed_block<T: Lower>(
     alloc: Global,
-    passed: &[Item<Bytes>],
+    passed: &[Item<Local>],
     depth: usize,
     arguments: &Option<Arguments<Box<T>>>,
 ) -> Result<Option<Core>, AllocError>
     ensures { IfOk result (λ o. part.boxed o ≡
-        table.block_of node.none form.none (table.core_all passed.now depth (arguments_by T.node arguments.now))) }
+        table.call_block (table.passes passed.now) depth (arguments_by T.node arguments.now)) }
 {
     match arguments {
         None => Ok(None),
@@ -58,14 +57,14 @@ fn lower_passed_block<T: Lower>(
 /// The block that a call has, else what follows `&`.
 fn lower_block<T: Lower>(
     alloc: Global,
-    passed: &[Item<Bytes>],
+    passed: &[Item<Local>],
     depth: usize,
     arguments: &Option<Arguments<Box<T>>>,
     block: &Option<Definition<Box<T>>>,
 ) -> Result<Option<Core>, AllocError>
     ensures { IfOk result (λ o. part.boxed o ≡
-        table.block_of (block_by T.node block.now) (table.core_all passed.now 0 (block_by T.node block.now))
-        (table.core_all passed.now depth (arguments_by T.node arguments.now))) }
+        table.block_or (table.passes passed.now) (block_by T.node block.now) (table.call_block
+        (table.passes passed.now) depth (arguments_by T.node arguments.now))) }
 {
     match block {
         Some(definition) => {
@@ -85,12 +84,12 @@ fn receiver_alone<T: Lower>(
     block: &Option<Definition<Box<T>>>,
 ) -> Receiver<Core>
     ensures { part.receiver_form result ≡
-        table.receiver_of form.none (arguments_by T.node arguments.now) (block_by T.node block.now) }
+        table.receiver_of form.absent (arguments_by T.node arguments.now) (block_by T.node block.now) }
 {
     match arguments {
-        Some(_) => Receiver::Absent,
+        Some(_) => Receiver::OnSelf,
         None => match block {
-            Some(_) => Receiver::Absent,
+            Some(_) => Receiver::OnSelf,
             None => Receiver::Bare,
         },
     }
@@ -98,14 +97,14 @@ fn receiver_alone<T: Lower>(
 
 fn lower_receiver<T: Lower>(
     alloc: Global,
-    passed: &[Item<Bytes>],
+    passed: &[Item<Local>],
     depth: usize,
     receiver: &Option<Box<T>>,
     arguments: &Option<Arguments<Box<T>>>,
     block: &Option<Definition<Box<T>>>,
 ) -> Result<Receiver<Core>, AllocError>
     ensures { IfOk result (λ r. part.receiver_form r ≡
-        table.receiver_of (table.core_all passed.now depth (boxed_by T.node receiver.now))
+        table.receiver_of (table.maybe (table.passes passed.now) depth (boxed_by T.node receiver.now))
         (arguments_by T.node arguments.now) (block_by T.node block.now)) }
 {
     match receiver {
@@ -164,7 +163,7 @@ fn is_block_given<T: Lower>(
 /// The call of a method.
 pub fn lower_call<T: Lower>(
     alloc: Global,
-    passed: &[Item<Bytes>],
+    passed: &[Item<Local>],
     depth: usize,
     receiver: &Option<Box<T>>,
     name: &[u8],
@@ -172,7 +171,7 @@ pub fn lower_call<T: Lower>(
     block: &Option<Definition<Box<T>>>,
 ) -> Result<Core, AllocError>
     ensures { IfOk result (λ c. core_view c ≡
-        table.core passed.now depth (node.call (boxed_by T.node receiver.now) name.now
+        table.core (table.passes passed.now) depth (node.call (boxed_by T.node receiver.now) name.now
         (arguments_by T.node arguments.now) (block_by T.node block.now))) }
 {
     if is_block_given(name, receiver, arguments, block) {
@@ -187,13 +186,13 @@ pub fn lower_call<T: Lower>(
 /// The items of `super`: without arguments and parentheses what the method was given.
 fn super_items<T: Lower>(
     alloc: Global,
-    passed: &[Item<Bytes>],
+    passed: &[Item<Local>],
     depth: usize,
     arguments: &Option<Arguments<Box<T>>>,
 ) -> Result<Vec<Item<Core>>, AllocError>
     ensures { IfOk result (λ v. part.items v.items ≡
-        table.super_of passed.now (arguments_by T.node arguments.now) (table.core_all passed.now depth
-        (arguments_by T.node arguments.now))) }
+        table.super_of (table.passes passed.now) (arguments_by T.node arguments.now) (table.call_items
+        (table.passes passed.now) depth (arguments_by T.node arguments.now))) }
 {
     match arguments {
         None => passed_items(alloc, passed),
@@ -207,14 +206,16 @@ fn super_items<T: Lower>(
 /// `super`
 pub fn lower_super<T: Lower>(
     alloc: Global,
-    passed: &[Item<Bytes>],
+    passed: &[Item<Local>],
     depth: usize,
     arguments: &Option<Arguments<Box<T>>>,
     block: &Option<Definition<Box<T>>>,
 ) -> Result<Core, AllocError>
     ensures { IfOk result (λ c. core_view c ≡
-        table.core passed.now depth (node.super_node (arguments_by T.node arguments.now)
-        (block_by T.node block.now))) }
+        form.super_form (table.super_of (table.passes passed.now) (arguments_by T.node arguments.now)
+        (table.call_items (table.passes passed.now) depth (arguments_by T.node arguments.now))) (table.block_or
+        (table.passes passed.now) (block_by T.node block.now) (table.call_block (table.passes passed.now) depth
+        (arguments_by T.node arguments.now)))) }
 {
     let items = super_items(alloc, passed, depth, arguments)?;
     let block = lower_block(alloc, passed, depth, arguments, block)?;

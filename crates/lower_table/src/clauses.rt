@@ -1,32 +1,36 @@
 //! `begin` with its clauses, and `for`.
-ghost use Rattle.std.specs.Prelude.{◌≡◌, IfOk};
+ghost use Rattle.std.specs.Prelude.{◌≡◌, ◌&&◌, IfOk};
 ghost use Rattle.parser_tree.specs.Node as node;
-ghost use Rattle.ir_core.specs.View.{core_view};
+ghost use Rattle.parser_tree.specs.PartsBy.{begin_by, boxed_by, rescues_by, tree_by, trees_by};
+ghost use Rattle.ir_core.specs.View.{core_view, locals_of};
+ghost use Rattle.ir_core.specs.CoreForm as form;
 ghost use Rattle.ir_core.specs.Parts as part;
 ghost use Rattle.lower_table.specs.Lowering as table;
 ghost use Rattle.lower_table.specs.Parts as read;
-ghost use Rattle.lower_table.specs.Clauses.{is_alone, walk_form};
-ghost use Rattle.parser_tree.specs.PartsBy.{begin_by, rescue_by, rescues_by, tree_by, trees_by};
 
+use crate::functions::function;
 use crate::lists::{lower_all, lower_maybe};
 use crate::lower::{Lower, deeper};
 use crate::stores::{Source, store_all, store_maybe};
 use ir_builder::calls::call;
 use ir_builder::control::{after, begin};
-use ir_builder::names::pattern_parameter;
-use ir_core::{BeginForm, Clause, Core, Function, Receiver, Term};
+use ir_core::{BeginForm, Body, Clause, Core, Local, Parameters, Receiver};
 use parser_tree::{RescueBody, RescueClause};
-use rb_base::{Bytes, List};
-use rb_syntax::{Item, Parameters};
+use rb_syntax::Item;
 use std::alloc::{AllocError, Global};
 
 fn lower_clause<T: Lower>(
     alloc: Global,
-    passed: &[Item<Bytes>],
+    passed: &[Item<Local>],
     depth: usize,
     clause: &RescueClause<Box<T>>,
 ) -> Result<Clause<Core>, AllocError>
-    ensures { IfOk result (λ c. part.clause_form c ≡ table.core passed.now depth (rescue_by T.node clause.now)) }
+    ensures classes { IfOk result (λ c. part.cores c.classes.items ≡
+        table.core_all (table.passes passed.now) depth (trees_by T.node clause.now.classes.items)) }
+    ensures target { IfOk result (λ c. part.boxed c.target ≡ table.target_form (table.stores (table.passes passed.now)
+        depth (λ k. form.exception) 0 (boxed_by T.node clause.now.target))) }
+    ensures body { IfOk result (λ c. core_view c.body ≡
+        table.core (table.passes passed.now) depth (tree_by T.node clause.now.body)) }
 {
     let classes = lower_all(alloc, passed, depth, &clause.classes)?;
     let target = store_maybe(alloc, passed, depth, Source::Exception, &clause.target)?;
@@ -38,15 +42,15 @@ fn lower_clause<T: Lower>(
     })
 }
 
-#[tactic(auto, using(crate::proofs::Cores::loops))]
+#[tactic(auto, using(ir_core::proofs::Lists::clause_turns))]
 fn lower_clauses<T: Lower>(
     alloc: Global,
-    passed: &[Item<Bytes>],
+    passed: &[Item<Local>],
     depth: usize,
     clauses: &Vec<RescueClause<Box<T>>>,
 ) -> Result<Vec<Clause<Core>>, AllocError>
     ensures { IfOk result (λ v. part.clauses v.items ≡
-        table.core_all passed.now depth (rescues_by T.node clauses.now.items)) }
+        table.clauses (table.passes passed.now) depth (rescues_by T.node clauses.now.items)) }
 {
     let mut all = Vec::new(alloc);
     for clause in clauses {
@@ -57,50 +61,41 @@ fn lower_clauses<T: Lower>(
 }
 
 /// Whether there is nothing but a body.
-#[tactic(auto, using(crate::proofs::Begins::empties))]
-fn is_body_alone(form: &BeginForm<Core>) -> bool
-    ensures { result ≡
-        is_alone (part.clauses form.now.clauses.items) (part.boxed form.now.otherwise) (part.boxed form.now.ensure) }
+#[tactic(auto, using(crate::proofs::Empty::empties))]
+fn is_body_alone<T: Lower>(body: &RescueBody<Box<T>>) -> bool
+    ensures { result ≡ (read.is_none (rescues_by T.node body.now.clauses.items) && (read.is_none
+        (boxed_by T.node body.now.otherwise) && read.is_none (boxed_by T.node body.now.ensure))) }
 {
-    if !form.clauses.is_empty() {
+    if !body.clauses.is_empty() {
         return false;
     }
-    match &form.otherwise {
+    match &body.otherwise {
         Some(_) => false,
-        None => match &form.ensure {
+        None => match &body.ensure {
             Some(_) => false,
             None => true,
         },
     }
 }
 
-/// A form with clauses, or its body where it has nothing else.
-#[tactic(auto, using(crate::proofs::Begins::begins))]
-fn begin_of(alloc: Global, form: BeginForm<Core>) -> Result<Core, AllocError>
-    ensures { IfOk result (λ c. core_view c ≡
-        table.begin_of (core_view form.body) (part.clauses form.clauses.items) (part.boxed form.otherwise)
-        (part.boxed form.ensure)) }
-{
-    if is_body_alone(&form) {
-        return Ok(form.body);
-    }
-    begin(alloc, form)
-}
-
-/// `begin .. end`
-pub fn lower_begin<T: Lower>(
+/// A form with clauses.
+fn lower_form<T: Lower>(
     alloc: Global,
-    passed: &[Item<Bytes>],
+    passed: &[Item<Local>],
     depth: usize,
     body: &RescueBody<Box<T>>,
 ) -> Result<Core, AllocError>
-    ensures { IfOk result (λ c. core_view c ≡ table.core passed.now depth (begin_by T.node body.now)) }
+    ensures { IfOk result (λ c. core_view c ≡
+        form.begin_form (table.core (table.passes passed.now) depth (tree_by T.node body.now.body))
+        (table.clauses (table.passes passed.now) depth (rescues_by T.node body.now.clauses.items))
+        (table.maybe (table.passes passed.now) depth (boxed_by T.node body.now.otherwise))
+        (table.maybe (table.passes passed.now) depth (boxed_by T.node body.now.ensure))) }
 {
     let clauses = lower_clauses(alloc, passed, depth, &body.clauses)?;
     let otherwise = lower_maybe(alloc, passed, depth, &body.otherwise)?;
     let ensure = lower_maybe(alloc, passed, depth, &body.ensure)?;
     let body = body.body.lower(alloc, passed, depth)?;
-    begin_of(
+    begin(
         alloc,
         BeginForm {
             body,
@@ -111,69 +106,85 @@ pub fn lower_begin<T: Lower>(
     )
 }
 
-/// A parameter for each target of `for`.
-fn target_parameters<T: Lower>(alloc: Global, targets: &[Box<T>]) -> Result<List<Bytes>, AllocError>
-    ensures { IfOk result (λ xs. xs ≡ read.target_names 0 (trees_by T.node targets.now)) }
+/// `begin .. end`: the body where it has nothing else.
+pub fn lower_begin<T: Lower>(
+    alloc: Global,
+    passed: &[Item<Local>],
+    depth: usize,
+    body: &RescueBody<Box<T>>,
+) -> Result<Core, AllocError>
+    ensures { IfOk result (λ c. core_view c ≡
+        table.core (table.passes passed.now) depth (begin_by T.node body.now)) }
 {
-    let mut names = List::new(alloc);
+    if is_body_alone(body) {
+        return body.body.lower(alloc, passed, depth);
+    }
+    lower_form(alloc, passed, depth, body)
+}
+
+/// A parameter for each target of `for`.
+#[tactic(auto, using(crate::proofs::Turns::list_turns))]
+fn target_locals<T: Lower>(alloc: Global, targets: &[Box<T>]) -> Result<Vec<Local>, AllocError>
+    ensures { IfOk result (λ v. locals_of v.items ≡ read.target_locals 0 (trees_by T.node targets.now)) }
+{
+    let mut locals = Vec::new(alloc);
     let mut place = 0;
     for _target in targets {
-        let name = pattern_parameter(alloc, place)?;
-        names.push(name)?;
+        locals.push(Local::Pattern(place))?;
         place = deeper(place, 1)?;
     }
-    Ok(names)
+    Ok(locals)
 }
 
 /// The block of a `for`: its targets are assigned first.
-fn walk_function<T: Lower>(
+fn walk_body<T: Lower>(
     alloc: Global,
-    passed: &[Item<Bytes>],
+    passed: &[Item<Local>],
     targets: &Vec<Box<T>>,
     body: &Box<T>,
-) -> Result<Core, AllocError>
-    ensures { IfOk result (λ c. core_view c ≡
-        walk_form passed.now (trees_by T.node targets.now.items) (tree_by T.node body.now)) }
+) -> Result<Body<Core>, AllocError>
+    ensures { IfOk result (λ b. part.body_form b ≡
+        table.walk_body (table.passes passed.now) (trees_by T.node targets.now.items) (tree_by T.node body.now)) }
 {
-    let required = target_parameters(alloc, targets)?;
-    let parameters = Parameters {
-        required,
-        optional: List::new(alloc),
-        rest: None,
-        post: List::new(alloc),
-        block: None,
-    };
+    let required = target_locals(alloc, targets)?;
     let stores = store_all(alloc, passed, 0, Source::Parameters, targets)?;
     let body = body.lower(alloc, passed, 0)?;
-    let body = after(alloc, stores, body)?;
-    Term::Fn(Function {
+    let form = after(alloc, stores, body)?;
+    let parameters = Parameters {
+        required,
+        optional: Vec::new(alloc),
+        rest: None,
+        post: Vec::new(alloc),
+        block: None,
+    };
+    Ok(Body {
         parameters,
-        locals: List::new(alloc),
-        body,
+        locals: Vec::new(alloc),
+        form,
     })
-    .into_core(alloc)
 }
 
 /// `for`
 pub fn lower_for<T: Lower>(
     alloc: Global,
-    passed: &[Item<Bytes>],
+    passed: &[Item<Local>],
     depth: usize,
     targets: &Vec<Box<T>>,
     items: &Box<T>,
     body: &Box<T>,
 ) -> Result<Core, AllocError>
     ensures { IfOk result (λ c. core_view c ≡
-        table.core passed.now depth (node.for_node (trees_by T.node targets.now.items) (tree_by T.node items.now)
-        (tree_by T.node body.now))) }
+        table.core (table.passes passed.now) depth (node.for_node (trees_by T.node targets.now.items)
+        (tree_by T.node items.now) (tree_by T.node body.now))) }
 {
     let items = items.lower(alloc, passed, depth)?;
-    let function = walk_function(alloc, passed, targets, body)?;
+    let body = walk_body(alloc, passed, targets, body)?;
+    let block = function(alloc, body)?;
     call(
         alloc,
         Receiver::To(items),
         b"each",
         Vec::new(alloc),
-        Some(function),
+        Some(block),
     )
 }

@@ -2,7 +2,8 @@
 ghost use Rattle.std.specs.Prelude.{◌≡◌, ◌+◌, IfOk};
 ghost use Rattle.parser_tree.specs.View.{form_view};
 ghost use Rattle.lower_table.specs.Parts.{count};
-ghost use Rattle.parser_tree.specs.PartsBy.{items_by};
+ghost use Rattle.parser_tree.specs.PartsBy.{items_by, trees_by};
+ghost use Rattle.lower_table.specs.Lowering as table;
 ghost use Rattle.lower_table.specs.TreeNodes.{view-is_tree};
 
 use crate::asked::{ask_call, ask_method, ask_scoped, ask_statements};
@@ -11,29 +12,26 @@ use crate::calls::{lower_call, lower_super};
 use crate::clauses::{lower_begin, lower_for};
 use crate::definitions::{lower_class, lower_module, lower_singleton_class};
 use crate::functions::{lower_define, lower_lambda};
-use crate::jumps::{lower_break, lower_next, lower_return, lower_yield};
+use crate::jumps::{Jump, lower_jump, lower_yield};
 use crate::lists::{lower_array, lower_hash, lower_statements};
 use crate::lower::{Lower, Whole, deeper};
-use crate::operated::{
-    lower_operated, operate_attribute, operate_constant, operate_global_variable, operate_index,
-    operate_instance_variable, operate_local, operate_scoped,
-};
+use crate::operated::{lower_operated, operate_attribute, operate_index, operate_scoped};
 use crate::operators::{
-    lower_and, lower_index, lower_not, lower_operation, lower_or, lower_range, lower_rescue,
-    lower_scoped, lower_unary,
+    Joined, lower_index, lower_joined, lower_not, lower_operation, lower_range, lower_scoped,
+    lower_unary,
 };
 use crate::places::{store_attribute, store_index, store_scoped};
-use crate::stores::{lower_assign, lower_multiple, store_targets};
+use crate::stores::{group_width, lower_assign, lower_multiple, store_targets};
+use crate::target::{Target, operate_target};
 use crate::texts::{lower_symbol_text, lower_text};
 use ir_builder::calls::{asks, asks_of_object};
 use ir_builder::leaf::{
-    alias, constant, global_variable, instance_variable, local, nil, set_constant,
+    alias, constant, global_variable, instance_variable, local, named, nil, set_constant,
     set_global_variable, set_instance_variable, set_local, symbol, symbol_array, top_constant,
     undef, word_array,
 };
-use ir_core::{Core, Term};
+use ir_core::{Core, Local, Term};
 use parser_tree::{AssignmentOperator, Tree, TreeForm};
-use rb_base::Bytes;
 use rb_syntax::{DefinedKind, Item};
 use std::alloc::{AllocError, Global};
 
@@ -78,11 +76,19 @@ macro_rules! plain_form {
 }
 
 /// The hidden locals of an index.
-#[tactic(auto, using(crate::proofs::Numbers::counted))]
+#[tactic(auto, using(crate::proofs::Counts::counted))]
 fn width_of(items: &Vec<Item<Tree>>) -> Result<usize, AllocError>
     ensures { IfOk result (λ n. n ≡ count (items_by form_view items.now.items) + 2) }
 {
     deeper(items.len(), 2)
+}
+
+/// The hidden locals of a group with these targets after a star.
+#[tactic(auto, using(crate::proofs::Counts::counted))]
+fn width_after(targets: &Vec<Tree>) -> usize
+    ensures { result ≡ table.group_width (count (trees_by form_view targets.now.items)) }
+{
+    group_width(targets.len())
 }
 
 impl Whole for TreeForm {
@@ -97,7 +103,11 @@ impl Whole for TreeForm {
                 let past = deeper(depth, width)?;
                 Ok(past)
             }
-            TreeForm::Targets(_) => deeper(depth, 1),
+            TreeForm::Targets(targets) => {
+                let width = width_after(&targets.after);
+                let past = deeper(depth, width)?;
+                Ok(past)
+            }
             plain_form!()
             | TreeForm::SelfReference
             | TreeForm::Local(_)
@@ -127,7 +137,7 @@ impl Lower for TreeForm {
     fn lower(
         &self,
         alloc: Global,
-        passed: &[Item<Bytes>],
+        passed: &[Item<Local>],
         depth: usize,
     ) -> Result<Core, AllocError> {
         match self {
@@ -141,7 +151,11 @@ impl Lower for TreeForm {
             TreeForm::SymbolText(pieces) => lower_symbol_text(alloc, passed, depth, pieces),
             TreeForm::Words(words) => word_array(alloc, words.as_slice()),
             TreeForm::Symbols(names) => symbol_array(alloc, names.as_slice()),
-            TreeForm::Local(name) => local(alloc, name.as_slice()),
+            TreeForm::Local(name) => {
+                let variable = named(alloc, name.as_slice())?;
+                let core = local(alloc, variable)?;
+                Ok(core)
+            }
             TreeForm::InstanceVariable(name) => instance_variable(alloc, name.as_slice()),
             TreeForm::GlobalVariable(name) => global_variable(alloc, name.as_slice()),
             TreeForm::Constant(name) => constant(alloc, name.as_slice()),
@@ -157,8 +171,8 @@ impl Lower for TreeForm {
             TreeForm::Operation(a, operator, b) => {
                 lower_operation(alloc, passed, depth, a, *operator, b)
             }
-            TreeForm::And(a, b) => lower_and(alloc, passed, depth, a, b),
-            TreeForm::Or(a, b) => lower_or(alloc, passed, depth, a, b),
+            TreeForm::And(a, b) => lower_joined(alloc, passed, depth, Joined::And, a, b),
+            TreeForm::Or(a, b) => lower_joined(alloc, passed, depth, Joined::Or, a, b),
             TreeForm::Range {
                 from,
                 to,
@@ -191,7 +205,9 @@ impl Lower for TreeForm {
                 otherwise,
             } => lower_case(alloc, passed, depth, subject, clauses, otherwise),
             TreeForm::Begin(body) => lower_begin(alloc, passed, depth, body),
-            TreeForm::RescueModifier(a, b) => lower_rescue(alloc, passed, depth, a, b),
+            TreeForm::RescueModifier(a, b) => {
+                lower_joined(alloc, passed, depth, Joined::Rescue, a, b)
+            }
             TreeForm::Call {
                 receiver,
                 name,
@@ -214,10 +230,14 @@ impl Lower for TreeForm {
             } => lower_super(alloc, passed, depth, arguments, block),
             TreeForm::Yield { items, .. } => lower_yield(alloc, passed, depth, items),
             TreeForm::Defined(e) => e.ask(alloc, passed, depth),
-            TreeForm::Lambda(definition) => lower_lambda(alloc, passed, depth, definition),
-            TreeForm::Return { items, .. } => lower_return(alloc, passed, depth, items),
-            TreeForm::Break { items, .. } => lower_break(alloc, passed, depth, items),
-            TreeForm::Next { items, .. } => lower_next(alloc, passed, depth, items),
+            TreeForm::Lambda(definition) => lower_lambda(alloc, passed, definition),
+            TreeForm::Return { items, .. } => {
+                lower_jump(alloc, passed, depth, Jump::Return, items)
+            }
+            TreeForm::Break { items, .. } => {
+                lower_jump(alloc, passed, depth, Jump::Break, items)
+            }
+            TreeForm::Next { items, .. } => { lower_jump(alloc, passed, depth, Jump::Next, items) }
             TreeForm::Retry { .. } => Term::Retry.into_core(alloc),
             TreeForm::Assign(target, value) => lower_assign(alloc, passed, depth, target, value),
             TreeForm::OperatorAssign(target, operator, value) => {
@@ -256,12 +276,16 @@ impl Lower for TreeForm {
     fn store(
         &self,
         alloc: Global,
-        passed: &[Item<Bytes>],
+        passed: &[Item<Local>],
         depth: usize,
         value: Core,
     ) -> Result<Core, AllocError> {
         match self {
-            TreeForm::Local(name) => set_local(alloc, name.as_slice(), value),
+            TreeForm::Local(name) => {
+                let variable = named(alloc, name.as_slice())?;
+                let core = set_local(alloc, variable, value)?;
+                Ok(core)
+            }
             TreeForm::InstanceVariable(name) => {
                 set_instance_variable(alloc, name.as_slice(), value)
             }
@@ -295,20 +319,26 @@ impl Lower for TreeForm {
     fn operate(
         &self,
         alloc: Global,
-        passed: &[Item<Bytes>],
+        passed: &[Item<Local>],
         depth: usize,
         operator: AssignmentOperator,
         value: Core,
     ) -> Result<Core, AllocError> {
         match self {
-            TreeForm::Local(name) => operate_local(alloc, name.as_slice(), operator, value),
+            TreeForm::Local(name) => {
+                operate_target(alloc, Target::Local(name.as_slice()), operator, value)
+            }
             TreeForm::InstanceVariable(name) => {
-                operate_instance_variable(alloc, name.as_slice(), operator, value)
+                let target = Target::InstanceVariable(name.as_slice());
+                operate_target(alloc, target, operator, value)
             }
             TreeForm::GlobalVariable(name) => {
-                operate_global_variable(alloc, name.as_slice(), operator, value)
+                let target = Target::GlobalVariable(name.as_slice());
+                operate_target(alloc, target, operator, value)
             }
-            TreeForm::Constant(name) => operate_constant(alloc, name.as_slice(), operator, value),
+            TreeForm::Constant(name) => {
+                operate_target(alloc, Target::Constant(name.as_slice()), operator, value)
+            }
             TreeForm::ScopedConstant(scope, name) => {
                 operate_scoped(
                     alloc,
@@ -352,7 +382,7 @@ impl Lower for TreeForm {
 
     #[cycle(lower)]
     #[tactic(auto, using(parser_tree::proofs::ViewsBy::views))]
-    fn ask(&self, alloc: Global, passed: &[Item<Bytes>], depth: usize) -> Result<Core, AllocError> {
+    fn ask(&self, alloc: Global, passed: &[Item<Local>], depth: usize) -> Result<Core, AllocError> {
         match self {
             TreeForm::SelfReference => asks(alloc, DefinedKind::SelfReference, b""),
             TreeForm::Local(name) => asks(alloc, DefinedKind::LocalVariable, name.as_slice()),

@@ -1,125 +1,130 @@
-//! Parameters and bodies of methods, blocks and lambdas.
-ghost use Rattle.std.specs.Prelude.{◌≡◌, ◌++◌, map, IfOk, OnOk};
+//! Parameters and bodies of methods, blocks and lambdas, and bodies without parameters.
+ghost use Rattle.std.specs.Prelude.{◌≡◌, ◌++◌, IfOk, OnOk};
 ghost use Rattle.parser_tree.specs.Node as node;
-ghost use Rattle.ir_core.specs.View.{core_view};
+ghost use Rattle.parser_tree.specs.PartsBy.{boxed_by, definition_by, optionals_by, parameter_by, parameters_by, tree_by};
+ghost use Rattle.ir_core.specs.View.{core_view, local_of, locals_of, maybe_local, parameters_of};
 ghost use Rattle.ir_core.specs.CoreForm as form;
+ghost use Rattle.ir_core.specs.Forms as built;
 ghost use Rattle.ir_core.specs.Parts as part;
 ghost use Rattle.lower_table.specs.Lowering as table;
-ghost use Rattle.lower_table.specs.Numbered.{assigned_before, patterned};
+ghost use Rattle.lower_table.specs.Kept.{assigned_before};
 ghost use Rattle.lower_table.specs.Parts as read;
-ghost use Rattle.parser_tree.specs.PartsBy.{boxed_by, definition_by, optional_by, optionals_by, parameter_by, parameters_by};
 
 use crate::lists::lower_maybe;
 use crate::lower::{Lower, deeper};
 use ir_builder::control::after;
-use ir_builder::leaf::{local, set_local};
-use ir_builder::names::{pattern_parameter, rest_parameter};
-use ir_core::{Core, Function, Term};
-use parser_tree::{Definition, OptionalParameter, Parameter, ParameterList, RestParameter};
-use rb_base::{Bytes, List};
-use rb_syntax::{Item, Parameters};
+use ir_builder::leaf::{local, named, same_local, set_local};
+use ir_core::{Body, Core, Local, Parameters, Term};
+use parser_tree::{
+    Definition, OptionalParameter, Parameter, ParameterList, PlainBody, RestParameter,
+};
+use rb_base::Bytes;
+use rb_syntax::Item;
 use std::alloc::{AllocError, Global};
 
-fn parameter_name<T: Lower>(
+#[tactic(auto, using(crate::proofs::Wholes::wholes))]
+fn parameter_local<T: Lower>(
     alloc: Global,
     place: usize,
     parameter: &Parameter<Box<T>>,
-) -> Result<Bytes, AllocError>
-    ensures { IfOk result (λ x. x ≡ read.parameter_name place (parameter_by T.node parameter.now)) }
+) -> Result<Local, AllocError>
+    ensures { IfOk result (λ x. local_of x ≡ read.parameter_local place (parameter_by T.node parameter.now)) }
 {
     match parameter {
-        Parameter::Name(name) => Bytes::from_slice(alloc, name.as_slice()),
-        Parameter::Pattern(_) => pattern_parameter(alloc, place),
+        Parameter::Name(name) => named(alloc, name.as_slice()),
+        Parameter::Pattern(_) => Ok(Local::Pattern(place)),
     }
 }
 
-/// The names of parameters from place `first` on.
-fn parameter_names<T: Lower>(
+/// The parameters from place `first` on.
+#[tactic(auto, using(crate::proofs::Turns::list_turns))]
+fn parameter_locals<T: Lower>(
     alloc: Global,
     first: usize,
     parameters: &[Parameter<Box<T>>],
-) -> Result<List<Bytes>, AllocError>
-    ensures { IfOk result (λ xs. xs ≡ read.parameter_names first (parameters_by T.node parameters.now)) }
+) -> Result<Vec<Local>, AllocError>
+    ensures { IfOk result (λ v. locals_of v.items ≡
+        read.parameter_locals first (parameters_by T.node parameters.now)) }
 {
-    let mut names = List::new(alloc);
+    let mut locals = Vec::new(alloc);
     let mut place = first;
     for parameter in parameters {
-        let name = parameter_name(alloc, place, parameter)?;
-        names.push(name)?;
+        let variable = parameter_local(alloc, place, parameter)?;
+        locals.push(variable)?;
         place = deeper(place, 1)?;
     }
-    Ok(names)
+    Ok(locals)
 }
 
-fn optional_names<T: Lower>(
+#[tactic(auto, using(crate::proofs::Turns::list_turns))]
+fn optional_locals<T: Lower>(
     alloc: Global,
     parameters: &[OptionalParameter<Box<T>>],
-) -> Result<List<Bytes>, AllocError>
-    ensures { IfOk result (λ xs. xs ≡ read.optional_names (optionals_by T.node parameters.now)) }
+) -> Result<Vec<Local>, AllocError>
+    ensures { IfOk result (λ v. locals_of v.items ≡ read.optional_locals (optionals_by T.node parameters.now)) }
 {
-    let mut names = List::new(alloc);
+    let mut locals = Vec::new(alloc);
     for parameter in parameters {
-        let name = Bytes::from_slice(alloc, parameter.name.as_slice())?;
-        names.push(name)?;
+        let variable = named(alloc, parameter.name.as_slice())?;
+        locals.push(variable)?;
     }
-    Ok(names)
+    Ok(locals)
 }
 
-fn rest_of(alloc: Global, rest: &RestParameter) -> Result<Option<Bytes>, AllocError>
-    ensures { IfOk result (λ x. x ≡ read.rest_of rest.now) }
+fn rest_of(alloc: Global, rest: &RestParameter) -> Result<Option<Local>, AllocError>
+    ensures { IfOk result (λ x. maybe_local x ≡ read.rest_of rest.now) }
 {
     match rest {
         RestParameter::Absent => Ok(None),
-        RestParameter::Unnamed => {
-            let name = rest_parameter(alloc)?;
-            Ok(Some(name))
-        }
+        RestParameter::Unnamed => Ok(Some(Local::Rest)),
         RestParameter::Named(name) => {
-            let name = Bytes::from_slice(alloc, name.as_slice())?;
-            Ok(Some(name))
+            let variable = named(alloc, name.as_slice())?;
+            Ok(Some(variable))
         }
     }
 }
 
-fn copied_maybe(alloc: Global, name: &Option<Bytes>) -> Result<Option<Bytes>, AllocError>
-    ensures { IfOk result (λ x. x ≡ name.now) }
+fn block_of(alloc: Global, block: &Option<Bytes>) -> Result<Option<Local>, AllocError>
+    ensures { IfOk result (λ x. maybe_local x ≡ read.block_of block.now) }
 {
-    match name {
+    match block {
         None => Ok(None),
         Some(name) => {
-            let name = Bytes::from_slice(alloc, name.as_slice())?;
-            Ok(Some(name))
+            let variable = named(alloc, name.as_slice())?;
+            Ok(Some(variable))
         }
     }
 }
 
-fn copied_list(alloc: Global, names: &[Bytes]) -> Result<List<Bytes>, AllocError>
-    ensures { IfOk result (λ xs. xs ≡ names.now) }
+/// The local variables of these names.
+#[tactic(auto, using(crate::proofs::Turns::list_turns))]
+fn named_locals(alloc: Global, names: &[Bytes]) -> Result<Vec<Local>, AllocError>
+    ensures { IfOk result (λ v. locals_of v.items ≡ table.locals_of names.now) }
 {
-    let mut copied = List::new(alloc);
+    let mut locals = Vec::new(alloc);
     for name in names {
-        let name = Bytes::from_slice(alloc, name.as_slice())?;
-        copied.push(name)?;
+        let variable = named(alloc, name.as_slice())?;
+        locals.push(variable)?;
     }
-    Ok(copied)
+    Ok(locals)
 }
 
-/// The names of parameters.
-#[tactic(auto, using(crate::proofs::Numbers::counted))]
-fn parameters_of<T: Lower>(
+/// The parameters of a definition; those after the rest are numbered after the required ones.
+#[tactic(auto, using(crate::proofs::Counts::counted))]
+fn lower_parameters<T: Lower>(
     alloc: Global,
     list: &ParameterList<Box<T>>,
 ) -> Result<Parameters, AllocError>
-    ensures { IfOk result (λ p. p ≡
+    ensures { IfOk result (λ p. parameters_of p ≡
         read.parameters (parameters_by T.node list.now.required.items)
         (optionals_by T.node list.now.optional.items) list.now.rest
         (parameters_by T.node list.now.post.items) list.now.block) }
 {
-    let required = parameter_names(alloc, 0, &list.required)?;
-    let optional = optional_names(alloc, &list.optional)?;
+    let required = parameter_locals(alloc, 0, &list.required)?;
+    let optional = optional_locals(alloc, &list.optional)?;
     let rest = rest_of(alloc, &list.rest)?;
-    let post = parameter_names(alloc, list.required.len(), &list.post)?;
-    let block = copied_maybe(alloc, &list.block)?;
+    let post = parameter_locals(alloc, list.required.len(), &list.post)?;
+    let block = block_of(alloc, &list.block)?;
     Ok(Parameters {
         required,
         optional,
@@ -129,25 +134,28 @@ fn parameters_of<T: Lower>(
     })
 }
 
+/// The default of an optional parameter, assigned.
 fn lower_optional<T: Lower>(
     alloc: Global,
-    passed: &[Item<Bytes>],
+    passed: &[Item<Local>],
     parameter: &OptionalParameter<Box<T>>,
 ) -> Result<Core, AllocError>
-    ensures { IfOk result (λ c. core_view c ≡ table.core passed.now 0 (optional_by T.node parameter.now)) }
+    ensures { IfOk result (λ c. core_view c ≡ form.set_local (form.named parameter.now.name)
+        (table.core (table.passes passed.now) 0 (tree_by T.node parameter.now.value))) }
 {
     let value = parameter.value.lower(alloc, passed, 0)?;
-    set_local(alloc, parameter.name.as_slice(), value)
+    let variable = named(alloc, parameter.name.as_slice())?;
+    set_local(alloc, variable, value)
 }
 
-#[tactic(auto, using(crate::proofs::Cores::loops))]
+#[tactic(auto, using(ir_core::proofs::Lists::form_turns))]
 fn lower_optionals<T: Lower>(
     alloc: Global,
-    passed: &[Item<Bytes>],
+    passed: &[Item<Local>],
     parameters: &Vec<OptionalParameter<Box<T>>>,
 ) -> Result<Vec<Core>, AllocError>
     ensures { IfOk result (λ v. part.cores v.items ≡
-        table.core_all passed.now 0 (optionals_by T.node parameters.now.items)) }
+        table.core_all (table.passes passed.now) 0 (optionals_by T.node parameters.now.items)) }
 {
     let mut all = Vec::new(alloc);
     for parameter in parameters {
@@ -161,19 +169,18 @@ fn lower_optionals<T: Lower>(
 #[tactic(auto, using(crate::proofs::Pushes::pushes))]
 fn add_pattern<T: Lower>(
     alloc: Global,
-    passed: &[Item<Bytes>],
+    passed: &[Item<Local>],
     all: &mut Vec<Core>,
     place: usize,
     parameter: &Parameter<Box<T>>,
 ) -> Result<(), AllocError>
-    ensures { OnOk result (map core_view all.new.items ≡
-        map core_view all.old.items ++ patterned passed.now place (parameter_by T.node parameter.now)) }
+    ensures { OnOk result (part.cores all.new.items ≡ built.append (part.cores all.old.items)
+        (table.patterned (table.passes passed.now) place (parameter_by T.node parameter.now))) }
 {
     match parameter {
         Parameter::Name(_) => Ok(()),
         Parameter::Pattern(targets) => {
-            let name = pattern_parameter(alloc, place)?;
-            let value = local(alloc, name.as_slice())?;
+            let value = local(alloc, Local::Pattern(place))?;
             let core = targets.store(alloc, passed, 0, value)?;
             all.push(core)?;
             Ok(())
@@ -182,14 +189,15 @@ fn add_pattern<T: Lower>(
 }
 
 /// The assignments of the patterns among parameters from place `first` on.
+#[tactic(auto, using(crate::proofs::Pushes::pushes))]
 fn lower_patterns<T: Lower>(
     alloc: Global,
-    passed: &[Item<Bytes>],
+    passed: &[Item<Local>],
     first: usize,
     parameters: &[Parameter<Box<T>>],
 ) -> Result<Vec<Core>, AllocError>
     ensures { IfOk result (λ v. part.cores v.items ≡
-        table.patterns passed.now first (parameters_by T.node parameters.now)) }
+        table.patterns (table.passes passed.now) first (parameters_by T.node parameters.now)) }
 {
     let mut all = Vec::new(alloc);
     let mut place = first;
@@ -201,14 +209,14 @@ fn lower_patterns<T: Lower>(
 }
 
 /// What is done before a body: defaults and patterns are assigned.
-#[tactic(auto, using(crate::proofs::Pushes::pushes))]
-fn lower_parameters<T: Lower>(
+#[tactic(auto, using(crate::proofs::Pushes::appends))]
+fn assign_parameters<T: Lower>(
     alloc: Global,
-    passed: &[Item<Bytes>],
+    passed: &[Item<Local>],
     list: &ParameterList<Box<T>>,
 ) -> Result<Vec<Core>, AllocError>
     ensures { IfOk result (λ v. part.cores v.items ≡
-        assigned_before passed.now (parameters_by T.node list.now.required.items)
+        assigned_before (table.passes passed.now) (parameters_by T.node list.now.required.items)
         (optionals_by T.node list.now.optional.items) (parameters_by T.node list.now.post.items)) }
 {
     let mut all = lower_optionals(alloc, passed, &list.optional)?;
@@ -219,141 +227,219 @@ fn lower_parameters<T: Lower>(
     Ok(all)
 }
 
-/// The body of a definition.
-pub fn lower_body<T: Lower>(
+/// The form of a definition's body.
+fn lower_form<T: Lower>(
     alloc: Global,
-    passed: &[Item<Bytes>],
+    passed: &[Item<Local>],
     definition: &Definition<Box<T>>,
 ) -> Result<Core, AllocError>
-    ensures { IfOk result (λ c. core_view c ≡ table.core passed.now 0 (definition_by T.node definition.now)) }
+    ensures { IfOk result (λ c. core_view c ≡
+        built.after (assigned_before (table.passes passed.now)
+        (parameters_by T.node definition.now.parameters.required.items)
+        (optionals_by T.node definition.now.parameters.optional.items)
+        (parameters_by T.node definition.now.parameters.post.items))
+        (table.core (table.passes passed.now) 0 (tree_by T.node definition.now.body))) }
 {
-    let before = lower_parameters(alloc, passed, &definition.parameters)?;
+    let before = assign_parameters(alloc, passed, &definition.parameters)?;
     let body = definition.body.lower(alloc, passed, 0)?;
     after(alloc, before, body)
 }
 
-fn function_of<T: Lower>(
+/// The body of a definition with these parameters.
+fn body_with<T: Lower>(
     alloc: Global,
-    passed: &[Item<Bytes>],
+    passed: &[Item<Local>],
     parameters: Parameters,
     definition: &Definition<Box<T>>,
-) -> Result<Function<Core>, AllocError>
-    ensures parameters { IfOk result (λ f. f.parameters ≡ parameters) }
-    ensures locals { IfOk result (λ f. f.locals ≡ table.locals_of (definition_by T.node definition.now)) }
-    ensures body { IfOk result (λ f. core_view f.body ≡ table.core passed.now 0 (definition_by T.node definition.now)) }
+) -> Result<Body<Core>, AllocError>
+    ensures parameters { IfOk result (λ b. b.parameters ≡ parameters) }
+    ensures locals { IfOk result (λ b. locals_of b.locals.items ≡ table.locals_of definition.now.locals) }
+    ensures form { IfOk result (λ b. core_view b.form ≡
+        built.after (assigned_before (table.passes passed.now)
+        (parameters_by T.node definition.now.parameters.required.items)
+        (optionals_by T.node definition.now.parameters.optional.items)
+        (parameters_by T.node definition.now.parameters.post.items))
+        (table.core (table.passes passed.now) 0 (tree_by T.node definition.now.body))) }
 {
-    let body = lower_body(alloc, passed, definition)?;
-    let locals = copied_list(alloc, definition.locals.as_slice())?;
-    Ok(Function {
+    let form = lower_form(alloc, passed, definition)?;
+    let locals = named_locals(alloc, definition.locals.as_slice())?;
+    Ok(Body {
         parameters,
         locals,
-        body,
+        form,
     })
+}
+
+/// The body of a block or a lambda.
+fn lower_body<T: Lower>(
+    alloc: Global,
+    passed: &[Item<Local>],
+    definition: &Definition<Box<T>>,
+) -> Result<Body<Core>, AllocError>
+    ensures { IfOk result (λ b. part.body_form b ≡
+        table.body_of (table.passes passed.now) (definition_by T.node definition.now)) }
+{
+    let parameters = lower_parameters(alloc, &definition.parameters)?;
+    let body = body_with(alloc, passed, parameters, definition)?;
+    Ok(body)
+}
+
+/// Parameters of a body that has none.
+fn no_parameters(alloc: Global) -> Parameters
+    ensures { parameters_of result ≡ form.no_parameters }
+{
+    Parameters {
+        required: Vec::new(alloc),
+        optional: Vec::new(alloc),
+        rest: None,
+        post: Vec::new(alloc),
+        block: None,
+    }
+}
+
+/// The body of a main program, a class or a module.
+pub fn lower_plain<T: Lower>(
+    alloc: Global,
+    body: &PlainBody<Box<T>>,
+) -> Result<Body<Core>, AllocError>
+    ensures { IfOk result (λ b. part.body_form b ≡ table.program body.now.locals (tree_by T.node body.now.body)) }
+{
+    let locals = named_locals(alloc, body.locals.as_slice())?;
+    let form = body.body.lower(alloc, &[], 0)?;
+    Ok(Body {
+        parameters: no_parameters(alloc),
+        locals,
+        form,
+    })
+}
+
+/// A block by its body.
+pub fn function(alloc: Global, body: Body<Core>) -> Result<Core, AllocError>
+    ensures { IfOk result (λ c. core_view c ≡ form.function (part.body_form body)) }
+{
+    Term::Fn(Box::new(alloc, body)?).into_core(alloc)
 }
 
 /// The block of a call.
 pub fn lower_function<T: Lower>(
     alloc: Global,
-    passed: &[Item<Bytes>],
+    passed: &[Item<Local>],
     definition: &Definition<Box<T>>,
 ) -> Result<Core, AllocError>
     ensures { IfOk result (λ c. core_view c ≡
-        form.function (table.parameters_of (definition_by T.node definition.now)) (table.locals_of
-        (definition_by T.node definition.now)) (table.core passed.now 0 (definition_by T.node definition.now))) }
+        form.function (table.body_of (table.passes passed.now) (definition_by T.node definition.now))) }
 {
-    let parameters = parameters_of(alloc, &definition.parameters)?;
-    let function = function_of(alloc, passed, parameters, definition)?;
-    Term::Fn(function).into_core(alloc)
+    let body = lower_body(alloc, passed, definition)?;
+    function(alloc, body)
 }
 
 /// `->(x) { }`
 pub fn lower_lambda<T: Lower>(
     alloc: Global,
-    passed: &[Item<Bytes>],
-    depth: usize,
+    passed: &[Item<Local>],
     definition: &Definition<Box<T>>,
 ) -> Result<Core, AllocError>
     ensures { IfOk result (λ c. core_view c ≡
-        table.core passed.now depth (node.lambda (definition_by T.node definition.now))) }
+        form.lambda (table.body_of (table.passes passed.now) (definition_by T.node definition.now))) }
 {
-    let parameters = parameters_of(alloc, &definition.parameters)?;
-    let function = function_of(alloc, passed, parameters, definition)?;
-    Term::Lambda(function).into_core(alloc)
+    let body = lower_body(alloc, passed, definition)?;
+    Term::Lambda(Box::new(alloc, body)?).into_core(alloc)
 }
 
-/// Puts names at the end, each an item by itself.
-fn add_names(alloc: Global, items: &mut Vec<Item<Bytes>>, names: &[Bytes]) -> Result<(), AllocError>
-    ensures { OnOk result (items.new.items ≡ items.old.items ++ read.plain names.now) }
+/// Puts parameters at the end, each an item by itself.
+#[tactic(auto, using(crate::proofs::Turns::list_turns))]
+fn add_plain(
+    alloc: Global,
+    items: &mut Vec<Item<Local>>,
+    locals: &[Local],
+) -> Result<(), AllocError>
+    ensures { OnOk result (table.passes items.new.items ≡
+        table.passes items.old.items ++ read.plain (locals_of locals.now)) }
 {
-    for name in names {
-        let name = Bytes::from_slice(alloc, name.as_slice())?;
-        items.push(Item::Plain(name))?;
+    for variable in locals {
+        let variable = same_local(alloc, variable)?;
+        items.push(Item::Plain(variable))?;
     }
     Ok(())
 }
 
+#[tactic(auto, using(crate::proofs::Turns::list_turns))]
 fn add_rest(
     alloc: Global,
-    items: &mut Vec<Item<Bytes>>,
-    rest: &Option<Bytes>,
+    items: &mut Vec<Item<Local>>,
+    rest: &Option<Local>,
 ) -> Result<(), AllocError>
-    ensures { OnOk result (items.new.items ≡ items.old.items ++ read.passed_rest rest.now) }
+    ensures { OnOk result (table.passes items.new.items ≡
+        table.passes items.old.items ++ read.splats (maybe_local rest.now)) }
 {
     match rest {
         None => Ok(()),
-        Some(name) => {
-            let name = Bytes::from_slice(alloc, name.as_slice())?;
-            items.push(Item::Splat(name))?;
+        Some(variable) => {
+            let variable = same_local(alloc, variable)?;
+            items.push(Item::Splat(variable))?;
             Ok(())
         }
     }
 }
 
 /// What a `super` without arguments passes in a method with these parameters.
-fn passed_of(alloc: Global, parameters: &Parameters) -> Result<Vec<Item<Bytes>>, AllocError>
-    ensures { IfOk result (λ v. v.items ≡ read.passed parameters.now) }
+#[tactic(auto, using(crate::proofs::Turns::list_turns))]
+fn passed_of(alloc: Global, parameters: &Parameters) -> Result<Vec<Item<Local>>, AllocError>
+    ensures { IfOk result (λ v. table.passes v.items ≡ read.passed (parameters_of parameters.now)) }
 {
     let mut items = Vec::new(alloc);
-    add_names(alloc, &mut items, parameters.required.as_slice())?;
-    add_names(alloc, &mut items, parameters.optional.as_slice())?;
+    add_plain(alloc, &mut items, &parameters.required)?;
+    add_plain(alloc, &mut items, &parameters.optional)?;
     add_rest(alloc, &mut items, &parameters.rest)?;
-    add_names(alloc, &mut items, parameters.post.as_slice())?;
+    add_plain(alloc, &mut items, &parameters.post)?;
     Ok(items)
+}
+
+/// A method's body; its own parameters are what a `super` without arguments passes.
+fn lower_method<T: Lower>(
+    alloc: Global,
+    definition: &Definition<Box<T>>,
+) -> Result<Body<Core>, AllocError>
+    ensures { IfOk result (λ b. part.body_form b ≡ table.body_of (table.passed_by (definition_by T.node definition.now))
+        (definition_by T.node definition.now)) }
+{
+    let parameters = lower_parameters(alloc, &definition.parameters)?;
+    let given = passed_of(alloc, &parameters)?;
+    let body = body_with(alloc, &given, parameters, definition)?;
+    Ok(body)
 }
 
 fn define(
     alloc: Global,
     singleton: Option<Core>,
     name: &[u8],
-    function: Function<Core>,
+    body: Body<Core>,
 ) -> Result<Core, AllocError>
     ensures { IfOk result (λ c. core_view c ≡
-        table.defined_on (part.boxed singleton) name.now function.parameters function.locals
-        (core_view function.body)) }
+        table.defined_on (part.boxed singleton) name.now (part.body_form body)) }
 {
     let name = Bytes::from_slice(alloc, name)?;
+    let body = Box::new(alloc, body)?;
     match singleton {
-        None => Term::Def(name, function).into_core(alloc),
-        Some(singleton) => Term::DefOn(singleton, name, function).into_core(alloc),
+        None => Term::Def(name, body).into_core(alloc),
+        Some(singleton) => Term::DefOn(singleton, name, body).into_core(alloc),
     }
 }
 
 /// `def`
 pub fn lower_define<T: Lower>(
     alloc: Global,
-    passed: &[Item<Bytes>],
+    passed: &[Item<Local>],
     depth: usize,
     singleton: &Option<Box<T>>,
     name: &[u8],
     definition: &Definition<Box<T>>,
 ) -> Result<Core, AllocError>
     ensures { IfOk result (λ c. core_view c ≡
-        table.core passed.now depth (node.define (boxed_by T.node singleton.now) name.now
+        table.core (table.passes passed.now) depth (node.define (boxed_by T.node singleton.now) name.now
         (definition_by T.node definition.now))) }
 {
     let singleton = lower_maybe(alloc, passed, depth, singleton)?;
-    let parameters = parameters_of(alloc, &definition.parameters)?;
-    let given = passed_of(alloc, &parameters)?;
-    let function = function_of(alloc, &given, parameters, definition)?;
-    define(alloc, singleton, name, function)
+    let body = lower_method(alloc, definition)?;
+    define(alloc, singleton, name, body)
 }

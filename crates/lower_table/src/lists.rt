@@ -4,28 +4,29 @@ ghost use Rattle.parser_tree.specs.Node as node;
 ghost use Rattle.ir_core.specs.View.{core_view};
 ghost use Rattle.ir_core.specs.Parts as part;
 ghost use Rattle.lower_table.specs.Lowering as table;
-ghost use Rattle.parser_tree.specs.PartsBy.{boxed_by, item_by, items_by, pair_by, pairs_by, trees_by};
+ghost use Rattle.ir_core.specs.PartsBy.{is_plain};
+ghost use Rattle.lower_table.specs.Parts.{is_tree};
+ghost use Rattle.parser_tree.specs.PartsBy.{boxed_by, item_by, items_by, pairs_by, tree_by, trees_by};
 ghost use Rattle.ir_core.specs.Forms as built;
 ghost use Rattle.ir_core.specs.CoreForm as form;
 
 use crate::lower::Lower;
 use ir_builder::control::{hash, sequence};
 use ir_builder::leaf::{array, nil};
-use ir_core::Core;
-use rb_base::Bytes;
+use ir_core::{Core, Local};
 use rb_syntax::{Item, Pair};
 use std::alloc::{AllocError, Global};
 
 /// The cores of trees.
-#[tactic(auto, using(crate::proofs::Cores::loops))]
+#[tactic(auto, using(ir_core::proofs::Lists::form_turns))]
 pub fn lower_all<T: Lower>(
     alloc: Global,
-    passed: &[Item<Bytes>],
+    passed: &[Item<Local>],
     depth: usize,
     trees: &Vec<Box<T>>,
 ) -> Result<Vec<Core>, AllocError>
     ensures { IfOk result (λ v. part.cores v.items ≡
-        table.core_all passed.now depth (trees_by T.node trees.now.items)) }
+        table.core_all (table.passes passed.now) depth (trees_by T.node trees.now.items)) }
 {
     let mut all = Vec::new(alloc);
     for tree in trees {
@@ -38,12 +39,12 @@ pub fn lower_all<T: Lower>(
 /// The core of a list of statements.
 pub fn lower_statements<T: Lower>(
     alloc: Global,
-    passed: &[Item<Bytes>],
+    passed: &[Item<Local>],
     depth: usize,
     trees: &Vec<Box<T>>,
 ) -> Result<Core, AllocError>
     ensures { IfOk result (λ c. core_view c ≡
-        table.core passed.now depth (node.statements (trees_by T.node trees.now.items))) }
+        table.core (table.passes passed.now) depth (node.statements (trees_by T.node trees.now.items))) }
 {
     let statements = lower_all(alloc, passed, depth, trees)?;
     sequence(alloc, statements)
@@ -52,11 +53,13 @@ pub fn lower_statements<T: Lower>(
 /// The core of an item.
 pub fn lower_item<T: Lower>(
     alloc: Global,
-    passed: &[Item<Bytes>],
+    passed: &[Item<Local>],
     depth: usize,
     item: &Item<Box<T>>,
 ) -> Result<Item<Core>, AllocError>
-    ensures { IfOk result (λ i. part.item_form i ≡ table.core passed.now depth (item_by T.node item.now)) }
+    ensures kind { IfOk result (λ i. is_plain i ≡ is_tree (item_by T.node item.now)) }
+    ensures core { IfOk result (λ i. part.value_of i ≡
+        table.core (table.passes passed.now) depth (item_by T.node item.now)) }
 {
     match item {
         Item::Plain(e) => {
@@ -71,15 +74,15 @@ pub fn lower_item<T: Lower>(
 }
 
 /// The cores of items.
-#[tactic(auto, using(crate::proofs::Cores::loops))]
+#[tactic(auto, using(ir_core::proofs::Lists::item_puts))]
 pub fn lower_items<T: Lower>(
     alloc: Global,
-    passed: &[Item<Bytes>],
+    passed: &[Item<Local>],
     depth: usize,
     items: &Vec<Item<Box<T>>>,
 ) -> Result<Vec<Item<Core>>, AllocError>
     ensures { IfOk result (λ v. part.items v.items ≡
-        table.core_all passed.now depth (items_by T.node items.now.items)) }
+        table.items (table.passes passed.now) depth (items_by T.node items.now.items)) }
 {
     let mut all = Vec::new(alloc);
     for item in items {
@@ -92,40 +95,43 @@ pub fn lower_items<T: Lower>(
 /// The core of an Array.
 pub fn lower_array<T: Lower>(
     alloc: Global,
-    passed: &[Item<Bytes>],
+    passed: &[Item<Local>],
     depth: usize,
     items: &Vec<Item<Box<T>>>,
 ) -> Result<Core, AllocError>
     ensures { IfOk result (λ c. core_view c ≡
-        table.core passed.now depth (node.array (items_by T.node items.now.items))) }
+        table.core (table.passes passed.now) depth (node.array (items_by T.node items.now.items))) }
 {
     let items = lower_items(alloc, passed, depth, items)?;
     array(alloc, items)
 }
 
 /// The core of a key and a value.
-pub fn lower_pair<T: Lower>(
+fn lower_pair<T: Lower>(
     alloc: Global,
-    passed: &[Item<Bytes>],
+    passed: &[Item<Local>],
     depth: usize,
     pair: &Pair<Box<T>>,
 ) -> Result<Pair<Core>, AllocError>
-    ensures { IfOk result (λ p. part.pair_form p ≡ table.core passed.now depth (pair_by T.node pair.now)) }
+    ensures key { IfOk result (λ p. core_view p.key ≡
+        table.core (table.passes passed.now) depth (tree_by T.node pair.now.key)) }
+    ensures value { IfOk result (λ p. core_view p.value ≡
+        table.core (table.passes passed.now) depth (tree_by T.node pair.now.value)) }
 {
     let key = pair.key.lower(alloc, passed, depth)?;
     let value = pair.value.lower(alloc, passed, depth)?;
     Ok(Pair { key, value })
 }
 
-#[tactic(auto, using(crate::proofs::Cores::loops))]
+#[tactic(auto, using(ir_core::proofs::Lists::pair_turns))]
 fn lower_pairs<T: Lower>(
     alloc: Global,
-    passed: &[Item<Bytes>],
+    passed: &[Item<Local>],
     depth: usize,
     pairs: &Vec<Pair<Box<T>>>,
 ) -> Result<Vec<Pair<Core>>, AllocError>
     ensures { IfOk result (λ v. part.pairs v.items ≡
-        table.core_all passed.now depth (pairs_by T.node pairs.now.items)) }
+        table.pairs (table.passes passed.now) depth (pairs_by T.node pairs.now.items)) }
 {
     let mut all = Vec::new(alloc);
     for pair in pairs {
@@ -138,12 +144,12 @@ fn lower_pairs<T: Lower>(
 /// The core of a Hash.
 pub fn lower_hash<T: Lower>(
     alloc: Global,
-    passed: &[Item<Bytes>],
+    passed: &[Item<Local>],
     depth: usize,
     pairs: &Vec<Pair<Box<T>>>,
 ) -> Result<Core, AllocError>
     ensures { IfOk result (λ c. core_view c ≡
-        table.core passed.now depth (node.hash (pairs_by T.node pairs.now.items))) }
+        table.core (table.passes passed.now) depth (node.hash (pairs_by T.node pairs.now.items))) }
 {
     let pairs = lower_pairs(alloc, passed, depth, pairs)?;
     hash(alloc, pairs)
@@ -152,11 +158,12 @@ pub fn lower_hash<T: Lower>(
 /// The core of a tree that may be there.
 pub fn lower_maybe<T: Lower>(
     alloc: Global,
-    passed: &[Item<Bytes>],
+    passed: &[Item<Local>],
     depth: usize,
     tree: &Option<Box<T>>,
 ) -> Result<Option<Core>, AllocError>
-    ensures { IfOk result (λ o. part.boxed o ≡ table.core_all passed.now depth (boxed_by T.node tree.now)) }
+    ensures { IfOk result (λ o. part.boxed o ≡
+        table.maybe (table.passes passed.now) depth (boxed_by T.node tree.now)) }
 {
     match tree {
         None => Ok(None),
@@ -170,12 +177,12 @@ pub fn lower_maybe<T: Lower>(
 /// The core of a tree that may be there, and nil where there is none.
 pub fn lower_or_nil<T: Lower>(
     alloc: Global,
-    passed: &[Item<Bytes>],
+    passed: &[Item<Local>],
     depth: usize,
     tree: &Option<Box<T>>,
 ) -> Result<Core, AllocError>
     ensures { IfOk result (λ c. core_view c ≡
-        built.first_or form.nil (table.core_all passed.now depth (boxed_by T.node tree.now))) }
+        built.first_or form.nil (table.core_all (table.passes passed.now) depth (boxed_by T.node tree.now))) }
 {
     match tree {
         None => nil(alloc),

@@ -4,9 +4,8 @@ ghost use Rattle.ir_core.specs.View.{core_view};
 ghost use Rattle.lower_table.specs.Lowering as table;
 ghost use Rattle.lower_table.specs.Parts.{is_tree};
 
-use ir_core::Core;
+use ir_core::{Core, Local};
 use parser_tree::AssignmentOperator;
-use rb_base::Bytes;
 use rb_syntax::Item;
 use std::alloc::{AllocError, Global};
 
@@ -25,35 +24,35 @@ pub trait Whole {
 /// stands, and `depth` the number of hidden locals in use around it.
 pub trait Lower: Whole {
     /// The core of the tree.
-    fn lower(&self, alloc: Global, passed: &[Item<Bytes>], depth: usize) -> Result<Core, AllocError>
-        ensures { IfOk result (λ c. core_view c ≡ table.core passed.now depth (Self.node self.now)) };
+    fn lower(&self, alloc: Global, passed: &[Item<Local>], depth: usize) -> Result<Core, AllocError>
+        ensures { IfOk result (λ c. core_view c ≡ table.core (table.passes passed.now) depth (Self.node self.now)) };
 
     /// The assignment of a value to the tree, a target.
     fn store(
         &self,
         alloc: Global,
-        passed: &[Item<Bytes>],
+        passed: &[Item<Local>],
         depth: usize,
         value: Core,
     ) -> Result<Core, AllocError>
         ensures { IfOk result (λ c. core_view c ≡
-            table.store passed.now depth (Self.node self.now) (core_view value)) };
+            table.store (table.passes passed.now) depth (Self.node self.now) (core_view value)) };
 
     /// The abbreviated assignment of a value to the tree, a target.
     fn operate(
         &self,
         alloc: Global,
-        passed: &[Item<Bytes>],
+        passed: &[Item<Local>],
         depth: usize,
         operator: AssignmentOperator,
         value: Core,
     ) -> Result<Core, AllocError>
         ensures { IfOk result (λ c. core_view c ≡
-            table.operate passed.now depth (Self.node self.now) operator (core_view value)) };
+            table.operate (table.passes passed.now) depth (Self.node self.now) operator (core_view value)) };
 
     /// What `defined?` asks about the tree.
-    fn ask(&self, alloc: Global, passed: &[Item<Bytes>], depth: usize) -> Result<Core, AllocError>
-        ensures { IfOk result (λ c. core_view c ≡ table.defined passed.now depth (Self.node self.now)) };
+    fn ask(&self, alloc: Global, passed: &[Item<Local>], depth: usize) -> Result<Core, AllocError>
+        ensures { IfOk result (λ c. core_view c ≡ table.defined (table.passes passed.now) depth (Self.node self.now)) };
 
     /// The hidden locals that are in use for the value of an abbreviated assignment to the tree.
     fn past_operated(&self, depth: usize) -> Result<usize, AllocError>

@@ -1,10 +1,8 @@
 //! Abbreviated assignments: what a target holds is read once, and the value is stored once.
 ghost use Rattle.std.specs.Prelude.{◌≡◌, ◌+◌, IfOk};
-ghost use Rattle.rb_syntax.specs.declared.core_form.DefinedKind.TheVariants as kind;
 ghost use Rattle.parser_tree.specs.Node as node;
 ghost use Rattle.ir_core.specs.View.{core_view};
 ghost use Rattle.ir_core.specs.CoreForm as form;
-ghost use Rattle.ir_core.specs.Forms.{asks_form};
 ghost use Rattle.lower_table.specs.Lowering as table;
 ghost use Rattle.parser_tree.specs.PartsBy.{boxed_by, items_by, tree_by};
 
@@ -13,72 +11,15 @@ use crate::places::{after_kept, index_call, index_store, keep_index};
 use crate::target::{Target, operate_target};
 use ir_builder::calls::send_one;
 use ir_builder::control::{both, either, seq};
-use ir_core::Core;
+use ir_core::{Core, Local};
 use parser_tree::AssignmentOperator;
-use rb_base::Bytes;
 use rb_syntax::Item;
 use std::alloc::{AllocError, Global};
-
-/// `x op= v` of a local variable.
-pub fn operate_local(
-    alloc: Global,
-    name: &[u8],
-    operator: AssignmentOperator,
-    value: Core,
-) -> Result<Core, AllocError>
-    ensures { IfOk result (λ c. core_view c ≡
-        table.operated operator (form.local name.now) (form.local name.now) (form.set_local name.now)
-        (core_view value)) }
-{
-    operate_target(alloc, Target::Local(name), operator, value)
-}
-
-/// `@x op= v`
-pub fn operate_instance_variable(
-    alloc: Global,
-    name: &[u8],
-    operator: AssignmentOperator,
-    value: Core,
-) -> Result<Core, AllocError>
-    ensures { IfOk result (λ c. core_view c ≡
-        table.operated operator (form.ivar name.now) (form.ivar name.now) (form.set_ivar name.now)
-        (core_view value)) }
-{
-    operate_target(alloc, Target::InstanceVariable(name), operator, value)
-}
-
-/// `$x op= v`
-pub fn operate_global_variable(
-    alloc: Global,
-    name: &[u8],
-    operator: AssignmentOperator,
-    value: Core,
-) -> Result<Core, AllocError>
-    ensures { IfOk result (λ c. core_view c ≡
-        table.operated operator (form.gvar name.now) (form.gvar name.now) (form.set_gvar name.now)
-        (core_view value)) }
-{
-    operate_target(alloc, Target::GlobalVariable(name), operator, value)
-}
-
-/// `C op= v`
-pub fn operate_constant(
-    alloc: Global,
-    name: &[u8],
-    operator: AssignmentOperator,
-    value: Core,
-) -> Result<Core, AllocError>
-    ensures { IfOk result (λ c. core_view c ≡
-        table.operated operator (form.constant name.now) (table.guarded (asks_form kind.Constant name.now)
-        (form.constant name.now)) (form.set_constant name.now) (core_view value)) }
-{
-    operate_target(alloc, Target::Constant(name), operator, value)
-}
 
 /// `e::C op= v`
 pub fn operate_scoped<T: Lower>(
     alloc: Global,
-    passed: &[Item<Bytes>],
+    passed: &[Item<Local>],
     depth: usize,
     scope: &Box<T>,
     name: &[u8],
@@ -86,7 +27,7 @@ pub fn operate_scoped<T: Lower>(
     value: Core,
 ) -> Result<Core, AllocError>
     ensures { IfOk result (λ c. core_view c ≡
-        table.scoped_operated depth (table.core passed.now (depth + 1) (tree_by T.node scope.now)) name.now operator
+        table.scoped_operated depth (table.core (table.passes passed.now) (depth + 1) (tree_by T.node scope.now)) name.now operator
         (core_view value)) }
 {
     let inner = deeper(depth, 1)?;
@@ -101,7 +42,7 @@ pub fn operate_scoped<T: Lower>(
 /// `o.x op= v`
 pub fn operate_attribute<T: Lower>(
     alloc: Global,
-    passed: &[Item<Bytes>],
+    passed: &[Item<Local>],
     depth: usize,
     receiver: &Option<Box<T>>,
     name: &[u8],
@@ -109,7 +50,7 @@ pub fn operate_attribute<T: Lower>(
     value: Core,
 ) -> Result<Core, AllocError>
     ensures { IfOk result (λ c. core_view c ≡
-        table.attribute_operated depth name.now (table.core_all passed.now (depth + 2)
+        table.attribute_operated depth name.now (table.maybe (table.passes passed.now) (depth + 2)
         (boxed_by T.node receiver.now)) operator (core_view value)) }
 {
     match receiver {
@@ -169,10 +110,10 @@ fn operated_index<T: Lower>(
 }
 
 /// `a[i] op= v`
-#[tactic(auto, using(crate::proofs::Groups::groups))]
+#[tactic(auto, using(crate::proofs::Pushes::appends))]
 pub fn operate_index<T: Lower>(
     alloc: Global,
-    passed: &[Item<Bytes>],
+    passed: &[Item<Local>],
     depth: usize,
     receiver: &Box<T>,
     items: &Vec<Item<Box<T>>>,
@@ -180,7 +121,7 @@ pub fn operate_index<T: Lower>(
     value: Core,
 ) -> Result<Core, AllocError>
     ensures { IfOk result (λ c. core_view c ≡
-        table.operate passed.now depth (node.index (tree_by T.node receiver.now)
+        table.operate (table.passes passed.now) depth (node.index (tree_by T.node receiver.now)
         (items_by T.node items.now.items)) operator (core_view value)) }
 {
     let mut statements = keep_index(alloc, passed, depth, receiver, items)?;
@@ -192,14 +133,14 @@ pub fn operate_index<T: Lower>(
 /// `x op= v`
 pub fn lower_operated<T: Lower>(
     alloc: Global,
-    passed: &[Item<Bytes>],
+    passed: &[Item<Local>],
     depth: usize,
     target: &Box<T>,
     operator: AssignmentOperator,
     value: &Box<T>,
 ) -> Result<Core, AllocError>
     ensures { IfOk result (λ c. core_view c ≡
-        table.core passed.now depth (node.operator_assign (tree_by T.node target.now) operator
+        table.core (table.passes passed.now) depth (node.operator_assign (tree_by T.node target.now) operator
         (tree_by T.node value.now))) }
 {
     let inner = target.past_operated(depth)?;

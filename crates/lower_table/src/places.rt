@@ -7,18 +7,18 @@ ghost use Rattle.ir_core.specs.CoreForm as form;
 ghost use Rattle.ir_core.specs.Parts as part;
 ghost use Rattle.ir_builder.specs.Forms as lowered;
 ghost use Rattle.lower_table.specs.Lowering as table;
-ghost use Rattle.lower_table.specs.Numbered.{index_kept, keep_form, kept_form};
+ghost use Rattle.ir_core.specs.PartsBy.{is_plain};
+ghost use Rattle.lower_table.specs.Kept.{index_kept};
 ghost use Rattle.lower_table.specs.Parts as read;
 ghost use Rattle.parser_tree.specs.PartsBy.{boxed_by, item_by, items_by, tree_by};
 
-use crate::lists::lower_item;
+use crate::jumps::lower_single;
 use crate::lower::{Lower, deeper};
-use ir_builder::calls::{send, send_alone};
+use ir_builder::calls::send;
 use ir_builder::control::seq;
 use ir_builder::hidden::{keep, local_number, stored};
-use ir_builder::leaf::{array, set_scoped_constant};
-use ir_core::Core;
-use rb_base::Bytes;
+use ir_builder::leaf::set_scoped_constant;
+use ir_core::{Core, Local};
 use rb_syntax::Item;
 use std::alloc::{AllocError, Global};
 
@@ -66,14 +66,14 @@ pub fn after_kept(
 /// `o.x = v`
 pub fn store_attribute<T: Lower>(
     alloc: Global,
-    passed: &[Item<Bytes>],
+    passed: &[Item<Local>],
     depth: usize,
     receiver: &Option<Box<T>>,
     name: &[u8],
     value: Core,
 ) -> Result<Core, AllocError>
     ensures { IfOk result (λ c. core_view c ≡
-        table.attribute_set depth name.now (table.core_all passed.now (depth + 2) (boxed_by T.node receiver.now))
+        table.attribute_set depth name.now (table.maybe (table.passes passed.now) (depth + 2) (boxed_by T.node receiver.now))
         (core_view value)) }
 {
     match receiver {
@@ -90,21 +90,21 @@ pub fn store_attribute<T: Lower>(
 /// `e::C = v`
 pub fn store_scoped<T: Lower>(
     alloc: Global,
-    passed: &[Item<Bytes>],
+    passed: &[Item<Local>],
     depth: usize,
     scope: &Box<T>,
     name: &[u8],
     value: Core,
 ) -> Result<Core, AllocError>
     ensures { IfOk result (λ c. core_view c ≡
-        form.set_in_constant (table.core passed.now depth (tree_by T.node scope.now)) name.now (core_view value)) }
+        form.set_in_constant (table.core (table.passes passed.now) depth (tree_by T.node scope.now)) name.now (core_view value)) }
 {
     let scope = scope.lower(alloc, passed, depth)?;
     set_scoped_constant(alloc, scope, name, value)
 }
 
 /// The hidden locals of an index.
-#[tactic(auto, using(crate::proofs::Numbers::counted))]
+#[tactic(auto, using(crate::proofs::Counts::counted))]
 pub fn index_width<T: Lower>(items: &Vec<Item<Box<T>>>) -> Result<usize, AllocError>
     ensures { IfOk result (λ n. n ≡ read.count (items_by T.node items.now.items) + 2) }
 {
@@ -112,7 +112,7 @@ pub fn index_width<T: Lower>(items: &Vec<Item<Box<T>>>) -> Result<usize, AllocEr
 }
 
 /// After the hidden locals of an index and its receiver, which begin at `depth`.
-#[tactic(auto, using(crate::proofs::Numbers::counted))]
+#[tactic(auto, using(crate::proofs::Counts::counted))]
 fn index_end<T: Lower>(depth: usize, items: &Vec<Item<Box<T>>>) -> Result<usize, AllocError>
     ensures { IfOk result (λ n. n ≡ depth + 1 + read.count (items_by T.node items.now.items)) }
 {
@@ -126,7 +126,8 @@ fn kept_item<T: Lower>(
     number: usize,
     item: &Item<Box<T>>,
 ) -> Result<Item<Core>, AllocError>
-    ensures { IfOk result (λ i. part.item_form i ≡ kept_form number (item_by T.node item.now)) }
+    ensures kind { IfOk result (λ i. is_plain i ≡ read.is_tree (item_by T.node item.now)) }
+    ensures core { IfOk result (λ i. part.value_of i ≡ lowered.local_number number) }
 {
     let value = local_number(alloc, number)?;
     match item {
@@ -136,6 +137,7 @@ fn kept_item<T: Lower>(
 }
 
 /// The items of an index, read from the hidden locals from `first` on.
+#[tactic(auto, using(ir_core::proofs::Lists::item_puts))]
 fn kept_items<T: Lower>(
     alloc: Global,
     first: usize,
@@ -153,46 +155,23 @@ fn kept_items<T: Lower>(
     Ok(all)
 }
 
-/// The form that keeps an item of an index; a splat is kept as one Array.
-fn keep_item<T: Lower>(
-    alloc: Global,
-    passed: &[Item<Bytes>],
-    depth: usize,
-    number: usize,
-    item: &Item<Box<T>>,
-) -> Result<Core, AllocError>
-    ensures { IfOk result (λ c. core_view c ≡ keep_form passed.now depth number (item_by T.node item.now)) }
-{
-    match item {
-        Item::Plain(e) => {
-            let value = e.lower(alloc, passed, depth)?;
-            keep(alloc, number, value)
-        }
-        Item::Splat(_) => {
-            let core = lower_item(alloc, passed, depth, item)?;
-            let mut items = Vec::new(alloc);
-            items.push(core)?;
-            let value = array(alloc, items)?;
-            keep(alloc, number, value)
-        }
-    }
-}
-
-/// The forms that keep the items of an index in hidden locals from `first` on.
+/// The forms that keep the items of an index in hidden locals from `first` on; a splat is kept as one Array.
+#[tactic(auto, using(ir_core::proofs::Lists::form_turns))]
 fn keep_items<T: Lower>(
     alloc: Global,
-    passed: &[Item<Bytes>],
+    passed: &[Item<Local>],
     depth: usize,
     first: usize,
     items: &[Item<Box<T>>],
 ) -> Result<Vec<Core>, AllocError>
     ensures { IfOk result (λ v. part.cores v.items ≡
-        table.keeps first (items_by T.node items.now) (table.core_all passed.now depth (items_by T.node items.now))) }
+        table.keeps (table.passes passed.now) depth first (items_by T.node items.now)) }
 {
     let mut all = Vec::new(alloc);
     let mut number = first;
     for item in items {
-        let kept = keep_item(alloc, passed, depth, number, item)?;
+        let value = lower_single(alloc, passed, depth, item)?;
+        let kept = keep(alloc, number, value)?;
         all.push(kept)?;
         number = deeper(number, 1)?;
     }
@@ -202,13 +181,13 @@ fn keep_items<T: Lower>(
 /// The forms that keep the receiver and the items of an index in hidden locals from `depth` on.
 pub fn keep_index<T: Lower>(
     alloc: Global,
-    passed: &[Item<Bytes>],
+    passed: &[Item<Local>],
     depth: usize,
     receiver: &Box<T>,
     items: &Vec<Item<Box<T>>>,
 ) -> Result<Vec<Core>, AllocError>
     ensures { IfOk result (λ v. part.cores v.items ≡
-        index_kept passed.now depth (tree_by T.node receiver.now) (items_by T.node items.now.items)) }
+        index_kept (table.passes passed.now) depth (tree_by T.node receiver.now) (items_by T.node items.now.items)) }
 {
     let width = index_width(items)?;
     let inner = deeper(depth, width)?;
@@ -253,17 +232,17 @@ pub fn index_store<T: Lower>(
 }
 
 /// `a[i] = v`
-#[tactic(auto, using(crate::proofs::Groups::groups))]
+#[tactic(auto, using(crate::proofs::Pushes::appends))]
 pub fn store_index<T: Lower>(
     alloc: Global,
-    passed: &[Item<Bytes>],
+    passed: &[Item<Local>],
     depth: usize,
     receiver: &Box<T>,
     items: &Vec<Item<Box<T>>>,
     value: Core,
 ) -> Result<Core, AllocError>
     ensures { IfOk result (λ c. core_view c ≡
-        table.store passed.now depth (node.index (tree_by T.node receiver.now) (items_by T.node items.now.items))
+        table.store (table.passes passed.now) depth (node.index (tree_by T.node receiver.now) (items_by T.node items.now.items))
         (core_view value)) }
 {
     let mut statements = keep_index(alloc, passed, depth, receiver, items)?;

@@ -8,7 +8,7 @@ use ir_builder::calls::{asks, asks_about, send_alone, send_one};
 use ir_builder::control::{both, either, seq};
 use ir_builder::hidden::local_number;
 use ir_builder::leaf::{
-    constant, global_variable, instance_variable, local, scoped_constant, set_constant,
+    constant, global_variable, instance_variable, local, named, scoped_constant, set_constant,
     set_global_variable, set_instance_variable, set_local, set_scoped_constant,
 };
 use ir_core::Core;
@@ -32,7 +32,10 @@ fn read_target<'a>(alloc: Global, target: Target<'a>) -> Result<Core, AllocError
     ensures { IfOk result (λ c. core_view c ≡ read_form target.entry) }
 {
     match target {
-        Target::Local(name) => local(alloc, name),
+        Target::Local(name) => {
+            let variable = named(alloc, name)?;
+            local(alloc, variable)
+        }
         Target::InstanceVariable(name) => instance_variable(alloc, name),
         Target::GlobalVariable(name) => global_variable(alloc, name),
         Target::Constant(name) => constant(alloc, name),
@@ -75,7 +78,10 @@ fn store_target<'a>(alloc: Global, target: Target<'a>, value: Core) -> Result<Co
     ensures { IfOk result (λ c. core_view c ≡ store_form target.entry (core_view value)) }
 {
     match target {
-        Target::Local(name) => set_local(alloc, name, value),
+        Target::Local(name) => {
+            let variable = named(alloc, name)?;
+            set_local(alloc, variable, value)
+        }
         Target::InstanceVariable(name) => set_instance_variable(alloc, name, value),
         Target::GlobalVariable(name) => set_global_variable(alloc, name, value),
         Target::Constant(name) => set_constant(alloc, name, value),

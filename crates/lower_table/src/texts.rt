@@ -1,5 +1,5 @@
 //! Strings and Symbols with what is put in them.
-ghost use Rattle.std.specs.Prelude.{◌≡◌, ◌++◌, map, IfOk, OnOk};
+ghost use Rattle.std.specs.Prelude.{◌≡◌, ◌++◌, IfOk, OnOk};
 ghost use Rattle.parser_tree.specs.Node as node;
 ghost use Rattle.ir_core.specs.View.{core_view};
 ghost use Rattle.ir_core.specs.CoreForm as form;
@@ -13,9 +13,8 @@ use crate::lower::Lower;
 use ir_builder::calls::text_item;
 use ir_builder::control::text;
 use ir_builder::leaf::{string, symbol};
-use ir_core::{Core, Term};
+use ir_core::{Core, Local, Term};
 use parser_tree::Piece;
-use rb_base::Bytes;
 use rb_syntax::Item;
 use std::alloc::{AllocError, Global};
 
@@ -29,17 +28,16 @@ fn puts_in<T: Lower>(piece: &Piece<Box<T>>) -> bool
     }
 }
 
-#[tactic(auto, using(crate::proofs::Literals::texts))]
+/// Whether nothing is put in.
 fn is_literal<T: Lower>(pieces: &[Piece<Box<T>>]) -> bool
     ensures { result ≡ read.is_literal (pieces_by T.node pieces.now) }
 {
-    let mut literal = true;
     for piece in pieces {
         if puts_in(piece) {
-            literal = false;
+            return false;
         }
     }
-    literal
+    true
 }
 
 #[tactic(auto, using(crate::proofs::Wholes::wholes))]
@@ -55,6 +53,8 @@ fn add_bytes<T: Lower>(bytes: &mut Vec<u8>, piece: &Piece<Box<T>>) -> Result<(),
     }
 }
 
+/// The bytes of pieces.
+#[tactic(auto, using(crate::proofs::Turns::list_turns))]
 fn joined<T: Lower>(alloc: Global, pieces: &[Piece<Box<T>>]) -> Result<Vec<u8>, AllocError>
     ensures { IfOk result (λ v. v.items ≡ read.joined (pieces_by T.node pieces.now)) }
 {
@@ -67,11 +67,11 @@ fn joined<T: Lower>(alloc: Global, pieces: &[Piece<Box<T>>]) -> Result<Vec<u8>, 
 
 fn lower_piece<T: Lower>(
     alloc: Global,
-    passed: &[Item<Bytes>],
+    passed: &[Item<Local>],
     depth: usize,
     piece: &Piece<Box<T>>,
 ) -> Result<Core, AllocError>
-    ensures { IfOk result (λ c. core_view c ≡ piece_core passed.now depth (piece_by T.node piece.now)) }
+    ensures { IfOk result (λ c. core_view c ≡ piece_core (table.passes passed.now) depth (piece_by T.node piece.now)) }
 {
     match piece {
         Piece::Text(bytes) => string(alloc, bytes.as_slice()),
@@ -82,14 +82,15 @@ fn lower_piece<T: Lower>(
     }
 }
 
+#[tactic(auto, using(ir_core::proofs::Lists::form_turns))]
 fn lower_pieces<T: Lower>(
     alloc: Global,
-    passed: &[Item<Bytes>],
+    passed: &[Item<Local>],
     depth: usize,
     pieces: &[Piece<Box<T>>],
 ) -> Result<Vec<Core>, AllocError>
-    ensures { IfOk result (λ v. map core_view v.items ≡
-        map (piece_core passed.now depth) (map (piece_by T.node) pieces.now)) }
+    ensures { IfOk result (λ v. part.cores v.items ≡
+        table.pieces (table.passes passed.now) depth (pieces_by T.node pieces.now)) }
 {
     let mut all = Vec::new(alloc);
     for piece in pieces {
@@ -99,14 +100,15 @@ fn lower_pieces<T: Lower>(
     Ok(all)
 }
 
-#[tactic(auto, using(crate::proofs::Literals::put_in))]
+/// The text of pieces.
 fn lower_put_in<T: Lower>(
     alloc: Global,
-    passed: &[Item<Bytes>],
+    passed: &[Item<Local>],
     depth: usize,
     pieces: &[Piece<Box<T>>],
 ) -> Result<Core, AllocError>
-    ensures { IfOk result (λ c. core_view c ≡ form.text (table.pieces passed.now depth (pieces_by T.node pieces.now))) }
+    ensures { IfOk result (λ c. core_view c ≡
+        form.text (table.pieces (table.passes passed.now) depth (pieces_by T.node pieces.now))) }
 {
     let pieces = lower_pieces(alloc, passed, depth, pieces)?;
     text(alloc, pieces)
@@ -115,12 +117,12 @@ fn lower_put_in<T: Lower>(
 /// A String: its bytes where nothing is put in.
 pub fn lower_text<T: Lower>(
     alloc: Global,
-    passed: &[Item<Bytes>],
+    passed: &[Item<Local>],
     depth: usize,
     pieces: &Vec<Piece<Box<T>>>,
 ) -> Result<Core, AllocError>
     ensures { IfOk result (λ c. core_view c ≡
-        table.core passed.now depth (node.text (pieces_by T.node pieces.now.items))) }
+        table.core (table.passes passed.now) depth (node.text (pieces_by T.node pieces.now.items))) }
 {
     if is_literal(pieces) {
         let bytes = joined(alloc, pieces)?;
@@ -133,12 +135,12 @@ pub fn lower_text<T: Lower>(
 /// A Symbol in quotes.
 pub fn lower_symbol_text<T: Lower>(
     alloc: Global,
-    passed: &[Item<Bytes>],
+    passed: &[Item<Local>],
     depth: usize,
     pieces: &Vec<Piece<Box<T>>>,
 ) -> Result<Core, AllocError>
     ensures { IfOk result (λ c. core_view c ≡
-        table.core passed.now depth (node.symbol_text (pieces_by T.node pieces.now.items))) }
+        table.core (table.passes passed.now) depth (node.symbol_text (pieces_by T.node pieces.now.items))) }
 {
     if is_literal(pieces) {
         let name = joined(alloc, pieces)?;

@@ -48,6 +48,14 @@ end_of Built = ends.Ended 0
 end_of (Run n ran) = end_of_run ran
 end_of (Shown said) = end_of_show said
 
+-- what is reported where nothing was written
+abbrev pub IsSilent : Report → Type 0
+IsSilent Usage = Unit
+IsSilent (Stopped stop) = Unit
+IsSilent Built = Unit
+IsSilent (Run n ran) = ⊥
+IsSilent (Shown said) = ⊥
+
 abbrev pub text_of_stop : Stop → List ℕ
 text_of_stop (stops.Refused r) = texts.refused r
 text_of_stop stops.FileFault = texts.file_fault

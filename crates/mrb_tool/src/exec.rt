@@ -1,4 +1,5 @@
 //! The command exec: from a source over its file to a run.
+ghost use Rattle.std.specs.Prelude.{◌≡◌, OnErr};
 ghost use Rattle.mrb_tool.specs.Running.{Execs};
 
 use crate::building::make;
@@ -18,8 +19,9 @@ pub fn exec<F: Files, O: Sink>(
     source: &str,
     file: &str,
 ) -> Result<Result<Ran, RunFault>, Stop>
-    ensures { Execs (⟦<F as OfFiles>⟧.told files.old) (⟦<F as OfFiles>⟧.told files.new)
+    ensures execs { Execs (⟦<F as OfFiles>⟧.told files.old) (⟦<F as OfFiles>⟧.told files.new)
         (⟦<O as OfSink>⟧.told out.old) (⟦<O as OfSink>⟧.told out.new) steps source.now file.now result }
+    ensures untouched { OnErr result (out.new ≡ out.old) }
 {
     let verified = make(alloc, files, source, file)?;
     Ok(path_machine::run(alloc, verified.code(), steps, out))

@@ -6,13 +6,14 @@ mod end;
 mod exec;
 mod report;
 mod rite;
+mod sending;
 mod showing;
 mod stop;
 mod texts;
 mod told;
 mod words;
 
-use rb_base::{DiskFiles, StdSink, StdSource};
+use rb_base::{Buffered, DiskFiles, StdSink, StdSource};
 use report::Report;
 use rite::rite;
 use std::env;
@@ -21,14 +22,14 @@ use std::process::ExitCode;
 use stop::Stop;
 
 fn main(rt: HostRuntime) -> ExitCode {
-    let mut err = StdSink::new(rt.stderr());
+    let mut err = Buffered::new(StdSink::new(rt.stderr()));
     let end = match given_words(&rt) {
         Ok(words) => rite(
             rt.alloc(),
             &words,
             &mut DiskFiles::new(&rt),
             &mut StdSource::new(rt.stdin()),
-            &mut StdSink::new(rt.stdout()),
+            &mut Buffered::new(StdSink::new(rt.stdout())),
             &mut err,
         ),
         Err(report) => report.answer(&mut err),

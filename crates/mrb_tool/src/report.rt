@@ -1,15 +1,19 @@
 //! What is reported of a command, before it is told.
-ghost use Rattle.std.specs.Prelude.{◌≡◌};
-ghost use Rattle.rb_refusal.specs.Writing.{Says};
+ghost use Rattle.std.specs.Prelude.{◌≡◌, ◌≢◌, [], Option};
+ghost use Rattle.rb_refusal.specs.Writing.{Stream, Says};
+ghost use Rattle.mrb_tool.specs.Answer.{Reports};
 ghost use Rattle.mrb_tool.specs.Reporting as reporting;
+ghost use Rattle.mrb_tool.specs.Told.{Disk};
+ghost use Rattle.mrb_tool.specs.Words as words;
 ghost use Rattle.mrb_tool.specs.Writing.{IsAnswer};
 
 use crate::end::End;
+use crate::sending::{send_run, send_text};
 use crate::stop::Stop;
 use crate::texts;
 use crate::told::OfSink;
 use path_machine::{Ran, RunFault};
-use rb_base::{Failed, Sink};
+use rb_base::{Buffered, Failed, Sink};
 
 /// What is reported of a command.
 #[derive(Clone, Copy, Debug)]
@@ -57,12 +61,30 @@ impl Report {
         }
     }
 
-    /// Tells it, and gives the answer: `OutputFault` where its line couldn't be written.
-    pub fn answer<E: Sink>(self, err: &mut E) -> End
-        ensures { IsAnswer (reporting.text_of self) (reporting.end_of self)
-            (⟦<E as OfSink>⟧.told err.old) (⟦<E as OfSink>⟧.told err.new) result }
+    /// Sends on what was written for it, where anything was, and says what is then reported: an output fault where
+    /// that failed.
+    pub fn sent<O: Sink + Drop>(self, out: &mut Buffered<O>) -> Report
+        requires { reporting.IsSilent self → out.old.pending ≡ [] }
+        ensures reports { (command : Option words.Command) (before after : Disk) (given : Stream)
+            → Reports command before after given (⟦<Buffered<O> as OfSink>⟧.told out.old) self
+            → Reports command before after given (⟦<Buffered<O> as OfSink>⟧.told out.new) result }
+        ensures sent { reporting.end_of result ≢ End.OutputFault → out.new.pending ≡ [] }
     {
-        match self.tell(err) {
+        match self {
+            Report::Usage | Report::Stopped(_) | Report::Built => self,
+            Report::Ran(steps, ran) => Report::Ran(steps, send_run(ran, out)),
+            Report::Shown(said) => Report::Shown(send_text(said, out)),
+        }
+    }
+
+    /// Tells it, and gives the answer: `OutputFault` where its line couldn't be written and sent on.
+    pub fn answer<E: Sink + Drop>(self, err: &mut Buffered<E>) -> End
+        ensures answer { IsAnswer (reporting.text_of self) (reporting.end_of self)
+            (⟦<Buffered<E> as OfSink>⟧.told err.old) (⟦<Buffered<E> as OfSink>⟧.told err.new) result }
+        ensures sent { result ≢ End.OutputFault → err.new.pending ≡ [] }
+    {
+        let said = self.tell(err);
+        match send_text(said, err) {
             Ok(()) => self.end(),
             Err(Failed) => End::OutputFault,
         }

@@ -1,7 +1,8 @@
 //! The program: what its words say is done, and told.
-ghost use Rattle.std.specs.Prelude.{map, string_bytes};
+ghost use Rattle.std.specs.Prelude.{◌≡◌, ◌≢◌, [], map, string_bytes};
 ghost use Rattle.mrb_tool.specs.Words.{command_of};
 ghost use Rattle.mrb_tool.specs.Asked.{command_meant};
+ghost use Rattle.mrb_tool.specs.Reporting.{IsSilent};
 ghost use Rattle.mrb_tool.specs.Told.{Told};
 ghost use Rattle.mrb_tool.specs.Answer.{Answers, Does, Reports};
 
@@ -12,43 +13,49 @@ use crate::report::Report;
 use crate::showing::{info, list};
 use crate::told::{OfFiles, OfSink, OfSource};
 use crate::words::{Command, read_words};
-use rb_base::{Files, Sink, Source};
+use rb_base::{Buffered, Files, Sink, Source};
 use std::alloc::Global;
 
-/// Does what the words say, over these files and streams.
-pub fn rite<F: Files, S: Source, O: Sink, E: Sink>(
+/// Does what the words say, over these files and streams. What is written is sent on before the answer is given, that
+/// of the output before that of the error stream.
+pub fn rite<F: Files, S: Source, O: Sink + Drop, E: Sink + Drop>(
     alloc: Global,
     words: &Vec<String>,
     files: &mut F,
     input: &mut S,
-    out: &mut O,
-    err: &mut E,
+    out: &mut Buffered<O>,
+    err: &mut Buffered<E>,
 ) -> End
+    requires { out.old.pending ≡ [] }
     // What came out has its cause, and files and streams then hold what it says.
-    ensures { Answers
+    ensures answers { Answers
         (command_of (map string_bytes words.now.items))
         (record {
           disk = ⟦<F as OfFiles>⟧.told files.old;
           input = ⟦<S as OfSource>⟧.told input.old;
-          out = ⟦<O as OfSink>⟧.told out.old;
-          err = ⟦<E as OfSink>⟧.told err.old;
+          out = ⟦<Buffered<O> as OfSink>⟧.told out.old;
+          err = ⟦<Buffered<E> as OfSink>⟧.told err.old;
         })
         (record {
           disk = ⟦<F as OfFiles>⟧.told files.new;
           input = ⟦<S as OfSource>⟧.told input.new;
-          out = ⟦<O as OfSink>⟧.told out.new;
-          err = ⟦<E as OfSink>⟧.told err.new;
+          out = ⟦<Buffered<O> as OfSink>⟧.told out.new;
+          err = ⟦<Buffered<E> as OfSink>⟧.told err.new;
         })
         result }
+    // But for an output fault nothing is held back.
+    ensures sent { result ≢ End.OutputFault → (out.new.pending ≡ []) × (err.new.pending ≡ []) }
 {
-    perform(alloc, words, files, out).answer(err)
+    let report = perform(alloc, words, files, out);
+    report.sent(out).answer(err)
 }
 
 // Does what the words say, and tells nothing of it.
 fn perform<F: Files, O: Sink>(alloc: Global, words: &[String], files: &mut F, out: &mut O) -> Report
-    ensures { Reports (command_of (map string_bytes words.now))
+    ensures reports { Reports (command_of (map string_bytes words.now))
         (⟦<F as OfFiles>⟧.told files.old) (⟦<F as OfFiles>⟧.told files.new)
         (⟦<O as OfSink>⟧.told out.old) (⟦<O as OfSink>⟧.told out.new) result }
+    ensures untouched { IsSilent result → out.new ≡ out.old }
 {
     match read_words(words) {
         Some(command) => obey(alloc, command, files, out),
@@ -62,9 +69,10 @@ fn obey<F: Files, O: Sink>(
     files: &mut F,
     out: &mut O,
 ) -> Report
-    ensures { Does (command_meant command.entry)
+    ensures does { Does (command_meant command.entry)
         (⟦<F as OfFiles>⟧.told files.old) (⟦<F as OfFiles>⟧.told files.new)
         (⟦<O as OfSink>⟧.told out.old) (⟦<O as OfSink>⟧.told out.new) result }
+    ensures untouched { IsSilent result → out.new ≡ out.old }
 {
     match command {
         Command::Build { source, file } => Report::of_build(build(alloc, files, source, file)),

@@ -1,4 +1,5 @@
 //! The commands list and info: what a file holds.
+ghost use Rattle.std.specs.Prelude.{◌≡◌, OnErr};
 ghost use Rattle.mrb_tool.specs.Showing.{Loads, Shows, listed};
 ghost use Rattle.code_listing.specs.Info.{info_of};
 
@@ -19,8 +20,9 @@ pub fn list<F: Files, O: Sink>(
     out: &mut O,
     file: &str,
 ) -> Result<Result<(), Failed>, Stop>
-    ensures { Shows listed (⟦<F as OfFiles>⟧.told files.old) (⟦<F as OfFiles>⟧.told files.new)
+    ensures shows { Shows listed (⟦<F as OfFiles>⟧.told files.old) (⟦<F as OfFiles>⟧.told files.new)
         (⟦<O as OfSink>⟧.told out.old) (⟦<O as OfSink>⟧.told out.new) file.now result }
+    ensures untouched { OnErr result (out.new ≡ out.old) }
 {
     let code = load(alloc, files, file)?;
     Ok(code_listing::list(&code, out))
@@ -33,8 +35,9 @@ pub fn info<F: Files, O: Sink>(
     out: &mut O,
     file: &str,
 ) -> Result<Result<(), Failed>, Stop>
-    ensures { Shows info_of (⟦<F as OfFiles>⟧.told files.old) (⟦<F as OfFiles>⟧.told files.new)
+    ensures shows { Shows info_of (⟦<F as OfFiles>⟧.told files.old) (⟦<F as OfFiles>⟧.told files.new)
         (⟦<O as OfSink>⟧.told out.old) (⟦<O as OfSink>⟧.told out.new) file.now result }
+    ensures untouched { OnErr result (out.new ≡ out.old) }
 {
     let bytes = files.load(alloc, file, FILE_LIMIT)?;
     match code_listing::info(&bytes, out) {

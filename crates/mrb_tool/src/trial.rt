@@ -3,7 +3,7 @@ ghost use Rattle.std.specs.Prelude.{◌<◌};
 
 use crate::end::End;
 use crate::rite::rite;
-use rb_base::{MemoryFiles, MemorySink, MemorySource};
+use rb_base::{Buffered, MemoryFiles, MemorySink, MemorySource};
 use std::alloc::Global;
 use std::test::Fail;
 
@@ -22,8 +22,8 @@ pub fn call(
     words: &[&str],
     given: &[u8],
     fails: Vec<u64>,
-    mut out: MemorySink,
-    mut err: MemorySink,
+    out: MemorySink,
+    err: MemorySink,
 ) -> Result<Left, Fail> {
     let mut texts = Vec::new(alloc);
     for word in words {
@@ -32,12 +32,14 @@ pub fn call(
     let mut files = MemoryFiles::new(alloc, fails);
     files.put("given", given)?;
     let mut input = MemorySource::new(Vec::new(alloc), Vec::new(alloc));
+    let mut out = Buffered::new(out);
+    let mut err = Buffered::new(err);
     let end = rite(alloc, &texts, &mut files, &mut input, &mut out, &mut err);
     Ok(Left {
         end,
         files,
-        out,
-        err,
+        out: out.into_inner(),
+        err: err.into_inner(),
     })
 }
 

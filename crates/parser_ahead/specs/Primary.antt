@@ -7,7 +7,7 @@ use Rattle.rb_syntax.specs.declared.punctuator.Punctuator.{Punctuator}
 use Rattle.rb_syntax.specs.declared.punctuator.Punctuator.TheVariants as marks
 use Rattle.rb_syntax.specs.declared.token.Token.{Token}
 use Rattle.parser_tokens.specs.Tokens.{first, behind, bytes_at}
-use Rattle.parser_tokens.specs.Starts.{begins_value, opens_arguments, is_open_parenthesis, jump_at}
+use Rattle.parser_tokens.specs.Starts.{begins_argument, begins_value, makes_call, is_open_parenthesis, jump_at}
 use Rattle.parser_ahead.specs.Names.{is_known}
 use Rattle.parser_ahead.specs.Groups.{is_target_group, is_quoted_key}
 use Rattle.parser_ahead.specs.declared.names.Variable.{Variable}
@@ -53,10 +53,10 @@ keyword_primary _ ts = primaries.Leaf
 
 abbrev pub primary_of : Word → List Variable → List Token → Primary
 primary_of words.Identifier names ts =
-    if is_known (bytes_at ts) names then (if opens_arguments (behind ts) then primaries.Name else primaries.Local) else
+    if is_known (bytes_at ts) names then (if makes_call (behind ts) then primaries.Name else primaries.Local) else
     primaries.Name
 primary_of words.MethodName names ts = primaries.Name
-primary_of words.Constant names ts = if opens_arguments (behind ts) then primaries.Name else primaries.Leaf
+primary_of words.Constant names ts = if makes_call (behind ts) then primaries.Name else primaries.Leaf
 primary_of (words.Other outsides.NonAsciiName) names ts = primaries.OutsideName
 primary_of words.StringBegin names ts = primaries.Text
 primary_of words.Character names ts = primaries.Text
@@ -85,8 +85,7 @@ of_value places.Command = places.Command
 of_value places.Argument = places.Argument
 
 abbrev pub yield_start : List Token → Start
-yield_start ts = if begins_value (first ts) then (if opens_arguments ts then starts.Operand else starts.Yield) else
-    starts.Operand
+yield_start ts = if begins_argument ts then starts.Yield else starts.Operand
 
 abbrev pub jump_start : Jump → List Token → Start
 jump_start j ts = if begins_value (first ts) then starts.Jump j else starts.Operand
@@ -170,3 +169,11 @@ is_name_word words.Identifier = true
 is_name_word words.Constant = true
 is_name_word words.MethodName = true
 is_name_word _ = false
+
+-- what alias and undef name a method with
+abbrev pub is_method_word : Word → Bool
+is_method_word words.Identifier = true
+is_method_word words.Constant = true
+is_method_word words.MethodName = true
+is_method_word words.Symbol = true
+is_method_word _ = false

@@ -6,7 +6,7 @@ ghost use Rattle.parser_ahead.specs.Primary as begins;
 use crate::groups::{is_quoted_key, is_target_group};
 use crate::names::Names;
 use crate::sections::Compound;
-use parser_tokens::starts::{Jump, begins_value, jump_at, opens_arguments};
+use parser_tokens::starts::{Jump, begins_argument, begins_value, jump_at, makes_call};
 use parser_tokens::tokens::{bytes_at, first, skip};
 use parser_tokens::word::Word;
 use rb_syntax::{Keyword, Outside, Punctuator, Token};
@@ -83,7 +83,7 @@ pub fn primary_at(names: &Names, tokens: &[Token]) -> Primary
         Word::Identifier => {
             if !names.is_known(bytes_at(tokens)) {
                 Primary::Name
-            } else if opens_arguments(behind) {
+            } else if makes_call(behind) {
                 Primary::Name
             } else {
                 Primary::Local
@@ -91,7 +91,7 @@ pub fn primary_at(names: &Names, tokens: &[Token]) -> Primary
         }
         Word::MethodName => Primary::Name,
         Word::Constant => {
-            if opens_arguments(behind) {
+            if makes_call(behind) {
                 Primary::Name
             } else {
                 Primary::Leaf
@@ -171,12 +171,10 @@ pub enum Start {
 fn yield_start(behind: &[Token]) -> Start
     ensures { result ≡ begins.yield_start behind.now }
 {
-    if !begins_value(first(behind)) {
-        Start::Operand
-    } else if opens_arguments(behind) {
-        Start::Operand
-    } else {
+    if begins_argument(behind) {
         Start::Yield
+    } else {
+        Start::Operand
     }
 }
 
@@ -370,5 +368,16 @@ pub fn is_name(tokens: &[Token]) -> bool
     matches!(
         first(tokens),
         Word::Identifier | Word::Constant | Word::MethodName
+    )
+}
+
+/// Whether a word that `alias` and `undef` name a method with stands at the front: a name, or a symbol.
+pub fn is_method(tokens: &[Token]) -> bool
+    ensures value { result ≡ begins.is_method_word (front.first tokens.now) }
+    ensures there { IsTrue result → length (front.behind tokens.now) < length tokens.now }
+{
+    matches!(
+        first(tokens),
+        Word::Identifier | Word::Constant | Word::MethodName | Word::Symbol
     )
 }

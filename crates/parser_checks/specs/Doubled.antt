@@ -1,5 +1,5 @@
 -- The names of parameters, and whether two are one.
-use Rattle.std.specs.Prelude.{Bool, true, not, ◌&&◌, if◌then◌else◌, List, [], ◌∷◌, ◌++◌, Option, Some, None, bytes_eq, codes}
+use Rattle.std.specs.Prelude.{◌==◌, Bool, true, false, not, ◌&&◌, if◌then◌else◌, List, [], ◌∷◌, ◌++◌, Option, Some, None}
 use Rattle.text_set.specs.Sets.{is_among, with_text}
 use Rattle.parser_tree.specs.declared.tree.RestParameter.{RestParameter}
 use Rattle.parser_tree.specs.declared.tree.RestParameter.TheVariants.{Absent, Unnamed, Named}
@@ -40,9 +40,13 @@ names_by v p =
     names_of (parameters_by v p.required.items) (optionals_by v p.optional.items) p.rest (parameters_by v p.post.items)
     p.block
 
--- no name stands after itself or among those before the list, but `_` may
+abbrev pub begins_low : Name → Bool
+begins_low [] = false
+begins_low (b ∷ bs) = b == 95
+
+-- no name stands after itself or among those before the list, but those that begin with `_` may
 abbrev pub are_distinct : List Name → List Name → Bool
 are_distinct before [] = true
 are_distinct before (x ∷ xs) =
-    if bytes_eq x (codes "_") then are_distinct before xs
+    if begins_low x then are_distinct before xs
     else not (is_among x before) && are_distinct (with_text before x) xs

@@ -1,24 +1,17 @@
 -- Which words of a program stand where they may, with parameters that differ.
-use Rattle.std.specs.Prelude.{◌≡◌, ℕ, ◌+◌, Bool, true, false, if◌then◌else◌, not, ◌&&◌, ◌||◌, [], Option, Some, None, Result, Ok, Err}
+use Rattle.std.specs.Prelude.{◌≡◌, ℕ, min, Bool, true, false, if◌then◌else◌, not, ◌&&◌, ◌||◌, [], Option, Some, None, Result, Ok, Err}
+use Rattle.std.specs.declared.alloc.AllocError.{AllocError}
 use Rattle.rb_syntax.specs.declared.outside.Outside.{Outside}
 use Rattle.rb_syntax.specs.declared.outside.Outside.TheVariants.{EndlessMethod}
-use Rattle.rb_base.specs.Result.{◌>>=◌}
 use Rattle.parser_tree.specs.Node as node
 use Rattle.parser_tree.specs.Node.{Node, Nodes}
 use Rattle.parser_checks.specs.Doubled.{are_distinct, names_of}
 use Rattle.parser_checks.specs.declared.around.Around.{Around}
-use Rattle.parser_checks.specs.declared.error.RuleError.{RuleError}
-use Rattle.parser_checks.specs.declared.error.RuleError.TheVariants.{Misplaced, NoMemory}
 
--- a refusal, against what the walk gives; memory may run out at any time
-abbrev pub Refuses : RuleError → Result ℕ ℕ → Type 0
-Refuses (Misplaced word) walked = walked ≡ Err word
-Refuses NoMemory walked = Unit {0}
-
--- what was counted, or refused, is what the walk gives
-abbrev pub Walks : Result ℕ RuleError → Result ℕ ℕ → Type 0
-Walks (Ok count) walked = walked ≡ Ok count
-Walks (Err e) walked = Refuses e walked
+-- what was found is what the walk gives; memory may run out at any time
+abbrev pub Walks : Result (Option ℕ) AllocError → Option ℕ → Type 0
+Walks (Ok found) walked = walked ≡ found
+Walks (Err e) walked = Unit {0}
 
 -- what stands around the statements of a program
 abbrev pub program : Around
@@ -74,7 +67,7 @@ within_clause a = record {
   opening = a.opening;
 }
 
--- inside of the method that the word of that number opens
+-- inside of the method whose opening word is at that place
 abbrev pub method : ℕ → Around
 method word = record {
   in_loop = false;
@@ -95,14 +88,10 @@ class_body a = record {
   opening = a.opening;
 }
 
--- a method that is written as one expression is opened by a word too
+-- a method that is written as one expression is a method, too
 abbrev pub within_outside : Outside → Around → ℕ → Around
-within_outside EndlessMethod a count = method (count + 1)
-within_outside o a count = a
-
-abbrev pub count_outside : Outside → ℕ → ℕ
-count_outside EndlessMethod count = count + 1
-count_outside o count = count
+within_outside EndlessMethod a at = method at
+within_outside o a at = a
 
 -- whether a constant is among the targets
 abbrev mutual
@@ -117,23 +106,31 @@ abbrev mutual
   any_constant node.none = false
   any_constant (node.more t ts) = names_constant t || any_constant ts
 
--- what has no number of its own is refused with that of the word around it
-abbrev pub allowed : Bool → ℕ → ℕ → Result ℕ ℕ
-allowed may word count = if may then Ok count else Err word
+-- the lesser of a place that was found and another
+abbrev pub lesser : Option ℕ → ℕ → Option ℕ
+lesser None at = Some at
+lesser (Some best) at = Some (min at best)
 
--- a constant isn't assigned inside of a method
-abbrev pub assigns : Around → Bool → ℕ → Result ℕ ℕ
-assigns a constant count = allowed (not (a.in_definition && constant)) a.opening count
+-- the place of what may not stand there is found
+abbrev pub noted : Bool → ℕ → Option ℕ → Option ℕ
+noted may at best = if may then best else lesser best at
 
--- a word, with the next number
-abbrev pub word : Bool → ℕ → Result ℕ ℕ
-word may count = if may then Ok (count + 1) else Err (count + 1)
+-- a constant isn't assigned inside of a method; the place is that of the method
+abbrev pub assigns : Around → Bool → Option ℕ → Option ℕ
+assigns a constant best = noted (not (a.in_definition && constant)) a.opening best
 
--- The walk over a tree in order, after so many words: how many words there are behind it, or the number of the first
--- that may not stand where it stands. Numbers begin with 1, and 0 is none. The words are break, next, retry,
--- return, yield, super and def.
+-- no class and no module stands inside of a method; the place is that of the method
+abbrev pub opens_class : Around → Option ℕ → Option ℕ
+opens_class a best = noted (not a.in_definition) a.opening best
+
+-- the place of a definition
+abbrev pub place_of : Node → ℕ
+place_of (node.definition at rs os rest ps x outs xs b) = at
+place_of _ = 0
+
+-- The walk over a tree, after a place that was found: the least place of what may not stand where it stands.
 abbrev mutual
-  pub walk : Around → Node → ℕ → Result ℕ ℕ
+  pub walk : Around → Node → Option ℕ → Option ℕ
   walk a (node.text ps) k = walk_all a ps k
   walk a (node.symbol_text ps) k = walk_all a ps k
   walk a (node.scoped_constant e x) k = walk a e k
@@ -142,104 +139,83 @@ abbrev mutual
   walk a (node.statements es) k = walk_all a es k
   walk a (node.not_node e) k = walk a e k
   walk a (node.unary o e) k = walk a e k
-  walk a (node.operation e o f) k = walk a e k >>= (λ l. walk a f l)
-  walk a (node.and_node e f) k = walk a e k >>= (λ l. walk a f l)
-  walk a (node.or_node e f) k = walk a e k >>= (λ l. walk a f l)
-  walk a (node.range e f x at) k = walk a e k >>= (λ l. walk a f l)
-  walk a (node.if_node bs o) k = walk_all a bs k >>= (λ l. walk_all a o l)
-  walk a (node.unless_node t b o) k = walk a t k >>= (λ l. walk a b l >>= (λ m. walk_all a o m))
-  walk a (node.while_node u f t b) k = walk (within_loop a) t k >>= (λ l. walk (within_loop a) b l)
+  walk a (node.operation e o f) k = walk a f (walk a e k)
+  walk a (node.and_node e f) k = walk a f (walk a e k)
+  walk a (node.or_node e f) k = walk a f (walk a e k)
+  walk a (node.range e f x at) k = walk a f (walk a e k)
+  walk a (node.if_node bs o) k = walk_all a o (walk_all a bs k)
+  walk a (node.unless_node t b o) k = walk_all a o (walk a b (walk a t k))
+  walk a (node.while_node u f t b) k = walk (within_loop a) b (walk (within_loop a) t k)
   walk a (node.for_node ts e b) k =
-      walk a e k >>= (λ l. assigns a (any_constant ts) l >>= (λ m.
-      walk_all (within_for a) ts m >>= (λ n. walk (within_for a) b n)))
-  walk a (node.case_node s cs o) k = walk_all a s k >>= (λ l. walk_all a cs l >>= (λ m. walk_all a o m))
-  walk a (node.begin_node b cs o e) k =
-      walk a b k >>= (λ l. walk_all a cs l >>= (λ m. walk_all a o m >>= (λ n. walk_all a e n)))
-  walk a (node.rescue_modifier e f) k = walk a e k >>= (λ l. walk (within_clause a) f l)
-  walk a (node.call r x is b) k = walk_all a r k >>= (λ l. walk_all a is l >>= (λ m. walk_all (within_block a) b m))
-  walk a (node.index e is) k = walk a e k >>= (λ l. walk_all a is l)
-  walk a (node.super_node is b) k =
-      word a.in_method k >>= (λ l. walk_all a is l >>= (λ m. walk_all (within_block a) b m))
-  walk a (node.yield_node is) k = word a.in_method k >>= (λ l. walk_all a is l)
+      walk (within_for a) b (walk_all (within_for a) ts (assigns a (any_constant ts) (walk a e k)))
+  walk a (node.case_node s cs o) k = walk_all a o (walk_all a cs (walk_all a s k))
+  walk a (node.begin_node b cs o e) k = walk_all a e (walk_all a o (walk_all a cs (walk a b k)))
+  walk a (node.rescue_modifier e f) k = walk (within_clause a) f (walk a e k)
+  walk a (node.call r x is b) k = walk_all (within_block a) b (walk_all a is (walk_all a r k))
+  walk a (node.index e is) k = walk_all a is (walk a e k)
+  walk a (node.super_node at is b) k = walk_all (within_block a) b (walk_all a is (noted a.in_method at k))
+  walk a (node.yield_node at is) k = walk_all a is (noted a.in_method at k)
   walk a (node.defined e) k = walk a e k
   walk a (node.lambda d) k = walk (within_block a) d k
-  walk a (node.return_node is) k = word a.may_return k >>= (λ l. walk_all a is l)
-  walk a (node.break_node is) k = word a.in_loop k >>= (λ l. walk_all a is l)
-  walk a (node.next_node is) k = word a.in_loop k >>= (λ l. walk_all a is l)
-  walk a node.retry k = word a.in_clause k
-  walk a (node.assign t e) k = assigns a (names_constant t) k >>= (λ l. walk a t l >>= (λ m. walk a e m))
-  walk a (node.operator_assign t o e) k =
-      assigns a (names_constant t) k >>= (λ l. walk a t l >>= (λ m. walk a e m))
-  walk a (node.multiple_assign ts e) k =
-      assigns a (names_constant ts) k >>= (λ l. walk a ts l >>= (λ m. walk a e m))
-  walk a (node.targets before star rest after) k =
-      walk_all a before k >>= (λ l. walk_all a rest l >>= (λ m. walk_all a after m))
-  walk a (node.define s x d) k = walk_all a s (k + 1) >>= (λ l. walk (method (k + 1)) d l)
-  walk a (node.class_node s x p b) k =
-      allowed (not a.in_definition) a.opening k >>=
-      (λ l. walk a s l >>= (λ m. walk_all a p m >>= (λ n. walk (class_body a) b n)))
-  walk a (node.singleton_class e b) k = walk a e k >>= (λ l. walk (class_body a) b l)
-  walk a (node.module_node s x b) k =
-      allowed (not a.in_definition) a.opening k >>= (λ l. walk a s l >>= (λ m. walk (class_body a) b m))
-  walk a (node.outside o at es) k = walk_all (within_outside o a k) es (count_outside o k)
+  walk a (node.return_node at is) k = walk_all a is (noted a.may_return at k)
+  walk a (node.break_node at is) k = walk_all a is (noted a.in_loop at k)
+  walk a (node.next_node at is) k = walk_all a is (noted a.in_loop at k)
+  walk a (node.retry at) k = noted a.in_clause at k
+  walk a (node.assign t e) k = walk a e (walk a t (assigns a (names_constant t) k))
+  walk a (node.operator_assign t o e) k = walk a e (walk a t (assigns a (names_constant t) k))
+  walk a (node.multiple_assign ts e) k = walk a e (walk a ts (assigns a (names_constant ts) k))
+  walk a (node.targets before star rest after) k = walk_all a after (walk_all a rest (walk_all a before k))
+  walk a (node.define s x d) k = walk (method (place_of d)) d (walk_all a s k)
+  walk a (node.class_node s x p ls b) k = walk (class_body a) b (walk_all a p (walk a s (opens_class a k)))
+  walk a (node.singleton_class e ls b) k = walk (class_body a) b (walk a e k)
+  walk a (node.module_node s x ls b) k = walk (class_body a) b (walk a s (opens_class a k))
+  walk a (node.outside o at es) k = walk_all (within_outside o a at) es k
   walk a (node.splat e) k = walk a e k
-  walk a (node.pair e f) k = walk a e k >>= (λ l. walk a f l)
-  walk a (node.branch t b) k = walk a t k >>= (λ l. walk a b l)
-  walk a (node.when_clause ts b) k = walk_all a ts k >>= (λ l. walk a b l)
+  walk a (node.pair e f) k = walk a f (walk a e k)
+  walk a (node.branch t b) k = walk a b (walk a t k)
+  walk a (node.when_clause ts b) k = walk a b (walk_all a ts k)
   walk a (node.rescue_clause cs t b) k =
-      walk_all (within_clause a) cs k >>= (λ l. assigns a (any_constant t) l >>= (λ m.
-      walk_all (within_clause a) t m >>= (λ n. walk (within_clause a) b n)))
-  walk a (node.arguments is b) k = walk_all a is k >>= (λ l. walk_all a b l)
-  walk a (node.definition rs os rest ps x outs xs b) k =
-      allowed (are_distinct [] (names_of rs os rest ps x)) a.opening k >>= (λ l. walk_all a rs l >>= (λ m.
-      walk_all a os m >>= (λ n. walk_all a ps n >>= (λ o. walk_all a outs o >>= (λ p. walk a b p)))))
+      walk (within_clause a) b (walk_all (within_clause a) t (assigns a (any_constant t)
+      (walk_all (within_clause a) cs k)))
+  walk a (node.arguments is b) k = walk_all a b (walk_all a is k)
+  walk a (node.definition at rs os rest ps x outs xs b) k =
+      walk a b (walk_all a outs (walk_all a ps (walk_all a os (walk_all a rs
+      (noted (are_distinct [] (names_of rs os rest ps x)) at k)))))
   walk a (node.optional_parameter x e) k = walk a e k
-  walk a e k = Ok k
+  walk a e k = k
 
-  pub walk_all : Around → Nodes → ℕ → Result ℕ ℕ
-  walk_all a node.none k = Ok k
-  walk_all a (node.more e es) k = walk a e k >>= (λ l. walk_all a es l)
+  pub walk_all : Around → Nodes → Option ℕ → Option ℕ
+  walk_all a node.none k = k
+  walk_all a (node.more e es) k = walk_all a es (walk a e k)
 
 -- the forms of several nodes
-abbrev pub walk_two : Around → Node → Node → ℕ → Result ℕ ℕ
-walk_two a m n k = walk a m k >>= (λ l. walk a n l)
+abbrev pub walk_two : Around → Node → Node → Option ℕ → Option ℕ
+walk_two a m n k = walk a n (walk a m k)
 
-abbrev pub walk_call : Around → Nodes → Nodes → Nodes → ℕ → Result ℕ ℕ
-walk_call a r is b k = walk_all a r k >>= (λ l. walk_all a is l >>= (λ m. walk_all (within_block a) b m))
+abbrev pub walk_call : Around → Nodes → Nodes → Nodes → Option ℕ → Option ℕ
+walk_call a r is b k = walk_all (within_block a) b (walk_all a is (walk_all a r k))
 
-abbrev pub walk_jump : Bool → Around → Nodes → ℕ → Result ℕ ℕ
-walk_jump may a is k = word may k >>= (λ l. walk_all a is l)
+abbrev pub walk_jump : Bool → ℕ → Around → Nodes → Option ℕ → Option ℕ
+walk_jump may at a is k = walk_all a is (noted may at k)
 
-abbrev pub walk_assign : Around → Node → Node → ℕ → Result ℕ ℕ
-walk_assign a t e k = assigns a (names_constant t) k >>= (λ l. walk a t l >>= (λ m. walk a e m))
+abbrev pub walk_assign : Around → Node → Node → Option ℕ → Option ℕ
+walk_assign a t e k = walk a e (walk a t (assigns a (names_constant t) k))
 
-abbrev pub walk_define : Around → Nodes → Node → ℕ → Result ℕ ℕ
-walk_define a s d k = walk_all a s (k + 1) >>= (λ l. walk (method (k + 1)) d l)
+abbrev pub walk_define : Around → Nodes → Node → Option ℕ → Option ℕ
+walk_define a s d k = walk (method (place_of d)) d (walk_all a s k)
 
-abbrev pub walk_class : Around → Node → Nodes → Node → ℕ → Result ℕ ℕ
-walk_class a s p b k =
-    allowed (not a.in_definition) a.opening k >>=
-    (λ l. walk a s l >>= (λ m. walk_all a p m >>= (λ n. walk (class_body a) b n)))
+abbrev pub walk_class : Around → Node → Nodes → Node → Option ℕ → Option ℕ
+walk_class a s p b k = walk (class_body a) b (walk_all a p (walk a s (opens_class a k)))
 
-abbrev pub walk_module : Around → Node → Node → ℕ → Result ℕ ℕ
-walk_module a s b k = allowed (not a.in_definition) a.opening k >>= (λ l. walk a s l >>= (λ m. walk (class_body a) b m))
+abbrev pub walk_module : Around → Node → Node → Option ℕ → Option ℕ
+walk_module a s b k = walk (class_body a) b (walk a s (opens_class a k))
 
-abbrev pub walk_singleton : Around → Node → Node → ℕ → Result ℕ ℕ
-walk_singleton a e b k = walk a e k >>= (λ l. walk (class_body a) b l)
+abbrev pub walk_singleton : Around → Node → Node → Option ℕ → Option ℕ
+walk_singleton a e b k = walk (class_body a) b (walk a e k)
 
-abbrev pub walk_outside : Outside → Around → Nodes → ℕ → Result ℕ ℕ
-walk_outside o a es k = walk_all (within_outside o a k) es (count_outside o k)
+abbrev pub walk_outside : Outside → ℕ → Around → Nodes → Option ℕ → Option ℕ
+walk_outside o at a es k = walk_all (within_outside o a at) es k
 
--- the number of the first word that may not stand where it stands
-abbrev pub refused : Result ℕ ℕ → Option ℕ
-refused (Ok count) = None
-refused (Err word) = Some word
-
+-- the least place of what may not stand where it stands
 abbrev pub misplaced : Node → Option ℕ
-misplaced n = refused (walk program n 0)
-
--- what check answers for a tree of which that word is misplaced
-abbrev pub Checks : Result Unit RuleError → Option ℕ → Type 0
-Checks (Ok x) found = found ≡ None
-Checks (Err (Misplaced word)) found = found ≡ Some word
-Checks (Err NoMemory) found = Unit {0}
+misplaced n = walk program n None

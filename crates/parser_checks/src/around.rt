@@ -14,8 +14,8 @@ pub struct Around {
     pub in_method: bool,
     /// A method.
     pub in_definition: bool,
-    /// The number of the word that opens the method around, 0 where none is.
-    pub opening: usize,
+    /// The place of the word that opens the method around, 0 where none is.
+    pub opening: u32,
 }
 
 impl Around {
@@ -76,8 +76,8 @@ impl Around {
         }
     }
 
-    /// Inside of the method that the word of that number opens.
-    pub fn method(opening: usize) -> Around
+    /// Inside of the method whose opening word is at that place.
+    pub fn method(opening: u32) -> Around
         ensures { result ≡ places.method opening }
     {
         Around {

@@ -2,8 +2,7 @@ ghost use Rattle.std.specs.Prelude.{◌≡◌};
 ghost use Rattle.parser_checks.specs.Places as places;
 
 use crate::around::Around;
-use crate::error::RuleError;
-use crate::placed::Check;
+use crate::found::{Found, noted};
 use std::alloc::Global;
 
 /// What a rule asks of the place where a tree stands.
@@ -50,30 +49,25 @@ impl Context {
         self.with(self.around.class_body())
     }
 
-    /// Inside of the method that the word of that number opens.
-    pub fn inside_method(self, opening: usize) -> Context
+    /// Inside of the method whose opening word is at that place.
+    pub fn inside_method(self, opening: u32) -> Context
         ensures { result.around ≡ places.method opening }
     {
         self.with(Around::method(opening))
     }
 
-    /// Goes on after so many words, where what has no number of its own may stand.
-    pub fn allowed(self, may: bool, seen: usize) -> Check
-        ensures { places.Walks result (places.allowed may self.around.opening seen) }
+    /// Finds a class or module inside of a method, at the place of the method.
+    pub fn opens_class(self, best: Found) -> Found
+        ensures { result ≡ places.opens_class self.around best }
     {
-        if may {
-            Ok(seen)
-        } else {
-            Err(RuleError::Misplaced {
-                word: self.around.opening,
-            })
-        }
+        noted(!self.around.in_definition, self.around.opening, best)
     }
 
-    /// Goes on after so many words, where a target may be assigned: a constant not inside of a method.
-    pub fn assigns(self, constant: bool, seen: usize) -> Check
-        ensures { places.Walks result (places.assigns self.around constant seen) }
+    /// Finds an assignment to a constant inside of a method, at the place of the method.
+    pub fn assigns(self, constant: bool, best: Found) -> Found
+        ensures { result ≡ places.assigns self.around constant best }
     {
-        self.allowed(!(self.around.in_definition && constant), seen)
+        let may = !(self.around.in_definition && constant);
+        noted(may, self.around.opening, best)
     }
 }

@@ -97,14 +97,24 @@ fn names_of<T: Placed>(
     Ok(names)
 }
 
-/// Whether no name stands twice; `_` may.
+/// Whether a name begins with `_`.
+fn begins_low(name: &[u8]) -> bool
+    ensures { result ≡ doubled.begins_low name.now }
+{
+    match name.get(0) {
+        Some(byte) => *byte == b'_',
+        None => false,
+    }
+}
+
+/// Whether no name stands twice; those that begin with `_` may.
 fn are_distinct(alloc: Global, names: &[Bytes]) -> Result<bool, AllocError>
     ensures { IfOk result (λ b. b ≡ doubled.are_distinct [] names.now) }
 {
     let mut seen = TextSet::new(alloc);
     for name in names {
         let text = name.as_slice();
-        if text != b"_".as_slice() {
+        if !begins_low(text) {
             if !seen.add(text)? {
                 return Ok(false);
             }

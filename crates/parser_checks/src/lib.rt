@@ -2,7 +2,7 @@
 //! `retry` outside of rescue clauses, `return` in the body of a class, `yield` and `super` outside of methods, classes,
 //! modules and assignments of constants inside of methods, and parameters of one name (docs/language.md).
 //!
-//! Types: [`Around`], [`RuleError`]. Call: [`check`].
+//! Types: [`Around`], [`Found`]. Call: [`misplaced`].
 #![tactic(auto)]
 
 ghost use Rattle.parser_tree.specs.View.{view};
@@ -10,10 +10,9 @@ ghost use Rattle.parser_checks.specs.Places as places;
 
 pub mod around;
 pub mod context;
-pub mod count;
 pub mod doubled;
-pub mod error;
 pub mod forms;
+pub mod found;
 pub mod parts;
 pub mod placed;
 pub mod targets;
@@ -21,20 +20,19 @@ mod tree;
 
 pub use around::Around;
 use context::Context;
-pub use error::RuleError;
+pub use found::Found;
 use parser_tree::Tree;
 use placed::Placed;
-use std::alloc::Global;
+use std::alloc::{AllocError, Global};
 
-/// Whether each word of a program stands where it may, and the names of parameters differ. Refused exactly where that
-/// isn't so, with the number of the first word that may not, unless memory runs out.
-pub fn check(alloc: Global, tree: &Tree) -> Result<(), RuleError>
-    ensures { places.Checks result (places.misplaced (view tree.now)) }
+/// The least place of a word of a program that may not stand where it stands, or of a definition two of whose parameters
+/// have one name; a class, a module and an assigned constant inside of a method stand for the place of the method.
+pub fn misplaced(alloc: Global, tree: &Tree) -> Result<Found, AllocError>
+    ensures { places.Walks result (places.misplaced (view tree.now)) }
 {
     let context = Context {
         alloc,
         around: Around::program(),
     };
-    tree.check(context, 0)?;
-    Ok(())
+    tree.check(context, None)
 }

@@ -4,20 +4,21 @@ ghost use Rattle.parser_checks.specs.Doubled.{bound};
 ghost use Rattle.parser_checks.specs.Places as places;
 
 use crate::context::Context;
-use crate::error::RuleError;
+use crate::found::Found;
 use rb_base::{Bytes, List};
 use std::alloc::{AllocError, Global};
 
-/// How many words there are up to the end of some trees, where each stands where it may.
-pub type Check = Result<usize, RuleError>;
+/// The least place of what may not stand where it stands, if there is any.
+pub type Check = Result<Found, AllocError>;
 
 /// What is checked: a tree that stands for a node.
 pub trait Placed {
     ghost node: { Self → Node };
 
-    /// Counts the words of the tree after so many, where each stands where it may and the parameters differ.
-    fn check(&self, context: Context, seen: usize) -> Check
-        ensures { places.Walks result (places.walk context.around (node self.now) seen) };
+    /// Finds a word of the tree that may not stand where it stands, and parameters of one name, before a place that was
+    /// found.
+    fn check(&self, context: Context, best: Found) -> Check
+        ensures { places.Walks result (places.walk context.around (node self.now) best) };
 
     /// Whether a constant is among the targets that the tree is.
     fn names_constant(&self) -> bool

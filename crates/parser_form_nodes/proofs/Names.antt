@@ -8,10 +8,10 @@ use Rattle.parser_tree.specs.declared.tree.TreeForm.TheVariants as variant
 use Rattle.parser_tree.specs.Node.{Name, Node, undef_node}
 use Rattle.parser_tree.specs.View.{form_view, view_step}
 use Rattle.parser_tokens.specs.Tokens.{first, behind, bytes_at}
-use Rattle.parser_ahead.specs.Primary.{is_comma_word, is_name_word}
+use Rattle.parser_ahead.specs.Primary.{is_comma_word, is_method_word}
 use Rattle.parser_form_nodes.specs.Definitions.{undef_from}
 
-pub undef_more : (found : List Name) (ts : List Token) → is_name_word (first ts) ≡ true
+pub undef_more : (found : List Name) (ts : List Token) → is_method_word (first ts) ≡ true
     → is_comma_word (first (behind ts)) ≡ true
     → undef_from found ts ≡ undef_from (found ++ bytes_at ts ∷ []) (behind (behind ts))
 unfolding undef_from first behind bytes_at
@@ -19,7 +19,7 @@ undef_more found [] name comma = grind arith
 undef_more found (t ∷ []) name comma = grind arith
 undef_more found (t ∷ u ∷ ts) name comma = rw (name, comma) refl
 
-pub undef_stop : (found : List Name) (ts : List Token) → is_name_word (first ts) ≡ true
+pub undef_stop : (found : List Name) (ts : List Token) → is_method_word (first ts) ≡ true
     → is_comma_word (first (behind ts)) ≡ false
     → undef_from found ts ≡ Ok (undef_node (found ++ bytes_at ts ∷ []), behind ts)
 unfolding undef_from first behind bytes_at
@@ -27,7 +27,7 @@ undef_stop found [] name comma = grind arith
 undef_stop found (t ∷ []) name comma = rw name refl
 undef_stop found (t ∷ u ∷ ts) name comma = rw (name, comma) refl
 
-pub undef_none : (found : List Name) (ts : List Token) → is_name_word (first ts) ≡ false
+pub undef_none : (found : List Name) (ts : List Token) → is_method_word (first ts) ≡ false
     → undef_from found ts ≡ Err (length ts)
 unfolding undef_from first
 undef_none found [] name = refl

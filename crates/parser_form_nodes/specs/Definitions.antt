@@ -10,7 +10,7 @@ use Rattle.parser_tokens.specs.Tokens.{first, behind, bytes_at, place_at, word_o
 use Rattle.parser_tokens.specs.declared.word.Word.{Word}
 use Rattle.parser_tokens.specs.declared.word.Word.TheVariants as words
 use Rattle.parser_ahead.specs.Names.{is_known}
-use Rattle.parser_ahead.specs.Primary.{is_comma_word, is_name_word}
+use Rattle.parser_ahead.specs.Primary.{is_comma_word, is_method_word}
 use Rattle.parser_ahead.specs.declared.names.Variable.{Variable}
 use Rattle.parser_form_nodes.specs.Parameters.{BlockNode}
 use Rattle.parser_form_nodes.specs.declared.definitions.MethodHead.{MethodHead}
@@ -90,18 +90,18 @@ global_alias at = node.outside outsides.GlobalAlias at node.none
 abbrev pub alias : ℕ → Tokens → Result (Node × Tokens) ℕ
 alias at ts =
     if is_global (first ts) && is_global (first (behind ts)) then Ok (global_alias at, behind (behind ts))
-    else if is_name_word (first ts)
-    then (if is_name_word (first (behind ts)) then Ok
+    else if is_method_word (first ts)
+    then (if is_method_word (first (behind ts)) then Ok
     (node.alias_node (bytes_at ts) (bytes_at (behind ts)), behind (behind ts)) else Err (length (behind ts)))
     else Err (length ts)
 
--- names with commas between them, behind those that were found
+-- names and symbols with commas between them, behind those that were found
 unfoldable pub undef_from : List Name → Tokens → Result (Node × Tokens) ℕ
 undef_from found [] = Err 0
-undef_from found (t ∷ []) = if is_name_word (word_of t) then Ok (node.undef_node (found ++ bytes_of t.kind ∷ []), [])
+undef_from found (t ∷ []) = if is_method_word (word_of t) then Ok (node.undef_node (found ++ bytes_of t.kind ∷ []), [])
     else Err 1
 undef_from found (t ∷ u ∷ ts) =
-    if is_name_word (word_of t)
+    if is_method_word (word_of t)
     then (if is_comma_word (word_of u) then undef_from (found ++ bytes_of t.kind ∷ []) ts else Ok
     (node.undef_node (found ++ bytes_of t.kind ∷ []), u ∷ ts))
     else Err (length (t ∷ u ∷ ts))

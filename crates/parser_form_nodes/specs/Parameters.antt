@@ -1,5 +1,5 @@
 -- Parameters and definitions, as nodes.
-use Rattle.std.specs.Prelude.{Bool, true, false, not, ◌&&◌, nat_eq, length, if◌then◌else◌, List, [], ◌∷◌, ◌++◌, map, Option, Some, None, is_some}
+use Rattle.std.specs.Prelude.{ℕ, Bool, true, false, not, ◌&&◌, nat_eq, length, if◌then◌else◌, List, [], ◌∷◌, ◌++◌, map, Option, Some, None, is_some}
 use Rattle.rb_syntax.specs.declared.outside.Outside.TheVariants as outsides
 use Rattle.rb_syntax.specs.declared.punctuator.Punctuator.{Punctuator}
 use Rattle.rb_syntax.specs.declared.punctuator.Punctuator.TheVariants as marks
@@ -110,9 +110,9 @@ begins_parameter (words.Other outsides.NonAsciiName) = true
 begins_parameter (words.Mark p) = mark_begins_parameter p
 begins_parameter _ = false
 
--- its parameters, its other variables, its body
-abbrev pub definition_of : ParameterNodes → List Name → Node → Node
-definition_of l locals body = node.definition (nodes l.required) (nodes l.optional) l.rest (nodes l.post) l.block
+-- the place of its opening word, its parameters, its other variables, its body
+abbrev pub definition_of : ℕ → ParameterNodes → List Name → Node → Node
+definition_of at l locals body = node.definition at (nodes l.required) (nodes l.optional) l.rest (nodes l.post) l.block
     (nodes l.outside) locals body
 
 -- a definition, and its body
@@ -122,5 +122,5 @@ BlockNode = Node × Node
 abbrev pub block_view : Definition Tree → BlockNode
 block_view d = (definition_node d, view d.body)
 
-abbrev pub block_of : ParameterNodes → List Name → Node → BlockNode
-block_of l locals body = (definition_of l locals body, body)
+abbrev pub block_of : ℕ → ParameterNodes → List Name → Node → BlockNode
+block_of at l locals body = (definition_of at l locals body, body)

@@ -9,7 +9,7 @@ ghost use Rattle.parser_form_nodes.specs.Definitions as made;
 ghost use Rattle.parser_form_nodes.specs.Parameters.{block_view};
 
 use parser_ahead::names::Names;
-use parser_ahead::primary::{is_comma, is_name};
+use parser_ahead::primary::{is_comma, is_method};
 use parser_tokens::failure::{Failure, syntax};
 use parser_tokens::tokens::{bytes_at, first, place_at, skip};
 use parser_tokens::word::Word;
@@ -217,8 +217,8 @@ fn global_alias(alloc: Global, at: u32) -> TreeForm
     }
 }
 
-/// What stands behind `alias`, whose place is `at`: two names, or two global variables, which are outside the
-/// language.
+/// What stands behind `alias`, whose place is `at`: two names or symbols, or two global variables, which are outside
+/// the language.
 pub fn alias<'a>(
     alloc: Global,
     at: u32,
@@ -232,10 +232,10 @@ pub fn alias<'a>(
     if is_global(first(tokens)) && is_global(first(behind)) {
         return Ok((global_alias(alloc, at).into_tree(alloc)?, rest));
     }
-    if !is_name(tokens) {
+    if !is_method(tokens) {
         return Err(syntax(tokens));
     }
-    if !is_name(behind) {
+    if !is_method(behind) {
         return Err(syntax(behind));
     }
     let new = Bytes::from_slice(alloc, bytes_at(tokens))?;
@@ -251,7 +251,7 @@ fn undef_tree(alloc: Global, names: List<Bytes>) -> Result<Tree, AllocError>
     TreeForm::Undef(names).into_tree(alloc)
 }
 
-/// What stands behind `undef`: names with commas between them.
+/// What stands behind `undef`: names and symbols with commas between them.
 #[tactic(auto, using(crate::proofs::Names::undef_turns))]
 pub fn undef<'a>(alloc: Global, tokens: &'a [Token]) -> Result<(Tree, &'a [Token]), Failure>
     ensures value { Gives (λ r. (view r.0, r.1.now)) result (made.undef tokens.now) }
@@ -260,7 +260,7 @@ pub fn undef<'a>(alloc: Global, tokens: &'a [Token]) -> Result<(Tree, &'a [Token
     let mut list: List<Bytes> = List::new(alloc);
     let mut rest = tokens;
     'names: loop {
-        if !is_name(rest) {
+        if !is_method(rest) {
             return Err(syntax(rest));
         }
         list.push(Bytes::from_slice(alloc, bytes_at(rest))?)?;

@@ -151,8 +151,7 @@ pub fn definition(
     at: u32,
 ) -> Result<Definition<Tree>, AllocError>
     ensures whole { IfOk result (λ d. made.block_view d
-        ≡ made.block_of (made.parameters_view parameters) (locals_from mark names.old) (view body)) }
-    ensures place { IfOk result (λ d. d.at ≡ at) }
+        ≡ made.block_of at (made.parameters_view parameters) (locals_from mark names.old) (view body)) }
     ensures names { OnOk result (names.new ≡ take mark names.old) }
 {
     let locals: List<Bytes> = names.locals_from(alloc, mark)?;

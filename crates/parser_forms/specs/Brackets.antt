@@ -1,5 +1,5 @@
 -- Lists in brackets, and the forms with sections.
-use Rattle.std.specs.Prelude.{Bool, ◌&&◌, if◌then◌else◌, List, length, Ok, Err}
+use Rattle.std.specs.Prelude.{ℕ, Bool, ◌&&◌, if◌then◌else◌, List, length, Ok, Err}
 use Rattle.rb_syntax.specs.declared.core_form.Item.{Item}
 use Rattle.parser_tree.specs.Node as node
 use Rattle.parser_tree.specs.Node.{Node, Nodes, nodes}
@@ -43,12 +43,12 @@ module _ (inside : Inside) where
       (λ rest. Ok (node.hash (nodes (map pair_of r.0.pairs)), r.1, rest)))
       else Err (length ts))
 
-  -- the arguments of yield in parentheses, or none
-  abbrev pub yielded : Names → Tokens → Read Node
-  yielded names ts =
+  -- the arguments of yield in parentheses, or none; its word is at a place
+  abbrev pub yielded : ℕ → Names → Tokens → Read Node
+  yielded at names ts =
       if opens_arguments ts then (elements names (behind ts) wanted.CloseParenthesis >>=
-      (λ r. Ok (node.yield_node (items_of r.0), r.1, r.2)))
-      else Ok (node.yield_node node.none, names, ts)
+      (λ r. Ok (node.yield_node at (items_of r.0), r.1, r.2)))
+      else Ok (node.yield_node at node.none, names, ts)
 
   -- a form with sections
   abbrev pub sectioned : Names → Compound → Tokens → Read Node

@@ -20,11 +20,11 @@ use Rattle.parser_ahead.specs.declared.primary.Place.TheVariants as places
 use Rattle.parser_ahead.specs.declared.sections.Compound.TheVariants as compounds
 use Rattle.parser_form_nodes.specs.Parameters.{ParameterNodes, BlockNode, block_of}
 use Rattle.parser_form_nodes.specs.Sections.{body_node}
-use Rattle.parser_tree.specs.Parts.{class_path}
+use Rattle.parser_tree.specs.Parts.{PlainNode, class_path}
 use Rattle.parser_form_nodes.specs.Definitions.{HeadNode, method_name, singleton_at, method_node}
 use Rattle.parser_forms.specs.Reading.{Names, Tokens, Read, Inside}
 use Rattle.rb_base.specs.Result.{◌>>=◌}
-use Rattle.parser_forms.specs.Parameters.{block_parameters, open_parameters, is_assign}
+use Rattle.parser_forms.specs.Parameters.{block_parameters, lambda_parameters, open_parameters, is_assign}
 
 -- the defaults of the optional parameters, which are nodes of their own
 abbrev pub default_of : Node → List Node
@@ -47,9 +47,9 @@ abbrev pub is_less : Word → Bool
 is_less (words.Mark marks.Less) = true
 is_less _ = false
 
--- a definition whose names begin at the mark, and which are forgotten behind it
-abbrev pub defined : ℕ → ParameterNodes → Node → Names → Tokens → Read BlockNode
-defined mark l body names ts = Ok (block_of l (locals_from mark names) body, take mark names, ts)
+-- a definition whose opening word is at a place and whose names begin at the mark; they are forgotten behind it
+abbrev pub defined : ℕ → ℕ → ParameterNodes → Node → Names → Tokens → Read BlockNode
+defined at mark l body names ts = Ok (block_of at l (locals_from mark names) body, take mark names, ts)
 
 abbrev pub headed : Nodes → Names → Tokens → Read HeadNode
 headed singleton names ts = method_name singleton ts >>= (λ r. Ok (r.0, names, r.1))
@@ -74,30 +74,31 @@ module _ (inside : Inside) where
   body_by styles.Do names ts = body names ts
 
   -- the statements of a block, to behind its end
-  abbrev pub block_body : BlockStyle → ℕ → ParameterNodes → Names → Tokens → Read BlockNode
-  block_body style mark l names ts = body_by style names ts >>= (λ r. defined mark l r.0 r.1 r.2)
+  abbrev pub block_body : BlockStyle → ℕ → ℕ → ParameterNodes → Names → Tokens → Read BlockNode
+  block_body style at mark l names ts = body_by style names ts >>= (λ r. defined at mark l r.0 r.1 r.2)
 
   -- the block at the front
   unfoldable pub block : Names → Tokens → BlockStyle → Read BlockNode
   block names ts style = block_parameters inside names (behind ts) >>=
-      (λ r. block_body style (length names) r.0 r.1 r.2)
+      (λ r. block_body style (place_at ts) (length names) r.0 r.1 r.2)
 
   -- where no parameters stand behind the arrow, they may stand in the block
-  abbrev pub lambda_body : Bool → BlockStyle → ℕ → ParameterNodes → Names → Tokens → Read BlockNode
-  lambda_body true style mark l names ts = block_parameters inside names (behind ts) >>=
-      (λ r. block_body style mark r.0 r.1 r.2)
-  lambda_body false style mark l names ts = block_body style mark l names (behind ts)
+  abbrev pub lambda_body : Bool → BlockStyle → ℕ → ℕ → ParameterNodes → Names → Tokens → Read BlockNode
+  lambda_body true style at mark l names ts = block_parameters inside names (behind ts) >>=
+      (λ r. block_body style at mark r.0 r.1 r.2)
+  lambda_body false style at mark l names ts = block_body style at mark l names (behind ts)
 
-  abbrev pub lambda_by : Option BlockStyle → Bool → ℕ → ParameterNodes → Names → Tokens → Read Node
-  lambda_by None bare mark l names ts = Err (length ts)
-  lambda_by (Some style) bare mark l names ts =
-      lambda_body bare style mark l names ts >>= (λ r. Ok (node.lambda r.0.0, r.1, r.2))
+  abbrev pub lambda_by : Option BlockStyle → Bool → ℕ → ℕ → ParameterNodes → Names → Tokens → Read Node
+  lambda_by None bare at mark l names ts = Err (length ts)
+  lambda_by (Some style) bare at mark l names ts =
+      lambda_body bare style at mark l names ts >>= (λ r. Ok (node.lambda r.0.0, r.1, r.2))
 
-  -- what stands behind the arrow of a lambda
-  unfoldable pub lambda : Names → Tokens → DoOwner → Read Node
-  lambda names ts owner =
-      open_parameters inside names ts
-      >>= (λ r. lambda_by (lambda_block_at owner r.2) (is_some (lambda_block_at owner ts)) (length names) r.0 r.1 r.2)
+  -- what stands behind the arrow of a lambda, which is at a place
+  unfoldable pub lambda : ℕ → Names → Tokens → DoOwner → Read Node
+  lambda at names ts owner =
+      lambda_parameters inside names ts
+      >>= (λ r. lambda_by (lambda_block_at owner r.2) (is_some (lambda_block_at owner ts)) at (length names) r.0
+      r.1 r.2)
 
   -- a method on the value of an expression in parentheses
   abbrev pub value_head : Names → Tokens → Read HeadNode
@@ -116,35 +117,35 @@ module _ (inside : Inside) where
   endless_method l names ts = inside.argument names (behind ts) owners.Call >>=
       (λ r. Ok (endless l (place_at ts) r.0, r.1, r.2))
 
-  abbrev pub whole_method : HeadNode → ParameterNodes → Names → Tokens → Read Node
-  whole_method h l names ts = body names ts >>=
-      (λ r. defined 0 l r.0 r.1 r.2 >>= (λ d. Ok (method_node h d.0, d.1, d.2)))
+  abbrev pub whole_method : ℕ → HeadNode → ParameterNodes → Names → Tokens → Read Node
+  whole_method at h l names ts = body names ts >>=
+      (λ r. defined at 0 l r.0 r.1 r.2 >>= (λ d. Ok (method_node h d.0, d.1, d.2)))
 
-  abbrev pub method_rest : HeadNode → ParameterNodes → Names → Tokens → Read Node
-  method_rest h l names ts = if is_assign (first ts) then endless_method l names ts else whole_method h l names ts
+  abbrev pub method_rest : ℕ → HeadNode → ParameterNodes → Names → Tokens → Read Node
+  method_rest at h l names ts = if is_assign (first ts) then endless_method l names ts else whole_method at h l names ts
 
-  -- what stands behind def
-  unfoldable pub define : Names → Tokens → Read Node
-  define names ts =
+  -- what stands behind def, which is at a place
+  unfoldable pub define : ℕ → Names → Tokens → Read Node
+  define at names ts =
       method_head names ts >>= (λ h. open_parameters inside [] h.2 >>=
-      (λ l. method_rest h.0 l.0 l.1 l.2 >>= (λ r. Ok (r.0, h.1, r.2))))
+      (λ l. method_rest at h.0 l.0 l.1 l.2 >>= (λ r. Ok (r.0, h.1, r.2))))
 
-  -- the body of a class or a module, which knows no names
-  abbrev pub class_body : Tokens → Result (Node × Tokens) ℕ
-  class_body ts = body [] ts >>= (λ r. Ok (r.0, r.2))
+  -- the body of a class or a module, which knows no names but those of its own text
+  abbrev pub class_body : Tokens → Result (PlainNode × Tokens) ℕ
+  class_body ts = body [] ts >>= (λ r. Ok ((locals_from 0 r.1, r.0), r.2))
 
   -- the path of a class or module
   abbrev pub path : Names → Tokens → Read (Node × Name)
   path names ts = inside.operation names ts 1 owners.Call >>= (λ r. path_by (class_path r.0) r.1 r.2 ts)
 
   -- the body behind the heading
-  abbrev pub separated_body : Tokens → Result (Node × Tokens) ℕ
+  abbrev pub separated_body : Tokens → Result (PlainNode × Tokens) ℕ
   separated_body ts = expect wanted.Separator ts >>= (λ rest. class_body rest)
 
   abbrev pub singleton_class : Names → Tokens → Read Node
   singleton_class names ts =
       inside.expression names (behind ts) places.Command owners.Call
-      >>= (λ r. separated_body r.2 >>= (λ b. Ok (node.singleton_class r.0 b.0, r.1, b.1)))
+      >>= (λ r. separated_body r.2 >>= (λ b. Ok (node.singleton_class r.0 b.0.0 b.0.1, r.1, b.1)))
 
   -- the superclass of a class, or none
   abbrev pub parent : Names → Tokens → Read Nodes
@@ -156,7 +157,7 @@ module _ (inside : Inside) where
   abbrev pub named_class : Names → Tokens → Read Node
   named_class names ts =
       path names ts >>= (λ p. parent p.1 p.2 >>=
-      (λ s. separated_body s.2 >>= (λ b. Ok (node.class_node p.0.0 p.0.1 s.0 b.0, s.1, b.1))))
+      (λ s. separated_body s.2 >>= (λ b. Ok (node.class_node p.0.0 p.0.1 s.0 b.0.0 b.0.1, s.1, b.1))))
 
   -- what stands behind class
   unfoldable pub class_form : Names → Tokens → Read Node
@@ -165,4 +166,4 @@ module _ (inside : Inside) where
   -- what stands behind module; nothing but a new body follows its path
   unfoldable pub module_form : Names → Tokens → Read Node
   module_form names ts = path names ts >>= (λ p. class_body p.2 >>=
-      (λ b. Ok (node.module_node p.0.0 p.0.1 b.0, p.1, b.1)))
+      (λ b. Ok (node.module_node p.0.0 p.0.1 b.0.0 b.0.1, p.1, b.1)))

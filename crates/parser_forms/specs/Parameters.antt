@@ -82,7 +82,7 @@ mark_at p names ts = if is_identifier (first (behind ts)) then marked_name p nam
 abbrev pub outside_at : Outside → Names → Tokens → Read ParameterNode
 outside_at o names ts = Ok (outside_alone_parameter o (place_at ts), names, behind ts)
 
--- the variables of a block alone, at most n, each behind a semicolon or a comma
+-- the variables of a block or a lambda alone, at most n, each behind a semicolon or a comma
 unfoldable pub locals_from : ℕ → Bool → Names → Tokens → Result (Names × Tokens) ℕ
 locals_from zero more names ts = Err 0
 locals_from (suc n) more names ts =
@@ -178,7 +178,18 @@ module _ (inside : Inside) where
   closed_parameters names ts = bare_parameters names (behind ts) >>=
       (λ r. expect_closing wanted.CloseParenthesis r.2 >>= (λ rest. Ok (r.0, r.1, rest)))
 
-  -- the parameters of a method or a lambda: in parentheses, or alone
+  -- the parameters of a method: in parentheses, or alone
   unfoldable pub open_parameters : Names → Tokens → Read ParameterNodes
   open_parameters names ts = if is_open_parenthesis (first ts) then closed_parameters names ts else bare_parameters
       names ts
+
+  -- in parentheses variables of a lambda alone may stand behind its parameters
+  abbrev pub closed_lambda_parameters : Names → Tokens → Read ParameterNodes
+  closed_lambda_parameters names ts =
+      bare_parameters names (behind ts) >>= (λ r. block_locals r.1 r.2 >>=
+      (λ l. expect_closing wanted.CloseParenthesis l.1 >>= (λ rest. Ok (r.0, l.0, rest))))
+
+  -- the parameters of a lambda: in parentheses, or alone
+  unfoldable pub lambda_parameters : Names → Tokens → Read ParameterNodes
+  lambda_parameters names ts = if is_open_parenthesis (first ts) then closed_lambda_parameters names ts else
+      bare_parameters names ts

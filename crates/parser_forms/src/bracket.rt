@@ -111,7 +111,7 @@ pub fn yielded<'a, I: Inner>(
     tokens: &'a [Token],
     at: u32,
 ) -> Read<'a, Tree>
-    ensures value { Reads view result names.new (rules.yielded (I.inside inner.now) names.old tokens.now) }
+    ensures value { Reads view result names.new (rules.yielded (I.inside inner.now) at names.old tokens.now) }
     ensures within { IfOk result (λ p. length p.1.now ≤ length tokens.now) }
 {
     if !opens_arguments(tokens) {

@@ -1,6 +1,6 @@
 //! Blocks, lambdas, methods, classes and modules.
 ghost use Rattle.std.specs.Prelude.{◌≡◌, ◌++◌, ◌<◌, ◌≤◌, length, map, IfOk, OnOk};
-ghost use Rattle.parser_tree.specs.Parts.{optional_node, path_node};
+ghost use Rattle.parser_tree.specs.Parts.{optional_node, path_node, plain_view};
 ghost use Rattle.parser_tree.specs.View.{form_view, view};
 ghost use Rattle.parser_tokens.specs.Tokens as front;
 ghost use Rattle.parser_tokens.specs.Reads.{Gives};
@@ -10,7 +10,9 @@ ghost use Rattle.parser_form_nodes.specs.Parameters.{parameters_view, block_view
 ghost use Rattle.parser_forms.specs.Reading.{Reads, Shortens};
 ghost use Rattle.parser_forms.specs.Definitions as rules;
 
-use crate::parameter::{block_parameters, is_assign, is_open_parenthesis, open_parameters};
+use crate::parameter::{
+    block_parameters, is_assign, is_open_parenthesis, lambda_parameters, open_parameters,
+};
 use crate::{Inner, Read};
 use parser_ahead::names::Names;
 use parser_ahead::primary::{BlockStyle, DoOwner, Place, lambda_block_at};
@@ -24,7 +26,7 @@ use parser_tokens::expect::{Wanted, expect, expect_closing};
 use parser_tokens::failure::syntax;
 use parser_tokens::tokens::{first, place_at, skip};
 use parser_tokens::word::Word;
-use parser_tree::{Definition, OptionalParameter, ParameterList, Scope, Tree, TreeForm};
+use parser_tree::{Definition, OptionalParameter, ParameterList, PlainBody, Scope, Tree, TreeForm};
 use rb_base::Bytes;
 use rb_syntax::{Outside, Punctuator, Token};
 use std::alloc::{AllocError, Global};
@@ -86,7 +88,7 @@ fn block_body<'a, I: Inner>(
     tokens: &'a [Token],
 ) -> Read<'a, Definition<Tree>>
     ensures value { Reads block_view result names.new
-        (rules.block_body (I.inside inner.now) style mark (parameters_view list) names.old tokens.now) }
+        (rules.block_body (I.inside inner.now) style at mark (parameters_view list) names.old tokens.now) }
     ensures within { IfOk result (λ p. length p.1.now ≤ length tokens.now) }
 {
     let (body, rest) = styled_body(inner, alloc, names, tokens, style)?;
@@ -124,7 +126,7 @@ fn lambda_body<'a, I: Inner>(
     tokens: &'a [Token],
 ) -> Read<'a, Definition<Tree>>
     ensures value { Reads block_view result names.new
-        (rules.lambda_body (I.inside inner.now) bare style mark (parameters_view list) names.old tokens.now) }
+        (rules.lambda_body (I.inside inner.now) bare style at mark (parameters_view list) names.old tokens.now) }
     ensures within { IfOk result (λ p. length p.1.now ≤ length tokens.now) }
 {
     let behind = skip(tokens);
@@ -145,12 +147,12 @@ pub fn lambda<'a, I: Inner>(
     at: u32,
     owner: DoOwner,
 ) -> Read<'a, Tree>
-    ensures value { Reads view result names.new (rules.lambda (I.inside inner.now) names.old tokens.now owner) }
+    ensures value { Reads view result names.new (rules.lambda (I.inside inner.now) at names.old tokens.now owner) }
     ensures within { IfOk result (λ p. length p.1.now ≤ length tokens.now) }
 {
     let mark = names.len();
     let bare = lambda_block_at(owner, tokens).is_some();
-    let (list, rest) = open_parameters(inner, alloc, names, tokens)?;
+    let (list, rest) = lambda_parameters(inner, alloc, names, tokens)?;
     let Some(style) = lambda_block_at(owner, rest) else {
         return Err(syntax(rest));
     };
@@ -260,7 +262,7 @@ fn whole_method<'a, I: Inner>(
     tokens: &'a [Token],
 ) -> Read<'a, Tree>
     ensures value { Reads view result scope.new
-        (rules.whole_method (I.inside inner.now) (head_view head) (parameters_view list) scope.old tokens.now) }
+        (rules.whole_method (I.inside inner.now) at (head_view head) (parameters_view list) scope.old tokens.now) }
     ensures within { IfOk result (λ p. length p.1.now ≤ length tokens.now) }
 {
     let (body, rest) = body(inner, alloc, scope, tokens)?;
@@ -279,7 +281,7 @@ fn method_rest<'a, I: Inner>(
     tokens: &'a [Token],
 ) -> Read<'a, Tree>
     ensures value { Reads view result scope.new
-        (rules.method_rest (I.inside inner.now) (head_view head) (parameters_view list) scope.old tokens.now) }
+        (rules.method_rest (I.inside inner.now) at (head_view head) (parameters_view list) scope.old tokens.now) }
     ensures within { IfOk result (λ p. length p.1.now ≤ length tokens.now) }
 {
     if is_assign(tokens) {
@@ -298,7 +300,7 @@ pub fn define<'a, I: Inner>(
     tokens: &'a [Token],
     at: u32,
 ) -> Read<'a, Tree>
-    ensures value { Reads view result names.new (rules.define (I.inside inner.now) names.old tokens.now) }
+    ensures value { Reads view result names.new (rules.define (I.inside inner.now) at names.old tokens.now) }
     ensures within { IfOk result (λ p. length p.1.now ≤ length tokens.now) }
 {
     let (head, rest) = method_head(inner, alloc, names, tokens)?;
@@ -308,19 +310,29 @@ pub fn define<'a, I: Inner>(
     Ok((tree, rest))
 }
 
-/// The body of a class or a module, which knows no names.
-fn class_body<'a, I: Inner>(inner: &I, alloc: Global, tokens: &'a [Token]) -> Read<'a, Tree>
-    ensures value { Gives (λ p. (view p.0, p.1.now)) result (rules.class_body (I.inside inner.now) tokens.now) }
+/// The body of a class or a module, which knows no names but those of its own text.
+fn class_body<'a, I: Inner>(
+    inner: &I,
+    alloc: Global,
+    tokens: &'a [Token],
+) -> Read<'a, PlainBody<Tree>>
+    ensures value { Gives (λ p. (plain_view p.0, p.1.now)) result (rules.class_body (I.inside inner.now) tokens.now) }
     ensures within { IfOk result (λ p. length p.1.now ≤ length tokens.now) }
 {
     let mut scope = Names::new(alloc);
-    let (tree, rest) = body(inner, alloc, &mut scope, tokens)?;
-    Ok((tree, rest))
+    let (body, rest) = body(inner, alloc, &mut scope, tokens)?;
+    let locals = scope.locals_from(alloc, 0)?;
+    Ok((PlainBody { locals, body }, rest))
 }
 
 /// The same behind the heading.
-fn separated_body<'a, I: Inner>(inner: &I, alloc: Global, tokens: &'a [Token]) -> Read<'a, Tree>
-    ensures value { Gives (λ p. (view p.0, p.1.now)) result (rules.separated_body (I.inside inner.now) tokens.now) }
+fn separated_body<'a, I: Inner>(
+    inner: &I,
+    alloc: Global,
+    tokens: &'a [Token],
+) -> Read<'a, PlainBody<Tree>>
+    ensures value { Gives (λ p. (plain_view p.0, p.1.now)) result
+        (rules.separated_body (I.inside inner.now) tokens.now) }
     ensures within { IfOk result (λ p. length p.1.now ≤ length tokens.now) }
 {
     class_body(inner, alloc, expect(tokens, Wanted::Separator)?)
@@ -344,6 +356,7 @@ fn path<'a, I: Inner>(
 }
 
 /// What stands behind `class <<`.
+#[tactic(auto, using(parser_tree::proofs::Views::views))]
 fn singleton_class<'a, I: Inner>(
     inner: &I,
     alloc: Global,

@@ -267,7 +267,7 @@ fn parameters<'a, I: Inner>(
     Ok(((list, comma), rest))
 }
 
-/// The variables of a block alone, behind a semicolon.
+/// The variables of a block or a lambda alone, behind a semicolon.
 #[tactic(auto, using(crate::proofs::Turns::local_turns))]
 fn block_locals<'a>(
     alloc: Global,
@@ -356,7 +356,7 @@ fn bare_parameters<'a, I: Inner>(
     Ok((list, rest))
 }
 
-/// The parameters of a method or a lambda: in parentheses, or alone.
+/// The parameters of a method: in parentheses, or alone.
 #[tactic(auto, unfolding(crate::specs::Parameters::open_parameters))]
 pub fn open_parameters<'a, I: Inner>(
     inner: &I,
@@ -372,5 +372,25 @@ pub fn open_parameters<'a, I: Inner>(
         return bare_parameters(inner, alloc, names, tokens);
     }
     let (list, rest) = bare_parameters(inner, alloc, names, skip(tokens))?;
+    Ok((list, expect_closing(rest, Wanted::CloseParenthesis)?))
+}
+
+/// The parameters of a lambda: in parentheses, maybe with variables of its own behind a semicolon, or alone.
+#[tactic(auto, unfolding(crate::specs::Parameters::lambda_parameters))]
+pub fn lambda_parameters<'a, I: Inner>(
+    inner: &I,
+    alloc: Global,
+    names: &mut Names,
+    tokens: &'a [Token],
+) -> Read<'a, ParameterList<Tree>>
+    ensures value { Reads parameters_view result names.new
+        (rules.lambda_parameters (I.inside inner.now) names.old tokens.now) }
+    ensures within { IfOk result (λ p. length p.1.now ≤ length tokens.now) }
+{
+    if !is_open_parenthesis(first(tokens)) {
+        return bare_parameters(inner, alloc, names, tokens);
+    }
+    let (list, rest) = bare_parameters(inner, alloc, names, skip(tokens))?;
+    let rest = block_locals(alloc, names, rest)?;
     Ok((list, expect_closing(rest, Wanted::CloseParenthesis)?))
 }

@@ -5,7 +5,7 @@ use Rattle.parser_tree.specs.Node as node
 use Rattle.parser_tokens.specs.Tokens.{first, behind, word_of, bytes_at, integer_at, place_at, is_apart}
 use Rattle.parser_tokens.specs.Expect.{separators_from}
 use Rattle.parser_tokens.specs.Operators.{infix_at, prefix_at}
-use Rattle.parser_tokens.specs.Starts.{begins_argument, opens_arguments}
+use Rattle.parser_tokens.specs.Starts.{begins_argument, is_plain_start, is_spaced_start, opens_arguments}
 use Rattle.parser_tokens.specs.declared.operators.Assignment.TheVariants as signs
 use Rattle.parser_ahead.specs.declared.primary.BlockStyle.TheVariants as styles
 use Rattle.parser_ahead.specs.declared.primary.DoOwner.TheVariants as owners
@@ -20,7 +20,7 @@ use Rattle.parser_laws.specs.ChainExample.{dot, block_end, block_begin, digit, c
 use Rattle.parser_laws.proofs.Witness.{whole_statement}
 
 the_target : Derives (Target owners.Call target) [] first_name [] equals
-unfolding first behind word_of bytes_at place_at prefix_at begins_argument opens_arguments is_apart
+unfolding first behind word_of bytes_at place_at prefix_at begins_argument is_plain_start is_spaced_start opens_arguments is_apart
 the_target =
     CalleeTarget owners.Call [] [] first_name equals outsides.SafeNavigation 2 (receiver ∷ []) refl
     (SafeCallee places.Command owners.Call [] [] first_name safe receiver
@@ -29,7 +29,7 @@ the_target =
     refl refl)
 
 the_block : Derives (Block styles.Do block) [] block_begin [] dot
-unfolding first behind word_of separators_from
+unfolding first behind word_of place_at separators_from
 the_block =
     DoBlock [] [] [] block_begin block_end dot no_parameters body refl (NoBars [] block_end refl)
     (PlainBody [] [] block_end block_end body (Separated [] [] block_end block_end [] (NoMore [] block_end refl)) refl)
@@ -42,7 +42,7 @@ the_argument =
     (OneOperand places.Command 13 owners.Command [] [] digit block_begin (node.integer (pos 1))
     (WithPostfixes places.Command owners.Command [] [] digit block_begin (node.integer (pos 1)) refl
     (Integer places.Command owners.Command [] digit refl) refl))
-    refl)
+    refl refl)
     refl refl
 
 the_list : Derives (Listing owners.Command list) [] digit [] block_begin
@@ -61,7 +61,7 @@ the_postfixes =
     (CalledAlone owners.Call [] [] method refl refl)) refl
 
 the_value : Derives (Command places.Command owners.Call value) [] called_name [] []
-unfolding first behind word_of bytes_at prefix_at begins_argument opens_arguments is_apart
+unfolding first behind word_of bytes_at prefix_at begins_argument is_plain_start opens_arguments is_apart
 the_value =
     CalleeCommand places.Command owners.Call [] [] [] called_name digit [] called value refl refl refl
     (NameCallee places.Command owners.Call [] called_name refl refl)
@@ -78,6 +78,6 @@ chain_example_derived =
     (Unjoined places.Statement owners.Call [] [] tokens [] negation
     (Commanded places.Statement owners.Call [] [] tokens [] negation refl
     (NotAssigned places.Statement owners.Call signs.Plain [] [] [] tokens equals [] target value refl refl the_target
-    refl the_value))) refl)
+    refl the_value refl))) refl)
     refl)
     refl (NoMore [] [] refl))

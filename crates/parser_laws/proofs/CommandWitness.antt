@@ -5,7 +5,7 @@ use Rattle.parser_tree.specs.Node.{Node}
 use Rattle.parser_tokens.specs.Tokens.{first, behind, word_of, bytes_at, integer_at, place_at, is_apart}
 use Rattle.parser_tokens.specs.Expect.{separators_from}
 use Rattle.parser_tokens.specs.Operators.{infix_at, prefix_at}
-use Rattle.parser_tokens.specs.Starts.{begins_argument, opens_arguments}
+use Rattle.parser_tokens.specs.Starts.{begins_argument, is_plain_start, makes_call, opens_arguments}
 use Rattle.parser_ahead.specs.declared.primary.BlockStyle.TheVariants as styles
 use Rattle.parser_ahead.specs.declared.primary.DoOwner.TheVariants as owners
 use Rattle.parser_ahead.specs.declared.primary.Place.TheVariants as places
@@ -28,7 +28,7 @@ the_parameters =
     (NoLocals known close_bar refl) refl
 
 the_body : Derives (Statements body) known used known block_end
-unfolding first behind word_of bytes_at separators_from infix_at prefix_at opens_arguments shape
+unfolding first behind word_of bytes_at separators_from infix_at prefix_at makes_call is_plain_start opens_arguments shape
 the_body =
     Separated known known used block_end (node.local (codes "x") ∷ [])
     (OneMore known known known used block_end block_end (node.local (codes "x")) [] refl
@@ -38,7 +38,7 @@ the_body =
     refl (NoMore known block_end refl))
 
 the_block : Derives (Block styles.Do block) [] block_begin [] []
-unfolding first behind word_of
+unfolding first behind word_of place_at
 the_block = DoBlock [] known known block_begin used [] parameters body refl the_parameters
     (PlainBody known known used block_end body the_body refl)
 
@@ -50,7 +50,7 @@ the_argument =
     (OneOperand places.Command 13 owners.Command [] [] digit block_begin (node.integer (pos 1))
     (WithPostfixes places.Command owners.Command [] [] digit block_begin (node.integer (pos 1)) refl
     (Integer places.Command owners.Command [] digit refl) refl))
-    refl)
+    refl refl)
     refl refl
 
 the_list : Derives (Listing owners.Command list) [] digit [] block_begin
@@ -62,7 +62,7 @@ the_list =
     refl
 
 the_command : Derives (Command places.Statement owners.Call command) [] tokens [] []
-unfolding first behind word_of bytes_at prefix_at begins_argument opens_arguments is_apart
+unfolding first behind word_of bytes_at prefix_at begins_argument is_plain_start opens_arguments is_apart
 the_command =
     CalleeCommand places.Statement owners.Call [] [] [] tokens digit [] called command refl refl refl
     (NameCallee places.Statement owners.Call [] tokens refl refl)

@@ -19,6 +19,7 @@ use Rattle.parser_laws.proofs.CompleteValues as values
 use Rattle.parser_laws.proofs.CompleteStatements as statements
 use Rattle.parser_laws.proofs.CompleteTargets as targets
 use Rattle.parser_laws.proofs.CompleteAssignments as assignments
+use Rattle.parser_laws.proofs.CompleteLast as last_operands
 use Rattle.parser_laws.proofs.CompleteLiterals as literals
 use Rattle.parser_laws.proofs.CompleteWords as words
 use Rattle.parser_laws.proofs.CompleteLists as lists
@@ -86,6 +87,15 @@ complete _ _ _ _ _ (grammar.AssignedOr place owner a names known later last ts r
     assignments.assigned_or place owner a names known later last ts rest more tail target n other (complete _ _ _ _ _ t)
     (jump_front place ts (front _ _ _ _ _ t refl) jump) there (complete _ _ _ _ _ value)
     (front _ _ _ _ _ value refl) rescue (complete _ _ _ _ _ right)
+complete _ _ _ _ _ (grammar.NotAssignedValue place owner a names known later ts rest more target n is may t there value
+    calm) =
+    assignments.not_assigned_value place owner a names known later ts rest more target n is may (complete _ _ _ _ _ t)
+    there (complete _ _ _ _ _ value) (front _ _ _ _ _ value refl) calm
+complete _ _ _ _ _ (grammar.NotAssignedValueOr place owner a names known later last ts rest more tail target n other is
+    may t there value rescue right) =
+    assignments.not_assigned_value_or place owner a names known later ts rest more target n is may
+    (complete _ _ _ _ _ t) there (complete _ _ _ _ _ value) (front _ _ _ _ _ value refl) last tail other rescue
+    (complete _ _ _ _ _ right)
 complete _ _ _ _ _ (grammar.InnerAssigned owner a names known later ts rest more target n t there value calm) =
     assignments.inner_assigned owner a names known later ts rest more target n (complete _ _ _ _ _ t)
     (jump_front places.Argument ts (front _ _ _ _ _ t refl) refl) there (complete _ _ _ _ _ value)
@@ -113,12 +123,18 @@ complete _ _ _ _ _ (grammar.PostfixInnerTarget owner names known ts rest n is no
     targets.postfix_inner_target owner names known ts rest n is none (complete _ _ _ _ _ d)
 complete _ _ _ _ _ (grammar.CalleeInnerTarget owner names known ts rest c none d target) =
     targets.callee_inner_target owner names known ts rest c none (complete _ _ _ _ _ d) target
-complete _ _ _ _ _ (grammar.AllOperators place loosest owner names known ts rest n d ends) =
-    operands.all_operators place loosest owner names known ts rest n (complete _ _ _ _ _ d) ends
+complete _ _ _ _ _ (grammar.AllOperators place loosest owner names known ts rest n d ends free) =
+    operands.all_operators place loosest owner names known ts rest n (complete _ _ _ _ _ d) ends free
 complete _ _ _ _ _ (grammar.OneOperand place loosest owner names known ts rest n d) =
     operands.one_operand place loosest owner names known ts rest n (complete _ _ _ _ _ d)
-complete _ _ _ _ _ (grammar.CalleeOperand loosest owner a names known ts rest c within none d there) =
-    targets.callee_operand loosest owner a names known ts rest c within none (complete _ _ _ _ _ d) there
+complete _ _ _ _ _ (grammar.OperandAssigned loosest owner a names known later ts rest more target n within t there
+    value calm) =
+    last_operands.operand_assigned loosest owner a names known later ts rest more target n within
+    (complete _ _ _ _ _ t) there (complete _ _ _ _ _ value) calm
+complete _ _ _ _ _ (grammar.OperandAssignedOr loosest owner a names known later last ts rest more tail target n other
+    within t there value rescue right) =
+    last_operands.operand_assigned_or loosest owner a names known later ts rest more target n within
+    (complete _ _ _ _ _ t) there (complete _ _ _ _ _ value) last tail other rescue (complete _ _ _ _ _ right)
 complete _ _ _ _ _ (grammar.Infixed place loosest owner o names known later ts rest more a b left there right calm) =
     operands.infixed place loosest owner o names known later ts rest more a b (complete _ _ _ _ _ left) there
     (complete _ _ _ _ _ right) calm
@@ -218,8 +234,8 @@ complete _ _ _ _ _ (grammar.YieldGroup place owner names known ts rest l is ther
     brackets.yield_group place owner names ts known rest l is there (complete _ _ _ _ _ d) none closing
 complete _ _ _ _ _ (grammar.JumpList place owner j names known ts rest l there may begins d none) =
     jumps.jump_list_fact place owner names ts j known rest l there may begins (complete _ _ _ _ _ d) none
-complete _ _ _ _ _ (grammar.YieldList place owner names known ts rest l is may begins closed d none) =
-    jumps.yield_list_fact place owner names ts known rest l is may begins closed (complete _ _ _ _ _ d) none
+complete _ _ _ _ _ (grammar.YieldList place owner names known ts rest l is may begins d none) =
+    jumps.yield_list_fact place owner names ts known rest l is may begins (complete _ _ _ _ _ d) none
 complete _ _ _ _ _ (grammar.ListAssigned owner names known later ts rest more target n l group jump t there d side made)
     =
     several.list_assigned owner names known later ts rest more target n l group (complete _ _ _ _ _ t)
@@ -348,6 +364,11 @@ complete _ _ _ _ _ (grammar.ClosedParameters names known ts rest l is d closing)
     parameters.closed_parameters names known ts rest l is (complete _ _ _ _ _ d) closing
 complete _ _ _ _ _ (grammar.BareParameters names known ts rest l other d) =
     parameters.bare_parameters names known ts rest l other (complete _ _ _ _ _ d)
+complete _ _ _ _ _ (grammar.OpenLambda names known later ts rest more l is d variables closing) =
+    parameters.open_lambda names known later ts rest more l is (complete _ _ _ _ _ d) (complete _ _ _ _ _ variables)
+    closing
+complete _ _ _ _ _ (grammar.BareLambda names known ts rest l other d) =
+    parameters.bare_lambda names known ts rest l other (complete _ _ _ _ _ d)
 complete _ _ _ _ _ (grammar.NoParameters names ts other) = parameters.no_parameters_fact names ts other
 complete _ _ _ _ _ (grammar.AllParameters names known ts rest l d ends) =
     parameters.all_parameters names known ts rest l (complete _ _ _ _ _ d) ends
@@ -520,13 +541,22 @@ complete _ _ _ _ _ (grammar.CalleeCommand place owner names known later ts rest 
 complete _ _ _ _ _ (grammar.NotCommand place owner names known later ts rest more c n is may none d arguments) =
     commands.not_command place owner names known later ts rest more c n is may none (complete _ _ _ _ _ d)
     (complete _ _ _ _ _ arguments)
-complete _ _ _ _ _ (grammar.CommandAssigned place owner a names known later ts rest more target n jump t there d alone)
-    =
+complete _ _ _ _ _ (grammar.CommandAssigned place owner a names known later ts rest more target n jump t there d calm
+    alone) =
     commands.command_assigned place owner a names known later ts rest more target n (complete _ _ _ _ _ t) there
-    (complete _ _ _ _ _ d) alone (jump_front place ts (front _ _ _ _ _ t refl) jump)
-complete _ _ _ _ _ (grammar.NotAssigned place owner a names known later ts rest more target n is may t there d) =
+    (complete _ _ _ _ _ d) alone (jump_front place ts (front _ _ _ _ _ t refl) jump) calm
+complete _ _ _ _ _ (grammar.CommandAssignedOr place owner a names known later last ts rest more tail target n other jump
+    t there d rescue right) =
+    commands.command_assigned_or place owner a names known later last ts rest more tail target n other
+    (complete _ _ _ _ _ t) (jump_front place ts (front _ _ _ _ _ t refl) jump) there (complete _ _ _ _ _ d) rescue
+    (complete _ _ _ _ _ right)
+complete _ _ _ _ _ (grammar.NotAssigned place owner a names known later ts rest more target n is may t there d calm) =
     commands.not_assigned place owner a names known later ts rest more target n is may (complete _ _ _ _ _ t) there
-    (complete _ _ _ _ _ d)
+    (complete _ _ _ _ _ d) calm
+complete _ _ _ _ _ (grammar.NotAssignedOr place owner a names known later last ts rest more tail target n other is may t
+    there d rescue right) =
+    commands.not_assigned_or place owner a names known later ts rest more target n is may (complete _ _ _ _ _ t) there
+    (complete _ _ _ _ _ d) last tail other rescue (complete _ _ _ _ _ right)
 complete _ _ _ _ _ (grammar.Commanded place owner names known ts rest n group d) =
     commands.commanded place owner names known ts rest n group (complete _ _ _ _ _ d)
 complete _ _ _ _ _ (grammar.CommandPart owner names known ts rest n d alone) =

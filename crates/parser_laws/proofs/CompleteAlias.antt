@@ -11,7 +11,7 @@ use Rattle.parser_tokens.specs.Tokens.{first, behind, bytes_at, place_at}
 use Rattle.parser_tokens.specs.declared.word.Word.{Word}
 use Rattle.parser_tokens.specs.declared.word.Word.TheVariants as words
 use Rattle.parser_tokens.proofs.Front.{behind_shorter}
-use Rattle.parser_ahead.specs.Primary.{is_comma_word, is_name_word}
+use Rattle.parser_ahead.specs.Primary.{is_comma_word, is_method_word}
 use Rattle.parser_nodes.specs.Nodes.{outside_node}
 use Rattle.parser_form_nodes.specs.Definitions.{is_global, global_alias, undef_from}
 use Rattle.parser_statements.specs.Statements.{braced, base_by, statements}
@@ -24,13 +24,13 @@ use Rattle.parser_laws.proofs.Facts.{Fact, levels_at, word_taken, behind_within}
 differs : {A : Type 0} → true ≡ false → A
 differs h = absurd (cc)
 
-no_global : (w : Word) → is_name_word w ≡ true → is_global w ≡ false
+no_global : (w : Word) → is_method_word w ≡ true → is_global w ≡ false
 no_global words.GlobalVariable h = differs (sym h)
 no_global (words.Other o) h = differs (sym h)
 no_global w h = refl
 
 pub alias_fact : (names : Names) (ts : Tokens) → first ts ≡ words.Key keywords.Alias
-    → is_name_word (first (behind ts)) ≡ true → is_name_word (first (behind (behind ts))) ≡ true
+    → is_method_word (first (behind ts)) ≡ true → is_method_word (first (behind (behind ts))) ≡ true
     → Fact (Base (node.alias_node (bytes_at (behind ts)) (bytes_at (behind (behind ts))))) names ts names
     (behind (behind (behind ts)))
 unfolding base_by
@@ -53,7 +53,7 @@ global_alias_fact names ts is new old =
     (omega arith, refl, λ d room none. rw is (rw (new, old) refl))
 
 -- the last name, and one with a comma behind it
-undef_last : (found : List Name) (ts : Tokens) → is_name_word (first ts) ≡ true
+undef_last : (found : List Name) (ts : Tokens) → is_method_word (first ts) ≡ true
     → is_comma_word (first (behind ts)) ≡ false
     → undef_from found ts ≡ Ok (node.undef_node (found ++ bytes_at ts ∷ []), behind ts)
 unfolding undef_from first behind bytes_at
@@ -61,7 +61,7 @@ undef_last found [] h c = differs (sym h)
 undef_last found (t ∷ []) h c = rw h refl
 undef_last found (t ∷ u ∷ ts) h c = rw (h, c) refl
 
-undef_more : (found : List Name) (ts : Tokens) → is_name_word (first ts) ≡ true
+undef_more : (found : List Name) (ts : Tokens) → is_method_word (first ts) ≡ true
     → is_comma_word (first (behind ts)) ≡ true
     → undef_from found ts ≡ undef_from (found ++ bytes_at ts ∷ []) (behind (behind ts))
 unfolding undef_from first behind bytes_at
@@ -69,15 +69,15 @@ undef_more found [] h c = differs (sym h)
 undef_more found (t ∷ []) h c = differs (sym c)
 undef_more found (t ∷ u ∷ ts) h c = rw (h, c) refl
 
-name_shorter : (ts : Tokens) → is_name_word (first ts) ≡ true → length (behind ts) < length ts
-name_shorter ts h = behind_shorter ts (λ (e : first ts ≡ words.Finish). clash (is_name_word (first ts)) h
-    (ap is_name_word e))
+name_shorter : (ts : Tokens) → is_method_word (first ts) ≡ true → length (behind ts) < length ts
+name_shorter ts h = behind_shorter ts (λ (e : first ts ≡ words.Finish). clash (is_method_word (first ts)) h
+    (ap is_method_word e))
 
-pub last_method_name : (names : Names) (ts : Tokens) → is_name_word (first ts) ≡ true
+pub last_method_name : (names : Names) (ts : Tokens) → is_method_word (first ts) ≡ true
     → is_comma_word (first (behind ts)) ≡ false → Fact (MethodNames (bytes_at ts ∷ [])) names ts names (behind ts)
 last_method_name names ts h c = (name_shorter ts h, refl, λ d room. (refl, λ found. undef_last found ts h c))
 
-pub more_method_names : (names known : Names) (ts rest : Tokens) (xs : List Name) → is_name_word (first ts) ≡ true
+pub more_method_names : (names known : Names) (ts rest : Tokens) (xs : List Name) → is_method_word (first ts) ≡ true
     → is_comma_word (first (behind ts)) ≡ true
     → Fact (MethodNames xs) names (behind (behind ts)) known rest
     → Fact (MethodNames (bytes_at ts ∷ xs)) names ts known rest

@@ -2,12 +2,14 @@
 use Rattle.std.proofs.Common.{◌≡◌, ℕ, ◌+◌, ◌-◌, ◌<◌, ◌≤◌, Bool, true, false, not, ◌&&◌, [], ◌∷◌, length, Some, is_some, Ok, refl, sym, ap, subst, ◌∙◌, arith}
 use Rattle.std.proofs.lemmas.Bool.{and_parts}
 use Rattle.rb_syntax.specs.declared.core_form.Item.TheVariants.{Plain}
+use Rattle.rb_syntax.specs.declared.punctuator.Punctuator.TheVariants as marks
 use Rattle.parser_tree.specs.Node.{Node, none}
 use Rattle.parser_tokens.specs.Tokens.{first, behind}
 use Rattle.parser_tokens.specs.Operators.{assignment_at}
 use Rattle.parser_tokens.specs.Starts.{modifier_at}
 use Rattle.parser_tokens.specs.declared.operators.Assignment.{Assignment}
 use Rattle.parser_tokens.specs.declared.operators.Assignment.TheVariants as signs
+use Rattle.parser_tokens.specs.declared.operators.Prefix.TheVariants as prefixes
 use Rattle.parser_tokens.specs.declared.word.Modifier.{Modifier}
 use Rattle.parser_tokens.specs.declared.word.Modifier.TheVariants as modifiers
 use Rattle.parser_tokens.specs.declared.word.Word.{Word}
@@ -19,24 +21,26 @@ use Rattle.parser_ahead.specs.declared.primary.PartStart.TheVariants as parts
 use Rattle.parser_ahead.specs.declared.primary.Place.{Place}
 use Rattle.parser_ahead.specs.declared.primary.Place.TheVariants as places
 use Rattle.parser_ahead.specs.declared.primary.Start.TheVariants as starts
-use Rattle.parser_operands.specs.Operands.{operand}
-use Rattle.parser_nodes.specs.Nodes.{rescued_node, assignment_node}
+use Rattle.parser_operands.specs.Operands.{begins_command, operand}
+use Rattle.parser_nodes.specs.Nodes.{rescued_node, assignment_node, prefix_node}
 use Rattle.parser_nodes.specs.Calls.{OperandNode, is_target, target_node, target_names}
 use Rattle.parser_nodes.specs.Listed.{ListNode, PhraseNode, nothing_listed}
+use Rattle.parser_nodes.specs.declared.listed.Sort.{Sort}
 use Rattle.parser_nodes.specs.declared.listed.Sort.TheVariants as sorts
+use Rattle.parser_operands.specs.Operators as operators
 use Rattle.parser_phrases.specs.Phrases as phrases
-use Rattle.parser_phrases.specs.Phrases.{assigned_value, whole_value, assign, phrase_from, phrase_by, phrase}
+use Rattle.parser_phrases.specs.Phrases.{is_single, is_assigned, is_command_there, assigned_value, whole_value, assign, phrase_from, negated, phrase_by, phrase}
 use Rattle.parser_statements.specs.Lists.{part_by, next_part, list_from, list}
 use Rattle.parser_statements.proofs.Turns.{list_step}
 use Rattle.parser_forms.specs.Reading.{Names, Tokens, Read, Inside}
 use Rattle.rb_parser.specs.Levels.{levels}
 use Rattle.parser_laws.specs.Rules.{Argument, Target, InnerTarget, is_rescue, takes_list, goes_on_list}
 use Rattle.parser_laws.proofs.Facts.{is_bang, begins, opens, is_finish, Fact, levels_at, word_taken, ends_target}
-use Rattle.parser_laws.proofs.Heads.{Front, opens_begins, word_begins, front_start}
-use Rattle.parser_laws.proofs.Tests.{or_left}
+use Rattle.parser_laws.proofs.Heads.{Front, opens_begins, word_begins, front_start, not_start}
+use Rattle.parser_laws.proofs.Tests.{or_left, or_right}
 use Rattle.parser_laws.proofs.Assigning.{same_rescue, same_takes, statement_only, or_false_parts}
 use Rattle.parser_laws.proofs.Results.{differs, and_false, not_true}
-use Rattle.parser_laws.proofs.CompleteValues.{bang_other, value_below}
+use Rattle.parser_laws.proofs.CompleteValues.{bang_other, true_and, value_below}
 use Rattle.parser_laws.proofs.CompleteStatements.{modifier_free, modifier_word}
 
 pub assignment_word : (w : Word) (a : Assignment) → assignment_at w ≡ Some a → is_finish w ≡ false
@@ -102,18 +106,31 @@ value_calm places.Statement b h = h
 value_calm places.Command b h = h
 value_calm places.Argument b h = h
 
-assign_read : (i : Inside) (place : Place) (owner : DoOwner) (a : Assignment) (target : Node)
-    (names known later : Names) (ts rest more : Tokens) (n whole : Node)
-    → assigned_value i names ts a place owner ≡ Ok ((n, sorts.Argument), known, rest)
-    → whole_value i n sorts.Argument known rest owner ≡ Ok (whole, later, more)
-    → assign i target names a ts place owner ≡ Ok ((assignment_node a target whole, sorts.Argument), later, more)
+pub assign_read : (i : Inside) (place : Place) (owner : DoOwner) (a : Assignment) (target : Node)
+    (names known later : Names) (ts rest more : Tokens) (n whole : Node) (sort : Sort)
+    → assigned_value i names ts a place owner ≡ Ok ((n, sort), known, rest)
+    → whole_value i n sort known rest owner ≡ Ok (whole, later, more)
+    → assign i target names a ts place owner ≡ Ok ((assignment_node a target whole, sort), later, more)
 unfolding assign
-assign_read i place owner a target names known later ts rest more n whole read all = rw read (rw all refl)
+assign_read i place owner a target names known later ts rest more n whole sort read all = rw read (rw all refl)
 
-calm_value : (i : Inside) (owner : DoOwner) (names : Names) (ts : Tokens) (n : Node)
-    → is_rescue (modifier_at (first ts)) ≡ false → whole_value i n sorts.Argument names ts owner ≡ Ok (n, names, ts)
-calm_value i owner names ts n calm = let alone : phrases.is_rescue (modifier_at (first ts)) ≡ false =
-    same_rescue (modifier_at (first ts)) ∙ calm in rw alone refl
+-- a value before no modifier rescue, and before one
+pub calm_value : (i : Inside) (owner : DoOwner) (names : Names) (ts : Tokens) (n : Node) (sort : Sort)
+    → is_rescue (modifier_at (first ts)) ≡ false → whole_value i n sort names ts owner ≡ Ok (n, names, ts)
+calm_value i owner names ts n sort calm =
+    let alone : operators.is_rescue (modifier_at (first ts)) ≡ false = same_rescue (modifier_at (first ts)) ∙ calm in
+    rw (alone, and_false (is_single sort)) refl
+
+pub rescued_value : (d : ℕ) (owner : DoOwner) (names known : Names) (ts rest : Tokens) (n other : Node) (sort : Sort)
+    → is_single sort ≡ true → modifier_at (first ts) ≡ Some modifiers.Rescue
+    → Fact (Argument places.Argument owner other) names (behind ts) known rest → length ts ≤ d
+    → whole_value (levels d) n sort names ts owner ≡ Ok (rescued_node n other, known, rest)
+rescued_value d owner names known ts rest n other sort single rescue right room =
+    let one = word_taken (first ts) ts refl (modifier_word (first ts) modifiers.Rescue rescue) in
+    let r = right.0 in
+    let read = value_below d (omega arith) names known (behind ts) rest owner other
+    (right.2 (d - 1) (omega arith) refl refl) in
+    rw (single, rescue, read) refl
 
 pub from_read : (i : Inside) (place : Place) (owner : DoOwner) (a : Assignment) (o : OperandNode) (names : Names)
     (ts : Tokens) (result : Read PhraseNode) → is_target o ≡ true → assignment_at (first ts) ≡ Some a
@@ -161,18 +178,44 @@ of_inner owner x names known ts rest left = (
 
 module _ (place : Place) (owner : DoOwner) (a : Assignment) (names known later : Names) (ts rest more : Tokens)
     (target n : Node)
-    (left : Assignable place owner target names ts known rest) (lead : Front place ts)
+    (left : Assignable place owner target names ts known rest)
     (there : assignment_at (first rest) ≡ Some a)
     (value : Fact (Argument (of_value place) owner n) known (behind rest) later more)
-    (part : part_at (behind rest) ≡ parts.Value) where
+    (part : part_at (behind rest) ≡ parts.Value)
+    (alone : (takes_list a place && goes_on_list (first more)) ≡ false) where
+  -- a target, and the assignment that it begins
+  assigned_from : (last : Names) (tail : Tokens) (whole : Node) (d : ℕ) → length ts ≤ d
+      → (allows_command (of_value place) && is_some (assignment_at (first more))) ≡ false
+      → whole_value (levels d) n sorts.Argument later more owner ≡ Ok (whole, last, tail)
+      → (o : OperandNode) × (k : Names)
+      × (operand (levels d) names ts (allows_command place) owner ≡ Ok (o, k, rest)) × (is_target o ≡ true)
+      × (phrase_from (levels d) o k rest place owner ≡ Ok
+      ((assignment_node a target whole, sorts.Argument), last, tail))
+  assigned_from last tail whole d room free all =
+      let one = word_taken (first rest) rest refl (assignment_word (first rest) a there) in
+      let l = left.0 in
+      let v = value.0 in
+      let t = left.2 d room (assignment_ends (first rest) a there) in
+      let inner = value.2 (d - 1) (omega arith) (value_group place (behind rest)) free in
+      let right = value_read d place owner a known later (behind rest) more n (omega arith) inner value.1 part
+      (omega arith) alone in
+      let made = assign_read (levels d) place owner a target known later last (behind rest) more tail n whole
+      sorts.Argument right all in
+      let moved : assign (levels d) (target_node t.0) (target_names t.0 t.1) a (behind rest) place owner ≡ Ok
+      ((assignment_node a target whole, sorts.Argument), last, tail) =
+      subst (λ k. assign (levels d) (target_node t.0) k a (behind rest) place owner ≡ Ok
+      ((assignment_node a target whole, sorts.Argument), last, tail)) (sym t.5)
+      (subst (λ y. assign (levels d) y known a (behind rest) place owner ≡ Ok
+      ((assignment_node a target whole, sorts.Argument), last, tail)) (sym t.4) made) in
+      (t.0, t.1, t.2, t.3, from_read (levels d) place owner a t.0 t.1 rest _ t.3 there moved)
+
   -- an assignment whose value is read whole
-  assigned_whole : (last : Names) (tail : Tokens) (whole : Node) → length tail ≤ length more
-      → (takes_list a place && goes_on_list (first more)) ≡ false
+  assigned_whole : (last : Names) (tail : Tokens) (whole : Node) → Front place ts → length tail ≤ length more
       → ((d : ℕ) → length more < d → whole_value (levels d) n sorts.Argument later more owner ≡ Ok (whole, last, tail))
       → ((allows_command place && is_some (assignment_at (first tail))) ≡ false
       → (allows_command (of_value place) && is_some (assignment_at (first more))) ≡ false)
       → Fact (Argument place owner (assignment_node a target whole)) names ts last tail
-  assigned_whole last tail whole within alone all free =
+  assigned_whole last tail whole lead within all free =
       let one = word_taken (first rest) rest refl (assignment_word (first rest) a there) in
       let opening = and_parts (opens ts) (not (is_bang (first ts))) left.1 in
       let l = left.0 in
@@ -180,59 +223,94 @@ module _ (place : Place) (owner : DoOwner) (a : Assignment) (names known later :
         omega arith,
         opens_begins ts opening.0,
         λ d room group none.
-            let t = left.2 d room (assignment_ends (first rest) a there) in
-            let inner = value.2 (d - 1) (omega arith) (value_group place (behind rest)) (free none) in
-            let right = value_read d place owner a known later (behind rest) more n (omega arith) inner value.1 part
-            (omega arith) alone in
-            let made = assign_read (levels d) place owner a target known later last (behind rest) more tail n whole
-            right (all d (omega arith)) in
-            let moved : assign (levels d) (target_node t.0) (target_names t.0 t.1) a (behind rest) place owner ≡ Ok
-            ((assignment_node a target whole, sorts.Argument), last, tail) =
-            subst (λ k. assign (levels d) (target_node t.0) k a (behind rest) place owner ≡ Ok
-            ((assignment_node a target whole, sorts.Argument), last, tail)) (sym t.5)
-            (subst (λ y. assign (levels d) y known a (behind rest) place owner ≡ Ok
-            ((assignment_node a target whole, sorts.Argument), last, tail)) (sym t.4) made) in
-            phrase_read (levels d) place owner t.0 names t.1 ts rest _
+            let f = assigned_from last tail whole d room (free none) (all d (omega arith)) in
+            phrase_read (levels d) place owner f.0 names f.1 ts rest _
             (front_start place ts opening.0 lead (bang_other (first ts) (not_true (is_bang (first ts)) opening.1))
-            group) t.2
-            (from_read (levels d) place owner a t.0 t.1 rest _ t.3 there moved),
+            group) f.2 f.4,
       )
+
+  assigned_calm : Front place ts → is_rescue (modifier_at (first more)) ≡ false
+      → Fact (Argument place owner (assignment_node a target n)) names ts later more
+  assigned_calm lead calm =
+      assigned_whole later more n lead (omega arith)
+      (λ d room. calm_value (levels d) owner later more n sorts.Argument calm)
+      (value_calm place (is_some (assignment_at (first more))))
+
+-- before a modifier rescue goes on no list, and no assignment
+rescue_alone : (takes : Bool) (w : Word) → modifier_at w ≡ Some modifiers.Rescue → (takes && goes_on_list w) ≡ false
+rescue_alone takes w rescue = rw (modifier_alone w modifiers.Rescue rescue) (and_false takes)
+
+rescue_free : (allows : Bool) (w : Word) → modifier_at w ≡ Some modifiers.Rescue
+    → (allows && is_some (assignment_at w)) ≡ false
+rescue_free allows w rescue = rw (modifier_free w modifiers.Rescue rescue) (and_false allows)
 
 module _ (place : Place) (owner : DoOwner) (a : Assignment) (names known later : Names) (ts rest more : Tokens)
     (target n : Node) (left : Assignable place owner target names ts known rest) (lead : Front place ts)
     (there : assignment_at (first rest) ≡ Some a)
     (value : Fact (Argument (of_value place) owner n) known (behind rest) later more)
     (part : part_at (behind rest) ≡ parts.Value) where
-  assigned_calm : is_rescue (modifier_at (first more)) ≡ false
-      → (takes_list a place && goes_on_list (first more)) ≡ false
-      → Fact (Argument place owner (assignment_node a target n)) names ts later more
-  assigned_calm calm alone =
-      assigned_whole place owner a names known later ts rest more target n left lead there value part later more n
-      (omega arith) alone (λ d room. calm_value (levels d) owner later more n calm)
-      (value_calm place (is_some (assignment_at (first more))))
-
   assigned_rescued : (last : Names) (tail : Tokens) (other : Node) → modifier_at (first more) ≡ Some modifiers.Rescue
       → Fact (Argument places.Argument owner other) later (behind more) last tail
       → Fact (Argument place owner (assignment_node a target (rescued_node n other))) names ts last tail
   assigned_rescued last tail other rescue right =
       let one = word_taken (first more) more refl (modifier_word (first more) modifiers.Rescue rescue) in
       let r = right.0 in
-      let alone : (takes_list a place && goes_on_list (first more)) ≡ false =
-      rw (modifier_alone (first more) modifiers.Rescue rescue) (and_false (takes_list a place)) in
-      let free : (allows_command (of_value place) && is_some (assignment_at (first more))) ≡ false =
-      rw (modifier_free (first more) modifiers.Rescue rescue) (and_false (allows_command (of_value place))) in
-      assigned_whole place owner a names known later ts rest more target n left lead there value part last tail
-      (rescued_node n other) (omega arith) alone
-      (λ d room.
-      let read = value_below d (omega arith) later last (behind more) tail owner other
-      (right.2 (d - 1) (omega arith) refl refl) in
-      rw (rescue, read) refl)
-      (λ none. free)
+      assigned_whole place owner a names known later ts rest more target n left there value part
+      (rescue_alone (takes_list a place) (first more) rescue) last tail (rescued_node n other) lead (omega arith)
+      (λ d room. rescued_value d owner later last more tail n other sorts.Argument refl rescue right (omega arith))
+      (λ none. rescue_free (allows_command (of_value place)) (first more) rescue)
 
 -- a list is assigned only where a statement stands
-no_list : (a : Assignment) (b : Bool) → (takes_list a places.Argument && b) ≡ false
-no_list signs.Plain b = refl
-no_list (signs.Operation o) b = refl
+pub no_list : (a : Assignment) (place : Place) (b : Bool) → is_statement place ≡ false → (takes_list a place && b) ≡ false
+no_list signs.Plain place b h = rw h refl
+no_list (signs.Operation o) place b h = refl
+
+module _ (place : Place) (owner : DoOwner) (a : Assignment) (names known later : Names) (ts rest more : Tokens)
+    (target n : Node) (is : first ts ≡ words.Mark marks.Not) (may : allows_command place ≡ true)
+    (left : Fact (Target owner target) names (behind ts) known rest) (there : assignment_at (first rest) ≡ Some a)
+    (value : Fact (Argument places.Command owner n) known (behind rest) later more)
+    (part : part_at (behind rest) ≡ parts.Value) where
+  -- ! and an assignment whose value is read whole
+  negated_whole : (last : Names) (tail : Tokens) (whole : Node) → length tail ≤ length more
+      → ((d : ℕ) → length more < d → whole_value (levels d) n sorts.Argument later more owner ≡ Ok (whole, last, tail))
+      → (is_some (assignment_at (first tail)) ≡ false → is_some (assignment_at (first more)) ≡ false)
+      → Fact (Argument place owner (prefix_node prefixes.Not (assignment_node a target whole))) names ts last tail
+  unfolding phrase_by negated
+  negated_whole last tail whole within all free =
+      let one = word_taken (words.Mark marks.Not) ts is refl in
+      let two = word_taken (first rest) rest refl (assignment_word (first rest) a there) in
+      let l = left.0 in
+      let v = value.0 in (
+        omega arith,
+        rw is refl,
+        λ d room group none.
+            let f = assigned_from places.Command owner a names known later (behind ts) rest more target n
+            (of_target places.Command owner target names known (behind ts) rest left) there value part
+            (no_list a places.Command (goes_on_list (first more)) refl) last tail whole d (omega arith)
+            (free (true_and (allows_command place) (is_some (assignment_at (first tail))) may none))
+            (all d (omega arith)) in
+            let assigned : is_command_there f.0 rest ≡ true =
+            or_right (begins_command f.0 rest) (is_assigned f.0 rest) (rw (f.3, there) refl) in
+            rw (not_start place ts is group may) (rw f.2 (rw assigned (rw f.4 refl))),
+      )
+
+  pub not_assigned_value : is_rescue (modifier_at (first more)) ≡ false
+      → Fact (Argument place owner (prefix_node prefixes.Not (assignment_node a target n))) names ts later more
+  not_assigned_value calm =
+      negated_whole later more n (omega arith)
+      (λ d room. calm_value (levels d) owner later more n sorts.Argument calm) (λ none. none)
+
+  pub not_assigned_value_or : (last : Names) (tail : Tokens) (other : Node)
+      → modifier_at (first more) ≡ Some modifiers.Rescue
+      → Fact (Argument places.Argument owner other) later (behind more) last tail
+      → Fact (Argument place owner (prefix_node prefixes.Not (assignment_node a target (rescued_node n other)))) names
+      ts last tail
+  not_assigned_value_or last tail other rescue right =
+      let one = word_taken (first more) more refl (modifier_word (first more) modifiers.Rescue rescue) in
+      let r = right.0 in
+      negated_whole last tail (rescued_node n other) (omega arith)
+      (λ d room. rescued_value d owner later last more tail n other sorts.Argument refl rescue right (omega arith))
+      (λ none. rescue_free true (first more) rescue)
 
 pub assigned : (place : Place) (owner : DoOwner) (a : Assignment) (names known later : Names) (ts rest more : Tokens)
     (target n : Node)
@@ -242,7 +320,7 @@ pub assigned : (place : Place) (owner : DoOwner) (a : Assignment) (names known l
     → Fact (Argument place owner (assignment_node a target n)) names ts later more
 assigned place owner a names known later ts rest more target n left lead there value part calm alone =
     assigned_calm place owner a names known later ts rest more target n
-    (of_target place owner target names known ts rest left) lead there value part calm alone
+    (of_target place owner target names known ts rest left) there value part alone lead calm
 
 pub assigned_or : (place : Place) (owner : DoOwner) (a : Assignment) (names known later last : Names)
     (ts rest more tail : Tokens) (target n other : Node)
@@ -265,8 +343,8 @@ pub inner_assigned : (owner : DoOwner) (a : Assignment) (names known later : Nam
     → Fact (Argument places.Argument owner (assignment_node a target n)) names ts later more
 inner_assigned owner a names known later ts rest more target n left lead there value part calm =
     assigned_calm places.Argument owner a names known later ts rest more target n
-    (of_inner owner target names known ts rest left) lead there value part calm
-    (no_list a (goes_on_list (first more)))
+    (of_inner owner target names known ts rest left) there value part
+    (no_list a places.Argument (goes_on_list (first more)) refl) lead calm
 
 pub inner_assigned_or : (owner : DoOwner) (a : Assignment) (names known later last : Names) (ts rest more tail : Tokens)
     (target n other : Node)

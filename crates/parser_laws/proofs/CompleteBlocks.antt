@@ -4,7 +4,7 @@ use Rattle.std.specs.Prelude.{take}
 use Rattle.rb_syntax.specs.declared.keyword.Keyword.TheVariants as keywords
 use Rattle.rb_syntax.specs.declared.punctuator.Punctuator.TheVariants as marks
 use Rattle.parser_tree.specs.Node.{Node}
-use Rattle.parser_tokens.specs.Tokens.{first, behind, bytes_at}
+use Rattle.parser_tokens.specs.Tokens.{first, behind, bytes_at, place_at}
 use Rattle.parser_tokens.specs.declared.word.Word.{Word}
 use Rattle.parser_tokens.specs.declared.word.Word.TheVariants as words
 use Rattle.parser_ahead.specs.Names.{declared, locals_from}
@@ -127,8 +127,8 @@ parameters_below d names known ts rest l some inner room =
 pub brace_block : (names known later : Names) (ts rest more : Tokens) (l : ParameterNodes) (n : Node)
     → first ts ≡ words.Mark marks.OpenBrace → Fact (BlockParameters l) names (behind ts) known rest
     → Fact (Statements n) known rest later more → first more ≡ words.Mark marks.CloseBrace
-    → Fact (Block styles.Brace (block_of l (locals_from (length names) later) n)) names ts (take (length names) later)
-    (behind more)
+    → Fact (Block styles.Brace (block_of (place_at ts) l (locals_from (length names) later) n)) names ts
+    (take (length names) later) (behind more)
 unfolding block
 brace_block names known later ts rest more l n is parameters_there inner closes =
     let one = word_taken (words.Mark marks.OpenBrace) ts is refl in
@@ -147,7 +147,8 @@ brace_block names known later ts rest more l n is parameters_there inner closes 
 
 pub do_block : (names known later : Names) (ts rest last : Tokens) (l : ParameterNodes) (n : Node)
     → first ts ≡ words.Key keywords.Do → Fact (BlockParameters l) names (behind ts) known rest
-    → Fact (Body n) known rest later last → Fact (Block styles.Do (block_of l (locals_from (length names) later) n))
+    → Fact (Body n) known rest later last
+    → Fact (Block styles.Do (block_of (place_at ts) l (locals_from (length names) later) n))
     names ts (take (length names) later) last
 unfolding block
 do_block names known later ts rest last l n is parameters_there inner =

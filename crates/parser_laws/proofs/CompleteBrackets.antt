@@ -5,7 +5,7 @@ use Rattle.rb_syntax.specs.declared.punctuator.Punctuator.TheVariants as marks
 use Rattle.parser_tree.specs.Node as node
 use Rattle.parser_tree.specs.Node.{nodes}
 use Rattle.parser_tree.specs.View.{items_of, pair_of}
-use Rattle.parser_tokens.specs.Tokens.{first, behind}
+use Rattle.parser_tokens.specs.Tokens.{first, behind, place_at}
 use Rattle.parser_tokens.specs.Expect.{skip_newlines}
 use Rattle.parser_tokens.specs.Operators.{assignment_at}
 use Rattle.parser_tokens.specs.Starts.{opens_arguments}
@@ -86,8 +86,8 @@ module _ (place : Place) (owner : DoOwner) (names : Names) (ts : Tokens) where
       → opens_arguments (behind ts) ≡ true → Fact (Listing owners.Call l) names (behind (behind ts)) known rest
       → is_none l.block ≡ true
       → first (skip_newlines rest) ≡ words.Mark marks.CloseParenthesis
-      → Fact (PrimaryRule place owner (node.yield_node (items_of (whole_items l.items l.pairs)))) names ts known
-      (behind (skip_newlines rest))
+      → Fact (PrimaryRule place owner (node.yield_node (place_at ts) (items_of (whole_items l.items l.pairs)))) names
+      ts known (behind (skip_newlines rest))
   unfolding primary_at primary_by compound
   yield_group known rest l is there inner none closing =
       let one = word_taken (words.Key keywords.Yield) ts is refl in
@@ -97,7 +97,7 @@ module _ (place : Place) (owner : DoOwner) (names : Names) (ts : Tokens) where
         omega arith,
         rw is refl,
         λ d room. at_once (levels d) place owner names known ts (behind (skip_newlines rest))
-            (node.yield_node (items_of (whole_items l.items l.pairs))) (
+            (node.yield_node (place_at ts) (items_of (whole_items l.items l.pairs))) (
             let read = list_below d names known (behind (behind ts)) rest owners.Call l (omega arith) inner
             (omega arith) (closing_free _ rest closing refl) in
             rw is (rw there (rw read (rw none (rw closing refl))))),

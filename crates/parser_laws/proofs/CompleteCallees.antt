@@ -5,7 +5,7 @@ use Rattle.rb_syntax.specs.declared.outside.Outside.TheVariants as outsides
 use Rattle.rb_syntax.specs.declared.punctuator.Punctuator.TheVariants as marks
 use Rattle.parser_tree.specs.Node.{Node}
 use Rattle.parser_tokens.specs.Tokens.{first, behind, bytes_at, place_at}
-use Rattle.parser_tokens.specs.Starts.{opens_arguments, postfix_at}
+use Rattle.parser_tokens.specs.Starts.{makes_call, opens_arguments, postfix_at}
 use Rattle.parser_tokens.specs.declared.starts.Postfix.{Postfix}
 use Rattle.parser_tokens.specs.declared.starts.Postfix.TheVariants as postfixes
 use Rattle.parser_tokens.specs.declared.word.Word.{Word}
@@ -71,7 +71,7 @@ module _ (place : Place) (owner : DoOwner) (names : Names) (ts : Tokens) where
       let sort : operands.is_identifier (first ts) ≡ false = rw is refl in
       word_fact (name_callee (bytes_at ts) false) (rw is refl) (λ i. named_read i false named sort)
 
-  pub opened_fact : is_name_word (first ts) ≡ true → opens_arguments (behind ts) ≡ true
+  pub opened_fact : is_name_word (first ts) ≡ true → makes_call (behind ts) ≡ true
       → Fact (Callee place owner (name_callee (bytes_at ts) (is_identifier (first ts)))) names ts names (behind ts)
   opened_fact is opened =
       word_fact (name_callee (bytes_at ts) (is_identifier (first ts))) (name_head (first ts) is)
@@ -79,9 +79,9 @@ module _ (place : Place) (owner : DoOwner) (names : Names) (ts : Tokens) where
       (same_identifier (first ts)))
 
   pub super_fact : first ts ≡ words.Key keywords.Super
-      → Fact (Callee place owner super_callee) names ts names (behind ts)
+      → Fact (Callee place owner (super_callee (place_at ts))) names ts names (behind ts)
   unfolding primary_at primary_by
-  super_fact is = word_fact super_callee (rw is refl) (λ i. rw is refl)
+  super_fact is = word_fact (super_callee (place_at ts)) (rw is refl) (λ i. rw is refl)
 
   pub non_ascii_fact : first ts ≡ words.Other outsides.NonAsciiName
       → Fact (Callee place owner (outside_callee outsides.NonAsciiName (place_at ts) [])) names ts names (behind ts)

@@ -5,12 +5,12 @@ use Rattle.rb_syntax.specs.declared.core_form.Item.TheVariants.{Plain}
 use Rattle.rb_syntax.specs.declared.punctuator.Punctuator.{Punctuator}
 use Rattle.rb_syntax.specs.declared.punctuator.Punctuator.TheVariants as marks
 use Rattle.parser_tree.specs.Node.{Node, none}
-use Rattle.parser_tokens.specs.Tokens.{first, behind, is_apart}
+use Rattle.parser_tokens.specs.Tokens.{first, behind}
 use Rattle.parser_tokens.specs.Operators.{assignment_at, prefix_at}
-use Rattle.parser_tokens.specs.Starts.{begins_value, begins_argument, is_open_brace, opens_arguments, postfix_at}
+use Rattle.parser_tokens.specs.Starts.{begins_value, begins_argument, modifier_at, opens_arguments, postfix_at}
 use Rattle.parser_tokens.specs.declared.operators.Assignment.{Assignment}
-use Rattle.parser_tokens.specs.declared.operators.Assignment.TheVariants as signs
 use Rattle.parser_tokens.specs.declared.operators.Prefix.TheVariants as prefixes
+use Rattle.parser_tokens.specs.declared.word.Modifier.TheVariants as modifiers
 use Rattle.parser_tokens.specs.declared.word.Word.{Word}
 use Rattle.parser_tokens.specs.declared.word.Word.TheVariants as words
 use Rattle.parser_ahead.specs.Groups.{is_target_group}
@@ -21,7 +21,7 @@ use Rattle.parser_ahead.specs.declared.primary.DoOwner.{DoOwner}
 use Rattle.parser_ahead.specs.declared.primary.PartStart.TheVariants as parts
 use Rattle.parser_ahead.specs.declared.primary.Place.{Place}
 use Rattle.parser_ahead.specs.declared.primary.Place.TheVariants as places
-use Rattle.parser_nodes.specs.Nodes.{prefix_node, assignment_node}
+use Rattle.parser_nodes.specs.Nodes.{prefix_node, assignment_node, rescued_node}
 use Rattle.parser_nodes.specs.Listed.{ListNode, PhraseNode, command_part, nothing_listed, put, is_none, arguments_node}
 use Rattle.parser_nodes.specs.Calls.{CalleeNode, OperandNode, whole, callee, call_node, is_target, target_node, target_names}
 use Rattle.parser_nodes.specs.declared.listed.Sort.TheVariants as sorts
@@ -29,22 +29,24 @@ use Rattle.parser_form_nodes.specs.Parameters.{BlockNode}
 use Rattle.parser_operands.specs.Operands.{begins_command, suffix, chain, operand, chain_within}
 use Rattle.parser_operands.proofs.Turns.{chain_step}
 use Rattle.parser_phrases.specs.Phrases as phrases
-use Rattle.parser_phrases.specs.Phrases.{is_assigned, is_command_there, assigned_value, assign, command, command_or_value, phrase_from, negated, phrase_by, phrase}
+use Rattle.parser_phrases.specs.Phrases.{is_assigned, is_command_there, assigned_value, whole_value, assign, command, command_or_value, phrase_from, negated, phrase_by, phrase}
 use Rattle.parser_statements.specs.Lists.{part_by, next_part, list_from, list}
 use Rattle.parser_statements.specs.Statements.{is_not, negation}
 use Rattle.parser_statements.proofs.Turns.{list_step}
 use Rattle.parser_forms.specs.Reading.{Names, Tokens, Read, Inside}
 use Rattle.rb_parser.specs.Levels.{level_above, levels}
-use Rattle.parser_laws.specs.Rules.{Negation, Target, Listing, Callee, CommandArguments, Command, Block, takes_list}
+use Rattle.parser_laws.specs.Rules.{Argument, Negation, Target, Listing, Callee, CommandArguments, Command, Block, is_rescue, takes_list}
 use Rattle.parser_laws.proofs.Results.{differs, and_false, not_true}
 use Rattle.parser_laws.proofs.Tests.{or_left, or_right}
 use Rattle.parser_laws.proofs.Assigning.{same_takes, statement_only}
-use Rattle.parser_laws.proofs.SoundPhrases.{prefix_not}
+use Rattle.parser_laws.proofs.OperatorFacts.{prefix_not}
 use Rattle.parser_laws.proofs.Facts.{is_bang, begins, opens, Fact, levels_at, word_taken}
 use Rattle.parser_laws.proofs.Heads.{Front, opens_begins, word_begins, operand_start, front_start, not_start, head_no_not}
 use Rattle.parser_laws.proofs.CompleteValues.{bang_other}
+use Rattle.parser_laws.proofs.Plain.{argument_begins}
 use Rattle.parser_laws.proofs.CompleteJumps.{argument_no_block}
-use Rattle.parser_laws.proofs.CompleteAssignments.{assignment_word, value_group, assignment_ends, from_read, phrase_read}
+use Rattle.parser_laws.proofs.CompleteAssignments.{assign_read, assignment_word, calm_value, no_list, rescued_value, value_group, assignment_ends, from_read, phrase_read}
+use Rattle.parser_laws.proofs.CompleteStatements.{modifier_free, modifier_word}
 
 -- what begins a value is no assignment and no comma
 value_mark : (p : Punctuator) → begins_value (words.Mark p) ≡ true → (assignment_at (words.Mark p) ≡ None)
@@ -69,13 +71,6 @@ value_mark p h = (refl, refl)
 value_word : (w : Word) → begins_value w ≡ true → (assignment_at w ≡ None) × (is_comma_word w ≡ false)
 value_word (words.Mark p) h = value_mark p h
 value_word w h = (refl, refl)
-
-argument_value : (ts : Tokens) → begins_argument ts ≡ true → begins_value (first ts) ≡ true
-unfolding begins_argument
-argument_value ts h =
-    let a = and_parts (not (is_open_brace (first ts))) _ h in
-    let b = and_parts (is_apart ts) _ a.1 in
-    (and_parts (begins_value (first ts)) _ b.1).0
 
 -- no assignment stands before a block
 block_mark : (takes : Bool) (p : Punctuator) (style : BlockStyle) → block_of takes (words.Mark p) ≡ Some style
@@ -163,7 +158,7 @@ module _ (place : Place) (owner : DoOwner) (names known : Names) (ts rest : Toke
       → phrase_from i (callee c) known rest place owner ≡ result
   unfolding phrase_from
   command_from i result made =
-      let w = value_word (first rest) (argument_value rest begun) in
+      let w = value_word (first rest) (argument_begins rest begun).1 in
       let several : (is_statement place && is_comma_word (first rest)) ≡ false =
       rw w.1 (and_false (is_statement place)) in
       let there : command_or_value i (callee c) known rest place owner ≡ result = rw (may, begun) made in
@@ -276,23 +271,19 @@ value_read d place owner a names known ts rest n below read h part some alone =
         let a_list : phrases.takes_list b p ≡ true = same_takes b p ∙ takes in
         rw (a_list, same) refl
 
-assign_read : (i : Inside) (place : Place) (owner : DoOwner) (a : Assignment) (target : Node) (names known : Names)
-    (ts rest : Tokens) (n : Node) → assigned_value i names ts a place owner ≡ Ok ((n, sorts.Command), known, rest)
-    → assign i target names a ts place owner ≡ Ok ((assignment_node a target n, sorts.Command), known, rest)
-unfolding assign
-assign_read i place owner a target names known ts rest n read = rw read refl
-
 module _ (place : Place) (owner : DoOwner) (a : Assignment) (names known later : Names) (ts rest more : Tokens)
     (target n : Node) (left : Fact (Target owner target) names ts known rest)
     (there : assignment_at (first rest) ≡ Some a)
     (value : Fact (Command (of_value place) owner n) known (behind rest) later more)
     (alone : (takes_list a place && is_comma_word (first more)) ≡ false) where
   -- a target, and the assignment of a command that it begins
-  assigned_from : (d : ℕ) → length ts ≤ d → assignment_at (first more) ≡ None
+  assigned_from : (last : Names) (tail : Tokens) (taken : Node) (d : ℕ) → length ts ≤ d
+      → assignment_at (first more) ≡ None
+      → whole_value (levels d) n sorts.Command later more owner ≡ Ok (taken, last, tail)
       → (o : OperandNode) × (k : Names) × ((commands : Bool)
       → operand (levels d) names ts commands owner ≡ Ok (o, k, rest)) × (is_target o ≡ true)
-      × (phrase_from (levels d) o k rest place owner ≡ Ok ((assignment_node a target n, sorts.Command), later, more))
-  assigned_from d room calm =
+      × (phrase_from (levels d) o k rest place owner ≡ Ok ((assignment_node a target taken, sorts.Command), last, tail))
+  assigned_from last tail taken d room calm all =
       let one = word_taken (first rest) rest refl (assignment_word (first rest) a there) in
       let l = left.0 in
       let v = value.0 in
@@ -300,17 +291,22 @@ module _ (place : Place) (owner : DoOwner) (a : Assignment) (names known later :
       let inner = value.2 (d - 1) (omega arith) in
       let right = value_read d place owner a known later (behind rest) more n (omega arith)
       (inner.1 (value_group place (behind rest)) calm) value.1 inner.0 (omega arith) alone in
-      let made = assign_read (levels d) place owner a target known later (behind rest) more n right in
+      let made = assign_read (levels d) place owner a target known later last (behind rest) more tail n taken
+      sorts.Command right all in
       let moved : assign (levels d) (target_node t.0) (target_names t.0 t.1) a (behind rest) place owner ≡ Ok
-      ((assignment_node a target n, sorts.Command), later, more) =
+      ((assignment_node a target taken, sorts.Command), last, tail) =
       subst (λ k. assign (levels d) (target_node t.0) k a (behind rest) place owner ≡ Ok
-      ((assignment_node a target n, sorts.Command), later, more)) (sym t.5)
+      ((assignment_node a target taken, sorts.Command), last, tail)) (sym t.5)
       (subst (λ y. assign (levels d) y known a (behind rest) place owner ≡ Ok
-      ((assignment_node a target n, sorts.Command), later, more)) (sym t.4) made) in
+      ((assignment_node a target taken, sorts.Command), last, tail)) (sym t.4) made) in
       (t.0, t.1, t.2, t.3, from_read (levels d) place owner a t.0 t.1 rest _ t.3 there moved)
 
-  pub command_assigned : Front place ts → Fact (Command place owner (assignment_node a target n)) names ts later more
-  command_assigned lead =
+  -- an assignment whose command is read whole
+  command_whole : (last : Names) (tail : Tokens) (taken : Node) → Front place ts → length tail ≤ length more
+      → ((d : ℕ) → length more < d → whole_value (levels d) n sorts.Command later more owner ≡ Ok (taken, last, tail))
+      → (assignment_at (first tail) ≡ None → assignment_at (first more) ≡ None)
+      → Fact (Command place owner (assignment_node a target taken)) names ts last tail
+  command_whole last tail taken lead within all free =
       let one = word_taken (first rest) rest refl (assignment_word (first rest) a there) in
       let opening = and_parts (opens ts) (not (is_bang (first ts))) left.1 in
       let l = left.0 in
@@ -320,41 +316,86 @@ module _ (place : Place) (owner : DoOwner) (a : Assignment) (names known later :
         λ d room. (
           lead.0,
           λ group calm.
-              let f = assigned_from d room calm in
+              let f = assigned_from last tail taken d room (free calm) (all d (omega arith)) in
               phrase_read (levels d) place owner f.0 names f.1 ts rest _
               (front_start place ts opening.0 lead (bang_other (first ts) (not_true (is_bang (first ts)) opening.1))
               group) (f.2 (allows_command place)) f.4,
         ),
       )
 
--- behind ! the value is no list
-no_list : (a : Assignment) (b : Bool) → (takes_list a places.Command && b) ≡ false
-no_list signs.Plain b = refl
-no_list (signs.Operation o) b = refl
+  pub command_assigned : Front place ts → is_rescue (modifier_at (first more)) ≡ false
+      → Fact (Command place owner (assignment_node a target n)) names ts later more
+  command_assigned lead calm =
+      command_whole later more n lead (omega arith)
+      (λ d room. calm_value (levels d) owner later more n sorts.Command calm) (λ none. none)
 
-pub not_assigned : (place : Place) (owner : DoOwner) (a : Assignment) (names known later : Names)
-    (ts rest more : Tokens) (target n : Node) → first ts ≡ words.Mark marks.Not → allows_command place ≡ true
-    → Fact (Target owner target) names (behind ts) known rest → assignment_at (first rest) ≡ Some a
-    → Fact (Command places.Command owner n) known (behind rest) later more
-    → Fact (Command place owner (prefix_node prefixes.Not (assignment_node a target n))) names ts later more
-unfolding part_at phrase_by negated
-not_assigned place owner a names known later ts rest more target n is may left there value =
-    let one = word_taken (words.Mark marks.Not) ts is refl in
-    let two = word_taken (first rest) rest refl (assignment_word (first rest) a there) in
-    let l = left.0 in
-    let v = value.0 in (
-      omega arith,
-      rw is refl,
-      λ d room. (
+-- before a modifier rescue no list goes on
+rescue_alone : (takes : Bool) (w : Word) → modifier_at w ≡ Some modifiers.Rescue → (takes && is_comma_word w) ≡ false
+rescue_alone takes (words.Mark p) rescue = differs (sym (ap is_some rescue))
+rescue_alone takes w rescue = and_false takes
+
+pub command_assigned_or : (place : Place) (owner : DoOwner) (a : Assignment) (names known later last : Names)
+    (ts rest more tail : Tokens) (target n other : Node) → Fact (Target owner target) names ts known rest
+    → Front place ts → assignment_at (first rest) ≡ Some a
+    → Fact (Command (of_value place) owner n) known (behind rest) later more
+    → modifier_at (first more) ≡ Some modifiers.Rescue
+    → Fact (Argument places.Argument owner other) later (behind more) last tail
+    → Fact (Command place owner (assignment_node a target (rescued_node n other))) names ts last tail
+command_assigned_or place owner a names known later last ts rest more tail target n other left lead there value rescue
+    right =
+    let one = word_taken (first more) more refl (modifier_word (first more) modifiers.Rescue rescue) in
+    let r = right.0 in
+    command_whole place owner a names known later ts rest more target n left there value
+    (rescue_alone (takes_list a place) (first more) rescue) last tail (rescued_node n other) lead (omega arith)
+    (λ d room. rescued_value d owner later last more tail n other sorts.Command refl rescue right (omega arith))
+    (λ none. modifier_free (first more) modifiers.Rescue rescue)
+
+module _ (place : Place) (owner : DoOwner) (a : Assignment) (names known later : Names) (ts rest more : Tokens)
+    (target n : Node) (is : first ts ≡ words.Mark marks.Not) (may : allows_command place ≡ true)
+    (left : Fact (Target owner target) names (behind ts) known rest) (there : assignment_at (first rest) ≡ Some a)
+    (value : Fact (Command places.Command owner n) known (behind rest) later more) where
+  -- ! and an assignment whose command is read whole
+  negated_whole : (last : Names) (tail : Tokens) (taken : Node) → length tail ≤ length more
+      → ((d : ℕ) → length more < d → whole_value (levels d) n sorts.Command later more owner ≡ Ok (taken, last, tail))
+      → (assignment_at (first tail) ≡ None → assignment_at (first more) ≡ None)
+      → Fact (Command place owner (prefix_node prefixes.Not (assignment_node a target taken))) names ts last tail
+  unfolding part_at phrase_by negated
+  negated_whole last tail taken within all free =
+      let one = word_taken (words.Mark marks.Not) ts is refl in
+      let two = word_taken (first rest) rest refl (assignment_word (first rest) a there) in
+      let l = left.0 in
+      let v = value.0 in (
+        omega arith,
         rw is refl,
-        λ group calm.
-            let f = assigned_from places.Command owner a names known later (behind ts) rest more target n left there
-            value (no_list a (is_comma_word (first more))) d (omega arith) calm in
-            let assigned : is_command_there f.0 rest ≡ true =
-            or_right (begins_command f.0 rest) (is_assigned f.0 rest) (rw (f.3, there) refl) in
-            rw (not_start place ts is group may) (rw (f.2 true) (rw assigned (rw f.4 refl))),
-      ),
-    )
+        λ d room. (
+          rw is refl,
+          λ group calm.
+              let f = assigned_from places.Command owner a names known later (behind ts) rest more target n left there
+              value (no_list a places.Command (is_comma_word (first more)) refl) last tail taken d (omega arith)
+              (free calm) (all d (omega arith)) in
+              let assigned : is_command_there f.0 rest ≡ true =
+              or_right (begins_command f.0 rest) (is_assigned f.0 rest) (rw (f.3, there) refl) in
+              rw (not_start place ts is group may) (rw (f.2 true) (rw assigned (rw f.4 refl))),
+        ),
+      )
+
+  pub not_assigned : is_rescue (modifier_at (first more)) ≡ false
+      → Fact (Command place owner (prefix_node prefixes.Not (assignment_node a target n))) names ts later more
+  not_assigned calm =
+      negated_whole later more n (omega arith)
+      (λ d room. calm_value (levels d) owner later more n sorts.Command calm) (λ none. none)
+
+  pub not_assigned_or : (last : Names) (tail : Tokens) (other : Node)
+      → modifier_at (first more) ≡ Some modifiers.Rescue
+      → Fact (Argument places.Argument owner other) later (behind more) last tail
+      → Fact (Command place owner (prefix_node prefixes.Not (assignment_node a target (rescued_node n other)))) names
+      ts last tail
+  not_assigned_or last tail other rescue right =
+      let one = word_taken (first more) more refl (modifier_word (first more) modifiers.Rescue rescue) in
+      let r = right.0 in
+      negated_whole last tail (rescued_node n other) (omega arith)
+      (λ d room. rescued_value d owner later last more tail n other sorts.Command refl rescue right (omega arith))
+      (λ none. modifier_free (first more) modifiers.Rescue rescue)
 
 pub commanded : (place : Place) (owner : DoOwner) (names known : Names) (ts rest : Tokens) (n : Node)
     → (is_statement place && is_target_group ts) ≡ false → Fact (Command place owner n) names ts known rest

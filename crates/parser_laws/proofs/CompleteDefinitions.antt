@@ -199,7 +199,7 @@ pub path_fact : (names known : Names) (ts rest : Tokens) (n s : Node) (x : Name)
 path_fact names known ts rest n s x inner there = (
   inner.0,
   inner.1,
-  λ d room. rw (operation_of places.Argument (levels d) names known ts rest 1 owners.Call n
+  λ d room. rw (operation_of places.Argument (levels d) names known ts rest 1 owners.Call n refl
       (inner.2 d room)) (rw there refl),
 )
 
@@ -233,7 +233,8 @@ module _ (place : Place) (owner : DoOwner) (names : Names) (ts : Tokens) where
       → first ts ≡ words.Key keywords.Def → Fact (MethodHead h) names (behind ts) known rest
       → Fact (MethodParameters l) [] rest inner more → assignment_at (first more) ≡ None
       → Fact (Body b) inner more later last
-      → Fact (PrimaryRule place owner (method_node h (block_of l (locals_from 0 later) b))) names ts known last
+      → Fact (PrimaryRule place owner (method_node h (block_of (place_at ts) l (locals_from 0 later) b))) names ts
+      known last
   unfolding primary_by compound define
   define_fact known inner later rest more last h l b is head parameters free body =
       let one_taken = word_taken (words.Key keywords.Def) ts is refl in
@@ -264,7 +265,7 @@ module _ (place : Place) (owner : DoOwner) (names : Names) (ts : Tokens) where
       → first ts ≡ words.Key keywords.Class → Fact (ClassPath s x) names (behind ts) known rest
       → is_separator (first rest) ≡ true
       → Fact (Body b) [] (behind rest) inner last
-      → Fact (PrimaryRule place owner (node.class_node s x none b)) names ts known last
+      → Fact (PrimaryRule place owner (node.class_node s x none (locals_from 0 inner) b)) names ts known last
   unfolding primary_by compound class_form
   class_fact known inner rest last s x b is path separator body =
       let one_taken = word_taken (words.Key keywords.Class) ts is refl in
@@ -281,7 +282,7 @@ module _ (place : Place) (owner : DoOwner) (names : Names) (ts : Tokens) where
       → first rest ≡ words.Mark marks.Less → Fact (Expression places.Command owners.Call n) known (behind rest) later
       more → is_separator (first more) ≡ true
       → Fact (Body b) [] (behind more) inner last
-      → Fact (PrimaryRule place owner (node.class_node s x (one n) b)) names ts later last
+      → Fact (PrimaryRule place owner (node.class_node s x (one n) (locals_from 0 inner) b)) names ts later last
   unfolding primary_by compound class_form
   subclass_fact known later inner rest more last s x n b is path less parent separator body =
       let one_taken = word_taken (words.Key keywords.Class) ts is refl in
@@ -301,7 +302,7 @@ module _ (place : Place) (owner : DoOwner) (names : Names) (ts : Tokens) where
       → Fact (Expression places.Command owners.Call n) names (behind (behind ts)) known rest
       → is_separator (first rest) ≡ true
       → Fact (Body b) [] (behind rest) inner last
-      → Fact (PrimaryRule place owner (node.singleton_class n b)) names ts known last
+      → Fact (PrimaryRule place owner (node.singleton_class n (locals_from 0 inner) b)) names ts known last
   unfolding primary_by compound class_form
   singleton_fact known inner rest last n b is shift value separator body =
       let one_taken = word_taken (words.Key keywords.Class) ts is refl in
@@ -314,7 +315,8 @@ module _ (place : Place) (owner : DoOwner) (names : Names) (ts : Tokens) where
       (λ d room. rw shift (rw (value.2 d (omega arith) free.2) (rw (free.1) (rw (body.2 d (omega arith)) refl))))
 
   pub module_fact : (known inner : Names) (rest last : Tokens) (s : Node) (x : Name) (b : Node) → first ts ≡ words.Key keywords.Module → Fact (ClassPath s x) names (behind ts) known rest
-      → Fact (Body b) [] rest inner last → Fact (PrimaryRule place owner (node.module_node s x b)) names ts known last
+      → Fact (Body b) [] rest inner last
+      → Fact (PrimaryRule place owner (node.module_node s x (locals_from 0 inner) b)) names ts known last
   unfolding primary_by compound module_form
   module_fact known inner rest last s x b is path body =
       let one_taken = word_taken (words.Key keywords.Module) ts is refl in

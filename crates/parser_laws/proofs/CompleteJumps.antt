@@ -5,8 +5,8 @@ use Rattle.rb_syntax.specs.declared.keyword.Keyword.TheVariants as keywords
 use Rattle.rb_syntax.specs.declared.punctuator.Punctuator.TheVariants as marks
 use Rattle.parser_tree.specs.Node as node
 use Rattle.parser_tree.specs.View.{items_of}
-use Rattle.parser_tokens.specs.Tokens.{first, behind, is_apart}
-use Rattle.parser_tokens.specs.Starts.{begins_value, begins_argument, is_open_brace, opens_arguments, jump_at}
+use Rattle.parser_tokens.specs.Tokens.{first, behind, place_at}
+use Rattle.parser_tokens.specs.Starts.{begins_value, begins_argument, is_open_brace, jump_at}
 use Rattle.parser_tokens.specs.declared.starts.Jump.{Jump}
 use Rattle.parser_tokens.specs.declared.word.Word.{Word}
 use Rattle.parser_tokens.specs.declared.word.Word.TheVariants as words
@@ -22,7 +22,7 @@ use Rattle.parser_phrases.specs.Phrases.{jump_list, phrase_by}
 use Rattle.parser_forms.specs.Reading.{Names, Tokens}
 use Rattle.parser_laws.specs.Rules.{Command, Listing}
 use Rattle.parser_laws.proofs.Results.{differs, and_false}
-use Rattle.parser_laws.proofs.Tests.{and_parts}
+use Rattle.parser_laws.proofs.Plain.{argument_begins}
 use Rattle.parser_laws.proofs.Facts.{is_head, begins, is_finish, Fact, word_taken}
 use Rattle.parser_laws.proofs.Heads.{head_begins}
 use Rattle.parser_laws.proofs.CompleteBrackets.{list_below}
@@ -85,21 +85,21 @@ jump_there place ts j there may begins =
     let w = jumps (first ts) j there in
     w.start place ts ∙ command_there place ts (starts.Jump j) (rw w.group refl) may (jump_command ts j there begins)
 
-yield_command : (ts : Tokens) → first ts ≡ words.Key keywords.Yield → begins_value (first (behind ts)) ≡ true
-    → opens_arguments (behind ts) ≡ false → command_start ts ≡ starts.Yield
+yield_command : (ts : Tokens) → first ts ≡ words.Key keywords.Yield → begins_argument (behind ts) ≡ true
+    → command_start ts ≡ starts.Yield
 unfolding command_start
-yield_command ts is begins closed = rw is (rw begins (rw closed refl))
+yield_command ts is begins = rw is (rw begins refl)
 
 yield_other : (w : Word) (place : Place) (ts : Tokens) → w ≡ words.Key keywords.Yield
     → start_of w place ts ≡ other_start place ts
 yield_other w place ts e = rw e refl
 
 yield_there : (place : Place) (ts : Tokens) → first ts ≡ words.Key keywords.Yield → allows_command place ≡ true
-    → begins_value (first (behind ts)) ≡ true → opens_arguments (behind ts) ≡ false → start_at place ts ≡ starts.Yield
+    → begins_argument (behind ts) ≡ true → start_at place ts ≡ starts.Yield
 unfolding start_at
-yield_there place ts is may begins closed =
+yield_there place ts is may begins =
     let same : start_of (first ts) place ts ≡ other_start place ts = yield_other (first ts) place ts is in
-    same ∙ command_there place ts starts.Yield (rw is refl) may (yield_command ts is begins closed)
+    same ∙ command_there place ts starts.Yield (rw is refl) may (yield_command ts is begins)
 
 -- no block stands where an argument begins
 word_no_block : (takes : Bool) (w : Word) → not (is_open_brace w) ≡ true → begins_value w ≡ true
@@ -109,18 +109,16 @@ word_no_block takes (words.Key keywords.Do) h g = differs (sym g)
 word_no_block takes w h g = refl
 
 pub argument_no_block : (owner : DoOwner) (ts : Tokens) → begins_argument ts ≡ true → block_at owner ts ≡ None
-unfolding begins_argument
 argument_no_block owner ts h =
-    let a = and_parts (not (is_open_brace (first ts))) _ h in
-    let b = and_parts (is_apart ts) _ a.1 in
-    let c = and_parts (begins_value (first ts)) _ b.1 in
-    word_no_block (call_takes owner) (first ts) a.0 c.0
+    let a = argument_begins ts h in
+    word_no_block (call_takes owner) (first ts) a.0 a.1
 
 module _ (place : Place) (owner : DoOwner) (names : Names) (ts : Tokens) where
   pub jump_list_fact : (j : Jump) (known : Names) (rest : Tokens) (l : ListNode) → jump_at (first ts) ≡ Some j
       → allows_command place ≡ true → begins_value (first (behind ts)) ≡ true
       → Fact (Listing owner l) names (behind ts) known rest
-      → is_none l.block ≡ true → Fact (Command place owner (jump_node j (whole_items l.items l.pairs))) names ts known
+      → is_none l.block ≡ true
+      → Fact (Command place owner (jump_node j (place_at ts) (whole_items l.items l.pairs))) names ts known
       rest
   unfolding part_at phrase_by jump_list
   jump_list_fact j known rest l there may begun inner none =
@@ -139,11 +137,12 @@ module _ (place : Place) (owner : DoOwner) (names : Names) (ts : Tokens) where
       )
 
   pub yield_list_fact : (known : Names) (rest : Tokens) (l : ListNode) → first ts ≡ words.Key keywords.Yield
-      → allows_command place ≡ true → begins_value (first (behind ts)) ≡ true → opens_arguments (behind ts) ≡ false
+      → allows_command place ≡ true → begins_argument (behind ts) ≡ true
       → Fact (Listing (in_command owner) l) names (behind ts) known rest → is_none l.block ≡ true
-      → Fact (Command place owner (node.yield_node (items_of (whole_items l.items l.pairs)))) names ts known rest
+      → Fact (Command place owner (node.yield_node (place_at ts) (items_of (whole_items l.items l.pairs)))) names ts
+      known rest
   unfolding part_at phrase_by jump_list
-  yield_list_fact known rest l is may begins closed inner none =
+  yield_list_fact known rest l is may begins inner none =
       let one = word_taken (words.Key keywords.Yield) ts is refl in
       let fewer = inner.0 in (
         omega arith,
@@ -151,7 +150,7 @@ module _ (place : Place) (owner : DoOwner) (names : Names) (ts : Tokens) where
         λ d room. (
           rw is refl,
           λ group free.
-              let started = yield_there place ts is may begins closed in
+              let started = yield_there place ts is may begins in
               let read = list_below d names known (behind ts) rest (in_command owner) l (omega arith) inner
               (omega arith) free in
               rw started (rw read (rw none refl)),

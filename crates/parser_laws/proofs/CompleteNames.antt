@@ -6,7 +6,7 @@ use Rattle.rb_syntax.specs.declared.punctuator.Punctuator.{Punctuator}
 use Rattle.rb_syntax.specs.declared.punctuator.Punctuator.TheVariants as marks
 use Rattle.parser_tree.specs.Node.{Node}
 use Rattle.parser_tokens.specs.Tokens.{first, behind, bytes_at, place_at}
-use Rattle.parser_tokens.specs.Starts.{is_open_parenthesis, opens_arguments, begins_argument, postfix_at}
+use Rattle.parser_tokens.specs.Starts.{is_open_parenthesis, opens_arguments, begins_argument, makes_call, postfix_at}
 use Rattle.parser_tokens.specs.declared.starts.Postfix.{Postfix}
 use Rattle.parser_tokens.specs.declared.starts.Postfix.TheVariants as postfixes
 use Rattle.parser_tokens.specs.declared.word.Word.{Word}
@@ -69,9 +69,9 @@ opened_word ts h = by_word (first ts) (and_parts (is_open_parenthesis (first ts)
     by_word (words.Mark marks.OpenParenthesis) g = refl
     by_word w g = differs (sym g)
 
--- a name before arguments in parentheses is called
+-- a name before what makes a call of it is called
 pub name_primary : (names : Names) (ts : Tokens) (w : Word) → first ts ≡ w → is_name_word w ≡ true
-    → opens_arguments (behind ts) ≡ true → primary_at names ts ≡ primaries.Name
+    → makes_call (behind ts) ≡ true → primary_at names ts ≡ primaries.Name
 unfolding primary_at
 name_primary names ts words.Identifier there h opened =
     elim (cases_Bool (is_known (bytes_at ts) names)) [

@@ -1,11 +1,13 @@
 -- Operands with operators between them that are derived are read.
 use Rattle.std.proofs.Common.{◌≡◌, ℕ, ◌+◌, ◌-◌, ◌<◌, ◌⊎◌, Bool, true, false, ◌&&◌, length, Option, Some, None, is_some, Ok, if◌then◌else◌, inl, inr, refl, sym, ap, subst, ◌∙◌, arith}
+use Rattle.std.proofs.lemmas.Bool.{cases_Bool}
 use Rattle.rb_syntax.specs.declared.punctuator.Punctuator.TheVariants as marks
 use Rattle.parser_tree.specs.Node.{Node}
 use Rattle.parser_tokens.specs.Tokens.{first, behind, place_at}
-use Rattle.parser_tokens.specs.Operators.{infix_at, right_level, clashes, prefix_at}
+use Rattle.parser_tokens.specs.Operators.{assignment_at, infix_at, right_level, clashes, prefix_at}
 use Rattle.parser_tokens.specs.Starts.{begins_argument, postfix_at}
 use Rattle.parser_ahead.specs.Primary.{allows_command, of_value}
+use Rattle.parser_tokens.specs.declared.operators.Assignment.{Assignment}
 use Rattle.parser_tokens.specs.declared.operators.Infix.{Infix}
 use Rattle.parser_tokens.specs.declared.operators.Prefix.{Prefix}
 use Rattle.parser_tokens.specs.declared.operators.Prefix.TheVariants as prefixes
@@ -15,18 +17,18 @@ use Rattle.parser_ahead.specs.declared.primary.DoOwner.{DoOwner}
 use Rattle.parser_ahead.specs.declared.primary.Place.{Place}
 use Rattle.parser_ahead.specs.declared.primary.Place.TheVariants as places
 use Rattle.parser_nodes.specs.Nodes.{infix_node, prefix_node}
-use Rattle.parser_nodes.specs.Calls.{OperandNode, whole, callee, operand_node}
+use Rattle.parser_nodes.specs.Calls.{OperandNode, whole, callee, is_target, operand_node}
 use Rattle.parser_operands.specs.Operands as operands
 use Rattle.parser_operands.specs.Operands.{begins_command, continues, chain_within, chain, operand_with, operand}
-use Rattle.parser_operands.specs.Operators.{operators_turn, operators_from, operation}
+use Rattle.parser_operands.specs.Operators.{assignment_to, operators, operation_by, operators_turn, operators_from, operation}
 use Rattle.parser_operands.proofs.Turns.{chain_step, operators_step}
 use Rattle.parser_forms.specs.Reading.{Names, Tokens, Inside}
 use Rattle.rb_parser.specs.Levels.{levels}
-use Rattle.parser_laws.specs.Rules.{Primary, Operand, Operators, Operation, operand_level, operand_place}
-use Rattle.parser_laws.proofs.Results.{bind_ok, differs, read_same, carry, same_read}
-use Rattle.parser_laws.proofs.Tests.{or_left}
-use Rattle.parser_laws.proofs.SoundPostfix.{same_level}
-use Rattle.parser_laws.proofs.SoundPhrases.{none_so_tight, prefix_not}
+use Rattle.parser_laws.specs.Rules.{Primary, Operand, Operators, Operation, is_inner, is_taken, operand_level, operand_place}
+use Rattle.parser_laws.proofs.Results.{bind_ok, clash, differs, read_same, carry, same_read}
+use Rattle.parser_laws.proofs.CompleteValues.{free_target, true_and}
+use Rattle.parser_laws.proofs.OperatorFacts.{same_level, inner_level, inner_right, prefix_not, prefix_no_target}
+use Rattle.parser_laws.proofs.SoundPhrases.{none_so_tight}
 use Rattle.parser_laws.proofs.Facts.{Reads, is_finish, Fact, levels_at, word_taken, Within, Settled, Nots}
 use Rattle.parser_laws.proofs.Heads.{head_not_finish, prefix_head, head_opens}
 
@@ -85,16 +87,18 @@ read_operation : (i : Inside) (place : Place) (names known : Names) (ts rest : T
     (x : Node) (m : OperandNode) (k : Names) (mid : Tokens)
     → ((commands : Bool) → Within commands place → operand i names ts commands owner ≡ Ok (m, k, mid))
     → ((n : ℕ) → length mid < n → operators_from i n l owner (operand_node m) k mid ≡ Ok (x, known, rest))
-    → operation i names ts l owner ≡ Ok (x, known, rest)
+    → assignment_to m mid ≡ None → operation i names ts l owner ≡ Ok (x, known, rest)
 unfolding operation
-read_operation i place names known ts rest l owner x m k mid first_read all =
-    rw (first_read false (never_within place)) (all (length mid + 1) (omega arith))
+read_operation i place names known ts rest l owner x m k mid first_read all free =
+    rw (first_read false (never_within place)) (rw free (all (length mid + 1) (omega arith)))
 
 pub operation_of : (place : Place) (i : Inside) (names known : Names) (ts rest : Tokens) (l : ℕ) (owner : DoOwner)
-    (x : Node) → Reads i (Operation place l owner x) names ts known rest
+    (x : Node) → is_inner l ≡ true → Reads i (Operation place l owner x) names ts known rest
     → operation i names ts l owner ≡ Ok (x, known, rest)
-operation_of place i names known ts rest l owner x r =
-    read_operation i place names known ts rest l owner x r.0 r.1 r.2 r.3.0 r.4
+operation_of place i names known ts rest l owner x inner r = elim r [
+  | inl all ↦ read_operation i place names known ts rest l owner x all.0 all.1 all.2 all.3.0 all.4 (all.5 inner)
+  | inr assigned ↦ assigned.2
+]
 
 -- where a command may begin, a name alone begins none
 pub settled_calm : (o : OperandNode) (place : Place) (ts : Tokens) → Settled o place ts → allows_command place ≡ true
@@ -113,7 +117,13 @@ alone : (i : Inside) (place : Place) (names known : Names) (ts rest : Tokens) (o
     → (o : OperandNode) × (x ≡ operand_node o)
     × (allows_command place ≡ true → (operand i names ts true owner ≡ Ok (o, known, rest))
     × (begins_command o rest ≡ false))
-alone i place names known ts rest owner x r =
+alone i place names known ts rest owner x (inr assigned) = (
+  whole x,
+  refl,
+  λ may. clash (allows_command (of_value place)) (value_allows place may)
+      (ap allows_command assigned.1),
+)
+alone i place names known ts rest owner x (inl r) =
     let ends : operators_from i (length r.2 + 1) 1 owner (operand_node r.0) r.1 r.2 ≡ Ok (operand_node r.0, r.1, r.2) =
     operators_step i (length r.2 + 1) 1 owner (operand_node r.0) r.1 r.2 (omega arith)
     ∙ rw (none_so_tight (first r.2)) refl in
@@ -126,8 +136,7 @@ alone i place names known ts rest owner x r =
           let there = value_allows place may in
           let got : (operand i names ts true owner ≡ Ok (r.0, r.1, r.2)) × (begins_command r.0 r.2 ≡ false) = (
             r.3.0 true (λ h. there),
-            settled_calm r.0 (of_value place) r.2
-                (r.3.2 (or_left (allows_command (of_value place)) _ there)) there,
+            settled_calm r.0 (of_value place) r.2 r.3.2 there,
           ) in
           carry (λ (y : Node) (k : Names) (m : Tokens). (operand i names ts true owner ≡ Ok (r.0, k, m))
           × (begins_command r.0 m ≡ false)) (operand_node r.0) x r.1 known r.2 rest same got,
@@ -156,7 +165,7 @@ prefixed place owner o names known ts rest n there inner =
           below d (omega arith) names (behind ts) (operands.operand_level o) owner
           ∙ ap (λ l. operation (levels (d - 1)) names (behind ts) l owner) (same_level o)
           ∙ operation_of (operand_place o place) (levels (d - 1)) names known (behind ts) rest (operand_level o) owner n
-          (inner.2 (d - 1) (omega arith)) in (
+          (inner_level o) (inner.2 (d - 1) (omega arith)) in (
             whole (prefix_node o n),
             refl,
             tt,
@@ -174,16 +183,18 @@ prefixed place owner o names known ts rest n there inner =
           ),
     )
 
--- what has an operator before it begins no command
+-- what has an operator before it begins no command, and no assignment
 prefixed_calm : (i : Inside) (names k : Names) (ts mid : Tokens) (owner : DoOwner) (o : Prefix) (m : OperandNode)
-    → prefix_at ts ≡ Some o → operand i names ts false owner ≡ Ok (m, k, mid) → begins_command m mid ≡ false
+    → prefix_at ts ≡ Some o → operand i names ts false owner ≡ Ok (m, k, mid)
+    → (begins_command m mid ≡ false) × (assignment_to m mid ≡ None)
 unfolding operand
 prefixed_calm i names k ts mid owner o m there read =
     let made : operand_with i (Some o) names ts false owner ≡ Ok (m, k, mid) =
     subst (λ (p : Option Prefix). operand_with i p names ts false owner ≡ Ok (m, k, mid)) there read in
     let r = bind_ok (i.operation names (behind ts) (operands.operand_level o) owner) _ (m, k, mid) made in
-    carry (λ (p : OperandNode) (l : Names) (q : Tokens). begins_command p q ≡ false) (whole (prefix_node o r.0.0)) m
-    r.0.1 k r.0.2 mid r.2 refl
+    let free : assignment_to (whole (prefix_node o r.0.0)) r.0.2 ≡ None = rw (prefix_no_target o r.0.0) refl in
+    carry (λ (p : OperandNode) (l : Names) (q : Tokens). (begins_command p q ≡ false) × (assignment_to p q ≡ None))
+    (whole (prefix_node o r.0.0)) m r.0.1 k r.0.2 mid r.2 (refl, free)
 
 -- nor is it read in another way where a command may stand
 prefixed_same : (i : Inside) (names : Names) (ts : Tokens) (owner : DoOwner) (o : Prefix) → prefix_at ts ≡ Some o
@@ -196,19 +207,27 @@ prefixed_alone : (i : Inside) (names known : Names) (ts rest : Tokens) (owner : 
     → prefix_at ts ≡ Some o → Reads i (Operation places.Argument 1 owner x) names ts known rest
     → (m : OperandNode) × (x ≡ operand_node m) × (operand i names ts true owner ≡ Ok (m, known, rest))
     × (begins_command m rest ≡ false)
+unfolding operation
 prefixed_alone i names known ts rest owner o x there r =
-    let ends : operators_from i (length r.2 + 1) 1 owner (operand_node r.0) r.1 r.2 ≡ Ok (operand_node r.0, r.1, r.2) =
-    operators_step i (length r.2 + 1) 1 owner (operand_node r.0) r.1 r.2 (omega arith)
-    ∙ rw (none_so_tight (first r.2)) refl in
-    let same : same_read (Ok (operand_node r.0, r.1, r.2)) (Ok (x, known, rest)) = sym ends
-    ∙ r.4 (length r.2 + 1) (omega arith) in
-    let e = read_same (operand_node r.0) x r.1 known r.2 rest same in
-    let read = r.3.0 false (never_within places.Argument) in
-    let got : (operand i names ts true owner ≡ Ok (r.0, r.1, r.2)) × (begins_command r.0 r.2 ≡ false) =
-    (prefixed_same i names ts owner o there ∙ read, prefixed_calm i names r.1 ts r.2 owner o r.0 there read) in
-    let there_too = carry (λ (y : Node) (k : Names) (m : Tokens). (operand i names ts true owner ≡ Ok (r.0, k, m))
-    × (begins_command r.0 m ≡ false)) (operand_node r.0) x r.1 known r.2 rest same got in
-    (r.0, sym e.0, there_too.0, there_too.1)
+    let made : operation i names ts 1 owner ≡ Ok (x, known, rest) =
+    operation_of places.Argument i names known ts rest 1 owner x refl r in
+    let one = bind_ok (operand i names ts false owner) _ (x, known, rest) made in
+    let m = one.0.0 in
+    let k = one.0.1 in
+    let mid = one.0.2 in
+    let calm = prefixed_calm i names k ts mid owner o m there one.1 in
+    let all : operators i (operand_node m) k mid 1 owner ≡ Ok (x, known, rest) =
+    subst (λ (a : Option Assignment). operation_by i a m k mid 1 owner ≡ Ok (x, known, rest)) calm.1 one.2 in
+    let ends : operators i (operand_node m) k mid 1 owner ≡ Ok (operand_node m, k, mid) =
+    operators_step i (length mid + 1) 1 owner (operand_node m) k mid (omega arith)
+    ∙ rw (none_so_tight (first mid)) refl in
+    let same : same_read (Ok (operand_node m, k, mid)) (Ok (x, known, rest)) = sym ends ∙ all in
+    let e = read_same (operand_node m) x k known mid rest same in
+    let got : (operand i names ts true owner ≡ Ok (m, k, mid)) × (begins_command m mid ≡ false) =
+    (prefixed_same i names ts owner o there ∙ one.1, calm.0) in
+    let there_too = carry (λ (y : Node) (l : Names) (q : Tokens). (operand i names ts true owner ≡ Ok (m, l, q))
+    × (begins_command m q ≡ false)) (operand_node m) x k known mid rest same got in
+    (m, sym e.0, there_too.0, there_too.1)
 
 pub not_prefixed : (place : Place) (owner : DoOwner) (o : Prefix) (names known : Names) (ts rest : Tokens) (n : Node)
     → first ts ≡ words.Mark marks.Not → prefix_at (behind ts) ≡ Some o
@@ -225,7 +244,7 @@ not_prefixed place owner o names known ts rest n is there inner =
       λ d room.
           let read : (levels d).operation names (behind ts) 1 owner ≡ Ok (n, known, rest) =
           below d (omega arith) names (behind ts) 1 owner
-          ∙ operation_of places.Argument (levels (d - 1)) names known (behind ts) rest 1 owner n
+          ∙ operation_of places.Argument (levels (d - 1)) names known (behind ts) rest 1 owner n refl
           (inner.2 (d - 1) (omega arith)) in
           let b = prefixed_alone (levels d) names known (behind ts) rest owner o n there (inner.2 d (omega arith)) in (
             whole (prefix_node prefixes.Not n),
@@ -247,7 +266,7 @@ one_operand place loosest owner names known ts rest n inner = (
         r.0,
         known,
         rest,
-        (r.3, nots, λ begins. r.2, inl (sym r.1, refl)),
+        (r.3, nots, r.2, inl (sym r.1, refl)),
         λ m more. (m, more, ap (λ x. operators_from (levels d) m loosest owner x known rest) r.1),
       ),
 )
@@ -274,7 +293,7 @@ infixed place loosest owner o names known later ts rest more a b left there righ
           let read : (levels d).operation known (behind rest) (right_level o) owner ≡ Ok (b, later, more) =
           below d (omega arith) known (behind rest) (right_level o) owner
           ∙ operation_of places.Argument (levels (d - 1)) known later (behind rest) more (right_level o) owner b
-          (right.2 (d - 1) (omega arith)) in
+          (inner_right o) (right.2 (d - 1) (omega arith)) in
           let led : ((infix_node o (place_at rest) a b ≡ operand_node f.0) × (more ≡ f.2))
           ⊎ (is_some (infix_at loosest (first f.2)) ≡ true) =
           inr (elim f.3.3 [
@@ -298,14 +317,23 @@ infixed place loosest owner o names known later ts rest more a b left there righ
           ),
     )
 
+no_target : (m : OperandNode) (ts : Tokens) → (is_target m ≡ true → assignment_at (first ts) ≡ None)
+    → assignment_to m ts ≡ None
+no_target m ts free = elim (cases_Bool (is_target m)) [
+  | inl target ↦ rw (target, free target) refl
+  | inr other ↦ rw other refl
+]
+
 pub all_operators : (place : Place) (loosest : ℕ) (owner : DoOwner) (names known : Names) (ts rest : Tokens) (n : Node)
     → Fact (Operators place loosest owner n) names ts known rest → infix_at loosest (first rest) ≡ None
+    → (is_inner loosest && is_taken place n (first rest)) ≡ false
     → Fact (Operation place loosest owner n) names ts known rest
-all_operators place loosest owner names known ts rest n inner none = (
+all_operators place loosest owner names known ts rest n inner none untaken = (
   inner.0,
   inner.1,
   λ d room.
-      let f = inner.2 d room in (
+      let f = inner.2 d room in
+      inl (
         f.0,
         f.1,
         f.2,
@@ -314,5 +342,7 @@ all_operators place loosest owner names known ts rest n inner none = (
             let t = f.4 m enough in
             let some = t.1 in
             t.2 ∙ operators_step (levels d) t.0 loosest owner n known rest (omega arith) ∙ rw none refl,
+        λ within. no_target f.0 f.2 (λ target. (free_target loosest place f.0 n f.2 rest f.3.3 f.3.2
+            (true_and (is_inner loosest) (is_taken place n (first rest)) within untaken) target).0),
       ),
 )

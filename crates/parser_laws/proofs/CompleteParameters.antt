@@ -17,11 +17,11 @@ use Rattle.parser_ahead.specs.declared.primary.DoOwner.TheVariants as owners
 use Rattle.parser_ahead.specs.declared.primary.Place.TheVariants as places
 use Rattle.parser_nodes.specs.Nodes.{outside_node}
 use Rattle.parser_form_nodes.specs.Parameters.{ParameterNode, ParameterNodes, required, optional, rest_of, block_name, outside_parameter, no_parameters, may_follow, put_parameter, begins_parameter}
-use Rattle.parser_forms.specs.Parameters.{is_identifier as identifies, is_assign, parameter, parameter_at, parameters_from, open_parameters}
+use Rattle.parser_forms.specs.Parameters.{is_identifier as identifies, is_assign, parameter, parameter_at, parameters_from, open_parameters, lambda_parameters}
 use Rattle.parser_forms.proofs.Turns.{parameters_step}
 use Rattle.parser_forms.specs.Reading.{Names, Tokens, Inside}
 use Rattle.rb_parser.specs.Levels.{level_above, levels}
-use Rattle.parser_laws.specs.Rules.{Argument, Parameter, ParameterList, Parameters, MethodParameters, is_identifier}
+use Rattle.parser_laws.specs.Rules.{Argument, Parameter, ParameterList, Parameters, MethodParameters, LambdaParameters, BarredLocals, is_identifier}
 use Rattle.parser_laws.proofs.Facts.{is_finish, Fact, word_taken, behind_within}
 use Rattle.parser_laws.proofs.Facts.{skip_one}
 use Rattle.parser_laws.proofs.Heads.{word_begins}
@@ -236,3 +236,26 @@ pub bare_parameters : (names known : Names) (ts rest : Tokens) (l : ParameterNod
     → Fact (MethodParameters l) names ts known rest
 unfolding open_parameters
 bare_parameters names known ts rest l other inner = (inner.0, refl, λ d room. rw other (rw (inner.2 d room) refl))
+
+pub open_lambda : (names known later : Names) (ts rest more : Tokens) (l : ParameterNodes)
+    → first ts ≡ words.Mark marks.OpenParenthesis → Fact (Parameters l) names (behind ts) known rest
+    → Fact BarredLocals known rest later more
+    → first (skip_newlines more) ≡ words.Mark marks.CloseParenthesis
+    → Fact (LambdaParameters l) names ts later (behind (skip_newlines more))
+unfolding lambda_parameters
+open_lambda names known later ts rest more l is inner variables closing =
+    let one = word_taken (words.Mark marks.OpenParenthesis) ts is refl in
+    let a = newlines_skipped more in
+    let b = behind_within (skip_newlines more) in
+    let fewer = inner.0 in
+    let less = variables.0 in (
+      omega arith,
+      refl,
+      λ d room. rw is (rw (inner.2 d (omega arith)) (rw (variables.2 d (omega arith)) (rw closing refl))),
+    )
+
+pub bare_lambda : (names known : Names) (ts rest : Tokens) (l : ParameterNodes)
+    → is_open_parenthesis (first ts) ≡ false → Fact (Parameters l) names ts known rest
+    → Fact (LambdaParameters l) names ts known rest
+unfolding lambda_parameters
+bare_lambda names known ts rest l other inner = (inner.0, refl, λ d room. rw other (rw (inner.2 d room) refl))

@@ -7,7 +7,7 @@ use Rattle.parser_tree.specs.Node.{Node}
 use Rattle.parser_tokens.specs.Tokens.{first, behind, bytes_at, integer_at, place_at}
 use Rattle.parser_tokens.specs.Expect.{skip_newlines}
 use Rattle.parser_tokens.specs.Operators.{is_sign}
-use Rattle.parser_tokens.specs.Starts.{opens_arguments}
+use Rattle.parser_tokens.specs.Starts.{makes_call}
 use Rattle.parser_tokens.specs.declared.word.Word.{Word}
 use Rattle.parser_tokens.specs.declared.word.Word.TheVariants as words
 use Rattle.parser_ahead.specs.Names.{is_known}
@@ -71,11 +71,11 @@ module _ (place : Place) (owner : DoOwner) (names : Names) (ts : Tokens) where
   unfolding primary_at primary_by compound leaf
   global_variable is = word_fact _ _ is refl (λ i. rw is (rw is refl))
 
-  pub constant : first ts ≡ words.Constant → opens_arguments (behind ts) ≡ false → Alone (node.constant (bytes_at ts))
+  pub constant : first ts ≡ words.Constant → makes_call (behind ts) ≡ false → Alone (node.constant (bytes_at ts))
   unfolding primary_at primary_by compound leaf
   constant is closed = word_fact _ _ is refl (λ i. rw (is, closed) (rw is refl))
 
-  pub local : first ts ≡ words.Identifier → is_known (bytes_at ts) names ≡ true → opens_arguments (behind ts) ≡ false
+  pub local : first ts ≡ words.Identifier → is_known (bytes_at ts) names ≡ true → makes_call (behind ts) ≡ false
       → Alone (node.local (bytes_at ts))
   unfolding primary_at primary_by compound leaf
   local is known closed = word_fact _ _ is refl (λ i. rw (is, known, closed) refl)

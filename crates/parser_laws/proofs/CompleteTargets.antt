@@ -1,5 +1,5 @@
 -- A target that is derived is read, before an assignment.
-use Rattle.std.proofs.Common.{◌≡◌, ℕ, ◌+◌, ◌<◌, ◌≤◌, Bool, true, false, not, ◌&&◌, ◌||◌, List, length, Some, None, is_some, Ok, inl, inr, refl, sym, ap, subst, ◌∙◌, arith}
+use Rattle.std.proofs.Common.{◌≡◌, ℕ, ◌+◌, ◌<◌, ◌≤◌, Bool, true, false, not, ◌&&◌, List, length, None, is_some, Ok, inl, inr, refl, sym, ap, subst, ◌∙◌, arith}
 use Rattle.std.proofs.lemmas.Bool.{cases_Bool}
 use Rattle.rb_syntax.specs.declared.keyword.Keyword.TheVariants as keywords
 use Rattle.rb_syntax.specs.declared.outside.Outside.{Outside}
@@ -9,9 +9,8 @@ use Rattle.rb_syntax.specs.declared.punctuator.Punctuator.TheVariants as marks
 use Rattle.parser_tree.specs.Node as node
 use Rattle.parser_tree.specs.Node.{Node, nodes, one}
 use Rattle.parser_tokens.specs.Tokens.{first, behind, bytes_at, place_at}
-use Rattle.parser_tokens.specs.Operators.{prefix_at, assignment_at}
-use Rattle.parser_tokens.specs.Starts.{begins_value, begins_argument, is_open_parenthesis, opens_arguments, postfix_at, is_open_brace}
-use Rattle.parser_tokens.specs.declared.operators.Assignment.{Assignment}
+use Rattle.parser_tokens.specs.Operators.{prefix_at}
+use Rattle.parser_tokens.specs.Starts.{begins_value, is_open_parenthesis, postfix_at}
 use Rattle.parser_tokens.specs.declared.word.Word.{Word}
 use Rattle.parser_tokens.specs.declared.word.Word.TheVariants as words
 use Rattle.parser_ahead.specs.Names.{is_known, learned}
@@ -24,14 +23,14 @@ use Rattle.parser_operands.specs.Operands.{suffix, compound, primary_by, primary
 use Rattle.parser_operands.proofs.Turns.{chain_step}
 use Rattle.parser_forms.specs.Reading.{Names, Tokens, Inside}
 use Rattle.rb_parser.specs.Levels.{levels}
-use Rattle.parser_laws.specs.Rules.{Target, InnerTarget, is_inner, is_place, is_outside_variable, Operators, Primary, Callee}
-use Rattle.parser_laws.proofs.Results.{differs, and_false, both}
-use Rattle.parser_laws.proofs.Tests.{or_left}
+use Rattle.parser_laws.specs.Rules.{Target, InnerTarget, is_place, is_outside_variable, Primary, Callee}
+use Rattle.parser_laws.proofs.Results.{differs, both}
+use Rattle.parser_laws.proofs.Plain.{no_arguments, no_call}
 use Rattle.parser_laws.proofs.Facts.{Within, is_variable, ends_target, Fact, word_taken, is_bang, opens}
 use Rattle.parser_ahead.specs.declared.primary.Place.{Place}
 use Rattle.parser_ahead.specs.declared.primary.Place.TheVariants as places
 use Rattle.parser_laws.proofs.Heads.{variable_head, head_opens}
-use Rattle.parser_laws.proofs.SoundPhrases.{prefix_not}
+use Rattle.parser_laws.proofs.OperatorFacts.{prefix_not}
 use Rattle.parser_laws.proofs.CompleteOperands.{never_continues, chain_ends}
 use Rattle.parser_laws.proofs.CompleteCallees.{method_fact}
 
@@ -70,14 +69,6 @@ stops words.Finish h = record { postfix = refl; block = λ t. refl; parenthesis 
 stops words.Newline h = record { postfix = refl; block = λ t. refl; parenthesis = refl; argument = refl }
 stops words.Semicolon h = record { postfix = refl; block = λ t. refl; parenthesis = refl; argument = refl }
 stops w h = differs (sym h)
-
-no_arguments : (ts : Tokens) → is_open_parenthesis (first ts) ≡ false → opens_arguments ts ≡ false
-unfolding opens_arguments
-no_arguments ts h = rw h refl
-
-no_command : (ts : Tokens) → begins_value (first ts) ≡ false → begins_argument ts ≡ false
-unfolding begins_argument
-no_command ts h = rw (h, and_false _) (and_false (not (is_open_brace (first ts))))
 
 pub no_prefix : (w : Word) (ts : Tokens) → first ts ≡ w → is_variable w ≡ true → prefix_at ts ≡ None
 unfolding prefix_at
@@ -158,7 +149,7 @@ module _ (owner : DoOwner) (names : Names) (ts : Tokens) where
   constant_target is = target_fact _ _ _ is refl
       (λ i s. (
         whole (node.constant (bytes_at ts)),
-        rw (is, no_arguments (behind ts) s.parenthesis) (rw is refl),
+        rw (is, no_call (behind ts) s.parenthesis s.argument) (rw is refl),
         refl,
         refl,
         refl,
@@ -170,7 +161,7 @@ module _ (owner : DoOwner) (names : Names) (ts : Tokens) where
   local_target is = target_fact _ _ _ is refl (λ i s. elim (cases_Bool (is_known (bytes_at ts) names)) [
     | inl known ↦ (
       whole (node.local (bytes_at ts)),
-      rw (is, known, no_arguments (behind ts) s.parenthesis) refl,
+      rw (is, known, no_call (behind ts) s.parenthesis s.argument) refl,
       refl,
       refl,
       rw known refl,
@@ -231,7 +222,7 @@ place_whole (callee c) n same is = differs (sym (subst (λ m. is_place m ≡ tru
     by_callee : (c : CalleeNode) → is_place (call_node c None None) ≡ false
     by_callee (name_callee x b) = refl
     by_callee (method_callee r x b) = refl
-    by_callee super_callee = refl
+    by_callee (super_callee at) = refl
     by_callee (outside_callee o at es) = refl
 
 module _ (place : Place) (owner : DoOwner) (names known : Names) (ts rest : Tokens) (none : prefix_at ts ≡ None)
@@ -351,29 +342,3 @@ pub callee_target : (owner : DoOwner) (names known : Names) (ts rest : Tokens) (
     → Fact (Target owner (node.outside o at (nodes ns))) names ts known rest
 callee_target owner names known ts rest o at ns none inner =
     called_target owner names known ts rest (outside_callee o at ns) none inner refl
-
--- what is called alone as the operand of an operator, before an assignment
-pub callee_operand : (loosest : ℕ) (owner : DoOwner) (a : Assignment) (names known : Names) (ts rest : Tokens)
-    (c : CalleeNode) → is_inner loosest ≡ true → prefix_at ts ≡ None
-    → Fact (Callee places.Argument owner c) names ts known rest
-    → assignment_at (first rest) ≡ Some a → Fact (Operators places.Argument loosest owner (call_node c None None)) names
-    ts known rest
-callee_operand loosest owner a names known ts rest c within none inner there = (
-  inner.0,
-  inner.1,
-  λ d room.
-      let ends : ends_target (first rest) ≡ true =
-      or_left (is_some (assignment_at (first rest))) _ (ap is_some there) in (
-        callee c,
-        known,
-        rest,
-        (
-          λ commands calm. (callee_read places.Argument owner names known ts rest none commands calm d room ends c
-              inner).0,
-          λ bang. differs (sym (ap is_some (prefix_not ts bang)) ∙ ap is_some none),
-          λ begins. differs (sym (subst (λ b. (false || not b) ≡ true) within begins)),
-          inl (refl, refl),
-        ),
-        λ n enough. (n, enough, refl),
-      ),
-)

@@ -18,7 +18,7 @@ use Rattle.parser_ahead.specs.declared.primary.DoOwner.{DoOwner}
 use Rattle.parser_ahead.specs.declared.primary.Place.{Place}
 use Rattle.parser_ahead.specs.declared.primary.Place.TheVariants as places
 use Rattle.parser_ahead.specs.declared.primary.Start.TheVariants as starts
-use Rattle.parser_nodes.specs.Nodes.{prefix_node, choice_node, shape}
+use Rattle.parser_nodes.specs.Nodes.{prefix_node, choice_node}
 use Rattle.parser_nodes.specs.Calls.{OperandNode, whole, callee, operand_node, is_target}
 use Rattle.parser_nodes.specs.declared.listed.Sort.TheVariants as sorts
 use Rattle.parser_operands.specs.Operands.{begins_command}
@@ -28,11 +28,12 @@ use Rattle.parser_statements.specs.Statements.{is_not, negation}
 use Rattle.parser_forms.specs.Reading.{Names, Tokens, Inside}
 use Rattle.rb_parser.specs.Levels.{levels}
 use Rattle.parser_laws.specs.Rules.{Argument, Operation, Negation, is_question, takes_target, is_taken}
-use Rattle.parser_laws.proofs.Tests.{or_left, or_right}
+use Rattle.parser_laws.proofs.Tests.{or_left}
 use Rattle.parser_laws.proofs.Results.{clash, differs, and_false}
-use Rattle.parser_laws.proofs.Facts.{Reads, Fact, levels_at, word_taken, Settled, is_bang, begins, opens}
+use Rattle.parser_laws.proofs.Facts.{Reads, Operates, Fact, levels_at, word_taken, Settled, is_bang, begins, opens}
 use Rattle.parser_laws.proofs.Heads.{Front, head_no_not, front_start, not_start, plain_start, opens_begins}
 use Rattle.parser_laws.proofs.Assigning.{or_false_parts}
+use Rattle.parser_laws.proofs.OperatorFacts.{prefix_no_target}
 
 -- an operator between operands is no assignment, and no comma
 infix_mark_free : (l : ℕ) (p : Punctuator) → is_some (within_level l (infix_mark p)) ≡ true → (assignment_mark p ≡ None) × (is_comma_word (words.Mark p) ≡ false)
@@ -53,7 +54,7 @@ infix_mark_free l marks.CaretAssign h = differs (sym h)
 infix_mark_free l marks.Comma h = differs (sym h)
 infix_mark_free l p h = (refl, refl)
 
-infix_free : (l : ℕ) (w : Word) → is_some (infix_at l w) ≡ true → (assignment_at w ≡ None) × (is_comma_word w ≡ false)
+pub infix_free : (l : ℕ) (w : Word) → is_some (infix_at l w) ≡ true → (assignment_at w ≡ None) × (is_comma_word w ≡ false)
 unfolding infix_at
 infix_free l (words.Mark p) h = infix_mark_free l p h
 infix_free l w h = (refl, refl)
@@ -67,7 +68,7 @@ none_of : {A : Type 0} (o : Option A) → is_some o ≡ false → o ≡ None
 none_of None h = refl
 none_of (Some x) h = differs h
 
-true_and : (a b : Bool) → a ≡ true → (a && b) ≡ false → b ≡ false
+pub true_and : (a b : Bool) → a ≡ true → (a && b) ≡ false → b ≡ false
 true_and true b h e = e
 true_and false b h e = differs (sym h)
 
@@ -84,10 +85,6 @@ bang_is w = by_test (is_bang w) refl
     by_test : (b : Bool) → is_bang w ≡ b → (w ≡ words.Mark marks.Not) ⊎ (w ≢ words.Mark marks.Not)
     by_test true h = inl (bang_there w h)
     by_test false h = inr (bang_other w h)
-
-not_is_no_target : (n : Node) → is_target (whole (prefix_node prefixes.Not n)) ≡ false
-unfolding shape
-not_is_no_target n = refl
 
 -- where no command begins, a value does
 no_command : (i : Inside) (o : OperandNode) (names : Names) (ts : Tokens) (place : Place) (owner : DoOwner)
@@ -127,19 +124,19 @@ taken_parts place w h =
     (none_of (assignment_at w) parts.0, parts.1)
 
 -- the first operand is no target by the word behind it
-free_target : (place : Place) (m : OperandNode) (x : Node) (mid rest : Tokens) → ((x ≡ operand_node m) × (rest ≡ mid))
-    ⊎ (is_some (infix_at 13 (first mid)) ≡ true) → Settled m place mid → is_taken place x (first rest) ≡ false
-    → is_target m ≡ true → (assignment_at (first mid) ≡ None)
-    × ((is_statement place && is_comma_word (first mid)) ≡ false)
-free_target place (callee c) x mid rest led s free target =
+pub free_target : (l : ℕ) (place : Place) (m : OperandNode) (x : Node) (mid rest : Tokens)
+    → ((x ≡ operand_node m) × (rest ≡ mid)) ⊎ (is_some (infix_at l (first mid)) ≡ true) → Settled m place mid
+    → is_taken place x (first rest) ≡ false → is_target m ≡ true
+    → (assignment_at (first mid) ≡ None) × ((is_statement place && is_comma_word (first mid)) ≡ false)
+free_target l place (callee c) x mid rest led s free target =
     taken_parts place (first mid) (true_and (is_target (callee c)) (takes_target place (first mid)) target s.1)
-free_target place (whole n) x mid rest (inl same) s free target =
+free_target l place (whole n) x mid rest (inl same) s free target =
     let free_there : is_taken place n (first mid) ≡ false =
     subst (λ (y : Node). is_taken place y (first mid) ≡ false) same.0
     (subst (λ (q : Tokens). is_taken place x (first q) ≡ false) same.1 free) in
     taken_parts place (first mid) (true_and (is_target (whole n)) (takes_target place (first mid)) target free_there)
-free_target place (whole n) x mid rest (inr behind_it) s free target =
-    let parts = infix_free 13 (first mid) behind_it in
+free_target l place (whole n) x mid rest (inr behind_it) s free target =
+    let parts = infix_free l (first mid) behind_it in
     (parts.0, rw parts.1 (and_false (is_statement place)))
 
 -- no assignment stands behind the first operand
@@ -154,17 +151,21 @@ not_there : (o : OperandNode) (mid : Tokens) → begins_command o mid ≡ false 
     → is_command_there o mid ≡ false
 not_there o mid calm none = rw (calm, none) (and_false (is_target o))
 
+-- the operators of every level are those of no operand, and begin with no assignment
+outermost : (i : Inside) (place : Place) (owner : DoOwner) (names known : Names) (ts rest : Tokens) (x : Node)
+    → Reads i (Operation place 13 owner x) names ts known rest → Operates i place 13 owner x names ts known rest
+outermost i place owner names known ts rest x r = elim r [ inl all ↦ all | inr assigned ↦ differs (sym assigned.0) ]
+
 module _ (i : Inside) (place : Place) (owner : DoOwner) (names known : Names) (ts rest : Tokens) (x : Node) (y : Node)
     (later : Names) (left : Tokens)
-    (r : Reads i (Operation place 13 owner x) names ts known rest)
+    (r : Operates i place 13 owner x names ts known rest)
     (asked : question_at i (first rest) x known rest owner ≡ Ok (y, later, left)) where
   operand_way : is_taken place x (first rest) ≡ false
       → operand_phrase i names ts place owner ≡ Ok ((y, sorts.Argument), later, left)
   operand_way free =
-      let settled : Settled r.0 place r.2 = r.3.2 (or_right (allows_command place) _ refl) in
       rw (r.3.0 (allows_command place) (λ h. h))
       (from_read i owner r.0 r.1 r.2 x known rest y later left r.4 asked place
-      (free_target place r.0 x r.2 rest r.3.3 settled free) (settled_may r.0 place r.2 settled))
+      (free_target 13 place r.0 x r.2 rest r.3.3 r.3.2 free) (settled_may r.0 place r.2 r.3.2))
 
   negated_way : allows_command place ≡ true → first ts ≡ words.Mark marks.Not
       → is_some (assignment_at (first rest)) ≡ false
@@ -183,7 +184,7 @@ module _ (i : Inside) (place : Place) (owner : DoOwner) (names known : Names) (t
       from_read i owner (whole (prefix_node prefixes.Not (operand_node n.0))) r.1 r.2 x known rest y later left all
       asked places.Argument
       (λ target. clash (is_target (whole (prefix_node prefixes.Not (operand_node n.0)))) target
-      (not_is_no_target (operand_node n.0))) refl in
+      (prefix_no_target prefixes.Not (operand_node n.0))) refl in
       rw (got.0, plain) there
 
   start_way : opens ts ≡ true → Front place ts → is_taken place x (first rest) ≡ false
@@ -218,7 +219,8 @@ pub value : (place : Place) (owner : DoOwner) (names known : Names) (ts rest : T
 value place owner names known ts rest n inner front calm free = (
   inner.0,
   opens_begins ts inner.1,
-  λ d room group none. start_way (levels d) place owner names known ts rest n n known rest (inner.2 d room)
+  λ d room group none. start_way (levels d) place owner names known ts rest n n known rest
+      (outermost (levels d) place owner names known ts rest n (inner.2 d room))
       (question_false (levels d) (first rest) n known rest owner calm) inner.1 front free group none,
 )
 
@@ -256,7 +258,8 @@ conditional place owner names known later last ts rest more left n a b test fron
           rw (asks, chosen, parts, other) refl in
           let calm : (allows_command place && is_some (assignment_at (first rest))) ≡ false =
           rw asks (and_false (allows_command place)) in
-          start_way (levels d) place owner names known ts rest n (choice_node n a b) last left (test.2 d room) asked
+          start_way (levels d) place owner names known ts rest n (choice_node n a b) last left
+          (outermost (levels d) place owner names known ts rest n (test.2 d room)) asked
           test.1 front (asked_free place n (first rest) asks) group calm,
     )
 

@@ -70,23 +70,26 @@ module _ (place : Place) (owner : DoOwner) (names : Names) (ts : Tokens) where
   unfolding primary_at primary_by compound leaf
   redo is = word_fact place owner names ts _ _ is refl (λ i. rw is (rw is refl))
 
-  pub retry : first ts ≡ words.Key keywords.Retry → Alone place owner names ts node.retry
+  pub retry : first ts ≡ words.Key keywords.Retry → Alone place owner names ts (node.retry (place_at ts))
   unfolding primary_at primary_by compound leaf
   retry is = word_fact place owner names ts _ _ is refl (λ i. rw is (rw is refl))
 
-  pub return_alone : first ts ≡ words.Key keywords.Return → Alone place owner names ts (node.return_node node.none)
+  pub return_alone : first ts ≡ words.Key keywords.Return
+      → Alone place owner names ts (node.return_node (place_at ts) node.none)
   unfolding primary_at primary_by compound leaf
   return_alone is = word_fact place owner names ts _ _ is refl (λ i. rw is (rw is refl))
 
-  pub break_alone : first ts ≡ words.Key keywords.Break → Alone place owner names ts (node.break_node node.none)
+  pub break_alone : first ts ≡ words.Key keywords.Break
+      → Alone place owner names ts (node.break_node (place_at ts) node.none)
   unfolding primary_at primary_by compound leaf
   break_alone is = word_fact place owner names ts _ _ is refl (λ i. rw is (rw is refl))
 
-  pub next_alone : first ts ≡ words.Key keywords.Next → Alone place owner names ts (node.next_node node.none)
+  pub next_alone : first ts ≡ words.Key keywords.Next
+      → Alone place owner names ts (node.next_node (place_at ts) node.none)
   unfolding primary_at primary_by compound leaf
   next_alone is = word_fact place owner names ts _ _ is refl (λ i. rw is (rw is refl))
 
   pub yield_alone : first ts ≡ words.Key keywords.Yield → opens_arguments (behind ts) ≡ false
-      → Alone place owner names ts (node.yield_node node.none)
+      → Alone place owner names ts (node.yield_node (place_at ts) node.none)
   unfolding primary_at primary_by compound
   yield_alone is closed = word_fact place owner names ts _ _ is refl (λ i. rw is (rw closed refl))

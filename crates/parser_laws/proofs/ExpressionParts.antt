@@ -109,7 +109,7 @@ piece_is n group h = h
 pub call_is_none : (c : CalleeNode) (given : Given) (block : _) → is_expression (call_node c given block) ≡ false
 call_is_none (name_callee x i) given block = refl
 call_is_none (method_callee r x s) given block = refl
-call_is_none super_callee given block = refl
+call_is_none (super_callee at) given block = refl
 call_is_none (outside_callee o at es) given block = refl
 
 pub method_is_none : (h : HeadNode) (b : BlockNode) → is_expression (method_node h b) ≡ false

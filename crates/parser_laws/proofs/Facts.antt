@@ -30,14 +30,14 @@ use Rattle.parser_nodes.specs.declared.listed.Sort.{Sort}
 use Rattle.parser_nodes.specs.declared.listed.Sort.TheVariants as sorts
 use Rattle.parser_forms.specs.Literals.{piece, pieces_from, string, strings_from}
 use Rattle.parser_operands.specs.Operands.{suffix, primary, chain, operand, begins_command, postfixed, chain_within}
-use Rattle.parser_operands.specs.Operators.{operators_from}
+use Rattle.parser_operands.specs.Operators.{assignment_to, operators_from, operation}
 use Rattle.parser_phrases.specs.Phrases.{command, phrase}
 use Rattle.parser_phrases.specs.Targets.{target, targets_from, alone}
 use Rattle.parser_statements.specs.Lists.{part_place, part, list_from, list}
 use Rattle.parser_statements.specs.Statements.{is_not, is_statement_sort, negation, junctions_from, expression, base, statement, statements_from, statements, modifiers_from}
 use Rattle.parser_forms.specs.Reading.{Names, Tokens, Inside}
 use Rattle.rb_parser.specs.Levels.{level_above, levels}
-use Rattle.parser_laws.specs.Rules.{WhenValues, Rule, Statements, StatementList, Statement, Modified, Base, Expression, Joined, Negation, Argument, Operation, Operators, Operand, Primary, Target, InnerTarget, Elements, Piece, Pieces, Quoted, Strings, Part, Parts, Listing, OneTarget, Targets, ends_literal, is_star, begins_string, MethodNames, Guarded, Repeated, Branches, Otherwise, Subject, Clauses, Clause, Values, ValueTest, Classes, RescueClauses, RescueClause, Ensured, Handlers, Parameter, ParameterList, Parameters, MethodParameters, MethodHead, ClassPath, Body, is_inner, takes_target, LoopTargets, Pattern, PatternTarget, PatternName, BlockParameters, BarredParameters, BarredLocals, BlockLocals, Block, Callee, CommandArguments, Command, Called, OnePostfix, Postfixes}
+use Rattle.parser_laws.specs.Rules.{WhenValues, Rule, Statements, StatementList, Statement, Modified, Base, Expression, Joined, Negation, Argument, Operation, Operators, Operand, Primary, Target, InnerTarget, Elements, Piece, Pieces, Quoted, Strings, Part, Parts, Listing, OneTarget, Targets, ends_literal, is_star, begins_string, MethodNames, Guarded, Repeated, Branches, Otherwise, Subject, Clauses, Clause, Values, ValueTest, Classes, RescueClauses, RescueClause, Ensured, Handlers, Parameter, ParameterList, Parameters, MethodParameters, LambdaParameters, MethodHead, ClassPath, Body, is_inner, takes_target, LoopTargets, Pattern, PatternTarget, PatternName, BlockParameters, BarredParameters, BarredLocals, BlockLocals, Block, Callee, CommandArguments, Command, Called, OnePostfix, Postfixes}
 use Rattle.parser_ahead.specs.Sections.{next_section, takes_clause, takes_case_else, takes_rescue, takes_ensure}
 use Rattle.parser_ahead.specs.declared.primary.Place.TheVariants as places
 use Rattle.parser_ahead.specs.declared.sections.Compound.{Compound}
@@ -48,7 +48,7 @@ use Rattle.parser_form_nodes.specs.Definitions.{undef_from}
 use Rattle.parser_form_nodes.specs.Sections.{SectionNode, branch_of, when_of, rescue_of}
 use Rattle.parser_form_nodes.specs.Parameters.{ParameterNodes, no_parameters, begins_parameter}
 use Rattle.parser_form_nodes.specs.Targets.{TargetsNode}
-use Rattle.parser_forms.specs.Parameters.{parameter, parameters_from, parameters, open_parameters, locals_from, block_locals, comma_rest, block_parameters}
+use Rattle.parser_forms.specs.Parameters.{parameter, parameters_from, parameters, open_parameters, locals_from, block_locals, comma_rest, block_parameters, lambda_parameters}
 use Rattle.parser_forms.specs.Definitions.{method_head, path, body, block}
 use Rattle.parser_statements.specs.Sections.{heading, subject, test_section, subject_section, value_test, tests_from, tests, section}
 use Rattle.parser_laws.proofs.Results.{clash}
@@ -202,6 +202,7 @@ heads (Parameter p) ts = begins_parameter (first ts)
 heads (ParameterList l) ts = begins_parameter (first ts)
 heads (Parameters l) ts = true
 heads (MethodParameters l) ts = true
+heads (LambdaParameters l) ts = true
 heads (BlockParameters l) ts = true
 heads (BarredParameters l) ts = true
 heads BarredLocals ts = true
@@ -233,6 +234,7 @@ Takes (Ensured e) ts rest = length rest ≤ length ts
 Takes (Handlers cs o e) ts rest = length rest ≤ length ts
 Takes (Parameters l) ts rest = length rest ≤ length ts
 Takes (MethodParameters l) ts rest = length rest ≤ length ts
+Takes (LambdaParameters l) ts rest = length rest ≤ length ts
 Takes (Values place ns) ts rest = length rest ≤ length ts
 Takes (BlockParameters l) ts rest = length rest ≤ length ts
 Takes (BarredParameters l) ts rest = length rest ≤ length ts
@@ -258,13 +260,26 @@ Nots i place owner x names ts known rest = first ts ≡ words.Mark marks.Not →
     × (allows_command place ≡ true → (operand i names (behind ts) true owner ≡ Ok (o, known, rest))
     × (begins_command o rest ≡ false))
 
--- the first operand, which is all or has an operator behind it; where a value begins, it begins no assignment
+-- the first operand, which is all or has an operator behind it, and begins no assignment
 abbrev pub Leads : Inside → Place → ℕ → DoOwner → OperandNode → Names → Tokens → Node → Names → Tokens → Tokens → Type 0
 Leads i place loosest owner m known mid x names ts rest =
     ((commands : Bool) → Within commands place → operand i names ts commands owner ≡ Ok (m, known, mid))
     × Nots i place owner (operand_node m) names ts known mid
-    × ((allows_command place || not (is_inner loosest)) ≡ true → Settled m place mid)
+    × Settled m place mid
     × (((x ≡ operand_node m) × (rest ≡ mid)) ⊎ (is_some (infix_at loosest (first mid)) ≡ true))
+
+-- operators with their operands; where the operators are those of an operand, the first one is no target
+abbrev pub Operates : Inside → Place → ℕ → DoOwner → Node → Names → Tokens → Names → Tokens → Type 0
+Operates i place loosest owner x names ts known rest =
+    (m : OperandNode) × (k : Names) × (mid : Tokens) × Leads i place loosest owner m k mid x names ts rest
+    × ((n : ℕ) → length mid < n → operators_from i n loosest owner (operand_node m) k mid ≡ Ok (x, known, rest))
+    × (is_inner loosest ≡ true → assignment_to m mid ≡ None)
+
+-- an assignment as the last operand
+abbrev pub Assigns : Inside → Place → ℕ → DoOwner → Node → Names → Tokens → Names → Tokens → Type 0
+Assigns i place loosest owner x names ts known rest =
+    (is_inner loosest ≡ true) × (place ≡ places.Argument)
+    × (operation i names ts loosest owner ≡ Ok (x, known, rest))
 
 -- a list of values, and whether a comma stands behind them
 abbrev pub listed : List Node → Bool → ListNode
@@ -312,8 +327,7 @@ Reads i (Argument place owner x) names ts known rest =
     → (allows_command place && is_some (assignment_at (first rest))) ≡ false
     → phrase i names ts place owner ≡ Ok ((x, sorts.Argument), known, rest)
 Reads i (Operation place loosest owner x) names ts known rest =
-    (m : OperandNode) × (k : Names) × (mid : Tokens) × Leads i place loosest owner m k mid x names ts rest
-    × ((n : ℕ) → length mid < n → operators_from i n loosest owner (operand_node m) k mid ≡ Ok (x, known, rest))
+    Operates i place loosest owner x names ts known rest ⊎ Assigns i place loosest owner x names ts known rest
 Reads i (Operators place loosest owner x) names ts known rest =
     (m : OperandNode) × (k : Names) × (mid : Tokens) × Leads i place loosest owner m k mid x names ts rest
     × ((n : ℕ) → length mid < n → (l : ℕ) × (length rest < l)
@@ -425,6 +439,7 @@ Reads i (ParameterList l) names ts known rest =
     (skip_if (is_comma_word (first rest)) rest))
 Reads i (Parameters l) names ts known rest = parameters (level_above i) names ts ≡ Ok ((l, false), known, rest)
 Reads i (MethodParameters l) names ts known rest = open_parameters (level_above i) names ts ≡ Ok (l, known, rest)
+Reads i (LambdaParameters l) names ts known rest = lambda_parameters (level_above i) names ts ≡ Ok (l, known, rest)
 Reads i (BlockParameters l) names ts known rest = block_parameters (level_above i) names ts ≡ Ok (l, known, rest)
 Reads i (BarredParameters l) names ts known rest = (comma : Bool) × (k : ParameterNodes)
     × (parameters (level_above i) names ts ≡ Ok ((k, comma), known, rest)) × (comma_rest (k, comma) ≡ l)

@@ -75,10 +75,12 @@ front _ _ _ _ _ (grammar.LocalTarget owner names ts is) h = word_value _ ts is r
 front _ _ _ _ _ (grammar.InstanceTarget owner names ts is) h = word_value _ ts is refl
 front _ _ _ _ _ (grammar.GlobalTarget owner names ts is) h = word_value _ ts is refl
 front _ _ _ _ _ (grammar.ConstantTarget owner names ts is) h = word_value _ ts is refl
-front _ _ _ _ _ (grammar.AllOperators place loosest owner names known ts rest n d ends) h = front _ _ _ _ _ d refl
+front _ _ _ _ _ (grammar.AllOperators place loosest owner names known ts rest n d ends free) h = front _ _ _ _ _ d refl
 front _ _ _ _ _ (grammar.OneOperand place loosest owner names known ts rest n d) h = front _ _ _ _ _ d refl
-front _ _ _ _ _ (grammar.CalleeOperand loosest owner a names known ts rest c within none d there) h =
-    front _ _ _ _ _ d refl
+front _ _ _ _ _ (grammar.OperandAssigned loosest owner a names known later ts rest more target n within t there value
+    calm) h = front _ _ _ _ _ t refl
+front _ _ _ _ _ (grammar.OperandAssignedOr loosest owner a names known later last ts rest more left target n other within
+    t there value rescue right) h = front _ _ _ _ _ t refl
 front _ _ _ _ _ (grammar.Infixed place loosest owner o names known later ts rest more a b left there right calm) h =
     front _ _ _ _ _ left refl
 front _ _ _ _ _ (grammar.Prefixed place owner o names known ts rest n there d) h = calm_part ts (prefix_calm ts o there)
@@ -144,6 +146,10 @@ front _ _ _ _ _ (grammar.DefinedValue place owner names known ts rest n is close
     key_value keywords.Defined ts is
 front _ _ _ _ _ (grammar.AssignedOr place owner a names known later last ts rest more tail target n other jump t there
     value rescue right) h = front _ _ _ _ _ t refl
+front _ _ _ _ _ (grammar.NotAssignedValue place owner a names known later ts rest more target n is may t there value
+    calm) h = word_value _ ts is refl
+front _ _ _ _ _ (grammar.NotAssignedValueOr place owner a names known later last ts rest more left target n other is may
+    t there value rescue right) h = word_value _ ts is refl
 front _ _ _ _ _ (grammar.PostfixTarget owner names known ts rest n is none d) h = front _ _ _ _ _ d refl
 front _ _ _ _ _ (grammar.DefinedGroup place owner names known ts rest n is opened d closing) h =
     key_value keywords.Defined ts is

@@ -1,5 +1,5 @@
 -- What follows of the first word of a value.
-use Rattle.std.proofs.Common.{◌≡◌, ◌≢◌, ◌⊎◌, Bool, true, false, not, ◌&&◌, ◌||◌, Some, is_some, if◌then◌else◌, inl, inr, refl, sym, ap, subst, ◌∙◌}
+use Rattle.std.proofs.Common.{◌≡◌, ◌≢◌, ◌⊎◌, Bool, true, false, ◌&&◌, ◌||◌, Some, is_some, if◌then◌else◌, inl, inr, refl, sym, ap, subst, ◌∙◌}
 use Rattle.std.proofs.lemmas.Bool.{and_parts}
 use Rattle.rb_syntax.specs.declared.keyword.Keyword.{Keyword}
 use Rattle.rb_syntax.specs.declared.keyword.Keyword.TheVariants as keywords
@@ -14,7 +14,7 @@ use Rattle.parser_tokens.specs.declared.word.Word.{Word}
 use Rattle.parser_tokens.specs.declared.word.Word.TheVariants as words
 use Rattle.parser_ahead.specs.Groups.{is_target_group}
 use Rattle.parser_ahead.specs.Primary.{allows_command, is_statement, command_or_jump, command_start, other_start, start_of, start_at, part_of, part_at}
-use Rattle.parser_tokens.specs.Starts.{jump_at, begins_value, opens_arguments, is_open_parenthesis, outside_begins_value}
+use Rattle.parser_tokens.specs.Starts.{jump_at, begins_value, is_open_parenthesis, outside_begins_value}
 use Rattle.parser_ahead.specs.declared.primary.PartStart.TheVariants as parts
 use Rattle.parser_ahead.specs.declared.primary.Place.{Place}
 use Rattle.parser_ahead.specs.declared.primary.Place.TheVariants as places
@@ -81,18 +81,12 @@ pub head_expression : (w : Word) → (begins w || (is_not w || is_star w)) ≡ t
 head_expression (words.Key k) h = key_expression k h
 head_expression w h = refl
 
-yield_alone : (b c : Bool) → (b && not c) ≡ false
-    → (if b then (if c then starts.Operand else starts.Yield) else starts.Operand) ≡ starts.Operand
-yield_alone true true h = refl
-yield_alone true false h = differs h
-yield_alone false c h = refl
-
 key_start : (k : Keyword) (ts : Tokens) → is_jump (words.Key k) ts ≡ false
     → command_or_jump (jump_at (words.Key k)) (words.Key k) ts ≡ starts.Operand
 key_start keywords.Return ts h = rw h refl
 key_start keywords.Break ts h = rw h refl
 key_start keywords.Next ts h = rw h refl
-key_start keywords.Yield ts h = yield_alone (begins_value (first ts)) (opens_arguments ts) h
+key_start keywords.Yield ts h = rw h refl
 key_start k ts h = refl
 
 mark_start : (p : Punctuator) (ts : Tokens) → words.Mark p ≢ words.Mark marks.Not

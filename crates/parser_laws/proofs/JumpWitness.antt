@@ -22,23 +22,23 @@ the_digit =
     (OneOperand places.Command 13 owners.Call [] [] digit bracket_end (node.integer (pos 0))
     (WithPostfixes places.Command owners.Call [] [] digit bracket_end (node.integer (pos 0)) refl
     (Integer places.Command owners.Call [] digit refl) refl))
-    refl)
+    refl refl)
     refl refl
 
 the_index : Derives (Primary places.Command owners.Call index) [] jump [] []
-unfolding first behind word_of opens_arguments newlines_from
+unfolding first behind word_of place_at opens_arguments newlines_from
 the_index =
-    Indexed places.Command owners.Call [] [] [] jump bracket bracket_end (node.yield_node node.none)
+    Indexed places.Command owners.Call [] [] [] jump bracket bracket_end (node.yield_node 1 node.none)
     (node.integer (pos 0) ∷ [])
     (Yield places.Command owners.Call [] jump refl refl) refl
     (LastValue places.Command [] [] digit bracket_end (node.integer (pos 0)) the_digit refl) refl
 
 the_operand : Derives (Operation places.Command 1 owners.Call index) [] jump [] []
-unfolding first word_of infix_at prefix_at
+unfolding first word_of infix_at prefix_at shape
 the_operand =
     AllOperators places.Command 1 owners.Call [] [] jump [] index
     (OneOperand places.Command 1 owners.Call [] [] jump [] index
-    (WithPostfixes places.Command owners.Call [] [] jump [] index refl the_index refl)) refl
+    (WithPostfixes places.Command owners.Call [] [] jump [] index refl the_index refl)) refl refl
 
 the_value : Derives (Argument places.Statement owners.Call negation) [] tokens [] []
 unfolding first behind word_of infix_at prefix_at shape
@@ -46,7 +46,7 @@ the_value =
     Value places.Statement owners.Call [] [] tokens [] negation refl
     (AllOperators places.Statement 13 owners.Call [] [] tokens [] negation
     (OneOperand places.Statement 13 owners.Call [] [] tokens [] negation
-    (Prefixed places.Statement owners.Call prefixes.Not [] [] tokens [] index refl the_operand)) refl)
+    (Prefixed places.Statement owners.Call prefixes.Not [] [] tokens [] index refl the_operand)) refl refl)
     refl refl
 
 pub jump_example_derived : Derives (Statements tree) [] tokens [] []

@@ -36,7 +36,7 @@ the_text =
     (WithPostfixes places.Command owners.Call known known string second_comma text refl
     (Text places.Command owners.Call known known string second_comma (node.piece (codes "x") ∷ []) refl the_strings)
     refl))
-    refl)
+    refl refl)
     refl refl
 
 the_digit : Derives (Argument places.Argument owners.Call (node.integer (pos 1))) known digit known bracket_end
@@ -47,7 +47,7 @@ the_digit =
     (OneOperand places.Argument 13 owners.Call known known digit bracket_end (node.integer (pos 1))
     (WithPostfixes places.Argument owners.Call known known digit bracket_end (node.integer (pos 1)) refl
     (Integer places.Argument owners.Call known digit refl) refl))
-    refl)
+    refl refl)
     refl refl
 
 abbrev one_listed : ListNode
@@ -77,7 +77,7 @@ the_array =
     (OneOperand places.Command 13 owners.Call known known bracket [] array
     (WithPostfixes places.Command owners.Call known known bracket [] array refl
     (Array places.Command owners.Call known known bracket bracket_end two_listed refl the_elements refl refl) refl))
-    refl)
+    refl refl)
     refl refl
 
 abbrev right_side : ListNode

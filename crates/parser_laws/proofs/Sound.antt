@@ -11,7 +11,7 @@ use Rattle.parser_nodes.specs.declared.listed.Sort.{Sort}
 use Rattle.parser_nodes.specs.declared.listed.Sort.TheVariants as sorts
 use Rattle.parser_form_nodes.specs.Sections.{SectionNode, is_whole, compound_node}
 use Rattle.parser_forms.specs.Reading.{Names, Tokens, Inside}
-use Rattle.parser_laws.specs.Rules.{Statements, Expression, Negation, Argument, Operation, Listing}
+use Rattle.parser_laws.specs.Rules.{Statements, Expression, Negation, Argument, Operation, Listing, is_inner}
 use Rattle.parser_laws.specs.Derives.{Derives}
 use Rattle.parser_laws.specs.Expressions.{is_bare, is_expression}
 use Rattle.parser_laws.proofs.CleanLists.{is_clean}
@@ -34,9 +34,9 @@ pub record IsSound (i : Inside) : Type 0 where
   pub argument : (names known : Names) (ts rest : Tokens) (owner : DoOwner) (n : Node)
       → i.argument names ts owner ≡ Ok (n, known, rest) → is_expression n ≡ true
       → Derives (Argument places.Argument owner n) names ts known rest
-  pub operation : (names known : Names) (ts rest : Tokens) (place : Place) (loosest : ℕ) (owner : DoOwner) (n : Node)
-      → i.operation names ts loosest owner ≡ Ok (n, known, rest) → is_expression n ≡ true
-      → Derives (Operation place loosest owner n) names ts known rest
+  pub operation : (names known : Names) (ts rest : Tokens) (loosest : ℕ) (owner : DoOwner) (n : Node)
+      → is_inner loosest ≡ true → i.operation names ts loosest owner ≡ Ok (n, known, rest) → is_expression n ≡ true
+      → Derives (Operation places.Argument loosest owner n) names ts known rest
   pub listing : (names known : Names) (ts rest : Tokens) (owner : DoOwner) (l : ListNode)
       → i.list names ts owner ≡ Ok (l, known, rest) → is_clean l ≡ true → Derives (Listing owner l) names ts known rest
   pub sections : (names known : Names) (ts rest : Tokens) (form : Compound) (ss : List SectionNode)

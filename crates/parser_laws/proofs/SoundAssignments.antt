@@ -10,42 +10,34 @@ use Rattle.parser_tokens.specs.Operators.{assignment_at}
 use Rattle.parser_tokens.specs.Starts.{modifier_at}
 use Rattle.parser_tokens.specs.declared.operators.Assignment.{Assignment}
 use Rattle.parser_tokens.specs.declared.operators.Assignment.TheVariants as signs
-use Rattle.parser_tokens.specs.declared.word.Modifier.{Modifier}
-use Rattle.parser_tokens.specs.declared.word.Modifier.TheVariants as modifiers
+use Rattle.parser_tokens.specs.declared.operators.Prefix.TheVariants as prefixes
 use Rattle.parser_tokens.specs.declared.word.Word.{Word}
 use Rattle.parser_tokens.specs.declared.word.Word.TheVariants as words
 use Rattle.parser_ahead.specs.Groups.{is_target_group}
-use Rattle.parser_ahead.specs.Primary.{is_statement, of_value}
+use Rattle.parser_ahead.specs.Primary.{allows_command, is_statement, of_value}
 use Rattle.parser_ahead.specs.declared.primary.DoOwner.{DoOwner}
 use Rattle.parser_ahead.specs.declared.primary.Place.{Place}
 use Rattle.parser_ahead.specs.declared.primary.Place.TheVariants as places
-use Rattle.parser_nodes.specs.Nodes.{rescued_node, assignment_node}
+use Rattle.parser_nodes.specs.Nodes.{rescued_node, assignment_node, prefix_node}
 use Rattle.parser_nodes.specs.Listed.{ListNode, PhraseNode, is_right_side, right_side}
 use Rattle.parser_nodes.specs.declared.listed.Sort.{Sort}
 use Rattle.parser_nodes.specs.declared.listed.Sort.TheVariants as sorts
+use Rattle.parser_operands.specs.Operators as operators
 use Rattle.parser_phrases.specs.Phrases as phrases
-use Rattle.parser_phrases.specs.Phrases.{is_rescued, right_hand, assigned_value, rescued, whole_value, assign}
-use Rattle.parser_forms.specs.Reading.{Names, Tokens, Read, Inside}
+use Rattle.parser_phrases.specs.Phrases.{is_rescued, right_hand, assigned_value, whole_value, assign}
+use Rattle.parser_forms.specs.Reading.{Names, Tokens, Inside}
 use Rattle.parser_statements.specs.Statements.{is_statement_sort}
 use Rattle.parser_laws.specs.Rules.{Expression, Argument, Listing, Target, is_rescue, takes_list, goes_on_list, begins_jump}
-use Rattle.parser_laws.specs.Derives.{Derives, Assigned, AssignedOr, ListAssigned}
+use Rattle.parser_laws.specs.Derives.{Derives, Assigned, AssignedOr, ListAssigned, NotAssignedValue, NotAssignedValueOr}
 use Rattle.parser_laws.specs.Expressions.{is_assignable, is_expression}
 use Rattle.parser_laws.proofs.Results.{bind_ok, then_ok, read_same, carry, clash, differs, and_false, same_read}
-use Rattle.parser_laws.proofs.Assigning.{same_rescue, same_takes, statement_only}
+use Rattle.parser_laws.proofs.Assigning.{Whole, a_rescue, same_rescue, same_takes, statement_only}
 use Rattle.parser_laws.proofs.ExpressionParts.{assignment_parts}
 use Rattle.parser_laws.proofs.CleanLists.{clean_right}
 use Rattle.parser_laws.proofs.OneValue.{one_value}
 use Rattle.parser_laws.proofs.Sound.{IsSound}
 
-a_rescue : (m : Option Modifier) → is_rescue m ≡ true → m ≡ Some modifiers.Rescue
-a_rescue (Some modifiers.Rescue) h = refl
-a_rescue (Some modifiers.If) h = differs (sym h)
-a_rescue (Some modifiers.Unless) h = differs (sym h)
-a_rescue (Some modifiers.While) h = differs (sym h)
-a_rescue (Some modifiers.Until) h = differs (sym h)
-a_rescue None h = differs (sym h)
-
-value_unstated : (place : Place) → is_statement (of_value place) ≡ false
+pub value_unstated : (place : Place) → is_statement (of_value place) ≡ false
 value_unstated places.Statement = refl
 value_unstated places.Command = refl
 value_unstated places.Argument = refl
@@ -121,11 +113,7 @@ module _ (i : Inside) (sound : IsSound i) (a : Assignment) (place : Place) (owne
           let p = sound.phrase names known ts rest (of_value place) owner x h (value_unstated place) is in
           (p.0, (p.1, rw takes refl))
 
-  -- the value, and what a modifier rescue behind it stands for
-  abbrev Whole : Bool → Node → Names → Tokens → Read Node
-  Whole b n k m = if b then rescued i n k m owner else Ok (n, k, m)
-
-  value_is : (b : Bool) (n : Node) (k : Names) (m : Tokens) (w : Node × Names × Tokens) → Whole b n k m ≡ Ok w
+  value_is : (b : Bool) (n : Node) (k : Names) (m : Tokens) (w : Node × Names × Tokens) → Whole i owner b n k m ≡ Ok w
       → is_expression w.0 ≡ true → is_expression n ≡ true
   value_is true n k m w h is =
       let other = bind_ok (i.argument k (behind m) owner) _ w h in
@@ -137,7 +125,7 @@ module _ (i : Inside) (sound : IsSound i) (a : Assignment) (place : Place) (owne
   abbrev pub Parts : Node → Names → Tokens → PhraseNode → Names → Tokens → Type 0
   Parts target names ts x known rest =
       (n : Node) × (k : Names) × (m : Tokens) × (w : Node × Names × Tokens) × (is_assignable target ≡ true)
-      × Taken names ts n k m × (Whole (is_rescue (modifier_at (first m))) n k m ≡ Ok w)
+      × Taken names ts n k m × (Whole i owner (is_rescue (modifier_at (first m))) n k m ≡ Ok w)
       × (is_expression w.0 ≡ true) × same_read (Ok ((assignment_node a target w.0, sorts.Argument), w.1, w.2))
       (Ok (x, known, rest))
 
@@ -154,10 +142,10 @@ module _ (i : Inside) (sound : IsSound i) (a : Assignment) (place : Place) (owne
       subst (λ (y : PhraseNode). is_statement_sort y.1 ≡ false) (sym e.0) plain in
       let value = value_sound names ts v.0.0 v.0.1 v.0.2 v.1 unstated
       (value_is (is_rescued v.0.0.1 v.0.2) v.0.0.0 v.0.1 v.0.2 w.0 w.1 parts.1) in
-      let argument : Whole (phrases.is_rescue (modifier_at (first v.0.2))) v.0.0.0 v.0.1 v.0.2 ≡ Ok w.0 =
-      subst (λ (s : Sort). Whole (is_rescued s v.0.2) v.0.0.0 v.0.1 v.0.2 ≡ Ok w.0) value.0 w.1 in
-      let whole : Whole (is_rescue (modifier_at (first v.0.2))) v.0.0.0 v.0.1 v.0.2 ≡ Ok w.0 =
-      subst (λ b. Whole b v.0.0.0 v.0.1 v.0.2 ≡ Ok w.0) (same_rescue (modifier_at (first v.0.2))) argument in
+      let argument : Whole i owner (operators.is_rescue (modifier_at (first v.0.2))) v.0.0.0 v.0.1 v.0.2 ≡ Ok w.0 =
+      subst (λ (s : Sort). Whole i owner (is_rescued s v.0.2) v.0.0.0 v.0.1 v.0.2 ≡ Ok w.0) value.0 w.1 in
+      let whole : Whole i owner (is_rescue (modifier_at (first v.0.2))) v.0.0.0 v.0.1 v.0.2 ≡ Ok w.0 =
+      subst (λ b. Whole i owner b v.0.0.0 v.0.1 v.0.2 ≡ Ok w.0) (same_rescue (modifier_at (first v.0.2))) argument in
       let made : same_read (Ok ((assignment_node a target w.0.0, sorts.Argument), w.0.1, w.0.2)) (Ok (x, known, rest)) =
       subst (λ (s : Sort). same_read (Ok ((assignment_node a target w.0.0, s), w.0.1, w.0.2)) (Ok (x, known, rest)))
       value.0 w.2 in
@@ -230,7 +218,7 @@ module _ (i : Inside) (sound : IsSound i) (a : Assignment) (place : Place) (owne
       (subst (λ (y : PhraseNode). is_statement_sort y.1 ≡ true) (sym e.0) stated) in
       let parts = assignment_parts a target w.0.0 (subst (λ (y : PhraseNode). is_expression y.0 ≡ true) (sym e.0) is) in
       let stays : same_read (Ok (v.0.0.0, v.0.1, v.0.2)) (Ok w.0) =
-      subst (λ (s : Sort). Whole (is_rescued s v.0.2) v.0.0.0 v.0.1 v.0.2 ≡ Ok w.0) sort w.1 in
+      subst (λ (s : Sort). Whole i owner (is_rescued s v.0.2) v.0.0.0 v.0.1 v.0.2 ≡ Ok w.0) sort w.1 in
       let f = read_same v.0.0.0 w.0.0 v.0.1 w.0.1 v.0.2 w.0.2 stays in
       let value_is_one : is_expression v.0.0.0 ≡ true = subst (λ n. is_expression n ≡ true) (sym f.0) parts.1 in
       let s = several_sound names ts v.0.0 v.0.1 v.0.2 v.1 (ap is_statement_sort sort) value_is_one in
@@ -259,7 +247,7 @@ module _ (i : Inside) (sound : IsSound i) (a : Assignment) (place : Place) (owne
     Assigns n known rest = Derives (Argument place owner (assignment_node a target n)) before start known rest
 
     by_rescue : (b : Bool) (n : Node) (k : Names) (m : Tokens) (w : Node × Names × Tokens)
-        → is_rescue (modifier_at (first m)) ≡ b → Taken names (behind ts) n k m → Whole b n k m ≡ Ok w
+        → is_rescue (modifier_at (first m)) ≡ b → Taken names (behind ts) n k m → Whole i owner b n k m ≡ Ok w
         → is_expression w.0 ≡ true → Assigns w.0 w.1 w.2
     by_rescue true n k m w rescue taken h is =
         let other = bind_ok (i.argument k (behind m) owner) _ w h in
@@ -292,3 +280,36 @@ module _ (i : Inside) (sound : IsSound i) (a : Assignment) (place : Place) (owne
         let d = ListAssigned owner before names known start ts rest target s.1 s.0 free
         (subst (λ p. begins_jump p start ≡ false) s.4 jump) derived sign s.6 s.2 s.3 in
         subst (λ n. Derives (Expression places.Statement owner n) before start known rest) s.7 d
+
+-- ! and an assignment where a command may stand
+module _ (i : Inside) (sound : IsSound i) (a : Assignment) (owner : DoOwner) (place : Place) (target : Node)
+    (before : Names) (start : Tokens) (names : Names) (ts : Tokens) (bang : first start ≡ words.Mark marks.Not)
+    (may : allows_command place ≡ true) (derived : Derives (Target owner target) before (behind start) names ts)
+    (there : assignment_at (first ts) ≡ Some a) where
+  abbrev Negates : Node → Names → Tokens → Type 0
+  Negates n known rest = Derives (Argument place owner (prefix_node prefixes.Not (assignment_node a target n))) before
+      start known rest
+
+  not_by_rescue : (b : Bool) (n : Node) (k : Names) (m : Tokens) (w : Node × Names × Tokens)
+      → is_rescue (modifier_at (first m)) ≡ b → Derives (Argument places.Command owner n) names (behind ts) k m
+      → Whole i owner b n k m ≡ Ok w → is_expression w.0 ≡ true → Negates w.0 w.1 w.2
+  not_by_rescue true n k m w rescue value h is =
+      let other = bind_ok (i.argument k (behind m) owner) _ w h in
+      let e = read_same (rescued_node n other.0.0) w.0 other.0.1 w.1 other.0.2 w.2 other.2 in
+      let parts = and_parts (is_expression n) (is_expression other.0.0)
+      (subst (λ x. is_expression x ≡ true) (sym e.0) is) in
+      let right = sound.argument k other.0.1 (behind m) other.0.2 owner other.0.0 other.1 parts.1 in
+      let d = NotAssignedValueOr place owner a before names k other.0.1 start ts m other.0.2 target n other.0.0 bang may
+      derived there value (a_rescue (modifier_at (first m)) rescue) right in
+      carry Negates (rescued_node n other.0.0) w.0 other.0.1 w.1 other.0.2 w.2 other.2 d
+  not_by_rescue false n k m w calm value h is =
+      carry Negates n w.0 k w.1 m w.2 h (NotAssignedValue place owner a before names k start ts m target n bang may
+      derived there value calm)
+
+  pub not_derived : (x : PhraseNode) (known : Names) (rest : Tokens)
+      → Parts i sound a places.Command owner target names (behind ts) x known rest
+      → Derives (Argument place owner (prefix_node prefixes.Not x.0)) before start known rest
+  not_derived x known rest p =
+      carry (λ (y : PhraseNode) (k : Names) (m : Tokens). Derives (Argument place owner (prefix_node prefixes.Not y.0))
+      before start k m) (assignment_node a target p.3.0, sorts.Argument) x p.3.1 known p.3.2 rest p.8
+      (not_by_rescue (is_rescue (modifier_at (first p.2))) p.0 p.1 p.2 p.3 refl p.5.0 p.6 p.7)

@@ -42,7 +42,7 @@ abbrev pub is_attribute : OperandNode → Bool
 is_attribute (whole n) = false
 is_attribute (callee (name_callee x b)) = false
 is_attribute (callee (method_callee r x s)) = not s && is_expression r
-is_attribute (callee super_callee) = false
+is_attribute (callee (super_callee at)) = false
 is_attribute (callee (outside_callee o at es)) = false
 
 pub attribute_is : (o : OperandNode) → is_attribute o ≡ true → is_whole o ≡ false
@@ -226,7 +226,7 @@ module _ (i : Inside) where
   primary_other primaries.OutsideName names ts owner o known rest h is =
       suffix_other _ names (behind ts) owner o known rest refl h is
   primary_other primaries.Super names ts owner o known rest h is =
-      suffix_other super_callee names (behind ts) owner o known rest refl h is
+      suffix_other (super_callee (place_at ts)) names (behind ts) owner o known rest refl h is
   primary_other p names ts owner o known rest h is =
       not_whole o is (always_bind is_whole (compound i p names ts owner) _ (λ r. always_ok is_whole _ r.1 r.2 refl) o
       known rest h)

@@ -11,9 +11,9 @@ use Rattle.rb_syntax.specs.declared.punctuator.Punctuator.TheVariants as marks
 use Rattle.rb_syntax.specs.declared.token.Token.{Token}
 use Rattle.parser_tree.specs.Node as node
 use Rattle.parser_tree.specs.Node.{Node, Name}
-use Rattle.parser_tokens.specs.Tokens.{first, behind, word_of, bytes_of, bytes_at}
+use Rattle.parser_tokens.specs.Tokens.{first, behind, word_of, bytes_of, bytes_at, place_at}
 use Rattle.parser_tokens.specs.Operators.{is_sign}
-use Rattle.parser_tokens.specs.Starts.{opens_arguments}
+use Rattle.parser_tokens.specs.Starts.{makes_call}
 use Rattle.parser_tokens.specs.declared.word.Word.{Word}
 use Rattle.parser_tokens.specs.declared.word.Word.TheVariants as words
 use Rattle.parser_ahead.specs.Primary.{primary_of}
@@ -116,7 +116,7 @@ module _ (place : Place) (owner : DoOwner) (names : Names) (ts : Tokens) where
   by_key keywords.False is = rw is (sound_ok node.falsehood names (behind ts) (False place owner names ts is))
   by_key keywords.SelfReference is = rw is (sound_ok node.self_reference names (behind ts)
       (SelfReference place owner names ts is))
-  by_key keywords.Retry is = rw is (sound_ok node.retry names (behind ts) (Retry place owner names ts is))
+  by_key keywords.Retry is = rw is (sound_ok (node.retry (place_at ts)) names (behind ts) (Retry place owner names ts is))
   by_key keywords.Redo is = rw is (sound_never _ (never_ok itself _ names _ refl))
   by_key keywords.FileName is = rw is (sound_never _ (never_ok itself _ names _ refl))
   by_key keywords.LineNumber is = rw is (sound_never _ (never_ok itself _ names _ refl))
@@ -150,7 +150,7 @@ module _ (place : Place) (owner : DoOwner) (names : Names) (ts : Tokens) where
       → Goal (leaf_primary (leaf ts) names ts)
   unfolding leaf
   leaf_sound words.Constant is alone = rw is (sound_ok _ names (behind ts)
-      (Constant place owner names ts is (closed (opens_arguments (behind ts)) alone)))
+      (Constant place owner names ts is (closed (makes_call (behind ts)) alone)))
   leaf_sound words.InstanceVariable is alone =
       rw is (sound_ok _ names (behind ts) (InstanceVariable place owner names ts is))
   leaf_sound words.GlobalVariable is alone = rw is

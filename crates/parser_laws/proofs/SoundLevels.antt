@@ -19,7 +19,7 @@ no_rule = record {
   negation = λ names known ts rest owner n s h is. err_is_none (length ts) ((n, s), known, rest) h;
   phrase = λ names known ts rest place owner x h plain is. err_is_none (length ts) (x, known, rest) h;
   argument = λ names known ts rest owner n h is. err_is_none (length ts) (n, known, rest) h;
-  operation = λ names known ts rest place loosest owner n h is. err_is_none (length ts) (n, known, rest) h;
+  operation = λ names known ts rest loosest owner n inner h is. err_is_none (length ts) (n, known, rest) h;
   listing = λ names known ts rest owner l h clean. err_is_none (length ts) (l, known, rest) h;
   sections = λ names known ts rest form ss h is. err_is_none (length ts) (ss, known, rest) h;
 }

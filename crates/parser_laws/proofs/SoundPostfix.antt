@@ -1,5 +1,5 @@
 -- An operand that is read as an expression is derived: of those with postfixes an index and a constant of a value are ones.
-use Rattle.std.proofs.Common.{◌≡◌, ℕ, zero, suc, ◌+◌, Bool, true, false, not, ◌&&◌, List, [], ◌∷◌, map, length, codes, Option, Some, None, Ok, Err, if◌then◌else◌, inl, inr, refl, sym, ap, subst}
+use Rattle.std.proofs.Common.{◌≡◌, ℕ, zero, suc, ◌+◌, Bool, true, false, not, ◌&&◌, List, [], ◌∷◌, map, length, codes, Option, Some, None, Ok, Err, if◌then◌else◌, inl, inr, refl, sym, ap, subst, ◌∙◌}
 use Rattle.std.proofs.lemmas.Bool.{cases_Bool, and_parts}
 use Rattle.rb_syntax.specs.declared.core_form.Item.{Item}
 use Rattle.rb_syntax.specs.declared.core_form.Item.TheVariants.{Plain}
@@ -12,7 +12,6 @@ use Rattle.parser_tokens.specs.declared.word.Word.{Word}
 use Rattle.parser_tokens.specs.declared.word.Word.TheVariants as words
 use Rattle.parser_nodes.specs.Listed.{whole_items}
 use Rattle.parser_tree.specs.Node.{Node, nodes}
-use Rattle.parser_tree.specs.declared.operator.UnaryOperator.TheVariants as unary
 use Rattle.parser_tokens.specs.Tokens.{first, behind, bytes_at, place_at}
 use Rattle.parser_tokens.specs.Operators.{prefix_at}
 use Rattle.parser_tokens.specs.Starts.{postfix_at, is_open_parenthesis, opens_arguments}
@@ -21,29 +20,34 @@ use Rattle.parser_tokens.specs.declared.operators.Prefix.{Prefix}
 use Rattle.parser_tokens.specs.declared.operators.Prefix.TheVariants as prefixes
 use Rattle.parser_tokens.specs.declared.starts.Postfix.{Postfix}
 use Rattle.parser_tokens.specs.declared.starts.Postfix.TheVariants as postfixes
-use Rattle.parser_ahead.specs.Primary.{is_name_word}
+use Rattle.parser_ahead.specs.Primary.{is_name_word, of_value}
 use Rattle.parser_ahead.specs.declared.primary.DoOwner.{DoOwner}
 use Rattle.parser_ahead.specs.declared.primary.Place.{Place}
+use Rattle.parser_ahead.specs.declared.primary.Place.TheVariants as places
 use Rattle.parser_nodes.specs.Nodes.{prefix_node}
 use Rattle.parser_nodes.specs.Calls.{OperandNode, whole, operand_node}
 use Rattle.parser_forms.specs.Brackets.{call_arguments, elements}
 use Rattle.parser_operands.specs.Operands as operands
 use Rattle.parser_operands.specs.Operands.{continues, is_constant, suffix, postfix_callee, outside_name, scoped, is_scoped_constant, is_outside_name, primary, indexed, called, plain_named, named, dotted, postfixed, chain_turn, chain_within, chain, operand_with, operand}
 use Rattle.parser_forms.specs.Reading.{Names, Tokens, Read, Inside}
-use Rattle.parser_laws.specs.Rules.{Primary, Operand, Operation, operand_level, operand_place}
+use Rattle.parser_laws.specs.Rules.{Primary, Operand, Operation, is_inner, operand_level, operand_place}
 use Rattle.parser_laws.specs.Derives.{Derives, Prefixed, WithPostfixes, ListIndexed, ScopedConstant}
 use Rattle.parser_laws.specs.Expressions.{is_expression, are_expressions}
 use Rattle.parser_laws.proofs.Results.{bind_ok, read_same, carry, differs, not_true, Never, never_bind, never_after, never_false, never_ok, never_error, never_if, err_is_none}
 use Rattle.parser_laws.proofs.ExpressionParts.{prefix_part, call_is_none}
+use Rattle.parser_laws.proofs.OperatorFacts.{same_level, inner_level}
 use Rattle.parser_laws.proofs.Sound.{IsSound}
 use Rattle.parser_laws.proofs.SoundBrackets.{closes_bracket, elements_sound}
 use Rattle.parser_laws.proofs.SoundPrimary.{suffix_never, primary_sound}
 
-pub same_level : (o : Prefix) → operands.operand_level o ≡ operand_level o
-same_level prefixes.Not = refl
-same_level (prefixes.Operation unary.Plus) = refl
-same_level (prefixes.Operation unary.Complement) = refl
-same_level (prefixes.Operation unary.Minus) = refl
+-- behind ! stands no operand where a command may begin
+abbrev pub Plainly : Place → Tokens → Type 0
+Plainly place ts = prefix_at ts ≡ Some prefixes.Not → place ≡ places.Argument
+
+plain_place : (p : Prefix) (place : Place) → (p ≡ prefixes.Not → place ≡ places.Argument)
+    → operand_place p place ≡ places.Argument
+plain_place prefixes.Not place plain = ap of_value (plain refl)
+plain_place (prefixes.Operation o) place plain = refl
 
 pub whole_continues : (n : Node) (ts : Tokens) (commands : Bool)
     → continues (whole n) ts commands ≡ postfix_at (first ts)
@@ -286,24 +290,27 @@ module _ (i : Inside) where
               is)
         ]
 
-    by_prefix : (p : Option Prefix) → prefix_at ts ≡ p
+    by_prefix : (p : Option Prefix) → Plainly place ts → prefix_at ts ≡ p
         → (commands : Bool) (o : OperandNode) (known : Names) (rest : Tokens)
         → operand_with i p names ts commands owner ≡ Ok (o, known, rest) → is_expression (operand_node o) ≡ true
         → SoundOperand o known rest
-    by_prefix None there commands o known rest h is = chain_sound there commands o known rest h is
-    by_prefix (Some p) there commands o known rest h is =
+    by_prefix None plain there commands o known rest h is = chain_sound there commands o known rest h is
+    by_prefix (Some p) plain there commands o known rest h is =
         let r = bind_ok (i.operation names (behind ts) (operands.operand_level p) owner) _ (o, known, rest) h in
         let e = read_same (whole (prefix_node p r.0.0)) o r.0.1 known r.0.2 rest r.2 in
         let part = prefix_part p r.0.0 (subst (λ q. is_expression (operand_node q) ≡ true) (sym e.0) is) in
-        let inner = sound.operation names r.0.1 (behind ts) r.0.2 (operand_place p place) (operands.operand_level p)
-        owner r.0.0 r.1 part in
-        let level = subst (λ l. Derives (Operation (operand_place p place) l owner r.0.0) names (behind ts) r.0.1 r.0.2)
+        let tight : is_inner (operands.operand_level p) ≡ true = rw (same_level p) (inner_level p) in
+        let inner = sound.operation names r.0.1 (behind ts) r.0.2 (operands.operand_level p) owner r.0.0 tight r.1 part
+        in
+        let level = subst (λ l. Derives (Operation places.Argument l owner r.0.0) names (behind ts) r.0.1 r.0.2)
         (same_level p) inner in
+        let placed = subst (λ q. Derives (Operation q (operand_level p) owner r.0.0) names (behind ts) r.0.1 r.0.2)
+        (sym (plain_place p place (λ e. plain (there ∙ ap Some e)))) level in
         carry SoundOperand (whole (prefix_node p r.0.0)) o r.0.1 known r.0.2 rest r.2
-        (prefix_node p r.0.0, refl, Prefixed place owner p names r.0.1 ts r.0.2 r.0.0 there level)
+        (prefix_node p r.0.0, refl, Prefixed place owner p names r.0.1 ts r.0.2 r.0.0 there placed)
 
-    pub operand_sound : (commands : Bool) (o : OperandNode) (known : Names) (rest : Tokens)
+    pub operand_sound : Plainly place ts → (commands : Bool) (o : OperandNode) (known : Names) (rest : Tokens)
         → operand i names ts commands owner ≡ Ok (o, known, rest) → is_expression (operand_node o) ≡ true
         → SoundOperand o known rest
     unfolding operand
-    operand_sound commands o known rest h is = by_prefix (prefix_at ts) refl commands o known rest h is
+    operand_sound plain commands o known rest h is = by_prefix (prefix_at ts) plain refl commands o known rest h is

@@ -10,7 +10,7 @@ use Rattle.parser_tree.specs.Node as node
 use Rattle.parser_tree.specs.Node.{Node}
 use Rattle.parser_tokens.specs.Tokens.{first, behind, bytes_at, place_at}
 use Rattle.parser_tokens.specs.Expect.{skip_newlines, expect, expect_closing, is_wanted}
-use Rattle.parser_tokens.specs.Starts.{opens_arguments, is_open_parenthesis}
+use Rattle.parser_tokens.specs.Starts.{makes_call, opens_arguments, is_open_parenthesis}
 use Rattle.parser_tokens.specs.declared.expect.Wanted.TheVariants as wanted
 use Rattle.parser_tokens.specs.declared.word.Word.{Word}
 use Rattle.parser_tokens.specs.declared.word.Word.TheVariants as words
@@ -26,7 +26,7 @@ use Rattle.parser_nodes.specs.Leaf.{leaf}
 use Rattle.parser_nodes.specs.Calls.{CalleeNode, name_callee, super_callee, outside_callee, OperandNode, whole, Given, operand_node}
 use Rattle.parser_forms.specs.Brackets.{call_arguments, elements, yielded, sectioned}
 use Rattle.parser_forms.specs.Definitions.{lambda, lambda_by, lambda_body, define, method_rest, method_head, body, class_form, singleton_class, separated_body, named_class, path, parent, class_body, is_shift, module_form}
-use Rattle.parser_forms.specs.Parameters.{open_parameters, is_assign}
+use Rattle.parser_forms.specs.Parameters.{lambda_parameters, open_parameters, is_assign}
 use Rattle.parser_form_nodes.specs.Definitions.{HeadNode}
 use Rattle.parser_form_nodes.specs.Sections.{is_whole, compound_node}
 use Rattle.parser_ahead.specs.declared.sections.Compound.{Compound}
@@ -58,7 +58,7 @@ closes (words.Mark marks.CloseParenthesis) h = refl
 closes (words.Key k) h = absurd (closes_key k h)
 closes w h = absurd (cc)
 
-an_open : (w : Word) → is_open_parenthesis w ≡ true → w ≡ words.Mark marks.OpenParenthesis
+pub an_open : (w : Word) → is_open_parenthesis w ≡ true → w ≡ words.Mark marks.OpenParenthesis
 an_open (words.Mark marks.OpenParenthesis) h = refl
 an_open w h = absurd (cc)
 
@@ -80,38 +80,38 @@ module _ (i : Inside) where
       (λ r. with_block_never (block_at owner r.2) c (Some r.0) r.1 r.2))
       (with_block_never (block_at owner ts) c None names ts)
 
-  yielded_never : (names : Names) (ts : Tokens) → Never itself (yielded i names ts)
-  yielded_never names ts =
+  yielded_never : (at : ℕ) (names : Names) (ts : Tokens) → Never itself (yielded i at names ts)
+  yielded_never at names ts =
       never_if itself (opens_arguments ts) _ _
       (never_bind itself (elements i names (behind ts) wanted.CloseParenthesis) _ (λ r. never_ok itself _ r.1 r.2 refl))
       (never_ok itself _ names ts refl)
 
-  lambda_by_never : (style : Option BlockStyle) (bare : Bool) (mark : ℕ) (l : ParameterNodes) (names : Names)
-      (ts : Tokens) → Never itself (lambda_by i style bare mark l names ts)
-  lambda_by_never None bare mark l names ts = never_error itself (length ts)
-  lambda_by_never (Some style) bare mark l names ts =
-      never_bind itself (lambda_body i bare style mark l names ts) _ (λ r. never_ok itself _ r.1 r.2 refl)
+  lambda_by_never : (style : Option BlockStyle) (bare : Bool) (at mark : ℕ) (l : ParameterNodes) (names : Names)
+      (ts : Tokens) → Never itself (lambda_by i style bare at mark l names ts)
+  lambda_by_never None bare at mark l names ts = never_error itself (length ts)
+  lambda_by_never (Some style) bare at mark l names ts =
+      never_bind itself (lambda_body i bare style at mark l names ts) _ (λ r. never_ok itself _ r.1 r.2 refl)
 
-  lambda_never : (names : Names) (ts : Tokens) (owner : DoOwner) → Never itself (lambda i names ts owner)
+  lambda_never : (at : ℕ) (names : Names) (ts : Tokens) (owner : DoOwner) → Never itself (lambda i at names ts owner)
   unfolding lambda
-  lambda_never names ts owner =
-      never_bind itself (open_parameters i names ts) _
-      (λ r. lambda_by_never (lambda_block_at owner r.2) (is_some (lambda_block_at owner ts)) (length names) r.0 r.1
+  lambda_never at names ts owner =
+      never_bind itself (lambda_parameters i names ts) _
+      (λ r. lambda_by_never (lambda_block_at owner r.2) (is_some (lambda_block_at owner ts)) at (length names) r.0 r.1
       r.2)
 
-  rest_never : (h : HeadNode) (l : ParameterNodes) (names : Names) (ts : Tokens)
-      → Never itself (method_rest i h l names ts)
-  rest_never h l names ts =
+  rest_never : (at : ℕ) (h : HeadNode) (l : ParameterNodes) (names : Names) (ts : Tokens)
+      → Never itself (method_rest i at h l names ts)
+  rest_never at h l names ts =
       never_if itself (is_assign (first ts)) _ _
       (never_bind itself (i.argument names (behind ts) owners.Call) _ (λ r. never_ok itself _ r.1 r.2 refl))
       (never_bind itself (body i names ts) _ (λ r. never_ok itself _ _ _ (method_is_none h _)))
 
-  define_never : (names : Names) (ts : Tokens) → Never itself (define i names ts)
+  define_never : (at : ℕ) (names : Names) (ts : Tokens) → Never itself (define i at names ts)
   unfolding define
-  define_never names ts =
+  define_never at names ts =
       never_bind itself (method_head i names ts) _ (λ h.
       never_bind itself (open_parameters i [] h.2) _
-      (λ l. never_passed itself (method_rest i h.0 l.0 l.1 l.2) (λ r. h.1) (rest_never h.0 l.0 l.1 l.2)))
+      (λ l. never_passed itself (method_rest i at h.0 l.0 l.1 l.2) (λ r. h.1) (rest_never at h.0 l.0 l.1 l.2)))
 
   singleton_never : (names : Names) (ts : Tokens) → Never itself (singleton_class i names ts)
   singleton_never names ts =
@@ -208,7 +208,7 @@ module _ (i : Inside) where
       named c = goal_never _ (suffix_never c names (behind ts) owner)
 
       by_identifier : (known opened : Bool) → is_known (bytes_at ts) names ≡ known
-          → opens_arguments (behind ts) ≡ opened → first ts ≡ words.Identifier
+          → makes_call (behind ts) ≡ opened → first ts ≡ words.Identifier
           → Goal (primary_by i (if known then (if opened then primaries.Name else primaries.Local) else primaries.Name)
           names ts owner)
       unfolding primary_by
@@ -223,7 +223,7 @@ module _ (i : Inside) where
                 (whole (node.local (bytes_at ts))) o names later (behind ts) rest h (Local place owner names ts is k a),
           )
 
-      by_constant : (opened : Bool) → opens_arguments (behind ts) ≡ opened → first ts ≡ words.Constant
+      by_constant : (opened : Bool) → makes_call (behind ts) ≡ opened → first ts ≡ words.Constant
           → primary_of words.Constant names ts ≡ (if opened then primaries.Name else primaries.Leaf)
           → Goal (primary_by i (if opened then primaries.Name else primaries.Leaf) names ts owner)
       unfolding primary_by compound
@@ -241,9 +241,9 @@ module _ (i : Inside) where
       by_key : (k : Keyword) → first ts ≡ words.Key k
           → Goal (primary_by i (primary_of (words.Key k) names ts) names ts owner)
       unfolding primary_by compound
-      by_key keywords.Super is = named super_callee
-      by_key keywords.Yield is = not_wrapped _ (yielded_never names (behind ts))
-      by_key keywords.Def is = not_wrapped _ (define_never names (behind ts))
+      by_key keywords.Super is = named (super_callee (place_at ts))
+      by_key keywords.Yield is = not_wrapped _ (yielded_never (place_at ts) names (behind ts))
+      by_key keywords.Def is = not_wrapped _ (define_never (place_at ts) names (behind ts))
       by_key keywords.Class is = not_wrapped _ (class_never names (behind ts))
       by_key keywords.Module is = not_wrapped _ (module_never names (behind ts))
       by_key keywords.Defined is = by_defined (is_open_parenthesis (first (behind ts))) refl is refl
@@ -262,7 +262,7 @@ module _ (i : Inside) where
       by_mark marks.OpenParenthesis is = grouped is
       by_mark marks.OpenBracket is = goal_wrapped _ (array_sound i sound place owner names ts is)
       by_mark marks.OpenBrace is = goal_wrapped _ (hash_sound i sound place owner names ts is)
-      by_mark marks.LambdaArrow is = not_wrapped _ (lambda_never names (behind ts) owner)
+      by_mark marks.LambdaArrow is = not_wrapped _ (lambda_never (place_at ts) names (behind ts) owner)
       by_mark p is = leafy (words.Mark p) is refl
 
       by_outside : (o : Outside) → first ts ≡ words.Other o
@@ -273,10 +273,9 @@ module _ (i : Inside) where
 
       by_word : (w : Word) → first ts ≡ w → Goal (primary_by i (primary_of w names ts) names ts owner)
       unfolding primary_by compound
-      by_word words.Identifier is = by_identifier (is_known (bytes_at ts) names) (opens_arguments (behind ts)) refl refl
-          is
+      by_word words.Identifier is = by_identifier (is_known (bytes_at ts) names) (makes_call (behind ts)) refl refl is
       by_word words.MethodName is = named (name_callee (bytes_at ts) (is_identifier (first ts)))
-      by_word words.Constant is = by_constant (opens_arguments (behind ts)) refl is refl
+      by_word words.Constant is = by_constant (makes_call (behind ts)) refl is refl
       by_word (words.Other o) is = by_outside o is
       by_word words.StringBegin is = goal_wrapped _ (text_sound i sound place owner names ts (ap begins_string is))
       by_word words.Character is = goal_wrapped _ (text_sound i sound place owner names ts (ap begins_string is))

@@ -13,7 +13,7 @@ use Rattle.parser_tokens.specs.declared.expect.Wanted.TheVariants as wanted
 use Rattle.parser_tokens.specs.declared.operators.Junction.{Junction}
 use Rattle.parser_tokens.specs.declared.word.Modifier.{Modifier}
 use Rattle.parser_tokens.specs.declared.word.Modifier.TheVariants as kinds
-use Rattle.parser_ahead.specs.Primary.{is_name_word, is_comma_word}
+use Rattle.parser_ahead.specs.Primary.{is_method_word, is_comma_word}
 use Rattle.parser_ahead.specs.declared.primary.DoOwner.{DoOwner}
 use Rattle.parser_ahead.specs.declared.primary.DoOwner.TheVariants as owners
 use Rattle.parser_ahead.specs.declared.primary.Place.{Place}
@@ -61,15 +61,15 @@ lacks_if false r s first second = second
 alias_lacks : (at : ℕ) (ts : Tokens) → Lacks (alias at ts)
 alias_lacks at ts =
     lacks_if (is_global (first ts) && is_global (first (behind ts))) _ _ (lacks_ok _ _ refl)
-    (lacks_if (is_name_word (first ts)) _ _ (lacks_if (is_name_word (first (behind ts))) _ _ (lacks_ok _ _ refl)
+    (lacks_if (is_method_word (first ts)) _ _ (lacks_if (is_method_word (first (behind ts))) _ _ (lacks_ok _ _ refl)
     (lacks_error _)) (lacks_error _))
 
 undef_lacks : (found : List Name) (ts : Tokens) → Lacks (undef_from found ts)
 unfolding undef_from
 undef_lacks found [] = lacks_error 0
-undef_lacks found (t ∷ []) = lacks_if (is_name_word (word_of t)) _ _ (lacks_ok _ _ refl) (lacks_error 1)
+undef_lacks found (t ∷ []) = lacks_if (is_method_word (word_of t)) _ _ (lacks_ok _ _ refl) (lacks_error 1)
 undef_lacks found (t ∷ u ∷ ts) =
-    lacks_if (is_name_word (word_of t)) _ _
+    lacks_if (is_method_word (word_of t)) _ _
     (lacks_if (is_comma_word (word_of u)) _ _ (undef_lacks (found ++ bytes_of t.kind ∷ []) ts) (lacks_ok _ _ refl))
     (lacks_error _)
 

@@ -38,7 +38,8 @@ use Rattle.parser_laws.specs.Derives.{Derives}
 use Rattle.parser_laws.specs.Expressions.{is_assigned, is_assignable, is_expression}
 use Rattle.parser_laws.proofs.Results.{bind_ok, read_same, carry, clash, differs, both, err_is_none, same_read, Always, always_bind, always_after, always_ok, always_error, always_if}
 use Rattle.parser_laws.proofs.Sound.{IsSound}
-use Rattle.parser_laws.proofs.SoundPostfix.{operand_sound}
+use Rattle.parser_laws.proofs.OperatorFacts.{prefix_no_target}
+use Rattle.parser_laws.proofs.SoundPostfix.{Plainly, operand_sound}
 use Rattle.parser_laws.proofs.SoundAttributes.{is_whole, attribute_is, is_attribute, suffix_alone, chain_target}
 
 either_none : (b : Bool) (x y : Node) → is_assigned x ≡ false → is_assigned y ≡ false
@@ -69,7 +70,7 @@ method_is_none h d = by_name h.outside
 call_is_none : (c : CalleeNode) (g : Given) (b : Option Block) → is_assigned (call_node c g b) ≡ false
 call_is_none (name_callee x i) g b = refl
 call_is_none (method_callee r x s) g b = refl
-call_is_none super_callee g b = refl
+call_is_none (super_callee at) g b = refl
 call_is_none (outside_callee o at es) g b = refl
 
 -- what may stand before an assignment and is derived as an operand is derived as a target
@@ -198,7 +199,7 @@ abbrev unnamed : OperandNode → Bool
 unnamed (whole n) = true
 unnamed (callee (name_callee x b)) = false
 unnamed (callee (method_callee r x s)) = true
-unnamed (callee super_callee) = true
+unnamed (callee (super_callee at)) = true
 unnamed (callee (outside_callee o at es)) = true
 
 name_alone : (o : OperandNode) → unnamed o ≡ false → is_whole o ≡ false
@@ -306,7 +307,7 @@ module _ (i : Inside) where
   primary_alone primaries.OutsideName names ts owner o known rest h other =
       clash (unnamed o) (suffix_unnamed _ names (behind ts) owner refl o known rest h) other
   primary_alone primaries.Super names ts owner o known rest h other =
-      clash (unnamed o) (suffix_unnamed super_callee names (behind ts) owner refl o known rest h) other
+      clash (unnamed o) (suffix_unnamed (super_callee (place_at ts)) names (behind ts) owner refl o known rest h) other
   primary_alone p names ts owner o known rest h other =
       clash (unnamed o) (wrapped_unnamed (compound i p names ts owner) o known rest h) other
 
@@ -368,6 +369,17 @@ module _ (i : Inside) (sound : IsSound i) (owner : DoOwner) (names : Names) (ts 
       (λ r. Ok (whole (prefix_node p r.0), r.1, r.2)) (λ r. always_ok is_whole _ r.1 r.2 refl) in
       clash (is_whole o) (always o known rest h) (attribute_is o is)
 
+  -- what has an operator before it is no target
+  prefix_none : (p : Prefix) (commands : Bool) (o : OperandNode) (known : Names) (rest : Tokens)
+      → prefix_at ts ≡ Some p → operand i names ts commands owner ≡ Ok (o, known, rest) → is_target o ≡ false
+  unfolding operand
+  prefix_none p commands o known rest there h =
+      let made : operand_with i (Some p) names ts commands owner ≡ Ok (o, known, rest) =
+      subst (λ (q : Option Prefix). operand_with i q names ts commands owner ≡ Ok (o, known, rest)) there h in
+      let r = bind_ok (i.operation names (behind ts) (operands.operand_level p) owner) _ (o, known, rest) made in
+      carry (λ (q : OperandNode) (k : Names) (m : Tokens). is_target q ≡ false) (whole (prefix_node p r.0.0)) o r.0.1
+      known r.0.2 rest r.2 (prefix_no_target p r.0.0)
+
   -- an operand before an assignment
   pub target_sound : (commands : Bool) (o : OperandNode) (known : Names) (rest : Tokens)
       → operand i names ts commands owner ≡ Ok (o, known, rest) → is_target o ≡ true
@@ -376,7 +388,9 @@ module _ (i : Inside) (sound : IsSound i) (owner : DoOwner) (names : Names) (ts 
   unfolding operand
   target_sound commands (whole n) known rest h target is =
       let parts = assigned_parts n target is in
-      let o = operand_sound i sound places.Command owner names ts commands (whole n) known rest h parts.1 in
+      let plain : Plainly places.Command ts =
+      λ e. clash (is_target (whole n)) target (prefix_none prefixes.Not commands (whole n) known rest e h) in
+      let o = operand_sound i sound places.Command owner names ts plain commands (whole n) known rest h parts.1 in
       let same : n ≡ o.0 = ap operand_node o.1 in
       let d : Derives (Operand places.Command owner n) names ts known rest =
       subst (λ m. Derives (Operand places.Command owner m) names ts known rest) (sym same) o.2 in
@@ -387,5 +401,5 @@ module _ (i : Inside) (sound : IsSound i) (owner : DoOwner) (names : Names) (ts 
       let part = and_parts (true && (is_expression r && true)) true is in
       by_prefix (prefix_at ts) refl commands (callee (method_callee r x s)) known rest h
       (both (not s) (is_expression r) target (and_parts (is_expression r) true part.0).0)
-  target_sound commands (callee super_callee) known rest h target is = differs (sym is)
+  target_sound commands (callee (super_callee at)) known rest h target is = differs (sym is)
   target_sound commands (callee (outside_callee o at es)) known rest h target is = differs (sym is)

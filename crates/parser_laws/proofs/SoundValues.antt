@@ -109,7 +109,7 @@ module _ (i : Inside) (owner : DoOwner) where
           | inl there ↦
               let one = OneOperand place 13 owner before names start ts left derived in
               let tail = tail_sound i 13 owner sound place before start (length ts + 1) left names ts r.0.0 r.0.1 r.0.2
-              one r.1 there in
+              refl one r.1 there in
               let untaken : is_taken place r.0.0 (first r.0.2) ≡ false = elim tail.1 [
                 | inl kept ↦ subst (λ y. is_taken place y (first r.0.2) ≡ false) (sym kept.0)
                     (subst (λ m. is_taken place left (first m) ≡ false) (sym kept.1) free)

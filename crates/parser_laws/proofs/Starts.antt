@@ -1,16 +1,17 @@
 -- What the first word of a phrase says where a phrase begins with an operand, and where with !.
-use Rattle.std.proofs.Common.{◌≡◌, Bool, true, false, not, ◌&&◌, if◌then◌else◌, refl, sym, ap, ◌∙◌}
+use Rattle.std.proofs.Common.{◌≡◌, Bool, true, false, ◌&&◌, if◌then◌else◌, refl, sym, ap, ◌∙◌}
 use Rattle.rb_syntax.specs.declared.keyword.Keyword.{Keyword}
 use Rattle.rb_syntax.specs.declared.keyword.Keyword.TheVariants as keywords
 use Rattle.rb_syntax.specs.declared.punctuator.Punctuator.TheVariants as marks
 use Rattle.parser_tokens.specs.Tokens.{first, behind}
-use Rattle.parser_tokens.specs.Starts.{begins_value, opens_arguments, is_open_parenthesis, jump_at}
+use Rattle.parser_tokens.specs.Starts.{begins_value, is_open_parenthesis, jump_at, begins_argument}
 use Rattle.parser_tokens.specs.declared.starts.Jump.{Jump}
 use Rattle.parser_tokens.specs.declared.word.Word.{Word}
 use Rattle.parser_tokens.specs.declared.word.Word.TheVariants as words
 use Rattle.parser_ahead.specs.Groups.{is_target_group}
 use Rattle.parser_ahead.specs.Primary.{allows_command, is_statement, yield_start, jump_start, command_or_jump, command_start, other_start, start_of, start_at}
 use Rattle.parser_ahead.specs.declared.primary.Place.{Place}
+use Rattle.parser_ahead.specs.declared.primary.Place.TheVariants as places
 use Rattle.parser_ahead.specs.declared.primary.Start.{Start}
 use Rattle.parser_ahead.specs.declared.primary.Start.TheVariants as starts
 use Rattle.parser_forms.specs.Reading.{Tokens}
@@ -39,7 +40,7 @@ one_of true x y f g = f
 one_of false x y f g = g
 
 yield_no_not : (ts : Tokens) → is_not_start (yield_start ts) ≡ false
-yield_no_not ts = one_of (begins_value (first ts)) _ _ (one_of (opens_arguments ts) _ _ refl refl) refl
+yield_no_not ts = one_of (begins_argument ts) _ _ refl refl
 
 jump_no_not : (j : Jump) (ts : Tokens) → is_not_start (jump_start j ts) ≡ false
 jump_no_not j ts = one_of (begins_value (first ts)) _ _ refl refl
@@ -120,18 +121,16 @@ jump_operand : (j : Jump) (b : Bool) → is_operand_start (if b then starts.Jump
 jump_operand j true h = differs (sym h)
 jump_operand j false h = refl
 
-yield_operand : (b c : Bool) → is_operand_start
-    (if b then (if c then starts.Operand else starts.Yield) else starts.Operand) ≡ true → (b && not c) ≡ false
-yield_operand true true h = refl
-yield_operand true false h = differs (sym h)
-yield_operand false c h = refl
+yield_operand : (b : Bool) → is_operand_start (if b then starts.Yield else starts.Operand) ≡ true → b ≡ false
+yield_operand true h = differs (sym h)
+yield_operand false h = refl
 
 key_operand : (k : Keyword) (ts : Tokens) → is_operand_start
     (command_or_jump (jump_at (words.Key k)) (words.Key k) ts) ≡ true → is_jump (words.Key k) ts ≡ false
 key_operand keywords.Return ts h = jump_operand _ (begins_value (first ts)) h
 key_operand keywords.Break ts h = jump_operand _ (begins_value (first ts)) h
 key_operand keywords.Next ts h = jump_operand _ (begins_value (first ts)) h
-key_operand keywords.Yield ts h = yield_operand (begins_value (first ts)) (opens_arguments ts) h
+key_operand keywords.Yield ts h = yield_operand (begins_argument ts) h
 key_operand k ts h = refl
 
 command_operand : (w : Word) (ts : Tokens) → is_operand_start (command_or_jump (jump_at w) w ts) ≡ true
@@ -175,6 +174,32 @@ pub no_group : (place : Place) (ts : Tokens) → first ts ≡ words.Mark marks.N
     → (is_statement place && is_target_group ts) ≡ false
 no_group place ts there = rw there (and_false (is_statement place))
 
+bang_command : (ts : Tokens) → first ts ≡ words.Mark marks.Not → command_start ts ≡ starts.Not
+unfolding command_start
+bang_command ts is = rw is refl
+
+by_bang : (b c : Bool) (s : Start) → b ≡ false → s ≡ starts.Not
+    → (if b then starts.Targets else (if c then s else starts.Operand)) ≡ (if c then starts.Not else starts.Operand)
+by_bang true c s group there = differs group
+by_bang false c s group there = ap (λ x. if c then x else starts.Operand) there
+
+bang_start : (place : Place) (ts : Tokens) → first ts ≡ words.Mark marks.Not
+    → start_at place ts ≡ (if allows_command place then starts.Not else starts.Operand)
+unfolding start_at
+bang_start place ts is = ap (λ w. start_of w place ts) is ∙ by_bang (is_statement place && is_target_group ts)
+    (allows_command place) (command_start ts) (no_group place ts is) (bang_command ts is)
+
+no_commands : (place : Place) → is_operand_start (if allows_command place then starts.Not else starts.Operand) ≡ true
+    → place ≡ places.Argument
+no_commands places.Statement h = differs (sym h)
+no_commands places.Command h = differs (sym h)
+no_commands places.Argument h = refl
+
+-- an operand begins with ! only where no command may stand
+pub no_bang : (place : Place) (ts : Tokens) → start_at place ts ≡ starts.Operand → first ts ≡ words.Mark marks.Not
+    → place ≡ places.Argument
+no_bang place ts h is = no_commands place (ap is_operand_start (sym (bang_start place ts is) ∙ h))
+
 -- nor where it begins with defined?
 pub defined_alone : (place : Place) (ts : Tokens) → first ts ≡ words.Key keywords.Defined
     → (is_statement place && is_target_group ts) ≡ false
@@ -198,8 +223,7 @@ key_undefined : (k : Keyword) (ts : Tokens) → is_defined_start
 key_undefined keywords.Return ts = neither (begins_value (first ts)) _ _ refl refl
 key_undefined keywords.Break ts = neither (begins_value (first ts)) _ _ refl refl
 key_undefined keywords.Next ts = neither (begins_value (first ts)) _ _ refl refl
-key_undefined keywords.Yield ts = neither (begins_value (first ts)) _ _ (neither (opens_arguments ts) _ _ refl refl)
-    refl
+key_undefined keywords.Yield ts = neither (begins_argument ts) _ _ refl refl
 key_undefined k ts = refl
 
 command_undefined : (w : Word) (ts : Tokens) → is_defined_start (command_or_jump (jump_at w) w ts) ≡ false

@@ -1,5 +1,5 @@
 -- What follows of tests that are joined.
-use Rattle.std.proofs.Common.{◌≡◌, Bool, true, false, ◌&&◌, ◌||◌, if◌then◌else◌, refl, sym}
+use Rattle.std.proofs.Common.{◌≡◌, Bool, true, false, ◌&&◌, ◌||◌, if◌then◌else◌, refl, sym, ◌∙◌}
 use Rattle.parser_laws.proofs.Results.{differs}
 
 pub or_left : (a b : Bool) → a ≡ true → (a || b) ≡ true
@@ -13,6 +13,10 @@ or_right false b h = h
 pub or_rest : (a b : Bool) → a ≡ false → (a || b) ≡ true → b ≡ true
 or_rest true b h g = differs h
 or_rest false b h g = g
+
+pub or_first : (a b : Bool) → b ≡ false → (a || b) ≡ true → a ≡ true
+or_first true b h g = refl
+or_first false b h g = differs (sym g ∙ h)
 
 pub or_more : (a b c : Bool) → (a || b) ≡ true → (a || (b || c)) ≡ true
 or_more true b c h = refl

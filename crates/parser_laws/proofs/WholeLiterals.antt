@@ -49,10 +49,10 @@ assigned_none : (a : Assignment) (target n : Node) → is_expression n ≡ false
 assigned_none signs.Plain target n other = rw other (and_false (is_assignable target))
 assigned_none (signs.Operation o) target n other = rw other (and_false (is_assignable target))
 
-jump_none : (j : Jump) (is : List (Item Node)) → is_expression (jump_node j is) ≡ false
-jump_none jumps.Return is = refl
-jump_none jumps.Break is = refl
-jump_none jumps.Next is = refl
+jump_none : (j : Jump) (at : ℕ) (is : List (Item Node)) → is_expression (jump_node j at is) ≡ false
+jump_none jumps.Return at is = refl
+jump_none jumps.Break at is = refl
+jump_none jumps.Next at is = refl
 
 place_is : (n : Node) → is_place n ≡ true → is_assignable n ≡ true → is_expression n ≡ true
 place_is (node.index e is) place h = h
@@ -173,6 +173,19 @@ within _ _ _ _ _ (grammar.AssignedOr place owner a names known later last ts res
     within _ _ _ _ _ t p.0 k some ∙ passes rest (assignment_keeps (first rest) a there) k some
     ∙ within _ _ _ _ _ value q.0 k some
     ∙ passes more (modifier_keeps (first more) modifiers.Rescue rescue) k some ∙ within _ _ _ _ _ right q.1 k some
+within _ _ _ _ _ (grammar.NotAssignedValue place owner a names known later ts rest more target n is may t there value
+    calm) = λ h.
+    let p = assignment_parts a target n h in
+    λ k some. passes_word (words.Mark marks.Not) ts is refl k some ∙ within _ _ _ _ _ t p.0 k some
+    ∙ passes rest (assignment_keeps (first rest) a there) k some ∙ within _ _ _ _ _ value p.1 k some
+within _ _ _ _ _ (grammar.NotAssignedValueOr place owner a names known later last ts rest more left target n other is may
+    t there value rescue right) = λ h.
+    let p = assignment_parts a target (rescued_node n other) h in
+    let q = and_parts (is_expression n) (is_expression other) p.1 in
+    λ k some.
+    passes_word (words.Mark marks.Not) ts is refl k some ∙ within _ _ _ _ _ t p.0 k some
+    ∙ passes rest (assignment_keeps (first rest) a there) k some ∙ within _ _ _ _ _ value q.0 k some
+    ∙ passes more (modifier_keeps (first more) modifiers.Rescue rescue) k some ∙ within _ _ _ _ _ right q.1 k some
 within _ _ _ _ _ (grammar.InnerAssigned owner a names known later ts rest more target n t there value calm) = λ h.
     let p = assignment_parts a target n h in
     λ k some. within _ _ _ _ _ t p.0 k some ∙ passes rest (assignment_keeps (first rest) a there) k some
@@ -201,10 +214,21 @@ within _ _ _ _ _ (grammar.AnyTarget owner names known ts rest n d) = within _ _ 
 within _ _ _ _ _ (grammar.PostfixInnerTarget owner names known ts rest n is none d) =
     λ h. within _ _ _ _ _ d (place_is n is h)
 within _ _ _ _ _ (grammar.CalleeInnerTarget owner names known ts rest c none d target) = within _ _ _ _ _ d target
-within _ _ _ _ _ (grammar.AllOperators place loosest owner names known ts rest n d ends) = within _ _ _ _ _ d
+within _ _ _ _ _ (grammar.AllOperators place loosest owner names known ts rest n d ends free) = within _ _ _ _ _ d
 within _ _ _ _ _ (grammar.OneOperand place loosest owner names known ts rest n d) = within _ _ _ _ _ d
-within _ _ _ _ _ (grammar.CalleeOperand loosest owner a names known ts rest c inner none d there) =
-    λ h. differs (sym h ∙ call_is_none c None None)
+within _ _ _ _ _ (grammar.OperandAssigned loosest owner a names known later ts rest more target n inner t there value
+    calm) = λ h.
+    let p = assignment_parts a target n h in
+    λ k some. within _ _ _ _ _ t p.0 k some ∙ passes rest (assignment_keeps (first rest) a there) k some
+    ∙ within _ _ _ _ _ value p.1 k some
+within _ _ _ _ _ (grammar.OperandAssignedOr loosest owner a names known later last ts rest more left target n other inner
+    t there value rescue right) = λ h.
+    let p = assignment_parts a target (rescued_node n other) h in
+    let q = and_parts (is_expression n) (is_expression other) p.1 in
+    λ k some.
+    within _ _ _ _ _ t p.0 k some ∙ passes rest (assignment_keeps (first rest) a there) k some
+    ∙ within _ _ _ _ _ value q.0 k some
+    ∙ passes more (modifier_keeps (first more) modifiers.Rescue rescue) k some ∙ within _ _ _ _ _ right q.1 k some
 within _ _ _ _ _ (grammar.Infixed place loosest owner o names known later ts rest more a b left there right calm) = λ h.
     let p = infix_parts o (place_at rest) a b h in
     λ k some. within _ _ _ _ _ left p.0 k some ∙ passes rest (infix_keeps loosest (first rest) o there) k some
@@ -428,13 +452,17 @@ within _ _ _ _ _ (grammar.CalleeCommand place owner names known later ts rest mo
     within _ _ _ _ _ arguments
 within _ _ _ _ _ (grammar.NotCommand place owner names known later ts rest more c n is may none d arguments) =
     within _ _ _ _ _ arguments
-within _ _ _ _ _ (grammar.CommandAssigned place owner a names known later ts rest more target n jump t there d free) =
+within _ _ _ _ _ (grammar.CommandAssigned place owner a names known later ts rest more target n jump t there d calm
+    free) = assigned_none a target n (within _ _ _ _ _ d)
+within _ _ _ _ _ (grammar.CommandAssignedOr place owner a names known later last ts rest more left target n other jump t
+    there d rescue right) = assigned_none a target (rescued_node n other) (rw (within _ _ _ _ _ d) refl)
+within _ _ _ _ _ (grammar.NotAssigned place owner a names known later ts rest more target n is may t there d calm) =
     assigned_none a target n (within _ _ _ _ _ d)
-within _ _ _ _ _ (grammar.NotAssigned place owner a names known later ts rest more target n is may t there d) =
-    assigned_none a target n (within _ _ _ _ _ d)
+within _ _ _ _ _ (grammar.NotAssignedOr place owner a names known later last ts rest more left target n other is may t
+    there d rescue right) = assigned_none a target (rescued_node n other) (rw (within _ _ _ _ _ d) refl)
 within _ _ _ _ _ (grammar.JumpList place owner j names known ts rest l there may begins d none) =
-    jump_none j (whole_items l.items l.pairs)
-within _ _ _ _ _ (grammar.YieldList place owner names known ts rest l is may begins closed d none) = refl
+    jump_none j (place_at ts) (whole_items l.items l.pairs)
+within _ _ _ _ _ (grammar.YieldList place owner names known ts rest l is may begins d none) = refl
 within _ _ _ _ _ d = tt
 
 -- no command is an expression

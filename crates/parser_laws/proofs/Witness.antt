@@ -5,7 +5,7 @@ use Rattle.parser_tree.specs.Node.{Node, nodes, none}
 use Rattle.parser_tokens.specs.Tokens.{first, behind, word_of, bytes_at, integer_at, place_at}
 use Rattle.parser_tokens.specs.Expect.{newlines_from, separators_from}
 use Rattle.parser_tokens.specs.Operators.{infix_at, prefix_at, junction_at}
-use Rattle.parser_tokens.specs.Starts.{modifier_at, postfix_at, opens_arguments}
+use Rattle.parser_tokens.specs.Starts.{is_plain_start, makes_call, modifier_at, postfix_at, opens_arguments}
 use Rattle.parser_tokens.specs.declared.operators.Assignment.TheVariants as signs
 use Rattle.parser_ahead.specs.Groups.{is_target_group}
 use Rattle.parser_ahead.specs.Primary.{is_statement}
@@ -28,7 +28,7 @@ the_value =
     (OneOperand places.Command 13 owners.Call known known one [] (node.integer (pos 1))
     (WithPostfixes places.Command owners.Call known known one [] (node.integer (pos 1)) refl
     (Integer places.Command owners.Call known one refl) refl))
-    refl)
+    refl refl)
     refl refl
 
 the_target : Derives (Target owners.Call (node.local (codes "x"))) [] tokens known equals_one
@@ -68,7 +68,7 @@ alone place owner names known ts rest n no_prefix primary no_postfix no_infix qu
     (Value place owner names known ts rest n jump
     (AllOperators place 13 owner names known ts rest n
     (OneOperand place 13 owner names known ts rest n
-    (WithPostfixes place owner names known ts rest n no_prefix primary no_postfix)) no_infix)
+    (WithPostfixes place owner names known ts rest n no_prefix primary no_postfix)) no_infix refl)
     question taken)))
     no_junction
 
@@ -80,7 +80,7 @@ whole_statement names known ts rest n expression ends =
     WithModifiers names known ts rest n (Unmodified names known ts rest n (Plain names known ts rest n expression)) ends
 
 the_test : Derives (Expression places.Command owners.Call (node.local (codes "a"))) inner test inner then_ends
-unfolding first behind word_of bytes_at infix_at prefix_at opens_arguments shape
+unfolding first behind word_of bytes_at infix_at prefix_at makes_call is_plain_start opens_arguments shape
 the_test = alone places.Command owners.Call inner inner test then_ends (node.local (codes "a")) refl
     (Local places.Command owners.Call inner test refl refl refl) refl refl refl refl refl refl refl
 
@@ -117,7 +117,7 @@ the_parameters =
     (RequiredParameter [] parameter refl refl)) refl) refl
 
 the_method : Derives (Primary places.Statement owners.Call method) [] method_tokens [] []
-unfolding first behind word_of bytes_at singleton_at
+unfolding first behind word_of bytes_at place_at singleton_at
 the_method =
     Define places.Statement owners.Call [] [] inner inner method_tokens opens body [] (head_of none name None) the_list
     (node.statements (nodes (branch ∷ []))) refl

@@ -70,7 +70,7 @@ abbrev pub body : Node
 body = node.statements (nodes [])
 
 abbrev pub block : BlockNode
-block = block_of no_parameters [] body
+block = block_of 12 no_parameters [] body
 
 abbrev pub command : Node
 command = call_node called (Some (arguments_node list)) (Some block)

@@ -57,7 +57,7 @@ abbrev pub body : Node
 body = node.statements (nodes (node.local (codes "x") ∷ []))
 
 abbrev pub block : BlockNode
-block = block_of parameters [] body
+block = block_of 4 parameters [] body
 
 abbrev pub command : Node
 command = call_node called (Some (arguments_node list)) (Some block)

@@ -14,7 +14,7 @@ use Rattle.parser_tree.specs.View.{items_of, pair_of}
 use Rattle.parser_tokens.specs.Tokens.{first, behind, bytes_at, integer_at, character_at, place_at}
 use Rattle.parser_tokens.specs.Expect.{skip_newlines, skip_separators, then_at, do_at}
 use Rattle.parser_tokens.specs.Operators.{infix_at, right_level, clashes, prefix_at, is_sign, junction_at, assignment_at}
-use Rattle.parser_tokens.specs.Starts.{begins_value, begins_argument, ends_statement, ends_statements, jump_at, modifier_at, postfix_at, opens_arguments, is_separator, is_open_parenthesis}
+use Rattle.parser_tokens.specs.Starts.{begins_value, begins_argument, makes_call, ends_statement, ends_statements, jump_at, modifier_at, postfix_at, opens_arguments, is_separator, is_open_parenthesis}
 use Rattle.parser_tokens.specs.declared.operators.Assignment.{Assignment}
 use Rattle.parser_tokens.specs.declared.operators.Infix.{Infix}
 use Rattle.parser_tokens.specs.declared.operators.Junction.{Junction}
@@ -25,7 +25,7 @@ use Rattle.parser_tokens.specs.declared.word.Word.TheVariants as words
 use Rattle.parser_ahead.specs.Names.{is_known, learned, locals_from, declared}
 use Rattle.parser_ahead.specs.Groups.{is_target_group, is_quoted_key, ends_targets, follows_nested, word_behind_group, is_nested_group, begins_pattern}
 use Rattle.parser_ahead.specs.declared.groups.TargetUse.TheVariants as uses
-use Rattle.parser_ahead.specs.Primary.{allows_command, is_statement, of_value, in_command, block_at, is_comma_word, is_arrow_word, is_name_word, lambda_block_at}
+use Rattle.parser_ahead.specs.Primary.{allows_command, is_statement, of_value, in_command, block_at, is_comma_word, is_arrow_word, is_method_word, is_name_word, lambda_block_at}
 use Rattle.parser_tokens.specs.declared.word.Modifier.{Modifier}
 use Rattle.parser_tokens.specs.declared.word.Modifier.TheVariants as modifiers
 use Rattle.parser_ahead.specs.declared.names.Variable.{Variable}
@@ -43,7 +43,7 @@ use Rattle.parser_nodes.specs.Calls.{CalleeNode, name_callee, method_callee, sup
 use Rattle.parser_nodes.specs.declared.listed.Sort.TheVariants as sorts
 use Rattle.parser_form_nodes.specs.Parameters.{no_parameters, definition_of, BlockNode, ParameterNode, ParameterNodes, required, optional, rest_of, block_name, outside_parameter, may_follow, put_parameter, begins_parameter, block_of, with_comma}
 use Rattle.parser_form_nodes.specs.Targets.{TargetNode, one_target, group_target, star_target, TargetsNode, no_targets, targets_list, list_node, may_follow as target_follows, put}
-use Rattle.parser_laws.specs.Rules.{WhenValues, Rule, Statements, StatementList, Statement, Modified, Base, Expression, Joined, Negation, Argument, Operation, Operators, Operand, Primary, Target, InnerTarget, Elements, Piece, Pieces, Quoted, Strings, Part, Parts, Listing, OneTarget, Targets, operand_level, is_inner, is_question, is_taken, is_rescue, takes_list, goes_on_list, stands_alone, ends_literal, begins_string, is_star, opens_bars, MethodNames, Guarded, Repeated, Branches, Otherwise, Subject, Clauses, Clause, Values, ValueTest, Classes, RescueClauses, RescueClause, Ensured, Handlers, Parameter, ParameterList, Parameters, MethodParameters, MethodHead, ClassPath, Body, ends_subject, is_identifier, has_handlers, head_of, endless_method, is_place, is_alone, operand_place, LoopTargets, Pattern, PatternTarget, PatternName, BlockParameters, BarredParameters, BarredLocals, BlockLocals, Block, is_semicolon, Callee, CommandArguments, Command, Called, OnePostfix, Postfixes, is_constant, is_taken_callee, begins_jump, is_outside_variable, joins_name, joins_call, joins_constant, method_behind}
+use Rattle.parser_laws.specs.Rules.{WhenValues, Rule, Statements, StatementList, Statement, Modified, Base, Expression, Joined, Negation, Argument, Operation, Operators, Operand, Primary, Target, InnerTarget, Elements, Piece, Pieces, Quoted, Strings, Part, Parts, Listing, OneTarget, Targets, operand_level, is_inner, is_question, is_taken, is_rescue, takes_list, goes_on_list, stands_alone, ends_literal, begins_string, is_star, opens_bars, MethodNames, placed, Guarded, Repeated, Branches, Otherwise, Subject, Clauses, Clause, Values, ValueTest, Classes, RescueClauses, RescueClause, Ensured, Handlers, Parameter, ParameterList, Parameters, MethodParameters, LambdaParameters, MethodHead, ClassPath, Body, ends_subject, is_identifier, has_handlers, head_of, endless_method, is_place, is_alone, operand_place, LoopTargets, Pattern, PatternTarget, PatternName, BlockParameters, BarredParameters, BarredLocals, BlockLocals, Block, is_semicolon, Callee, CommandArguments, Command, Called, OnePostfix, Postfixes, is_constant, is_taken_callee, begins_jump, is_outside_variable, joins_name, joins_call, joins_constant, method_behind}
 use Rattle.parser_tree.specs.Parts.{class_path}
 use Rattle.parser_form_nodes.specs.Definitions.{HeadNode, name_place, singleton_at, method_node, is_global, global_alias}
 use Rattle.parser_form_nodes.specs.Sections.{option_node, pattern_node}
@@ -144,6 +144,24 @@ pub data Derives : Rule → Names → Tokens → Names → Tokens → Type 0 whe
       → modifier_at (first more) ≡ Some modifiers.Rescue
       → Derives (Argument places.Argument owner other) later (behind more) last left
       → Derives (Argument place owner (assignment_node a target (rescued_node n other))) names ts last left
+  -- ! and an assignment where a command may stand, with all that its value takes
+  NotAssignedValue : (place : Place) (owner : DoOwner) (a : Assignment) (names known later : Names)
+      (ts rest more : Tokens) (target n : Node)
+      → first ts ≡ words.Mark marks.Not → allows_command place ≡ true
+      → Derives (Target owner target) names (behind ts) known rest → assignment_at (first rest) ≡ Some a
+      → Derives (Argument places.Command owner n) known (behind rest) later more
+      → is_rescue (modifier_at (first more)) ≡ false
+      → Derives (Argument place owner (prefix_node prefixes.Not (assignment_node a target n))) names ts later more
+  -- the same, and behind a modifier rescue what stands for a value that fails
+  NotAssignedValueOr : (place : Place) (owner : DoOwner) (a : Assignment) (names known later last : Names)
+      (ts rest more left : Tokens) (target n other : Node)
+      → first ts ≡ words.Mark marks.Not → allows_command place ≡ true
+      → Derives (Target owner target) names (behind ts) known rest → assignment_at (first rest) ≡ Some a
+      → Derives (Argument places.Command owner n) known (behind rest) later more
+      → modifier_at (first more) ≡ Some modifiers.Rescue
+      → Derives (Argument places.Argument owner other) later (behind more) last left
+      → Derives (Argument place owner (prefix_node prefixes.Not (assignment_node a target (rescued_node n other))))
+      names ts last left
   -- an assignment where no command may stand, with all that its value takes
   InnerAssigned : (owner : DoOwner) (a : Assignment) (names known later : Names) (ts rest more : Tokens)
       (target n : Node)
@@ -204,20 +222,34 @@ pub data Derives : Rule → Names → Tokens → Names → Tokens → Type 0 whe
   CalleeInnerTarget : (owner : DoOwner) (names known : Names) (ts rest : Tokens) (c : CalleeNode)
       → prefix_at ts ≡ None → Derives (Callee places.Argument owner c) names ts known rest → is_target (callee c) ≡ true
       → Derives (InnerTarget owner (target_node (callee c))) names ts (target_names (callee c) known) rest
-  -- operators with operands, and no operator behind them
+  -- operators with operands, and no operator behind them; as the operand of an operator they are no target of an
+  -- assignment
   AllOperators : (place : Place) (loosest : ℕ) (owner : DoOwner) (names known : Names) (ts rest : Tokens) (n : Node)
       → Derives (Operators place loosest owner n) names ts known rest → infix_at loosest (first rest) ≡ None
+      → (is_inner loosest && is_taken place n (first rest)) ≡ false
       → Derives (Operation place loosest owner n) names ts known rest
   -- an operand alone
   OneOperand : (place : Place) (loosest : ℕ) (owner : DoOwner) (names known : Names) (ts rest : Tokens) (n : Node)
       → Derives (Operand place owner n) names ts known rest
       → Derives (Operators place loosest owner n) names ts known rest
-  -- what is called alone as the operand of an operator: an assignment behind it doesn't make a target of it
-  CalleeOperand : (loosest : ℕ) (owner : DoOwner) (a : Assignment) (names known : Names) (ts rest : Tokens)
-      (c : CalleeNode)
-      → is_inner loosest ≡ true → prefix_at ts ≡ None → Derives (Callee places.Argument owner c) names ts known rest
+  -- an assignment as the last operand of an operator, with all that its value takes
+  OperandAssigned : (loosest : ℕ) (owner : DoOwner) (a : Assignment) (names known later : Names) (ts rest more : Tokens)
+      (target n : Node)
+      → is_inner loosest ≡ true → Derives (InnerTarget owner target) names ts known rest
       → assignment_at (first rest) ≡ Some a
-      → Derives (Operators places.Argument loosest owner (call_node c None None)) names ts known rest
+      → Derives (Argument places.Argument owner n) known (behind rest) later more
+      → is_rescue (modifier_at (first more)) ≡ false
+      → Derives (Operation places.Argument loosest owner (assignment_node a target n)) names ts later more
+  -- the same, and behind a modifier rescue what stands for a value that fails
+  OperandAssignedOr : (loosest : ℕ) (owner : DoOwner) (a : Assignment) (names known later last : Names)
+      (ts rest more left : Tokens) (target n other : Node)
+      → is_inner loosest ≡ true → Derives (InnerTarget owner target) names ts known rest
+      → assignment_at (first rest) ≡ Some a
+      → Derives (Argument places.Argument owner n) known (behind rest) later more
+      → modifier_at (first more) ≡ Some modifiers.Rescue
+      → Derives (Argument places.Argument owner other) later (behind more) last left
+      → Derives (Operation places.Argument loosest owner (assignment_node a target (rescued_node n other))) names ts
+      last left
   -- an operator between what stands before it and a right operand of tighter operators
   Infixed : (place : Place) (loosest : ℕ) (owner : DoOwner) (o : Infix) (names known later : Names)
       (ts rest more : Tokens) (a b : Node)
@@ -264,9 +296,9 @@ pub data Derives : Rule → Names → Tokens → Names → Tokens → Type 0 whe
   -- a symbol without quotes
   Symbol : (place : Place) (owner : DoOwner) (names : Names) (ts : Tokens)
       → first ts ≡ words.Symbol → Derives (Primary place owner (node.symbol (bytes_at ts))) names ts names (behind ts)
-  -- a name that is known as a local, and no parenthesis directly behind it
+  -- a name that is known as a local, and nothing behind it that makes a call of it
   Local : (place : Place) (owner : DoOwner) (names : Names) (ts : Tokens)
-      → first ts ≡ words.Identifier → is_known (bytes_at ts) names ≡ true → opens_arguments (behind ts) ≡ false
+      → first ts ≡ words.Identifier → is_known (bytes_at ts) names ≡ true → makes_call (behind ts) ≡ false
       → Derives (Primary place owner (node.local (bytes_at ts))) names ts names (behind ts)
   -- @name
   InstanceVariable : (place : Place) (owner : DoOwner) (names : Names) (ts : Tokens)
@@ -276,9 +308,9 @@ pub data Derives : Rule → Names → Tokens → Names → Tokens → Type 0 whe
   GlobalVariable : (place : Place) (owner : DoOwner) (names : Names) (ts : Tokens)
       → first ts ≡ words.GlobalVariable → Derives (Primary place owner (node.global_variable (bytes_at ts))) names ts
       names (behind ts)
-  -- a constant, and no parenthesis directly behind it
+  -- a constant, and nothing behind it that makes a call of it
   Constant : (place : Place) (owner : DoOwner) (names : Names) (ts : Tokens)
-      → first ts ≡ words.Constant → opens_arguments (behind ts) ≡ false
+      → first ts ≡ words.Constant → makes_call (behind ts) ≡ false
       → Derives (Primary place owner (node.constant (bytes_at ts))) names ts names (behind ts)
   -- a value, and other values in brackets behind it
   Indexed : (place : Place) (owner : DoOwner) (names known later : Names) (ts rest more : Tokens) (n : Node)
@@ -405,23 +437,27 @@ pub data Derives : Rule → Names → Tokens → Names → Tokens → Type 0 whe
       names (behind ts)
   -- retry
   Retry : (place : Place) (owner : DoOwner) (names : Names) (ts : Tokens)
-      → first ts ≡ words.Key keywords.Retry → Derives (Primary place owner node.retry) names ts names (behind ts)
+      → first ts ≡ words.Key keywords.Retry
+      → Derives (Primary place owner (node.retry (place_at ts))) names ts names (behind ts)
   -- return without a value
   Return : (place : Place) (owner : DoOwner) (names : Names) (ts : Tokens)
-      → first ts ≡ words.Key keywords.Return → Derives (Primary place owner (node.return_node node.none)) names ts names
+      → first ts ≡ words.Key keywords.Return
+      → Derives (Primary place owner (node.return_node (place_at ts) node.none)) names ts names
       (behind ts)
   -- break without a value
   Break : (place : Place) (owner : DoOwner) (names : Names) (ts : Tokens)
-      → first ts ≡ words.Key keywords.Break → Derives (Primary place owner (node.break_node node.none)) names ts names
+      → first ts ≡ words.Key keywords.Break
+      → Derives (Primary place owner (node.break_node (place_at ts) node.none)) names ts names
       (behind ts)
   -- next without a value
   Next : (place : Place) (owner : DoOwner) (names : Names) (ts : Tokens)
-      → first ts ≡ words.Key keywords.Next → Derives (Primary place owner (node.next_node node.none)) names ts names
+      → first ts ≡ words.Key keywords.Next
+      → Derives (Primary place owner (node.next_node (place_at ts) node.none)) names ts names
       (behind ts)
   -- yield without arguments; no parenthesis follows directly
   Yield : (place : Place) (owner : DoOwner) (names : Names) (ts : Tokens)
       → first ts ≡ words.Key keywords.Yield → opens_arguments (behind ts) ≡ false
-      → Derives (Primary place owner (node.yield_node node.none)) names ts names (behind ts)
+      → Derives (Primary place owner (node.yield_node (place_at ts) node.none)) names ts names (behind ts)
   -- a value that is no key
   PlainPart : (place : Place) (owner : DoOwner) (names known : Names) (ts rest : Tokens) (n : Node)
       → Derives (Argument place owner n) names ts known rest → is_arrow_word (first rest) ≡ false
@@ -495,19 +531,19 @@ pub data Derives : Rule → Names → Tokens → Names → Tokens → Type 0 whe
       → first ts ≡ words.Key keywords.Yield → opens_arguments (behind ts) ≡ true
       → Derives (Listing owners.Call l) names (behind (behind ts)) known rest
       → is_none l.block ≡ true → first (skip_newlines rest) ≡ words.Mark marks.CloseParenthesis
-      → Derives (Primary place owner (node.yield_node (items_of (whole_items l.items l.pairs)))) names ts known
-      (behind (skip_newlines rest))
+      → Derives (Primary place owner (node.yield_node (place_at ts) (items_of (whole_items l.items l.pairs)))) names ts
+      known (behind (skip_newlines rest))
   -- return, break or next with a list
   JumpList : (place : Place) (owner : DoOwner) (j : Jump) (names known : Names) (ts rest : Tokens) (l : ListNode)
       → jump_at (first ts) ≡ Some j → allows_command place ≡ true → begins_value (first (behind ts)) ≡ true
       → Derives (Listing owner l) names (behind ts) known rest → is_none l.block ≡ true
-      → Derives (Command place owner (jump_node j (whole_items l.items l.pairs))) names ts known rest
+      → Derives (Command place owner (jump_node j (place_at ts) (whole_items l.items l.pairs))) names ts known rest
   -- yield with a list that isn't in parentheses
   YieldList : (place : Place) (owner : DoOwner) (names known : Names) (ts rest : Tokens) (l : ListNode)
-      → first ts ≡ words.Key keywords.Yield → allows_command place ≡ true → begins_value (first (behind ts)) ≡ true
-      → opens_arguments (behind ts) ≡ false
+      → first ts ≡ words.Key keywords.Yield → allows_command place ≡ true → begins_argument (behind ts) ≡ true
       → Derives (Listing (in_command owner) l) names (behind ts) known rest → is_none l.block ≡ true
-      → Derives (Command place owner (node.yield_node (items_of (whole_items l.items l.pairs)))) names ts known rest
+      → Derives (Command place owner (node.yield_node (place_at ts) (items_of (whole_items l.items l.pairs)))) names ts
+      known rest
   -- a list assigned to a target: several values, or the elements of one
   ListAssigned : (owner : DoOwner) (names known later : Names) (ts rest more : Tokens) (target n : Node) (l : ListNode)
       → is_target_group ts ≡ false → begins_jump places.Statement ts ≡ false
@@ -570,29 +606,31 @@ pub data Derives : Rule → Names → Tokens → Names → Tokens → Type 0 whe
       (b : BlockNode)
       → first ts ≡ words.Mark marks.LambdaArrow → lambda_block_at owner (behind ts) ≡ Some style
       → Derives (Block style b) names (behind ts) known rest
-      → Derives (Primary place owner (node.lambda b.0)) names ts known rest
+      → Derives (Primary place owner (node.lambda (placed (place_at ts) b.0))) names ts known rest
   -- a lambda with parameters, and statements in braces
   LambdaBraces : (place : Place) (owner : DoOwner) (names known later : Names) (ts rest more : Tokens)
       (l : ParameterNodes) (n : Node)
       → first ts ≡ words.Mark marks.LambdaArrow → lambda_block_at owner (behind ts) ≡ None
-      → Derives (MethodParameters l) names (behind ts) known rest
+      → Derives (LambdaParameters l) names (behind ts) known rest
       → first rest ≡ words.Mark marks.OpenBrace → Derives (Statements n) known (behind rest) later more
       → first more ≡ words.Mark marks.CloseBrace
-      → Derives (Primary place owner (node.lambda (definition_of l (locals_from (length names) later) n))) names ts
+      → Derives
+      (Primary place owner (node.lambda (definition_of (place_at ts) l (locals_from (length names) later) n))) names ts
       (take (length names) later) (behind more)
   -- a lambda with parameters, and do with a body
   LambdaDo : (place : Place) (owner : DoOwner) (names known later : Names) (ts rest more : Tokens) (l : ParameterNodes)
       (n : Node)
       → first ts ≡ words.Mark marks.LambdaArrow → lambda_block_at owner (behind ts) ≡ None
-      → Derives (MethodParameters l) names (behind ts) known rest
+      → Derives (LambdaParameters l) names (behind ts) known rest
       → lambda_block_at owner rest ≡ Some styles.Do → Derives (Body n) known (behind rest) later more
-      → Derives (Primary place owner (node.lambda (definition_of l (locals_from (length names) later) n))) names ts
+      → Derives
+      (Primary place owner (node.lambda (definition_of (place_at ts) l (locals_from (length names) later) n))) names ts
       (take (length names) later) more
   -- Statements that are no expressions, and compound forms by their parts.
   -- alias and two names of methods
   Alias : (names : Names) (ts : Tokens)
-      → first ts ≡ words.Key keywords.Alias → is_name_word (first (behind ts)) ≡ true
-      → is_name_word (first (behind (behind ts))) ≡ true
+      → first ts ≡ words.Key keywords.Alias → is_method_word (first (behind ts)) ≡ true
+      → is_method_word (first (behind (behind ts))) ≡ true
       → Derives (Base (node.alias_node (bytes_at (behind ts)) (bytes_at (behind (behind ts))))) names ts names
       (behind (behind (behind ts)))
   -- alias and two global variables, outside the language
@@ -606,11 +644,11 @@ pub data Derives : Rule → Names → Tokens → Names → Tokens → Type 0 whe
       → Derives (Base (node.undef_node xs)) names ts known rest
   -- a name of a method, and no comma behind it
   LastMethodName : (names : Names) (ts : Tokens)
-      → is_name_word (first ts) ≡ true → is_comma_word (first (behind ts)) ≡ false
+      → is_method_word (first ts) ≡ true → is_comma_word (first (behind ts)) ≡ false
       → Derives (MethodNames (bytes_at ts ∷ [])) names ts names (behind ts)
   -- a name of a method, a comma, and names behind it
   MoreMethodNames : (names known : Names) (ts rest : Tokens) (xs : List Name)
-      → is_name_word (first ts) ≡ true → is_comma_word (first (behind ts)) ≡ true
+      → is_method_word (first ts) ≡ true → is_comma_word (first (behind ts)) ≡ true
       → Derives (MethodNames xs) names (behind (behind ts)) known rest
       → Derives (MethodNames (bytes_at ts ∷ xs)) names ts known rest
   -- BEGIN and statements in braces, outside the language
@@ -781,7 +819,8 @@ pub data Derives : Rule → Names → Tokens → Names → Tokens → Type 0 whe
       → first ts ≡ words.Key keywords.Def → Derives (MethodHead h) names (behind ts) known rest
       → Derives (MethodParameters l) [] rest inner more
       → assignment_at (first more) ≡ None → Derives (Body b) inner more later last
-      → Derives (Primary place owner (method_node h (block_of l (locals_from 0 later) b))) names ts known last
+      → Derives (Primary place owner (method_node h (block_of (place_at ts) l (locals_from 0 later) b))) names ts known
+      last
   -- def, a head, parameters, = and a value, outside the language
   EndlessDefine : (place : Place) (owner : DoOwner) (names known inner later : Names) (ts rest more last : Tokens)
       (h : HeadNode) (l : ParameterNodes) (n : Node)
@@ -932,14 +971,14 @@ pub data Derives : Rule → Names → Tokens → Names → Tokens → Type 0 whe
   BraceBlock : (names known later : Names) (ts rest more : Tokens) (l : ParameterNodes) (n : Node)
       → first ts ≡ words.Mark marks.OpenBrace → Derives (BlockParameters l) names (behind ts) known rest
       → Derives (Statements n) known rest later more → first more ≡ words.Mark marks.CloseBrace
-      → Derives (Block styles.Brace (block_of l (locals_from (length names) later) n)) names ts
+      → Derives (Block styles.Brace (block_of (place_at ts) l (locals_from (length names) later) n)) names ts
       (take (length names) later) (behind more)
   -- do with parameters, a body and end
   DoBlock : (names known later : Names) (ts rest last : Tokens) (l : ParameterNodes) (n : Node)
       → first ts ≡ words.Key keywords.Do → Derives (BlockParameters l) names (behind ts) known rest
       → Derives (Body n) known rest later last
-      → Derives (Block styles.Do (block_of l (locals_from (length names) later) n)) names ts (take (length names) later)
-      last
+      → Derives (Block styles.Do (block_of (place_at ts) l (locals_from (length names) later) n)) names ts
+      (take (length names) later) last
   -- no parameters of a block
   NoBars : (names : Names) (ts : Tokens) → opens_bars (first ts) ≡ false
       → Derives (BlockParameters no_parameters) names ts names ts
@@ -956,7 +995,17 @@ pub data Derives : Rule → Names → Tokens → Names → Tokens → Type 0 whe
       → Derives (ParameterList l) names ts known rest → is_comma_word (first rest) ≡ true
       → begins_parameter (first (behind rest)) ≡ false
       → Derives (BarredParameters (with_comma l)) names ts known (behind rest)
-  -- no variable of a block alone
+  -- the parameters of a lambda in parentheses, and its variables alone
+  OpenLambda : (names known later : Names) (ts rest more : Tokens) (l : ParameterNodes)
+      → first ts ≡ words.Mark marks.OpenParenthesis → Derives (Parameters l) names (behind ts) known rest
+      → Derives BarredLocals known rest later more
+      → first (skip_newlines more) ≡ words.Mark marks.CloseParenthesis
+      → Derives (LambdaParameters l) names ts later (behind (skip_newlines more))
+  -- the parameters of a lambda without parentheses
+  BareLambda : (names known : Names) (ts rest : Tokens) (l : ParameterNodes)
+      → is_open_parenthesis (first ts) ≡ false → Derives (Parameters l) names ts known rest
+      → Derives (LambdaParameters l) names ts known rest
+  -- no variable of a block or a lambda alone
   NoLocals : (names : Names) (ts : Tokens) → is_semicolon (first ts) ≡ false → Derives BarredLocals names ts names ts
   -- a semicolon and variables of a block alone
   SomeLocals : (names known : Names) (ts rest : Tokens)
@@ -977,7 +1026,7 @@ pub data Derives : Rule → Names → Tokens → Names → Tokens → Type 0 whe
       → first ts ≡ words.Key keywords.Class → Derives (ClassPath s x) names (behind ts) known rest
       → is_separator (first rest) ≡ true
       → Derives (Body b) [] (behind rest) inner last
-      → Derives (Primary place owner (node.class_node s x none b)) names ts known last
+      → Derives (Primary place owner (node.class_node s x none (locals_from 0 inner) b)) names ts known last
   -- class, a path, < and a superclass, a separator, a body without names, and end
   Subclass : (place : Place) (owner : DoOwner) (names known later inner : Names) (ts rest more last : Tokens) (s : Node)
       (x : Name) (n b : Node)
@@ -986,19 +1035,20 @@ pub data Derives : Rule → Names → Tokens → Names → Tokens → Type 0 whe
       → Derives (Expression places.Command owners.Call n) known (behind rest) later more
       → is_separator (first more) ≡ true
       → Derives (Body b) [] (behind more) inner last
-      → Derives (Primary place owner (node.class_node s x (one n) b)) names ts later last
+      → Derives (Primary place owner (node.class_node s x (one n) (locals_from 0 inner) b)) names ts later last
   -- class, << and an expression, a separator, a body without names, and end
   SingletonClass : (place : Place) (owner : DoOwner) (names known inner : Names) (ts rest last : Tokens) (n b : Node)
       → first ts ≡ words.Key keywords.Class → first (behind ts) ≡ words.Mark marks.ShiftLeft
       → Derives (Expression places.Command owners.Call n) names (behind (behind ts)) known rest
       → is_separator (first rest) ≡ true
       → Derives (Body b) [] (behind rest) inner last
-      → Derives (Primary place owner (node.singleton_class n b)) names ts known last
+      → Derives (Primary place owner (node.singleton_class n (locals_from 0 inner) b)) names ts known last
   -- module, a path, a body without names, and end
   Module : (place : Place) (owner : DoOwner) (names known inner : Names) (ts rest last : Tokens) (s : Node) (x : Name)
       (b : Node)
       → first ts ≡ words.Key keywords.Module → Derives (ClassPath s x) names (behind ts) known rest
-      → Derives (Body b) [] rest inner last → Derives (Primary place owner (node.module_node s x b)) names ts known last
+      → Derives (Body b) [] rest inner last
+      → Derives (Primary place owner (node.module_node s x (locals_from 0 inner) b)) names ts known last
   -- a path of constants
   Path : (names known : Names) (ts rest : Tokens) (n s : Node) (x : Name)
       → Derives (Operation places.Argument 1 owners.Call n) names ts known rest → class_path n ≡ Some (s, x)
@@ -1027,13 +1077,14 @@ pub data Derives : Rule → Names → Tokens → Names → Tokens → Type 0 whe
   MethodNameCallee : (place : Place) (owner : DoOwner) (names : Names) (ts : Tokens)
       → first ts ≡ words.MethodName → Derives (Callee place owner (name_callee (bytes_at ts) false)) names ts names
       (behind ts)
-  -- a name with a parenthesis directly behind it
+  -- a name, maybe a local or a constant, with what makes a call of it
   OpenedCallee : (place : Place) (owner : DoOwner) (names : Names) (ts : Tokens)
-      → is_name_word (first ts) ≡ true → opens_arguments (behind ts) ≡ true
+      → is_name_word (first ts) ≡ true → makes_call (behind ts) ≡ true
       → Derives (Callee place owner (name_callee (bytes_at ts) (is_identifier (first ts)))) names ts names (behind ts)
   -- super
   SuperCallee : (place : Place) (owner : DoOwner) (names : Names) (ts : Tokens)
-      → first ts ≡ words.Key keywords.Super → Derives (Callee place owner super_callee) names ts names (behind ts)
+      → first ts ≡ words.Key keywords.Super
+      → Derives (Callee place owner (super_callee (place_at ts))) names ts names (behind ts)
   -- a name that isn't of ASCII, outside the language
   NonAsciiCallee : (place : Place) (owner : DoOwner) (names : Names) (ts : Tokens)
       → first ts ≡ words.Other outsides.NonAsciiName
@@ -1224,15 +1275,35 @@ pub data Derives : Rule → Names → Tokens → Names → Tokens → Type 0 whe
       → begins_jump place ts ≡ false → Derives (Target owner target) names ts known rest
       → assignment_at (first rest) ≡ Some a
       → Derives (Command (of_value place) owner n) known (behind rest) later more
-      → (takes_list a place && is_comma_word (first more)) ≡ false
+      → is_rescue (modifier_at (first more)) ≡ false → (takes_list a place && is_comma_word (first more)) ≡ false
       → Derives (Command place owner (assignment_node a target n)) names ts later more
+  -- the same, and behind a modifier rescue what stands for a command that fails
+  CommandAssignedOr : (place : Place) (owner : DoOwner) (a : Assignment) (names known later last : Names)
+      (ts rest more left : Tokens) (target n other : Node)
+      → begins_jump place ts ≡ false → Derives (Target owner target) names ts known rest
+      → assignment_at (first rest) ≡ Some a
+      → Derives (Command (of_value place) owner n) known (behind rest) later more
+      → modifier_at (first more) ≡ Some modifiers.Rescue
+      → Derives (Argument places.Argument owner other) later (behind more) last left
+      → Derives (Command place owner (assignment_node a target (rescued_node n other))) names ts last left
   -- ! and an assignment of a command to a target
-  NotAssigned : (place : Place) (owner : DoOwner) (a : Assignment) (names known later : Names) (ts rest more : Tokens)
-      (target n : Node)
+  NotAssigned : (place : Place) (owner : DoOwner) (a : Assignment) (names known later : Names)
+      (ts rest more : Tokens) (target n : Node)
       → first ts ≡ words.Mark marks.Not → allows_command place ≡ true
       → Derives (Target owner target) names (behind ts) known rest
       → assignment_at (first rest) ≡ Some a → Derives (Command places.Command owner n) known (behind rest) later more
+      → is_rescue (modifier_at (first more)) ≡ false
       → Derives (Command place owner (prefix_node prefixes.Not (assignment_node a target n))) names ts later more
+  -- the same, and behind a modifier rescue what stands for a command that fails
+  NotAssignedOr : (place : Place) (owner : DoOwner) (a : Assignment) (names known later last : Names)
+      (ts rest more left : Tokens) (target n other : Node)
+      → first ts ≡ words.Mark marks.Not → allows_command place ≡ true
+      → Derives (Target owner target) names (behind ts) known rest
+      → assignment_at (first rest) ≡ Some a → Derives (Command places.Command owner n) known (behind rest) later more
+      → modifier_at (first more) ≡ Some modifiers.Rescue
+      → Derives (Argument places.Argument owner other) later (behind more) last left
+      → Derives (Command place owner (prefix_node prefixes.Not (assignment_node a target (rescued_node n other)))) names
+      ts last left
   -- a command; at the start of a statement it isn't one of several targets
   Commanded : (place : Place) (owner : DoOwner) (names known : Names) (ts rest : Tokens) (n : Node)
       → (is_statement place && is_target_group ts) ≡ false → Derives (Command place owner n) names ts known rest

@@ -73,7 +73,7 @@ branch = node.if_node (nodes (node.branch (node.local (codes "a")) (node.stateme
 
 abbrev pub method : Node
 method =
-    node.define none (codes "f") (node.definition (nodes (node.name_parameter (codes "a") ∷ [])) none rests.Absent none
+    node.define none (codes "f") (node.definition 0 (nodes (node.name_parameter (codes "a") ∷ [])) none rests.Absent none
     None none [] (node.statements (nodes (branch ∷ []))))
 
 abbrev pub method_tree : Node

@@ -69,7 +69,7 @@ abbrev mutual
   is_expression (node.global_variable x) = true
   is_expression (node.constant x) = true
   is_expression (node.top_constant x) = true
-  is_expression node.retry = true
+  is_expression (node.retry at) = true
   is_expression (node.array is) = are_expressions is
   is_expression (node.splat e) = is_expression e
   is_expression (node.hash ps) = are_expressions ps

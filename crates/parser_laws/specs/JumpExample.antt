@@ -22,7 +22,7 @@ abbrev pub digit : Tokens
 digit = record { kind = kinds.Integer 0; at = 7; space = false; line_start = false; value = true } ∷ bracket_end
 
 abbrev pub bracket : Tokens
-bracket = record { kind = kinds.Punctuator marks.OpenBracket; at = 6; space = false; line_start = false; value = true }
+bracket = record { kind = kinds.Punctuator marks.OpenBracket; at = 6; space = false; line_start = false; value = false }
     ∷ digit
 
 abbrev pub jump : Tokens
@@ -32,7 +32,7 @@ abbrev pub tokens : Tokens
 tokens = record { kind = kinds.Punctuator marks.Not; at = 0; space = false; line_start = true; value = true } ∷ jump
 
 abbrev pub index : Node
-index = node.index (node.yield_node node.none) (nodes (node.integer (pos 0) ∷ []))
+index = node.index (node.yield_node 1 node.none) (nodes (node.integer (pos 0) ∷ []))
 
 abbrev pub negation : Node
 negation = node.not_node index

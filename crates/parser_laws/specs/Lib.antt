@@ -1,4 +1,5 @@
 pub mod Rules
+pub mod Arguments
 pub mod Derives
 pub mod Expressions
 pub mod Example

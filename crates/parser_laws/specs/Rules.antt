@@ -111,6 +111,8 @@ pub data Rule : Type 0 where
   ParameterList : ParameterNodes → Rule
   Parameters : ParameterNodes → Rule
   MethodParameters : ParameterNodes → Rule
+  -- those of a lambda, with its variables alone
+  LambdaParameters : ParameterNodes → Rule
   -- the parameters of a block, those between its bars, its variables alone or none, and those behind a mark; a block
   BlockParameters : ParameterNodes → Rule
   BarredParameters : ParameterNodes → Rule
@@ -230,6 +232,11 @@ has_handlers cs o e = not (is_empty cs) || (is_some o || is_some e)
 abbrev pub head_of : Nodes → List Token → Option ℕ → HeadNode
 head_of singleton ts place = record { singleton = singleton; name = bytes_at ts; outside = place }
 
+-- a definition with the place of another opening word: that of a lambda is its arrow
+abbrev pub placed : ℕ → Node → Node
+placed at (node.definition p r o s q b x ls e) = node.definition at r o s q b x ls e
+placed at n = n
+
 -- the default of an optional parameter
 abbrev pub default_of : Node → List Node
 default_of (node.optional_parameter x n) = n ∷ []
@@ -268,12 +275,12 @@ is_constant _ = false
 abbrev pub is_taken_callee : Place → CalleeNode → Word → Bool
 is_taken_callee place c w = is_target (callee c) && takes_target place w
 
--- this word takes a list: return, break or next before a value, and yield before one where no parenthesis follows directly
+-- this word takes a list: return, break or next before a value, and yield before an argument
 abbrev pub is_jump : Word → Tokens → Bool
 is_jump (words.Key keywords.Return) ts = begins_value (first ts)
 is_jump (words.Key keywords.Break) ts = begins_value (first ts)
 is_jump (words.Key keywords.Next) ts = begins_value (first ts)
-is_jump (words.Key keywords.Yield) ts = begins_value (first ts) && not (opens_arguments ts)
+is_jump (words.Key keywords.Yield) ts = begins_argument ts
 is_jump w ts = false
 
 -- a jump begins here with its list, where a command may stand

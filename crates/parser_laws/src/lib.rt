@@ -21,6 +21,8 @@
 //! `ensure`; parameters of methods and of blocks; `def`, plain, on an object and without an end; `class`, `class <<` and
 //! `module`.
 //!
+//! What the rules ask of the parser's tables has words of its own in `specs::Arguments` ([`tables_agree`]).
+//!
 //! All that is derived the definitions of the parser read ([`derived_is_read`]), so [`at_most_one`] node is derived. An
 //! expression that they read is derived ([`expressions_are_derived`]); `specs::Expressions` says which nodes are those of
 //! expressions, strings and symbols with what is put in them, `%w` and `%i`, arrays and hashes, and an assignment of several
@@ -28,13 +30,14 @@
 //! branch of a conditional, or what stands before a modifier with a test, is in parentheses: a form with sections has the
 //! same.
 //!
-//! Going through the definitions branch by branch found two readings of parts that are not derived, and no other: a command
-//! directly before `{`, behind which no program goes on, and a name alone before `=` as operators of the loosest levels, where
-//! none stops. That no program has them, and that there is no other, is by reading; no theorem says it.
+//! Going through the definitions branch by branch found one reading of a part that is not derived, and no other: a command
+//! directly before `{`, behind which no program goes on. That no program has it, and that there is no other, is by reading;
+//! no theorem says it.
 #![tactic(auto)]
 
 ghost use Rattle.std.specs.Prelude.{◌≡◌, ◌≤◌, ℕ, List, [], length, true, Ok};
-ghost use Rattle.parser_tree.specs.Node.{Node};
+ghost use Rattle.parser_tree.specs.Node.{Name, Node};
+ghost use Rattle.parser_ahead.specs.Names.{locals_from};
 ghost use Rattle.parser_tokens.specs.Tokens.{first};
 ghost use Rattle.parser_ahead.specs.declared.primary.DoOwner.{DoOwner};
 ghost use Rattle.parser_ahead.specs.declared.primary.Place.TheVariants as places;
@@ -44,7 +47,10 @@ ghost use Rattle.parser_phrases.specs.Phrases.{argument};
 ghost use Rattle.parser_statements.specs.Statements.{statements};
 ghost use Rattle.rb_parser.specs.Levels.{levels};
 ghost use Rattle.rb_parser.specs.Program.{is_finish, program};
-ghost use Rattle.parser_laws.specs.Rules.{Argument, Operation, Statements};
+ghost use Rattle.parser_tokens.specs.Starts.{begins_argument, makes_call};
+ghost use Rattle.parser_nodes.specs.Calls.{OperandNode, is_target};
+ghost use Rattle.parser_laws.specs.Arguments.{BeginsArgument, IsTarget, MakesCall};
+ghost use Rattle.parser_laws.specs.Rules.{Argument, Operation, Statements, is_inner};
 ghost use Rattle.parser_laws.specs.Derives.{Derives};
 ghost use Rattle.parser_laws.specs.Example.{known, method_tokens, method_tree, tokens, tree};
 ghost use Rattle.parser_laws.specs.ListExample as lists;
@@ -60,13 +66,14 @@ pub fn expressions_are_derived()
         → argument (levels d) names ts owner ≡ Ok (n, known, rest) → is_expression n ≡ true
         → Derives (Argument places.Argument owner n) names ts known rest }
     ensures operation { (d : ℕ) (names known : Names) (ts rest : Tokens) (loosest : ℕ) (owner : DoOwner) (n : Node)
-        → operation (levels d) names ts loosest owner ≡ Ok (n, known, rest) → is_expression n ≡ true
-        → Derives (Operation places.Argument loosest owner n) names ts known rest }
+        → is_inner loosest ≡ true → operation (levels d) names ts loosest owner ≡ Ok (n, known, rest)
+        → is_expression n ≡ true → Derives (Operation places.Argument loosest owner n) names ts known rest }
     ensures statements { (d : ℕ) (names known : Names) (ts rest : Tokens) (n : Node)
         → statements (levels d) names ts ≡ Ok (n, known, rest) → is_expression n ≡ true
         → Derives (Statements n) names ts known rest }
-    ensures program { (ts : Tokens) (n : Node) → program ts ≡ Ok n → is_expression n ≡ true → (known : Names)
-        × (rest : Tokens) × Derives (Statements n) [] ts known rest × (is_finish (first rest) ≡ true) }
+    ensures program { (ts : Tokens) (xs : List Name) (n : Node) → program ts ≡ Ok (xs, n) → is_expression n ≡ true
+        → (known : Names) × (rest : Tokens) × Derives (Statements n) [] ts known rest × (is_finish (first rest) ≡ true)
+        × (xs ≡ locals_from 0 known) }
 {}
 
 /// What is derived the definitions of the parser read, with as many levels as there are tokens.
@@ -75,13 +82,13 @@ pub fn derived_is_read()
         → Derives (Argument places.Argument owner n) names ts known rest → length ts ≤ d
         → argument (levels d) names ts owner ≡ Ok (n, known, rest) }
     ensures operation { (d : ℕ) (names known : Names) (ts rest : Tokens) (loosest : ℕ) (owner : DoOwner) (n : Node)
-        → Derives (Operation places.Argument loosest owner n) names ts known rest → length ts ≤ d
-        → operation (levels d) names ts loosest owner ≡ Ok (n, known, rest) }
+        → is_inner loosest ≡ true → Derives (Operation places.Argument loosest owner n) names ts known rest
+        → length ts ≤ d → operation (levels d) names ts loosest owner ≡ Ok (n, known, rest) }
     ensures statements { (d : ℕ) (names known : Names) (ts rest : Tokens) (n : Node)
         → Derives (Statements n) names ts known rest → length ts ≤ d
         → statements (levels d) names ts ≡ Ok (n, known, rest) }
     ensures program { (ts : Tokens) (n : Node) (known : Names) (rest : Tokens) → Derives (Statements n) [] ts known rest
-        → is_finish (first rest) ≡ true → program ts ≡ Ok n }
+        → is_finish (first rest) ≡ true → program ts ≡ Ok (locals_from 0 known, n) }
 {}
 
 /// At most one node is derived, with the same tokens left and the same names known.
@@ -92,6 +99,15 @@ pub fn at_most_one()
     ensures statements { (names known later : Names) (ts rest more : Tokens) (n m : Node)
         → Derives (Statements n) names ts known rest → Derives (Statements m) names ts later more → (n ≡ m)
         × (known ≡ later) × (rest ≡ more) }
+{}
+
+/// What begins an argument behind a name, what makes a call of it and what may stand before an assignment: the rules ask it
+/// of the tables of the parser, which answer as the grammar says in `specs::Arguments`.
+pub fn tables_agree()
+    ensures argument { (ts : Tokens) → (begins_argument ts ≡ true → BeginsArgument ts)
+        × (BeginsArgument ts → begins_argument ts ≡ true) }
+    ensures call { (ts : Tokens) → (makes_call ts ≡ true → MakesCall ts) × (MakesCall ts → makes_call ts ≡ true) }
+    ensures target { (o : OperandNode) → (is_target o ≡ true → IsTarget o) × (IsTarget o → is_target o ≡ true) }
 {}
 
 /// The tokens of `x = 1` are derived as an assignment, behind which `x` is known as a local, and those of

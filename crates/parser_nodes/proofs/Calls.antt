@@ -35,7 +35,7 @@ method_call_of r x a b =
     ap (node.call (node.one (view r)) x (given_node (given_view a))) (same_block b))
 
 pub super_call_of : (a : Option (Arguments Tree)) (b : Option (Definition Tree)) (at : ℕ)
-    → form_view (form.Super a b at) ≡ node.super_node (given_node (given_view a)) (block_node (given_block b))
+    → form_view (form.Super a b at) ≡ node.super_node at (given_node (given_view a)) (block_node (given_block b))
 super_call_of a b at =
-    view-Super a b at ∙ (ap (λ given. node.super_node given (part.block b)) (same_given a)
-    ∙ ap (node.super_node (given_node (given_view a))) (same_block b))
+    view-Super a b at ∙ (ap (λ given. node.super_node at given (part.block b)) (same_given a)
+    ∙ ap (node.super_node at (given_node (given_view a))) (same_block b))

@@ -34,20 +34,20 @@ pub index_of : (e : Tree) (v : Vec (Item Tree) Global)
 index_of e v = of.view-Index e v ∙ ap (node.index (view e)) (sym (same_items v.items))
 
 pub yield_of : (v : Vec (Item Tree) Global) (at : ℕ)
-    → form_view (form.Yield v at) ≡ node.yield_node (items_of (items_view v))
-yield_of v at = of.view-Yield v at ∙ ap node.yield_node (sym (same_items v.items))
+    → form_view (form.Yield v at) ≡ node.yield_node at (items_of (items_view v))
+yield_of v at = of.view-Yield v at ∙ ap (node.yield_node at) (sym (same_items v.items))
 
 pub return_of : (v : Vec (Item Tree) Global) (at : ℕ)
-    → form_view (form.Return v at) ≡ node.return_node (items_of (items_view v))
-return_of v at = of.view-Return v at ∙ ap node.return_node (sym (same_items v.items))
+    → form_view (form.Return v at) ≡ node.return_node at (items_of (items_view v))
+return_of v at = of.view-Return v at ∙ ap (node.return_node at) (sym (same_items v.items))
 
 pub break_of : (v : Vec (Item Tree) Global) (at : ℕ)
-    → form_view (form.Break v at) ≡ node.break_node (items_of (items_view v))
-break_of v at = of.view-Break v at ∙ ap node.break_node (sym (same_items v.items))
+    → form_view (form.Break v at) ≡ node.break_node at (items_of (items_view v))
+break_of v at = of.view-Break v at ∙ ap (node.break_node at) (sym (same_items v.items))
 
 pub next_of : (v : Vec (Item Tree) Global) (at : ℕ)
-    → form_view (form.Next v at) ≡ node.next_node (items_of (items_view v))
-next_of v at = of.view-Next v at ∙ ap node.next_node (sym (same_items v.items))
+    → form_view (form.Next v at) ≡ node.next_node at (items_of (items_view v))
+next_of v at = of.view-Next v at ∙ ap (node.next_node at) (sym (same_items v.items))
 
 pub ruleset item_trees = (array_of, hash_of, index_of, yield_of, return_of, break_of, next_of)
 

@@ -26,7 +26,8 @@ pub data CalleeNode : Type 0 where
   name_callee : Name → Bool → CalleeNode
   -- a receiver, a name, and whether :: stands between them
   method_callee : Node → Name → Bool → CalleeNode
-  super_callee : CalleeNode
+  -- the place of the word
+  super_callee : ℕ → CalleeNode
   outside_callee : Outside → ℕ → List Node → CalleeNode
 
 -- a primary with its postfixes
@@ -37,7 +38,7 @@ pub data OperandNode : Type 0 where
 abbrev pub callee_view : Callee → CalleeNode
 callee_view (callees.Name x i) = name_callee x i
 callee_view (callees.Method r x s) = method_callee (view r) x s
-callee_view (callees.Super at) = super_callee
+callee_view (callees.Super at) = super_callee at
 callee_view (callees.Outside o at es) = outside_callee o at (views es)
 
 abbrev pub operand_view : Operand → OperandNode
@@ -94,7 +95,7 @@ outside_call o at es given block = node.outside o at (nodes ((es ++ given_parts 
 abbrev pub call_node : CalleeNode → Given → Option Block → Node
 call_node (name_callee x i) given block = node.call node.none x (given_node given) (block_node block)
 call_node (method_callee r x s) given block = node.call (one r) x (given_node given) (block_node block)
-call_node super_callee given block = node.super_node (given_node given) (block_node block)
+call_node (super_callee at) given block = node.super_node at (given_node given) (block_node block)
 call_node (outside_callee o at es) given block = outside_call o at es given block
 
 -- a name alone is called without arguments
@@ -111,7 +112,7 @@ is_target_shape shapes.Other = false
 abbrev pub is_target_callee : CalleeNode → Bool
 is_target_callee (name_callee x i) = i
 is_target_callee (method_callee r x s) = not s
-is_target_callee super_callee = false
+is_target_callee (super_callee at) = false
 is_target_callee (outside_callee o at es) = true
 
 -- what may stand before the = of an assignment
@@ -122,7 +123,7 @@ is_target (callee c) = is_target_callee c
 abbrev pub target_callee : CalleeNode → Node
 target_callee (name_callee x i) = node.local x
 target_callee (method_callee r x s) = node.call (one r) x node.none node.none
-target_callee super_callee = node.super_node node.none node.none
+target_callee (super_callee at) = node.super_node at node.none node.none
 target_callee (outside_callee o at es) = node.outside o at (nodes es)
 
 -- a name alone is a local from here on
@@ -133,7 +134,7 @@ target_node (callee c) = target_callee c
 abbrev pub learned_callee : CalleeNode → List Variable → List Variable
 learned_callee (name_callee x i) names = learned names x
 learned_callee (method_callee r x s) names = names
-learned_callee super_callee names = names
+learned_callee (super_callee at) names = names
 learned_callee (outside_callee o at es) names = names
 
 -- the names that are known behind a target

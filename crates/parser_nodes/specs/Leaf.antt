@@ -38,14 +38,14 @@ keyword_leaf keywords.Nil at = Some node.nil
 keyword_leaf keywords.True at = Some node.truth
 keyword_leaf keywords.False at = Some node.falsehood
 keyword_leaf keywords.SelfReference at = Some node.self_reference
-keyword_leaf keywords.Retry at = Some node.retry
+keyword_leaf keywords.Retry at = Some (node.retry at)
 keyword_leaf keywords.Redo at = Some (bare outsides.Redo at)
 keyword_leaf keywords.FileName at = Some (bare outsides.FileKeyword at)
 keyword_leaf keywords.LineNumber at = Some (bare outsides.LineKeyword at)
 keyword_leaf keywords.EncodingName at = Some (bare outsides.EncodingKeyword at)
-keyword_leaf keywords.Return at = Some (node.return_node node.none)
-keyword_leaf keywords.Break at = Some (node.break_node node.none)
-keyword_leaf keywords.Next at = Some (node.next_node node.none)
+keyword_leaf keywords.Return at = Some (node.return_node at node.none)
+keyword_leaf keywords.Break at = Some (node.break_node at node.none)
+keyword_leaf keywords.Next at = Some (node.next_node at node.none)
 keyword_leaf _ at = None
 
 -- a token outside the language is a primary, but for the two that stand within others

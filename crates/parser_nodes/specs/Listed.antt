@@ -1,5 +1,5 @@
 -- The parts of a list, as nodes.
-use Rattle.std.specs.Prelude.{Bool, true, false, not, ◌&&◌, if◌then◌else◌, List, [], ◌∷◌, ◌++◌, map, Vec}
+use Rattle.std.specs.Prelude.{ℕ, Bool, true, false, not, ◌&&◌, if◌then◌else◌, List, [], ◌∷◌, ◌++◌, map, Vec}
 use Rattle.std.specs.declared.alloc.Global.{Global}
 use Rattle.rb_syntax.specs.declared.core_form.Item.{Item}
 use Rattle.rb_syntax.specs.declared.core_form.Item.TheVariants.{Plain, Splat}
@@ -130,7 +130,8 @@ right_items (i ∷ j ∷ is) command = (node.array (items_of (i ∷ j ∷ is)), 
 abbrev pub right_side : ListNode → PhraseNode
 right_side l = right_items l.items l.command
 
-abbrev pub jump_node : Jump → List (Item Node) → Node
-jump_node jumps.Return is = node.return_node (items_of is)
-jump_node jumps.Break is = node.break_node (items_of is)
-jump_node jumps.Next is = node.next_node (items_of is)
+-- a jump whose word is at that place
+abbrev pub jump_node : Jump → ℕ → List (Item Node) → Node
+jump_node jumps.Return at is = node.return_node at (items_of is)
+jump_node jumps.Break at is = node.break_node at (items_of is)
+jump_node jumps.Next at is = node.next_node at (items_of is)

@@ -173,14 +173,14 @@ pub fn right_side(alloc: Global, listed: Listed) -> Result<Phrase, AllocError>
 
 #[tactic(auto, using(crate::proofs::Lists::item_trees))]
 fn yield_form(items: Vec<Item<Tree>>, at: u32) -> TreeForm
-    ensures { form_view result ≡ node.yield_node (items_of (made.items_view items)) }
+    ensures { form_view result ≡ node.yield_node at (items_of (made.items_view items)) }
 {
     TreeForm::Yield { items, at }
 }
 
 /// The tree of `yield` with a list, or alone.
 pub fn yield_tree(alloc: Global, items: Vec<Item<Tree>>, at: u32) -> Result<Tree, AllocError>
-    ensures { IfOk result (λ t. view t ≡ node.yield_node (items_of (made.items_view items))) }
+    ensures { IfOk result (λ t. view t ≡ node.yield_node at (items_of (made.items_view items))) }
 {
     yield_form(items, at).into_tree(alloc)
 }
@@ -188,7 +188,7 @@ pub fn yield_tree(alloc: Global, items: Vec<Item<Tree>>, at: u32) -> Result<Tree
 /// The form of a jump with a list, or alone.
 #[tactic(auto, using(crate::proofs::Lists::item_trees))]
 fn jump_form(jump: Jump, items: Vec<Item<Tree>>, at: u32) -> TreeForm
-    ensures { form_view result ≡ made.jump_node jump (made.items_view items) }
+    ensures { form_view result ≡ made.jump_node jump at (made.items_view items) }
 {
     match jump {
         Jump::Return => TreeForm::Return { items, at },
@@ -204,7 +204,7 @@ pub fn jump_tree(
     items: Vec<Item<Tree>>,
     at: u32,
 ) -> Result<Tree, AllocError>
-    ensures { IfOk result (λ t. view t ≡ made.jump_node jump (made.items_view items)) }
+    ensures { IfOk result (λ t. view t ≡ made.jump_node jump at (made.items_view items)) }
 {
     jump_form(jump, items, at).into_tree(alloc)
 }

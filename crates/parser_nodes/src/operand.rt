@@ -181,7 +181,7 @@ fn super_call(
     block: Option<Definition<Tree>>,
     at: u32,
 ) -> TreeForm
-    ensures { form_view result ≡ node.super_node (made.given_node (made.given_view arguments))
+    ensures { form_view result ≡ node.super_node at (made.given_node (made.given_view arguments))
         (made.block_node (made.given_block block)) }
 {
     TreeForm::Super {

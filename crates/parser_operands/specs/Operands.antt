@@ -147,13 +147,13 @@ module _ (inside : Inside) where
   compound primaries.Group names ts owner = group names (behind ts)
   compound primaries.Bracket names ts owner = array names (behind ts)
   compound primaries.Brace names ts owner = hash inside names (behind ts)
-  compound primaries.Lambda names ts owner = lambda inside names (behind ts) owner
+  compound primaries.Lambda names ts owner = lambda inside (place_at ts) names (behind ts) owner
   compound primaries.Defined names ts owner = defined names (behind (behind ts))
   compound (primaries.Compound form) names ts owner = sectioned inside names form (behind ts)
-  compound primaries.Define names ts owner = define inside names (behind ts)
+  compound primaries.Define names ts owner = define inside (place_at ts) names (behind ts)
   compound primaries.Class names ts owner = class_form inside names (behind ts)
   compound primaries.Module names ts owner = module_form inside names (behind ts)
-  compound primaries.Yield names ts owner = yielded inside names (behind ts)
+  compound primaries.Yield names ts owner = yielded inside (place_at ts) names (behind ts)
   compound primaries.Leaf names ts owner = leaf_primary (leaf ts) names ts
   compound primaries.Local names ts owner = leaf_primary (leaf ts) names ts
   compound primaries.Name names ts owner = leaf_primary (leaf ts) names ts
@@ -169,7 +169,8 @@ module _ (inside : Inside) where
       (behind ts) owner
   primary_by primaries.OutsideName names ts owner =
       suffix (outside_callee outsides.NonAsciiName (place_at ts) []) names (behind ts) owner
-  primary_by primaries.Super names ts owner = suffix super_callee names (behind ts) owner
+  primary_by primaries.Super names ts owner = suffix (super_callee (place_at ts)) names
+      (behind ts) owner
   primary_by p names ts owner = wrapped (compound p names ts owner)
 
   -- a primary; a name that is called has its arguments in parentheses and its block

@@ -1,10 +1,10 @@
 -- Phrases: commands, assignments, and operators with their operands.
-use Rattle.std.specs.Prelude.{Bool, true, false, ◌&&◌, ◌||◌, if◌then◌else◌, List, length, Option, Some, None, is_some, Ok, Err}
+use Rattle.std.specs.Prelude.{ℕ, Bool, true, false, ◌&&◌, ◌||◌, if◌then◌else◌, List, length, Option, Some, None, is_some, Ok, Err}
 use Rattle.rb_syntax.specs.declared.core_form.Item.{Item}
 use Rattle.parser_tree.specs.Node as node
 use Rattle.parser_tree.specs.Node.{Node}
 use Rattle.parser_tree.specs.View.{items_of}
-use Rattle.parser_tokens.specs.Tokens.{first, behind}
+use Rattle.parser_tokens.specs.Tokens.{first, behind, place_at}
 use Rattle.parser_tokens.specs.Expect.{expect}
 use Rattle.parser_tokens.specs.Operators.{assignment_at}
 use Rattle.parser_tokens.specs.Starts.{modifier_at}
@@ -13,8 +13,6 @@ use Rattle.parser_tokens.specs.declared.operators.Assignment.{Assignment}
 use Rattle.parser_tokens.specs.declared.operators.Assignment.TheVariants as assignments
 use Rattle.parser_tokens.specs.declared.operators.Prefix.TheVariants as prefixes
 use Rattle.parser_tokens.specs.declared.starts.Jump.{Jump}
-use Rattle.parser_tokens.specs.declared.word.Modifier.{Modifier}
-use Rattle.parser_tokens.specs.declared.word.Modifier.TheVariants as modifiers
 use Rattle.parser_ahead.specs.Primary.{start_at, block_at, allows_command, is_statement, of_value, in_command, is_comma_word}
 use Rattle.parser_ahead.specs.declared.primary.BlockStyle.{BlockStyle}
 use Rattle.parser_ahead.specs.declared.primary.BlockStyle.TheVariants as styles
@@ -24,7 +22,7 @@ use Rattle.parser_ahead.specs.declared.primary.Place.TheVariants as places
 use Rattle.parser_ahead.specs.declared.primary.Start.{Start}
 use Rattle.parser_ahead.specs.declared.primary.Start.TheVariants as starts
 use Rattle.parser_ahead.specs.declared.groups.TargetUse.TheVariants as uses
-use Rattle.parser_nodes.specs.Nodes.{prefix_node, assignment_node, rescued_node, defined_node}
+use Rattle.parser_nodes.specs.Nodes.{prefix_node, assignment_node, defined_node}
 use Rattle.parser_nodes.specs.Listed.{ListNode, PhraseNode, is_none, is_right_side, right_side, whole_items, arguments_node, jump_node}
 use Rattle.parser_nodes.specs.Calls.{CalleeNode, OperandNode, whole, callee, Block, call_node, operand_node, is_target, target_node, target_names}
 use Rattle.parser_nodes.specs.declared.listed.Sort.{Sort}
@@ -33,30 +31,23 @@ use Rattle.parser_form_nodes.specs.Targets.{TargetsNode, no_targets, one_target,
 use Rattle.parser_forms.specs.Reading.{Names, Tokens, Read, Inside}
 use Rattle.rb_base.specs.Result.{◌>>=◌}
 use Rattle.parser_operands.specs.Operands.{begins_command, chain_from, operand}
-use Rattle.parser_operands.specs.Operators.{value_from}
+use Rattle.parser_operands.specs.Operators.{is_rescue, rescued, value_from}
 use Rattle.parser_phrases.specs.Targets.{targets}
 
 abbrev pub is_plain : Assignment → Bool
 is_plain assignments.Plain = true
 is_plain (assignments.Operation o) = false
 
-abbrev pub is_rescue : Option Modifier → Bool
-is_rescue (Some modifiers.Rescue) = true
-is_rescue (Some modifiers.If) = false
-is_rescue (Some modifiers.Unless) = false
-is_rescue (Some modifiers.While) = false
-is_rescue (Some modifiers.Until) = false
-is_rescue None = false
-
 abbrev pub is_argument : Sort → Bool
 is_argument sorts.Argument = true
 is_argument sorts.Command = false
 is_argument sorts.Statement = false
 
-abbrev pub is_command : Sort → Bool
-is_command sorts.Command = true
-is_command sorts.Argument = false
-is_command sorts.Statement = false
+-- a value and a command may be assigned with a modifier rescue of theirs; a list is a whole statement
+abbrev pub is_single : Sort → Bool
+is_single sorts.Argument = true
+is_single sorts.Command = true
+is_single sorts.Statement = false
 
 -- the value of an assignment may be a list
 abbrev pub takes_list : Assignment → Place → Bool
@@ -64,7 +55,7 @@ takes_list a place = is_statement place && is_plain a
 
 -- a modifier rescue at the front is of the value before it
 abbrev pub is_rescued : Sort → Tokens → Bool
-is_rescued sort ts = is_argument sort && is_rescue (modifier_at (first ts))
+is_rescued sort ts = is_single sort && is_rescue (modifier_at (first ts))
 
 -- the operand before these tokens is the first of several targets
 abbrev pub begins_several : Place → Tokens → Bool
@@ -85,10 +76,10 @@ is_command_there o ts = begins_command o ts || is_assigned o ts
 abbrev pub whole_list : ListNode → List (Item Node)
 whole_list l = whole_items l.items l.pairs
 
--- the node of return, break or next with a list, and of yield where it is no jump
-abbrev pub list_node : Option Jump → ListNode → Node
-list_node None l = node.yield_node (items_of (whole_list l))
-list_node (Some j) l = jump_node j (whole_list l)
+-- the node of return, break or next at a place with a list, and of yield where it is no jump
+abbrev pub list_node : Option Jump → ℕ → ListNode → Node
+list_node None at l = node.yield_node at (items_of (whole_list l))
+list_node (Some j) at l = jump_node j at (whole_list l)
 
 abbrev pub multiple_node : TargetsNode → Node → Node
 multiple_node targets value = node.multiple_assign (targets_list targets) value
@@ -115,14 +106,9 @@ module _ (inside : Inside) where
   assigned_value names ts a place owner =
       if takes_list a place then right_hand names ts owner else inside.phrase names ts (of_value place) owner
 
-  -- the value that a modifier rescue stands for where the value before it fails
-  abbrev pub rescued : Node → Names → Tokens → DoOwner → Read Node
-  rescued value names ts owner = inside.argument names (behind ts) owner >>=
-      (λ other. Ok (rescued_node value other.0, other.1, other.2))
-
   -- an assigned value, with the modifier rescue that is of it
   abbrev pub whole_value : Node → Sort → Names → Tokens → DoOwner → Read Node
-  whole_value value sort names ts owner = if is_rescued sort ts then rescued value names ts owner else Ok
+  whole_value value sort names ts owner = if is_rescued sort ts then rescued inside value names ts owner else Ok
       (value, names, ts)
 
   -- the value of an assignment, and the assignment
@@ -194,11 +180,11 @@ module _ (inside : Inside) where
       if is_target o then target_phrase (assignment_at (first ts)) o names ts place owner else command_or_value o names
       ts place owner
 
-  -- what stands behind a ! where a command is allowed
+  -- a command or an assignment behind a !; the negation may stand where that may
   abbrev pub negated_command : OperandNode → Names → Tokens → DoOwner → Read PhraseNode
   negated_command o names ts owner =
-      phrase_from o names ts places.Command owner >>= (λ r.
-      if is_command r.0.1 then Ok ((prefix_node prefixes.Not r.0.0, sorts.Command), r.1, r.2) else Err (length r.2))
+      phrase_from o names ts places.Command owner >>=
+      (λ r. Ok ((prefix_node prefixes.Not r.0.0, r.0.1), r.1, r.2))
 
   -- an operand behind a !, and what the negation begins
   abbrev pub negated_operand : OperandNode → Names → Tokens → DoOwner → Read PhraseNode
@@ -210,11 +196,11 @@ module _ (inside : Inside) where
       operand inside names ts true owner >>= (λ o.
       if is_command_there o.0 o.2 then negated_command o.0 o.1 o.2 owner else negated_operand o.0 o.1 o.2 owner)
 
-  -- the list behind return, break, next or yield
-  unfoldable pub jump_list : Option Jump → Names → Tokens → DoOwner → Read PhraseNode
-  jump_list j names ts owner =
+  -- the list behind return, break, next or yield, which is at a place
+  unfoldable pub jump_list : Option Jump → ℕ → Names → Tokens → DoOwner → Read PhraseNode
+  jump_list j at names ts owner =
       inside.list names ts (jump_owner j owner) >>= (λ r.
-      if is_none r.0.block then Ok ((list_node j r.0, sorts.Command), r.1, r.2) else Err (length ts))
+      if is_none r.0.block then Ok ((list_node j at r.0, sorts.Command), r.1, r.2) else Err (length ts))
 
   -- what begins with an operand
   abbrev pub operand_phrase : Names → Tokens → Place → DoOwner → Read PhraseNode
@@ -228,8 +214,8 @@ module _ (inside : Inside) where
   unfoldable pub phrase_by : Start → Names → Tokens → Place → DoOwner → Read PhraseNode
   phrase_by starts.Defined names ts place owner = defined names (behind ts) owner
   phrase_by starts.Not names ts place owner = negated names (behind ts) owner
-  phrase_by (starts.Jump j) names ts place owner = jump_list (Some j) names (behind ts) owner
-  phrase_by starts.Yield names ts place owner = jump_list None names (behind ts) owner
+  phrase_by (starts.Jump j) names ts place owner = jump_list (Some j) (place_at ts) names (behind ts) owner
+  phrase_by starts.Yield names ts place owner = jump_list None (place_at ts) names (behind ts) owner
   phrase_by starts.Targets names ts place owner = multiple no_targets names ts owner
   phrase_by starts.Operand names ts place owner = operand_phrase names ts place owner
 

@@ -179,7 +179,7 @@ fn whole_items(alloc: Global, listed: Listed) -> Result<Vec<Item<Tree>>, AllocEr
 
 /// The tree of a jump with a list, or of `yield` where there is no jump.
 fn list_tree(alloc: Global, jump: Option<Jump>, listed: Listed, at: u32) -> Result<Tree, AllocError>
-    ensures { IfOk result (λ t. view t ≡ rules.list_node jump (listed_view listed)) }
+    ensures { IfOk result (λ t. view t ≡ rules.list_node jump at (listed_view listed)) }
 {
     let items = whole_items(alloc, listed)?;
     match jump {
@@ -210,7 +210,7 @@ pub(crate) fn jump_list<'a, I: Inner>(
     owner: DoOwner,
 ) -> Read<'a, Phrase>
     ensures value { Reads phrase_view result names.new
-        (rules.jump_list (I.inside inner.now) jump names.old tokens.now owner) }
+        (rules.jump_list (I.inside inner.now) jump at names.old tokens.now owner) }
     ensures within { IfOk result (λ p. length p.1.now ≤ length tokens.now) }
 {
     let (listed, rest) = inner.list(alloc, names, tokens, jump_owner(jump, owner))?;

@@ -18,15 +18,15 @@ use parser_ahead::primary::{DoOwner, Place, Start, is_comma, start_at};
 use parser_form_nodes::targets::{Target, Targets};
 use parser_forms::{Inner, Read};
 use parser_nodes::listed::{Phrase, Sort, is_right_side, right_side};
-use parser_nodes::nodes::{assignment_tree, defined_tree, prefix_tree, rescued_tree};
+use parser_nodes::nodes::{assignment_tree, defined_tree, prefix_tree};
 use parser_nodes::operand::{Operand, is_target, operand_tree, target_tree};
 use parser_operands::operands::{begins_command, operand};
+use parser_operands::operators::{is_rescue, rescued};
 use parser_tokens::expect::{Wanted, expect};
 use parser_tokens::failure::syntax;
 use parser_tokens::operators::{Assignment, Prefix, assignment_at};
 use parser_tokens::starts::modifier_at;
 use parser_tokens::tokens::{place_at, skip};
-use parser_tokens::word::Modifier;
 use parser_tree::{Tree, TreeForm};
 use rb_syntax::Token;
 use std::alloc::{AllocError, Global};
@@ -41,17 +41,6 @@ fn is_plain(assignment: Assignment) -> bool
     }
 }
 
-/// Whether this is the modifier `rescue`.
-fn is_rescue(modifier: Option<Modifier>) -> bool
-    ensures { result ≡ rules.is_rescue modifier }
-{
-    match modifier {
-        Some(Modifier::Rescue) => true,
-        Some(Modifier::If | Modifier::Unless | Modifier::While | Modifier::Until) => false,
-        None => false,
-    }
-}
-
 /// Whether this may be an operand.
 pub fn is_argument(sort: Sort) -> bool
     ensures { result ≡ rules.is_argument sort }
@@ -62,12 +51,13 @@ pub fn is_argument(sort: Sort) -> bool
     }
 }
 
-fn is_command(sort: Sort) -> bool
-    ensures { result ≡ rules.is_command sort }
+/// Whether a modifier `rescue` may be of this, where it is assigned; a list is a whole statement.
+fn is_single(sort: Sort) -> bool
+    ensures { result ≡ rules.is_single sort }
 {
     match sort {
-        Sort::Command => true,
-        Sort::Argument | Sort::Statement => false,
+        Sort::Argument | Sort::Command => true,
+        Sort::Statement => false,
     }
 }
 
@@ -82,7 +72,7 @@ fn takes_list(assignment: Assignment, place: Place) -> bool
 fn is_rescued(sort: Sort, tokens: &[Token]) -> bool
     ensures { result ≡ rules.is_rescued sort tokens.now }
 {
-    is_argument(sort) && is_rescue(modifier_at(tokens))
+    is_single(sort) && is_rescue(modifier_at(tokens))
 }
 
 /// Whether the operand before these tokens is the first of several targets.
@@ -143,23 +133,6 @@ fn assigned_value<'a, I: Inner>(
         return right_hand(inner, alloc, names, tokens, owner);
     }
     inner.phrase(alloc, names, tokens, place.of_value(), owner)
-}
-
-/// The value that a modifier `rescue` stands for where the value before it fails.
-fn rescued<'a, I: Inner>(
-    inner: &I,
-    alloc: Global,
-    names: &mut Names,
-    tree: Tree,
-    tokens: &'a [Token],
-    owner: DoOwner,
-) -> Read<'a, Tree>
-    ensures value { Reads view result names.new
-        (rules.rescued (I.inside inner.now) (view tree) names.old tokens.now owner) }
-    ensures within { IfOk result (λ p. length p.1.now ≤ length tokens.now) }
-{
-    let (other, rest) = inner.argument(alloc, names, skip(tokens), owner)?;
-    Ok((rescued_tree(alloc, tree, other)?, rest))
 }
 
 /// An assigned value, with the modifier `rescue` that is of it.
@@ -336,7 +309,7 @@ fn phrase_from<'a, I: Inner>(
     }
 }
 
-/// A command or an assignment behind a `!`.
+/// A command or an assignment behind a `!`; the negation may stand where that may.
 fn negated_command<'a, I: Inner>(
     inner: &I,
     alloc: Global,
@@ -351,11 +324,8 @@ fn negated_command<'a, I: Inner>(
 {
     let place = Place::Command;
     let (found, rest) = phrase_from(inner, alloc, names, operand, tokens, place, owner)?;
-    if !is_command(found.sort) {
-        return Err(syntax(rest));
-    }
-    let tree = prefix_tree(alloc, Prefix::Not, found.tree)?;
-    let sort = Sort::Command;
+    let Phrase { tree, sort } = found;
+    let tree = prefix_tree(alloc, Prefix::Not, tree)?;
     Ok((Phrase { tree, sort }, rest))
 }
 

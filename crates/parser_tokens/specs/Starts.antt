@@ -1,5 +1,5 @@
 -- Which words begin or end what.
-use Rattle.std.specs.Prelude.{Bool, true, false, not, ◌&&◌, ◌||◌, List, Option, Some, None}
+use Rattle.std.specs.Prelude.{◌+◌, nat_eq, Bool, true, false, not, ◌&&◌, ◌||◌, List, Option, Some, None}
 use Rattle.rb_syntax.specs.declared.keyword.Keyword.{Keyword}
 use Rattle.rb_syntax.specs.declared.keyword.Keyword.TheVariants as keywords
 use Rattle.rb_syntax.specs.declared.outside.Outside.{Outside}
@@ -7,7 +7,7 @@ use Rattle.rb_syntax.specs.declared.outside.Outside.TheVariants as outsides
 use Rattle.rb_syntax.specs.declared.punctuator.Punctuator.{Punctuator}
 use Rattle.rb_syntax.specs.declared.punctuator.Punctuator.TheVariants as marks
 use Rattle.rb_syntax.specs.declared.token.Token.{Token}
-use Rattle.parser_tokens.specs.Tokens.{first, behind, is_apart}
+use Rattle.parser_tokens.specs.Tokens.{first, behind, is_apart, place_at}
 use Rattle.parser_tokens.specs.declared.word.Word.{Word}
 use Rattle.parser_tokens.specs.declared.word.Word.TheVariants as words
 use Rattle.parser_tokens.specs.declared.word.Modifier.{Modifier}
@@ -84,6 +84,37 @@ begins_value (words.Mark p) = mark_begins_value p
 begins_value (words.Other o) = outside_begins_value o
 begins_value _ = false
 
+abbrev pub is_plain_keyword : Keyword → Bool
+is_plain_keyword keywords.Nil = true
+is_plain_keyword keywords.True = true
+is_plain_keyword keywords.False = true
+is_plain_keyword keywords.SelfReference = true
+is_plain_keyword _ = false
+
+-- a word begins an argument and can't continue an expression; a string does only in quotes
+abbrev pub is_plain_word : Word → Bool
+is_plain_word words.Identifier = true
+is_plain_word words.Constant = true
+is_plain_word words.MethodName = true
+is_plain_word words.InstanceVariable = true
+is_plain_word words.GlobalVariable = true
+is_plain_word words.Integer = true
+is_plain_word (words.Key k) = is_plain_keyword k
+is_plain_word (words.Mark marks.LambdaArrow) = true
+is_plain_word _ = false
+
+abbrev pub is_string_begin : Word → Bool
+is_string_begin words.StringBegin = true
+is_string_begin _ = false
+
+-- the opening of the string at the front is one byte, a quote
+abbrev pub is_quoted : List Token → Bool
+is_quoted ts = is_string_begin (first ts) && nat_eq (place_at (behind ts)) (place_at ts + 1)
+
+-- the tokens begin with what begins an argument wherever it stands behind a name
+unfoldable pub is_plain_start : List Token → Bool
+is_plain_start ts = is_plain_word (first ts) || is_quoted ts
+
 -- what begins an argument only where no white space follows it
 abbrev pub wants_tight : Word → Bool
 wants_tight (words.Mark marks.Plus) = true
@@ -91,7 +122,6 @@ wants_tight (words.Mark marks.Minus) = true
 wants_tight (words.Mark marks.Star) = true
 wants_tight (words.Mark marks.StarStar) = true
 wants_tight (words.Mark marks.Ampersand) = true
-wants_tight (words.Mark marks.OpenBracket) = true
 wants_tight (words.Mark marks.ColonColon) = true
 wants_tight _ = false
 
@@ -99,11 +129,15 @@ abbrev pub is_open_brace : Word → Bool
 is_open_brace (words.Mark marks.OpenBrace) = true
 is_open_brace _ = false
 
--- the tokens behind a name begin the arguments of a command
-unfoldable pub begins_argument : List Token → Bool
-begins_argument ts =
+-- the tokens begin an argument behind white space
+unfoldable pub is_spaced_start : List Token → Bool
+is_spaced_start ts =
     not (is_open_brace (first ts)) && (is_apart ts &&
     (begins_value (first ts) && (not (wants_tight (first ts)) || not (is_apart (behind ts)))))
+
+-- the tokens behind a name begin the arguments of a command
+unfoldable pub begins_argument : List Token → Bool
+begins_argument ts = is_plain_start ts || is_spaced_start ts
 
 abbrev pub is_open_parenthesis : Word → Bool
 is_open_parenthesis (words.Mark marks.OpenParenthesis) = true
@@ -112,6 +146,11 @@ is_open_parenthesis _ = false
 -- the tokens behind a name begin its arguments in parentheses
 unfoldable pub opens_arguments : List Token → Bool
 opens_arguments ts = is_open_parenthesis (first ts) && not (is_apart ts)
+
+-- the tokens behind a name make a call of it, even where it is a local variable or a constant: its arguments begin in
+-- parentheses, or with what can't continue an expression
+unfoldable pub makes_call : List Token → Bool
+makes_call ts = opens_arguments ts || is_plain_start ts
 
 abbrev pub ends_statements : Word → Bool
 ends_statements words.Finish = true

@@ -3,7 +3,7 @@ ghost use Rattle.std.specs.Prelude.{◌≡◌, ◌<◌, length, IsSome, IsTrue};
 ghost use Rattle.parser_tokens.specs.Tokens as front;
 ghost use Rattle.parser_tokens.specs.Starts as starts;
 
-use crate::tokens::{first, is_apart, skip};
+use crate::tokens::{first, is_apart, place_at, skip};
 use crate::word::{Modifier, Word};
 use rb_syntax::{Keyword, Outside, Punctuator, Token};
 
@@ -85,6 +85,43 @@ pub fn begins_value(word: Word) -> bool
     }
 }
 
+/// Whether a word begins an argument and can't continue an expression; a string does only in quotes.
+fn is_plain_word(word: Word) -> bool
+    ensures { result ≡ starts.is_plain_word word }
+{
+    matches!(
+        word,
+        Word::Identifier
+            | Word::Constant
+            | Word::MethodName
+            | Word::InstanceVariable
+            | Word::GlobalVariable
+            | Word::Integer
+            | Word::Key(Keyword::Nil | Keyword::True | Keyword::False | Keyword::SelfReference)
+            | Word::Mark(Punctuator::LambdaArrow)
+    )
+}
+
+/// Whether the opening of the string at the front is one byte, a quote: what is in it stands directly after that.
+fn is_quoted(tokens: &[Token]) -> bool
+    ensures { result ≡ starts.is_quoted tokens.now }
+{
+    match first(tokens) {
+        Word::StringBegin => {
+            u64::from(place_at(skip(tokens))) == u64::from(place_at(tokens)) + 1
+        }
+        _ => false,
+    }
+}
+
+/// Whether the tokens begin with what begins an argument wherever it stands behind a name.
+#[tactic(auto, unfolding(crate::specs::Starts::is_plain_start))]
+fn is_plain_start(behind: &[Token]) -> bool
+    ensures { result ≡ starts.is_plain_start behind.now }
+{
+    is_plain_word(first(behind)) || is_quoted(behind)
+}
+
 /// Whether a word begins an argument only where no white space follows it.
 fn wants_tight(word: Word) -> bool
     ensures { result ≡ starts.wants_tight word }
@@ -96,17 +133,16 @@ fn wants_tight(word: Word) -> bool
             | Punctuator::Star
             | Punctuator::StarStar
             | Punctuator::Ampersand
-            | Punctuator::OpenBracket
             | Punctuator::ColonColon,
         ) => true,
         _ => false,
     }
 }
 
-/// Whether the tokens behind a name begin the arguments of a command.
-#[tactic(auto, unfolding(crate::specs::Starts::begins_argument))]
-pub fn begins_argument(behind: &[Token]) -> bool
-    ensures { result ≡ starts.begins_argument behind.now }
+/// Whether the tokens begin an argument behind white space.
+#[tactic(auto, unfolding(crate::specs::Starts::is_spaced_start))]
+fn is_spaced_start(behind: &[Token]) -> bool
+    ensures { result ≡ starts.is_spaced_start behind.now }
 {
     let word = first(behind);
     match word {
@@ -119,6 +155,14 @@ pub fn begins_argument(behind: &[Token]) -> bool
     }
 }
 
+/// Whether the tokens behind a name begin the arguments of a command.
+#[tactic(auto, unfolding(crate::specs::Starts::begins_argument))]
+pub fn begins_argument(behind: &[Token]) -> bool
+    ensures { result ≡ starts.begins_argument behind.now }
+{
+    is_plain_start(behind) || is_spaced_start(behind)
+}
+
 /// Whether the tokens behind a name begin its arguments in parentheses: `(` stands directly there.
 #[tactic(auto, unfolding(crate::specs::Starts::opens_arguments))]
 pub fn opens_arguments(behind: &[Token]) -> bool
@@ -129,6 +173,15 @@ pub fn opens_arguments(behind: &[Token]) -> bool
         Word::Mark(Punctuator::OpenParenthesis) => !is_apart(behind),
         _ => false,
     }
+}
+
+/// Whether the tokens behind a name make a call of it, even where it is a local variable or a constant: its arguments
+/// begin in parentheses, or with what can't continue an expression.
+#[tactic(auto, unfolding(crate::specs::Starts::makes_call))]
+pub fn makes_call(behind: &[Token]) -> bool
+    ensures { result ≡ starts.makes_call behind.now }
+{
+    opens_arguments(behind) || is_plain_start(behind)
 }
 
 /// Whether a word ends a list of statements.

@@ -1,5 +1,5 @@
 -- The node of a tree, by the nodes of its parts.
-use Rattle.std.proofs.Common.{◌≡◌, Option, Some, None, List, [], map, ℕ, refl, ap, sym, ◌∙◌, Vec}
+use Rattle.std.proofs.Common.{◌≡◌, Option, Some, None, List, map, ℕ, refl, ap, sym, ◌∙◌, Vec}
 use Rattle.std.specs.declared.alloc.Global.{Global}
 use Rattle.rb_syntax.specs.declared.core_form.Item.{Item}
 use Rattle.rb_syntax.specs.declared.core_form.Item.TheVariants.{Plain, Splat}
@@ -15,6 +15,7 @@ use Rattle.parser_tree.specs.declared.tree.Arguments.{Arguments}
 use Rattle.parser_tree.specs.declared.tree.Parameter.{Parameter}
 use Rattle.parser_tree.specs.declared.tree.Parameter.TheVariants as parameter
 use Rattle.parser_tree.specs.declared.tree.Definition.{Definition}
+use Rattle.parser_tree.specs.declared.tree.PlainBody.{PlainBody}
 use Rattle.parser_tree.specs.declared.tree.RescueClause.{RescueClause}
 use Rattle.parser_tree.specs.declared.tree.RescueBody.{RescueBody}
 use Rattle.parser_tree.specs.declared.tree.WhenClause.{WhenClause}
@@ -79,7 +80,7 @@ same-definition : (d : Definition Tree) {r o p q : Nodes}
     → o ≡ nodes (map part.optional_node d.parameters.optional.items)
     → p ≡ nodes (map part.parameter_node d.parameters.post.items)
     → q ≡ part.trees d.parameters.outside.items
-    → node.definition r o d.parameters.rest p d.parameters.block q d.locals (view d.body) ≡ part.definition_node d
+    → node.definition d.at r o d.parameters.rest p d.parameters.block q d.locals (view d.body) ≡ part.definition_node d
 same-definition d e f g h = cc
 
 pub view-Array : (v : Vec (Item Tree) Global) → form_view (form.Array v) ≡ node.array (part.items v.items)
@@ -157,27 +158,27 @@ view-Index e v =
     ap (node.index (view e)) (items-fused _ (λ e. refl) (λ e. refl) v.items))
 
 pub view-Yield : (v : Vec (Item Tree) Global) (at : ℕ)
-    → form_view (form.Yield v at) ≡ node.yield_node (part.items v.items)
+    → form_view (form.Yield v at) ≡ node.yield_node at (part.items v.items)
 view-Yield v at =
     ap form_view (sym (variant.rolls-Yield v at)) ∙ (fold-roll-TreeForm Node of.view_step (TreeForm-F.Yield v at) ∙
-    ap node.yield_node (items-fused _ (λ e. refl) (λ e. refl) v.items))
+    ap (node.yield_node at) (items-fused _ (λ e. refl) (λ e. refl) v.items))
 
 pub view-Return : (v : Vec (Item Tree) Global) (at : ℕ)
-    → form_view (form.Return v at) ≡ node.return_node (part.items v.items)
+    → form_view (form.Return v at) ≡ node.return_node at (part.items v.items)
 view-Return v at =
     ap form_view (sym (variant.rolls-Return v at)) ∙ (fold-roll-TreeForm Node of.view_step (TreeForm-F.Return v at) ∙
-    ap node.return_node (items-fused _ (λ e. refl) (λ e. refl) v.items))
+    ap (node.return_node at) (items-fused _ (λ e. refl) (λ e. refl) v.items))
 
 pub view-Break : (v : Vec (Item Tree) Global) (at : ℕ)
-    → form_view (form.Break v at) ≡ node.break_node (part.items v.items)
+    → form_view (form.Break v at) ≡ node.break_node at (part.items v.items)
 view-Break v at =
     ap form_view (sym (variant.rolls-Break v at)) ∙ (fold-roll-TreeForm Node of.view_step (TreeForm-F.Break v at) ∙
-    ap node.break_node (items-fused _ (λ e. refl) (λ e. refl) v.items))
+    ap (node.break_node at) (items-fused _ (λ e. refl) (λ e. refl) v.items))
 
-pub view-Next : (v : Vec (Item Tree) Global) (at : ℕ) → form_view (form.Next v at) ≡ node.next_node (part.items v.items)
+pub view-Next : (v : Vec (Item Tree) Global) (at : ℕ) → form_view (form.Next v at) ≡ node.next_node at (part.items v.items)
 view-Next v at =
     ap form_view (sym (variant.rolls-Next v at)) ∙ (fold-roll-TreeForm Node of.view_step (TreeForm-F.Next v at) ∙
-    ap node.next_node (items-fused _ (λ e. refl) (λ e. refl) v.items))
+    ap (node.next_node at) (items-fused _ (λ e. refl) (λ e. refl) v.items))
 
 pub view-Lambda : (d : Definition Tree) → form_view (form.Lambda d) ≡ node.lambda (part.definition_node d)
 view-Lambda d =
@@ -206,8 +207,8 @@ view-Define (Some s) x d =
     (parameters-fused _ (λ x. refl) (λ e. refl) d.parameters.post.items)
     (trees-fused _ (λ e. refl) d.parameters.outside.items)))
 
-pub view-Class : (s : Scope Tree) (x : Bytes) (p : Option (Tree)) (b : Tree)
-    → form_view (form.Class s x p b) ≡ node.class_node (part.scope_node s) x (part.boxed p) (view b)
+pub view-Class : (s : Scope Tree) (x : Bytes) (p : Option (Tree)) (b : PlainBody Tree)
+    → form_view (form.Class s x p b) ≡ node.class_node (part.scope_node s) x (part.boxed p) b.locals (view b.body)
 view-Class Innermost x None b =
     ap form_view (sym (variant.rolls-Class Innermost x None b))
     ∙ fold-roll-TreeForm Node of.view_step (TreeForm-F.Class Innermost x None b)
@@ -227,8 +228,14 @@ view-Class (In s) x (Some p) b =
     ap form_view (sym (variant.rolls-Class (In s) x (Some p) b))
     ∙ fold-roll-TreeForm Node of.view_step (TreeForm-F.Class (In s) x (Some p) b)
 
-pub view-Module : (s : Scope Tree) (x : Bytes) (b : Tree)
-    → form_view (form.Module s x b) ≡ node.module_node (part.scope_node s) x (view b)
+pub view-SingletonClass : (e : Tree) (b : PlainBody Tree)
+    → form_view (form.SingletonClass e b) ≡ node.singleton_class (view e) b.locals (view b.body)
+view-SingletonClass e b =
+    ap form_view (sym (variant.rolls-SingletonClass e b))
+    ∙ fold-roll-TreeForm Node of.view_step (TreeForm-F.SingletonClass e b)
+
+pub view-Module : (s : Scope Tree) (x : Bytes) (b : PlainBody Tree)
+    → form_view (form.Module s x b) ≡ node.module_node (part.scope_node s) x b.locals (view b.body)
 view-Module Innermost x b =
     ap form_view (sym (variant.rolls-Module Innermost x b))
     ∙ fold-roll-TreeForm Node of.view_step (TreeForm-F.Module Innermost x b)
@@ -414,17 +421,17 @@ view-Call (Some r) x None (Some b) =
     (trees-fused _ (λ e. refl) b.parameters.outside.items))))
 
 super-with : (a : Arguments Tree) (k : Option (Tree)) (b : Option (Definition Tree)) (at : ℕ)
-    → form_view (form.Super (Some (record a { block = k })) b at) ≡ node.super_node
+    → form_view (form.Super (Some (record a { block = k })) b at) ≡ node.super_node at
     (part.arguments (Some (record a { block = k }))) (part.block b)
 super-with a None None at =
     ap form_view (sym (variant.rolls-Super (Some (record a { block = None })) None at))
     ∙ (fold-roll-TreeForm Node of.view_step (TreeForm-F.Super (Some (record a { block = None })) None at) ∙
-    ap2 (λ is b. node.super_node (node.one (node.arguments is (part.boxed None))) b)
+    ap2 (λ is b. node.super_node at (node.one (node.arguments is (part.boxed None))) b)
     (items-fused _ (λ e. refl) (λ e. refl) a.items.items) (refl))
 super-with a None (Some b) at =
     ap form_view (sym (variant.rolls-Super (Some (record a { block = None })) (Some b) at))
     ∙ (fold-roll-TreeForm Node of.view_step (TreeForm-F.Super (Some (record a { block = None })) (Some b) at) ∙
-    ap2 (λ is b. node.super_node (node.one (node.arguments is (part.boxed None))) b)
+    ap2 (λ is b. node.super_node at (node.one (node.arguments is (part.boxed None))) b)
     (items-fused _ (λ e. refl) (λ e. refl) a.items.items)
     (ap node.one (same-definition b (parameters-fused _ (λ x. refl) (λ e. refl) b.parameters.required.items)
     (fused of.optional_of part.optional_node _ (λ p. refl) b.parameters.optional.items)
@@ -433,12 +440,12 @@ super-with a None (Some b) at =
 super-with a (Some k) None at =
     ap form_view (sym (variant.rolls-Super (Some (record a { block = Some k })) None at))
     ∙ (fold-roll-TreeForm Node of.view_step (TreeForm-F.Super (Some (record a { block = Some k })) None at) ∙
-    ap2 (λ is b. node.super_node (node.one (node.arguments is (part.boxed (Some k)))) b)
+    ap2 (λ is b. node.super_node at (node.one (node.arguments is (part.boxed (Some k)))) b)
     (items-fused _ (λ e. refl) (λ e. refl) a.items.items) (refl))
 super-with a (Some k) (Some b) at =
     ap form_view (sym (variant.rolls-Super (Some (record a { block = Some k })) (Some b) at))
     ∙ (fold-roll-TreeForm Node of.view_step (TreeForm-F.Super (Some (record a { block = Some k })) (Some b) at) ∙
-    ap2 (λ is b. node.super_node (node.one (node.arguments is (part.boxed (Some k)))) b)
+    ap2 (λ is b. node.super_node at (node.one (node.arguments is (part.boxed (Some k)))) b)
     (items-fused _ (λ e. refl) (λ e. refl) a.items.items)
     (ap node.one (same-definition b (parameters-fused _ (λ x. refl) (λ e. refl) b.parameters.required.items)
     (fused of.optional_of part.optional_node _ (λ p. refl) b.parameters.optional.items)
@@ -446,7 +453,7 @@ super-with a (Some k) (Some b) at =
     (trees-fused _ (λ e. refl) b.parameters.outside.items))))
 
 pub view-Super : (a : Option (Arguments Tree)) (b : Option (Definition Tree)) (at : ℕ)
-    → form_view (form.Super a b at) ≡ node.super_node (part.arguments a) (part.block b)
+    → form_view (form.Super a b at) ≡ node.super_node at (part.arguments a) (part.block b)
 view-Super (Some a) b at = super-with a a.block b at
 view-Super None None at =
     ap form_view (sym (variant.rolls-Super None None at))
@@ -454,7 +461,7 @@ view-Super None None at =
 view-Super None (Some b) at =
     ap form_view (sym (variant.rolls-Super None (Some b) at))
     ∙ (fold-roll-TreeForm Node of.view_step (TreeForm-F.Super None (Some b) at) ∙
-    ap (λ b. node.super_node node.none b) (ap node.one
+    ap (λ b. node.super_node at node.none b) (ap node.one
     (same-definition b (parameters-fused _ (λ x. refl) (λ e. refl) b.parameters.required.items)
     (fused of.optional_of part.optional_node _ (λ p. refl) b.parameters.optional.items)
     (parameters-fused _ (λ x. refl) (λ e. refl) b.parameters.post.items)
@@ -476,6 +483,7 @@ pub ruleset views = (
   view-Lambda,
   view-Define,
   view-Class,
+  view-SingletonClass,
   view-Module,
   view-Statements,
   view-For,

@@ -10,6 +10,7 @@ use Rattle.parser_tree.specs.declared.tree.TreeForm as form
 use Rattle.parser_tree.specs.declared.tree.Piece.{Piece}
 use Rattle.parser_tree.specs.declared.tree.Arguments.{Arguments}
 use Rattle.parser_tree.specs.declared.tree.Definition.{Definition}
+use Rattle.parser_tree.specs.declared.tree.PlainBody.{PlainBody}
 use Rattle.parser_tree.specs.declared.tree.RescueBody.{RescueBody}
 use Rattle.parser_tree.specs.declared.tree.WhenClause.{WhenClause}
 use Rattle.parser_tree.specs.declared.tree.TargetList.{TargetList}
@@ -51,19 +52,19 @@ pub view-Index : (e : Tree) (v : Vec (Item Tree) Global)
 view-Index e v = of.view-Index e v
 
 pub view-Yield : (v : Vec (Item Tree) Global) (at : ℕ)
-    → form_view (form.Yield v at) ≡ node.yield_node (by.items_by form_view v.items)
+    → form_view (form.Yield v at) ≡ node.yield_node at (by.items_by form_view v.items)
 view-Yield v at = of.view-Yield v at
 
 pub view-Return : (v : Vec (Item Tree) Global) (at : ℕ)
-    → form_view (form.Return v at) ≡ node.return_node (by.items_by form_view v.items)
+    → form_view (form.Return v at) ≡ node.return_node at (by.items_by form_view v.items)
 view-Return v at = of.view-Return v at
 
 pub view-Break : (v : Vec (Item Tree) Global) (at : ℕ)
-    → form_view (form.Break v at) ≡ node.break_node (by.items_by form_view v.items)
+    → form_view (form.Break v at) ≡ node.break_node at (by.items_by form_view v.items)
 view-Break v at = of.view-Break v at
 
 pub view-Next : (v : Vec (Item Tree) Global) (at : ℕ)
-    → form_view (form.Next v at) ≡ node.next_node (by.items_by form_view v.items)
+    → form_view (form.Next v at) ≡ node.next_node at (by.items_by form_view v.items)
 view-Next v at = of.view-Next v at
 
 pub view-Lambda : (d : Definition Tree) → form_view (form.Lambda d) ≡ node.lambda (by.definition_by form_view d)
@@ -73,13 +74,18 @@ pub view-Define : (s : Option (Tree)) (x : Bytes) (d : Definition Tree)
     → form_view (form.Define s x d) ≡ node.define (by.boxed_by form_view s) x (by.definition_by form_view d)
 view-Define s x d = of.view-Define s x d
 
-pub view-Class : (s : Scope Tree) (x : Bytes) (p : Option (Tree)) (b : Tree)
+pub view-Class : (s : Scope Tree) (x : Bytes) (p : Option (Tree)) (b : PlainBody Tree)
     → form_view (form.Class s x p b) ≡ node.class_node (by.scope_by form_view s) x (by.boxed_by form_view p)
-    (by.tree_by form_view b)
+    b.locals (by.tree_by form_view b.body)
 view-Class s x p b = of.view-Class s x p b
 
-pub view-Module : (s : Scope Tree) (x : Bytes) (b : Tree)
-    → form_view (form.Module s x b) ≡ node.module_node (by.scope_by form_view s) x (by.tree_by form_view b)
+pub view-SingletonClass : (e : Tree) (b : PlainBody Tree)
+    → form_view (form.SingletonClass e b) ≡ node.singleton_class (by.tree_by form_view e) b.locals
+    (by.tree_by form_view b.body)
+view-SingletonClass e b = of.view-SingletonClass e b
+
+pub view-Module : (s : Scope Tree) (x : Bytes) (b : PlainBody Tree)
+    → form_view (form.Module s x b) ≡ node.module_node (by.scope_by form_view s) x b.locals (by.tree_by form_view b.body)
 view-Module s x b = of.view-Module s x b
 
 pub view-Statements : (v : Vec Tree Global) → form_view (form.Statements v) ≡ node.statements
@@ -111,7 +117,7 @@ pub view-Call : (r : Option (Tree)) (x : Bytes) (a : Option (Arguments Tree)) (b
 view-Call r x a b = of.view-Call r x a b
 
 pub view-Super : (a : Option (Arguments Tree)) (b : Option (Definition Tree)) (at : ℕ)
-    → form_view (form.Super a b at) ≡ node.super_node (by.arguments_by form_view a) (by.block_by form_view b)
+    → form_view (form.Super a b at) ≡ node.super_node at (by.arguments_by form_view a) (by.block_by form_view b)
 view-Super a b at = of.view-Super a b at
 
 pub ruleset views = (
@@ -130,6 +136,7 @@ pub ruleset views = (
   view-Lambda,
   view-Define,
   view-Class,
+  view-SingletonClass,
   view-Module,
   view-Statements,
   view-For,

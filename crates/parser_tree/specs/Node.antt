@@ -57,15 +57,19 @@ mutual
     call : Nodes → Name → Nodes → Nodes → Node
     -- the value, and the items of the index
     index : Node → Nodes → Node
-    super_node : Nodes → Nodes → Node
-    yield_node : Nodes → Node
+    -- the place of the word, arguments or none, a block or none
+    super_node : ℕ → Nodes → Nodes → Node
+    -- the place of the word, and items
+    yield_node : ℕ → Nodes → Node
     defined : Node → Node
     -- a definition
     lambda : Node → Node
-    return_node : Nodes → Node
-    break_node : Nodes → Node
-    next_node : Nodes → Node
-    retry : Node
+    -- the place of the word, and items
+    return_node : ℕ → Nodes → Node
+    break_node : ℕ → Nodes → Node
+    next_node : ℕ → Nodes → Node
+    -- the place of the word
+    retry : ℕ → Node
     -- a target and its value
     assign : Node → Node → Node
     operator_assign : Node → AssignmentOperator → Node → Node
@@ -75,10 +79,10 @@ mutual
     targets : Nodes → Bool → Nodes → Nodes → Node
     -- what the method is defined on or none, its name, and its definition
     define : Nodes → Name → Node → Node
-    -- a scope, the name, a parent or none, the body
-    class_node : Node → Name → Nodes → Node → Node
-    singleton_class : Node → Node → Node
-    module_node : Node → Name → Node → Node
+    -- a scope, the name, a parent or none, the variables of the body, and the body
+    class_node : Node → Name → Nodes → List Name → Node → Node
+    singleton_class : Node → List Name → Node → Node
+    module_node : Node → Name → List Name → Node → Node
     -- the new name, and the old one
     alias_node : Name → Name → Node
     undef_node : List Name → Node
@@ -99,9 +103,9 @@ mutual
     rescue_clause : Nodes → Nodes → Node → Node
     -- items, and what follows & or none
     arguments : Nodes → Nodes → Node
-    -- required, optional, the rest, those behind it, the name of the block or none, those outside the language,
-    -- the other variables, and the body
-    definition : Nodes → Nodes → RestParameter → Nodes → Option Name → Nodes → List Name → Node → Node
+    -- the place of the opening word, required, optional, the rest, those behind it, the name of the block or none, those
+    -- outside the language, the other variables, and the body
+    definition : ℕ → Nodes → Nodes → RestParameter → Nodes → Option Name → Nodes → List Name → Node → Node
     -- a required parameter by its name; a pattern is its targets
     name_parameter : Name → Node
     optional_parameter : Name → Node → Node

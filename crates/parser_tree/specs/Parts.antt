@@ -11,6 +11,7 @@ use Rattle.parser_tree.specs.declared.tree.Parameter.{Parameter}
 use Rattle.parser_tree.specs.declared.tree.Parameter.TheVariants as parameter
 use Rattle.parser_tree.specs.declared.tree.OptionalParameter.{OptionalParameter}
 use Rattle.parser_tree.specs.declared.tree.Definition.{Definition}
+use Rattle.parser_tree.specs.declared.tree.PlainBody.{PlainBody}
 use Rattle.parser_tree.specs.declared.tree.RescueClause.{RescueClause}
 use Rattle.parser_tree.specs.declared.tree.RescueBody.{RescueBody}
 use Rattle.parser_tree.specs.declared.tree.WhenClause.{WhenClause}
@@ -61,7 +62,7 @@ optional_node p = node.optional_parameter p.name (view p.value)
 
 abbrev pub definition_node : Definition Tree → Node
 definition_node d =
-    node.definition (nodes (map parameter_node d.parameters.required.items))
+    node.definition d.at (nodes (map parameter_node d.parameters.required.items))
     (nodes (map optional_node d.parameters.optional.items)) d.parameters.rest
     (nodes (map parameter_node d.parameters.post.items)) d.parameters.block (trees d.parameters.outside.items) d.locals
     (view d.body)
@@ -87,6 +88,13 @@ abbrev pub scope_node : Scope Tree → Node
 scope_node Innermost = node.innermost
 scope_node Top = node.top
 scope_node (In t) = view t
+
+-- a body without parameters: its variables, and what stands in it
+abbrev pub PlainNode : Type 0
+PlainNode = List Name × Node
+
+abbrev pub plain_view : PlainBody Tree → PlainNode
+plain_view b = (b.locals, view b.body)
 
 -- targets in parentheses
 unfoldable pub is_group : Node → Bool

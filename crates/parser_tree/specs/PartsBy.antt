@@ -82,7 +82,7 @@ optionals_by v ps = nodes (map (optional_by v) ps)
 
 abbrev pub definition_by : {T : Type 0} → (T → Node) → Definition (Boxed T) → Node
 definition_by v d =
-    node.definition (parameters_by v d.parameters.required.items) (optionals_by v d.parameters.optional.items)
+    node.definition d.at (parameters_by v d.parameters.required.items) (optionals_by v d.parameters.optional.items)
     d.parameters.rest
     (parameters_by v d.parameters.post.items) d.parameters.block (trees_by v d.parameters.outside.items) d.locals
     (tree_by v d.body)

@@ -78,7 +78,7 @@ optional_of p = node.optional_parameter p.name p.value.value
 
 abbrev pub definition_of : Definition Held → Node
 definition_of d =
-    node.definition (nodes (map parameter_of d.parameters.required.items))
+    node.definition d.at (nodes (map parameter_of d.parameters.required.items))
     (nodes (map optional_of d.parameters.optional.items)) d.parameters.rest
     (nodes (map parameter_of d.parameters.post.items)) d.parameters.block (all_held d.parameters.outside.items) d.locals
     d.body.value
@@ -139,22 +139,22 @@ view_step (TreeForm-F.Begin b) = begin_of b
 view_step (TreeForm-F.RescueModifier a b) = node.rescue_modifier a.value b.value
 view_step (TreeForm-F.Call r x a b) = node.call (maybe r) x (arguments_of a) (block_of b)
 view_step (TreeForm-F.Index e is) = node.index e.value (held_items is.items)
-view_step (TreeForm-F.Super a b at) = node.super_node (arguments_of a) (block_of b)
-view_step (TreeForm-F.Yield is at) = node.yield_node (held_items is.items)
+view_step (TreeForm-F.Super a b at) = node.super_node at (arguments_of a) (block_of b)
+view_step (TreeForm-F.Yield is at) = node.yield_node at (held_items is.items)
 view_step (TreeForm-F.Defined e) = node.defined e.value
 view_step (TreeForm-F.Lambda d) = node.lambda (definition_of d)
-view_step (TreeForm-F.Return is at) = node.return_node (held_items is.items)
-view_step (TreeForm-F.Break is at) = node.break_node (held_items is.items)
-view_step (TreeForm-F.Next is at) = node.next_node (held_items is.items)
-view_step (TreeForm-F.Retry at) = node.retry
+view_step (TreeForm-F.Return is at) = node.return_node at (held_items is.items)
+view_step (TreeForm-F.Break is at) = node.break_node at (held_items is.items)
+view_step (TreeForm-F.Next is at) = node.next_node at (held_items is.items)
+view_step (TreeForm-F.Retry at) = node.retry at
 view_step (TreeForm-F.Assign t e) = node.assign t.value e.value
 view_step (TreeForm-F.OperatorAssign t o e) = node.operator_assign t.value o e.value
 view_step (TreeForm-F.MultipleAssign ts e) = node.multiple_assign (targets_of ts) e.value
 view_step (TreeForm-F.Targets ts) = targets_of ts
 view_step (TreeForm-F.Define s x d) = node.define (maybe s) x (definition_of d)
-view_step (TreeForm-F.Class s x p b) = node.class_node (scope_of s) x (maybe p) b.value
-view_step (TreeForm-F.SingletonClass e b) = node.singleton_class e.value b.value
-view_step (TreeForm-F.Module s x b) = node.module_node (scope_of s) x b.value
+view_step (TreeForm-F.Class s x p b) = node.class_node (scope_of s) x (maybe p) b.locals b.body.value
+view_step (TreeForm-F.SingletonClass e b) = node.singleton_class e.value b.locals b.body.value
+view_step (TreeForm-F.Module s x b) = node.module_node (scope_of s) x b.locals b.body.value
 view_step (TreeForm-F.Alias x y) = node.alias_node x y
 view_step (TreeForm-F.Undef xs) = node.undef_node xs
 view_step (TreeForm-F.Outside o at es) = node.outside o at (all_held es.items)

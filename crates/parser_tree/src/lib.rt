@@ -5,8 +5,8 @@
 //! whose parts lie in lists and options. specs/PartsBy.antt and proofs/ViewsBy.antt say the same by any function on the
 //! trees in them: what a walk over trees says of its steps.
 //!
-//! Types: [`Tree`], a box over a [`TreeForm`] with its parts, [`BinaryOperator`], [`UnaryOperator`],
-//! [`AssignmentOperator`].
+//! Types: [`Tree`], a box over a [`TreeForm`] with its parts, [`Source`], the body of a whole source,
+//! [`BinaryOperator`], [`UnaryOperator`], [`AssignmentOperator`].
 #![tactic(auto)]
 
 pub mod operator;
@@ -14,6 +14,6 @@ pub mod tree;
 
 pub use operator::{AssignmentOperator, BinaryOperator, UnaryOperator};
 pub use tree::{
-    Arguments, Definition, OptionalParameter, Parameter, ParameterList, Piece, RescueBody,
-    RescueClause, RestParameter, Scope, TargetList, Tree, TreeForm, WhenClause,
+    Arguments, Definition, OptionalParameter, Parameter, ParameterList, Piece, PlainBody,
+    RescueBody, RescueClause, RestParameter, Scope, Source, TargetList, Tree, TreeForm, WhenClause,
 };

@@ -64,6 +64,14 @@ pub struct Definition<T> {
     pub at: u32,
 }
 
+/// The body of the main program, a class or a module, which has no parameters. `locals` are the variables that its own
+/// text begins, in the order of the text.
+#[derive(Drop)]
+pub struct PlainBody<T> {
+    pub locals: List<Bytes>,
+    pub body: T,
+}
+
 /// A rescue clause. No classes stand for StandardError; the exception is assigned to the target.
 #[derive(Drop)]
 pub struct RescueClause<T> {
@@ -109,9 +117,12 @@ pub enum Scope<T> {
 /// A tree of the grammar.
 pub type Tree = Box<TreeForm>;
 
-/// What a tree of the grammar is, one variant for each rule. Places count the bytes of the text before the word that they name. A target of an
-/// assignment is one of `Local`, `InstanceVariable`, `GlobalVariable`, `Constant`, `ScopedConstant`, `Index`,
-/// `Targets`, `Outside`, and `Call` with a receiver and a name alone.
+/// The tree of a whole source: the body of its main program.
+pub type Source = PlainBody<Tree>;
+
+/// What a tree of the grammar is, one variant for each rule. Places count the bytes of the text before the word that
+/// they name. A target of an assignment is one of `Local`, `InstanceVariable`, `GlobalVariable`, `Constant`,
+/// `ScopedConstant`, `Index`, `Targets`, `Outside`, and `Call` with a receiver and a name alone.
 pub enum TreeForm {
     Nil,
     True,
@@ -240,14 +251,14 @@ pub enum TreeForm {
         scope: Scope<Tree>,
         name: Bytes,
         parent: Option<Tree>,
-        body: Tree,
+        body: PlainBody<Tree>,
     },
     /// `class << e`
-    SingletonClass(Tree, Tree),
+    SingletonClass(Tree, PlainBody<Tree>),
     Module {
         scope: Scope<Tree>,
         name: Bytes,
-        body: Tree,
+        body: PlainBody<Tree>,
     },
     /// The new name, and the old one.
     Alias(Bytes, Bytes),

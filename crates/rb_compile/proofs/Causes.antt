@@ -2,7 +2,7 @@
 use Rattle.std.proofs.Common.{◌≡◌, ◌≢◌, ◌⊎◌, inl, inr, ℕ, true, is_some, List, Option, Some, None, refl, sym, ◌∙◌, subst, ap}
 use Rattle.path_core.specs.Form.{Form}
 use Rattle.rb_syntax.specs.declared.outside.Outside.TheVariants.{Unbuilt}
-use Rattle.ir_core.specs.CoreForm.{CoreForm}
+use Rattle.ir_core.specs.CoreForm.{Body}
 use Rattle.rb_front.specs.Front as front
 use Rattle.rb_front.specs.Front.{core_of}
 use Rattle.rb_front.specs.declared.error.FrontError.{FrontError}
@@ -28,14 +28,14 @@ record OfFront (text : List ℕ) (e : CompileError) : Type 0 where
   pub refuses : front.Refuses text cause
 
 -- why a core isn't compiled: it isn't built, or a count exceeds its limit
-abbrev IsUnmade : CoreForm → CompileError → Type 0
+abbrev IsUnmade : Body → CompileError → Type 0
 IsUnmade c e =
     ((e ≡ Outside Unbuilt 0) × (built c ≡ None))
     ⊎ ((x : Excess) × (e ≡ TooLarge x.what x.count) × (is_some (built c) ≡ true) × (first_excess (need c) ≡ Some x))
 
 -- a cause of the core
 record OfCore (text : List ℕ) (e : CompileError) : Type 0 where
-  pub form : CoreForm
+  pub form : Body
   pub is : core_of text ≡ Some form
   pub unmade : IsUnmade form e
 
@@ -61,7 +61,7 @@ apart text e d f c =
     let none : core_of text ≡ None = refused_core text f.cause f.other f.refuses in
     absurd (cc (sym none ∙ c.is))
 
-one_unmade : (c : CoreForm) (e d : CompileError) → IsUnmade c e → IsUnmade c d → e ≡ d
+one_unmade : (c : Body) (e d : CompileError) → IsUnmade c e → IsUnmade c d → e ≡ d
 one_unmade c e d (inl (is, none)) (inl (too, again)) = is ∙ sym too
 one_unmade c e d (inl (is, none)) (inr (x, too, some, past)) = absurd (cc (sym (ap is_some none) ∙ some))
 one_unmade c e d (inr (x, is, some, past)) (inl (too, none)) = absurd (cc (sym (ap is_some none) ∙ some))
@@ -72,7 +72,7 @@ one_unmade c e d (inr (x, is, some, past)) (inr (y, too, again, over)) =
 one_core : (text : List ℕ) (e d : CompileError) → OfCore text e → OfCore text d → e ≡ d
 one_core text e d g h =
     let same : h.form ≡ g.form = cc (sym h.is ∙ g.is) in
-    one_unmade g.form e d g.unmade (subst (λ (c : CoreForm). IsUnmade c d) same h.unmade)
+    one_unmade g.form e d g.unmade (subst (λ (c : Body). IsUnmade c d) same h.unmade)
 
 one_parted : (text : List ℕ) (e d : CompileError) → OfFront text e ⊎ OfCore text e → OfFront text d ⊎ OfCore text d
     → e ≡ d
@@ -89,18 +89,18 @@ past_none : (o : Option Form) (x : Excess) → (o >>= unless_past (Some x)) ≡ 
 past_none None x = refl
 past_none (Some f) x = refl
 
-unmade_none : (c : CoreForm) (e : CompileError) → IsUnmade c e → form_of_core c ≡ None
+unmade_none : (c : Body) (e : CompileError) → IsUnmade c e → form_of_core c ≡ None
 unmade_none c e (inl (is, none)) = ap (λ (o : Option Form). o >>= unless_past (first_excess (need c))) none
 unmade_none c e (inr (x, is, some, past)) =
     subst (λ (p : Option Excess). (built c >>= unless_past p) ≡ None) (sym past) (past_none (built c) x)
 
 no_core : (text : List ℕ) → core_of text ≡ None → program_of text ≡ None
 unfolding program_of
-no_core text none = ap (λ (o : Option CoreForm). o >>= form_of_core) none
+no_core text none = ap (λ (o : Option Body). o >>= form_of_core) none
 
-some_core : (text : List ℕ) (c : CoreForm) → core_of text ≡ Some c → program_of text ≡ form_of_core c
+some_core : (text : List ℕ) (c : Body) → core_of text ≡ Some c → program_of text ≡ form_of_core c
 unfolding program_of
-some_core text c is = ap (λ (o : Option CoreForm). o >>= form_of_core) is
+some_core text c is = ap (λ (o : Option Body). o >>= form_of_core) is
 
 without : (text : List ℕ) (e : CompileError) → OfFront text e ⊎ OfCore text e → program_of text ≡ None
 without text e (inl g) = no_core text (refused_core text g.cause g.other g.refuses)

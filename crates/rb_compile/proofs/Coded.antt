@@ -3,7 +3,8 @@ use Rattle.std.proofs.Common.{◌≡◌, ℕ, true, false, List, Option, Some, N
 use Rattle.path_core.specs.Form.{Form}
 use Rattle.code_generator.specs.Limits.{IsWithin}
 use Rattle.rite_code.specs.Code.{Program}
-use Rattle.ir_core.specs.CoreForm.{CoreForm}
+use Rattle.ir_core.specs.CoreForm as core
+use Rattle.ir_core.specs.CoreForm.{Body}
 use Rattle.rb_front.specs.Front.{core_of}
 use Rattle.ir_counts.specs.Counts.{need}
 use Rattle.ir_counts.specs.Limits.{first_excess}
@@ -34,12 +35,12 @@ of_form : (o : Option Form) (code : Program) (past : Option Excess) → ((g : Fo
 of_form None code past w e n = absurd (cc e)
 of_form (Some f) code past w e n = subst (λ p. IsCodeOf code (unless_past p f)) n (w f refl, cc e)
 
-pub coded : (text : List ℕ) (c : CoreForm) (code : Program) → core_of text ≡ Some c → Some code ≡ code_built c
+pub coded : (text : List ℕ) (c : Body) (code : Program) → core_of text ≡ Some c → Some code ≡ code_built c
     → None ≡ first_excess (need c) → IsCodeOf code (program_of text)
 unfolding program_of
 coded text c code is e n =
     subst (λ o. IsCodeOf code (o >>= form_of_core)) (sym is)
-    (of_form (built c) code (first_excess (need c)) (built_within (form_of c)) e n)
+    (of_form (built c) code (first_excess (need c)) (built_within (form_of (core.form_of c))) e n)
 
 no_form : (o : Option Form) → None ≡ (o >>= (λ f. Some (code_of f))) → o ≡ None
 no_form None e = refl
@@ -49,10 +50,10 @@ some_form : (o : Option Form) (code : Program) → Some code ≡ (o >>= (λ f. S
 some_form None code e = absurd (cc e)
 some_form (Some f) code e = refl
 
-pub refused_unbuilt : (text : List ℕ) (c : CoreForm) → core_of text ≡ Some c → None ≡ code_built c
+pub refused_unbuilt : (text : List ℕ) (c : Body) → core_of text ≡ Some c → None ≡ code_built c
     → Refuses text (Outside Unbuilt 0)
 refused_unbuilt text c is e = inr (refl, refl, c, is, no_form (built c) e)
 
-pub refused_past : (text : List ℕ) (c : CoreForm) (code : Program) (e : Excess) → core_of text ≡ Some c
+pub refused_past : (text : List ℕ) (c : Body) (code : Program) (e : Excess) → core_of text ≡ Some c
     → Some code ≡ code_built c → Some e ≡ first_excess (need c) → Refuses text (TooLarge e.what e.count)
 refused_past text c code e is made past = inr (c, is, some_form (built c) code made, sym past)

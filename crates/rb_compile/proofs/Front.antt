@@ -1,14 +1,13 @@
 -- The causes of the front exclude each other.
-use Rattle.std.proofs.Common.{◌≡◌, ◌≢◌, ℕ, ◌≤◌, ◌<◌, nat_le, true, false, List, length, Option, Some, None, Result, Ok, Err, refl, sym, ◌∙◌, ap, arith}
+use Rattle.std.proofs.Common.{min, ◌≡◌, ◌≢◌, ℕ, ◌≤◌, ◌<◌, nat_le, true, false, List, length, Option, Some, None, Result, Ok, Err, refl, sym, ◌∙◌, ap, arith}
 use Rattle.std.proofs.lemmas.Bool.Decides.{nat_tests}
 use Rattle.rb_syntax.specs.declared.token.Token.{Token}
 use Rattle.rb_lexer.specs.Lexing.{tokens_of}
 use Rattle.lexer_depth.specs.Levels.{deep}
-use Rattle.parser_tree.specs.Node.{Node}
+use Rattle.parser_tree.specs.Parts.{PlainNode}
 use Rattle.parser_checks.specs.Places.{misplaced}
 use Rattle.std.specs.Option.{option_map}
 use Rattle.rb_parser.specs.Program.{tree_of, Misses}
-use Rattle.rb_parser.specs.Places.{word_place}
 use Rattle.lower_outside.specs.Search.{found}
 use Rattle.lower_outside.specs.declared.construct.Found.{Found}
 use Rattle.rb_front.specs.Front.{IsTree, IsNoProgram, IsTooDeep, Refuses, core_within, core_of_tree, core_of_tokens, core_of}
@@ -16,15 +15,15 @@ use Rattle.rb_front.specs.declared.error.FrontError.{FrontError}
 use Rattle.rb_front.specs.declared.error.FrontError.TheVariants.{TooLong, Syntax, TooDeep, Outside, NoMemory}
 use Rattle.rb_compile.proofs.Misplaced.{one_place, not_missed}
 
-missed_within : (o : Option ℕ) (f : ℕ → ℕ) (at : ℕ) (c : Option Found) (n : Node) → option_map f o ≡ Some at
+missed_within : (o : Option ℕ) (f : ℕ → ℕ) (at : ℕ) (c : Option Found) (n : PlainNode) → option_map f o ≡ Some at
     → core_within o c n ≡ None
 missed_within None f at c n h = absurd (cc h)
 missed_within (Some word) f at c n h = refl
 
 -- tokens that are refused for a place have no core
-missed_core : (ts : List Token) (size at : ℕ) (r : Result Node ℕ) → Misses ts size at r → core_of_tree r ≡ None
+missed_core : (ts : List Token) (size at : ℕ) (r : Result PlainNode ℕ) → Misses ts size at r → core_of_tree r ≡ None
 missed_core ts size at (Err place) h = refl
-missed_core ts size at (Ok n) h = missed_within (misplaced n) (λ word. word_place ts 0 word size) at (found None n) n h
+missed_core ts size at (Ok n) h = missed_within (misplaced n.1) (λ at. min at size) at (found None n.1) n h
 
 syntax_core : (r : Result (List Token) ℕ) (size at : ℕ) → IsNoProgram r size at → core_of_tokens r size ≡ None
 syntax_core (Err place) size at h = refl
@@ -38,20 +37,21 @@ deep_core (Ok tokens) size past =
     let over : nat_le (deep tokens) 256 ≡ false = grind (arith, nat_tests) in
     rw over
 
-outside_within : (o : Option ℕ) (c : Option Found) (n : Node) (f : Found) → c ≡ Some f → core_within o c n ≡ None
+outside_within : (o : Option ℕ) (c : Option Found) (n : PlainNode) (f : Found) → c ≡ Some f → core_within o c n ≡ None
 outside_within None None n f is = absurd (cc is)
 outside_within None (Some g) n f is = refl
 outside_within (Some word) None n f is = refl
 outside_within (Some word) (Some g) n f is = refl
 
-outside_tree : (r : Result Node ℕ) (n : Node) (f : Found) → r ≡ Ok n → found None n ≡ Some f → core_of_tree r ≡ None
+outside_tree : (r : Result PlainNode ℕ) (n : PlainNode) (f : Found) → r ≡ Ok n → found None n.1 ≡ Some f
+    → core_of_tree r ≡ None
 outside_tree (Err place) n f is there = absurd (cc is)
 outside_tree (Ok m) n f is there =
     let same : m ≡ n = cc is in
-    outside_within (misplaced m) (found None m) m f (ap (found None) same ∙ there)
+    outside_within (misplaced m.1) (found None m.1) m f (ap (λ x. found None x.1) same ∙ there)
 
-outside_core : (r : Result (List Token) ℕ) (size : ℕ) (n : Node) (f : Found) → IsTree r size n → found None n ≡ Some f
-    → core_of_tokens r size ≡ None
+outside_core : (r : Result (List Token) ℕ) (size : ℕ) (n : PlainNode) (f : Found) → IsTree r size n
+    → found None n.1 ≡ Some f → core_of_tokens r size ≡ None
 outside_core (Err place) size n f h there = absurd h
 outside_core (Ok tokens) size n f (within, is, well) there =
     let fits : nat_le (deep tokens) 256 ≡ true = grind (arith, nat_tests) in
@@ -89,23 +89,23 @@ not_deep : (r : Result (List Token) ℕ) (size at : ℕ) → IsNoProgram r size 
 not_deep (Err place) size at g h = h
 not_deep (Ok tokens) size at (within, g) h = absurd (omega arith)
 
-not_tree : (r : Result (List Token) ℕ) (size at : ℕ) (n : Node) → IsNoProgram r size at → IsTree r size n → ⊥
+not_tree : (r : Result (List Token) ℕ) (size at : ℕ) (n : PlainNode) → IsNoProgram r size at → IsTree r size n → ⊥
 not_tree (Err place) size at n g h = h
 not_tree (Ok tokens) size at n (within, g) (again, is, well) =
     not_missed tokens size at (tree_of tokens size) n g is well
 
-shallow : (r : Result (List Token) ℕ) (size : ℕ) (n : Node) → IsTooDeep r → IsTree r size n → ⊥
+shallow : (r : Result (List Token) ℕ) (size : ℕ) (n : PlainNode) → IsTooDeep r → IsTree r size n → ⊥
 shallow (Err place) size n g h = g
 shallow (Ok tokens) size n g (within, is, well) = absurd (omega arith)
 
-same_node : (r : Result (List Token) ℕ) (size : ℕ) (n m : Node) → IsTree r size n → IsTree r size m → n ≡ m
+same_node : (r : Result (List Token) ℕ) (size : ℕ) (n m : PlainNode) → IsTree r size n → IsTree r size m → n ≡ m
 same_node (Err place) size n m g h = absurd g
 same_node (Ok tokens) size n m (within, is, well) (again, too, right) = cc (sym is ∙ too)
 
-same_construct : (n m : Node) (f g : Found) → n ≡ m → found None n ≡ Some f → found None m ≡ Some g
+same_construct : (n m : PlainNode) (f g : Found) → n ≡ m → found None n.1 ≡ Some f → found None m.1 ≡ Some g
     → Outside f.what f.at ≡ Outside g.what g.at
 same_construct n m f g same is too =
-    let there : f ≡ g = cc (sym is ∙ ap (found None) same ∙ too) in
+    let there : f ≡ g = cc (sym is ∙ ap (λ x. found None x.1) same ∙ too) in
     ap (λ (x : Found). Outside x.what x.at) there
 
 -- the front refuses a text for one cause

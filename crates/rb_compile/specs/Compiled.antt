@@ -7,7 +7,7 @@ use Rattle.rb_syntax.specs.declared.count.Count.{Count}
 use Rattle.rb_syntax.specs.declared.count.Count.TheVariants.{Source}
 use Rattle.rb_syntax.specs.declared.outside.Outside.{Outside as Construct}
 use Rattle.rb_syntax.specs.declared.outside.Outside.TheVariants.{Unbuilt}
-use Rattle.ir_core.specs.CoreForm.{CoreForm}
+use Rattle.ir_core.specs.CoreForm.{Body}
 use Rattle.rb_front.specs.Front as front
 use Rattle.rb_front.specs.Front.{core_of}
 use Rattle.rb_front.specs.declared.error.FrontError.TheVariants as front_errors
@@ -25,12 +25,12 @@ IsCodeOf code (Some f) = IsWithin f × (code ≡ code_of f)
 
 -- the text has a core that the generator doesn't build
 abbrev pub IsUnbuilt : List ℕ → Construct → ℕ → Type 0
-IsUnbuilt text what at = (what ≡ Unbuilt) × (at ≡ 0) × (c : CoreForm) × (core_of text ≡ Some c) × (built c ≡ None)
+IsUnbuilt text what at = (what ≡ Unbuilt) × (at ≡ 0) × (c : Body) × (core_of text ≡ Some c) × (built c ≡ None)
 
 -- the text has a core that the generator builds, of which this is the first count that exceeds its limit
 abbrev pub IsPastLimit : List ℕ → Count → ℕ → Type 0
 IsPastLimit text what count =
-    (c : CoreForm) × (core_of text ≡ Some c) × (is_some (built c) ≡ true)
+    (c : Body) × (core_of text ≡ Some c) × (is_some (built c) ≡ true)
     × (first_excess (need c) ≡ Some (record { what = what; count = count }))
 
 -- A long text, none of the language, a construct outside the language, one that isn't built, a count past its limit.

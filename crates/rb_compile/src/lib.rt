@@ -4,7 +4,7 @@
 #![tactic(auto)]
 
 ghost use Rattle.std.specs.Prelude.{◌≡◌, ◌<◌, ◌^◌, Some, length, IfOk, IfErr, MatchOption};
-ghost use Rattle.ir_core.specs.View.{core_view};
+ghost use Rattle.ir_core.specs.View.{body_view};
 ghost use Rattle.rb_front.specs.Front.{core_of};
 ghost use Rattle.rite_file.specs.File.{canonical};
 ghost use Rattle.code_verifier.specs.Verified.{IsVerified};
@@ -18,7 +18,7 @@ pub mod error;
 
 use code_generator::generate;
 pub use error::CompileError;
-use ir_core::Core;
+use ir_core::Program;
 use ir_counts::first_past_limit;
 use rb_front::read;
 use rb_syntax::Outside;
@@ -26,8 +26,8 @@ use rite_code::Code;
 use std::alloc::Global;
 
 /// The core of the text.
-fn read_core(alloc: Global, text: &[u8]) -> Result<Core, CompileError>
-    ensures core { IfOk result (λ c. core_of text.now ≡ Some (core_view c)) }
+fn read_core(alloc: Global, text: &[u8]) -> Result<Program, CompileError>
+    ensures core { IfOk result (λ c. core_of text.now ≡ Some (body_view c)) }
     ensures refused { IfErr result (Refuses text.now) }
 {
     let core = read(alloc, text)?;
@@ -36,8 +36,8 @@ fn read_core(alloc: Global, text: &[u8]) -> Result<Core, CompileError>
 
 /// The code of the core of the text, where the generator builds it and no count exceeds its limit.
 #[tactic(auto, using(crate::proofs::Coded::refused_unbuilt))]
-fn generate_code(alloc: Global, text: &[u8], core: &Core) -> Result<Code, CompileError>
-    requires { core_of text.now ≡ Some (core_view core.now) }
+fn generate_code(alloc: Global, text: &[u8], core: &Program) -> Result<Code, CompileError>
+    requires { core_of text.now ≡ Some (body_view core.now) }
     ensures code { IfOk result (λ code. IsCodeOf code (program_of text.now)) }
     ensures refused { IfErr result (Refuses text.now) }
 {

@@ -1,29 +1,30 @@
 -- The core of a text whose tree is within the language.
-use Rattle.std.proofs.Common.{◌≡◌, ℕ, List, [], length, Some, None, Result, Ok, Err, sym, ap, ◌∙◌, if◌then◌else◌}
+use Rattle.std.proofs.Common.{◌≡◌, ℕ, List, length, Some, None, Result, Ok, Err, sym, ap, ◌∙◌, if◌then◌else◌}
 use Rattle.std.proofs.lemmas.Bool.{le-leb}
 use Rattle.rb_syntax.specs.declared.token.Token.{Token}
 use Rattle.rb_lexer.specs.Lexing.{tokens_of}
 use Rattle.lexer_depth.specs.Levels.{deep}
-use Rattle.parser_tree.specs.Node.{Node}
+use Rattle.parser_tree.specs.Parts.{PlainNode}
 use Rattle.parser_checks.specs.Places.{misplaced}
 use Rattle.rb_parser.specs.Program.{tree_of}
 use Rattle.lower_outside.specs.Search.{found}
-use Rattle.ir_core.specs.CoreForm.{CoreForm}
-use Rattle.lower_table.specs.Lowering.{core}
+use Rattle.ir_core.specs.CoreForm.{Body}
+use Rattle.lower_table.specs.Lowering.{program}
 use Rattle.rb_front.specs.Front.{IsTree, HasTree, core_within, core_of_tree, core_of_tokens, core_of}
 
-of_tree : (n : Node) → misplaced n ≡ None → found None n ≡ None → core_of_tree (Ok n) ≡ Some (core [] 0 n)
-of_tree n p o = ap (λ m. core_within m (found None n) n) p ∙ ap (λ f. core_within None f n) o
+of_tree : (n : PlainNode) → misplaced n.1 ≡ None → found None n.1 ≡ None
+    → core_of_tree (Ok n) ≡ Some (program n.0 n.1)
+of_tree n p o = ap (λ m. core_within m (found None n.1) n) p ∙ ap (λ f. core_within None f n) o
 
-of_tokens : (r : Result (List Token) ℕ) (size : ℕ) (n : Node) → IsTree r size n → found None n ≡ None
-    → core_of_tokens r size ≡ Some (core [] 0 n)
+of_tokens : (r : Result (List Token) ℕ) (size : ℕ) (n : PlainNode) → IsTree r size n → found None n.1 ≡ None
+    → core_of_tokens r size ≡ Some (program n.0 n.1)
 of_tokens (Err place) size n t o = absurd t
 of_tokens (Ok ts) size n (few, is, stand) o =
     ap (λ b. if b then core_of_tree (tree_of ts size) else None) (le-leb (deep ts) 256 few)
     ∙ ap core_of_tree is ∙ of_tree n stand o
 
-pub has_core : (text : List ℕ) (n : Node) (f : CoreForm) → HasTree text n → found None n ≡ None → f ≡ core [] 0 n
-    → core_of text ≡ Some f
+pub has_core : (text : List ℕ) (n : PlainNode) (f : Body) → HasTree text n → found None n.1 ≡ None
+    → f ≡ program n.0 n.1 → core_of text ≡ Some f
 unfolding core_of
 has_core text n f (short, is) o e =
     ap (λ b. if b then core_of_tokens (tokens_of text) (length text) else None) (le-leb (length text) 16777216 short)

@@ -4,15 +4,15 @@
 #![tactic(auto)]
 
 ghost use Rattle.std.specs.Prelude.{◌≡◌, Some, IfOk, IfErr};
-ghost use Rattle.ir_core.specs.View.{core_view};
-ghost use Rattle.parser_tree.specs.View.{view};
+ghost use Rattle.ir_core.specs.View.{body_view};
+ghost use Rattle.parser_tree.specs.Parts.{plain_view};
 ghost use Rattle.rb_front.specs.Front as front;
 
 pub mod error;
 
 pub use error::FrontError;
-use ir_core::Core;
-use parser_tree::Tree;
+use ir_core::Program;
+use parser_tree::Source;
 use rb_lexer::{depth, lex};
 use rb_lower::lower;
 use rb_parser::parse;
@@ -25,8 +25,8 @@ const LONGEST: usize = 16_777_216;
 const DEEPEST: u32 = 256;
 
 /// The tree of a text.
-fn tree_of(alloc: Global, text: &[u8]) -> Result<Tree, FrontError>
-    ensures tree { IfOk result (λ t. front.HasTree text.now (view t)) }
+fn tree_of(alloc: Global, text: &[u8]) -> Result<Source, FrontError>
+    ensures tree { IfOk result (λ s. front.HasTree text.now (plain_view s)) }
     ensures refused { IfErr result (front.HasNoTree text.now) }
 {
     if text.len() > LONGEST {
@@ -44,11 +44,11 @@ fn tree_of(alloc: Global, text: &[u8]) -> Result<Tree, FrontError>
 /// `TooLong` comes exactly where the text has more than 16,777,216 bytes. Else `Syntax` comes where it has no tokens,
 /// `TooDeep` where these are more than 256 deep, `Syntax` where they have no tree or a word stands where it may not, and
 /// `Outside` where the tree has a construct outside the language: the one with the least place.
-pub fn read(alloc: Global, text: &[u8]) -> Result<Core, FrontError>
-    ensures core { IfOk result (λ c. front.core_of text.now ≡ Some (core_view c)) }
+pub fn read(alloc: Global, text: &[u8]) -> Result<Program, FrontError>
+    ensures core { IfOk result (λ c. front.core_of text.now ≡ Some (body_view c)) }
     ensures refused { IfErr result (front.Refuses text.now) }
 {
-    let tree = tree_of(alloc, text)?;
-    let core = lower(alloc, &tree)?;
-    Ok(core)
+    let source = tree_of(alloc, text)?;
+    let program = lower(alloc, &source)?;
+    Ok(program)
 }

@@ -1,18 +1,19 @@
 -- The insides of literals. Each step gives the state after it and the place there.
-use Rattle.std.specs.Prelude.{ℕ, ◌+◌, ◌-◌, ◌==◌, Bool, ◌||◌, ◌&&◌, if◌then◌else◌, List, Option, Some, None, Result, Ok, Err, slice_index}
+use Rattle.std.specs.Prelude.{ℕ, ◌+◌, ◌-◌, ◌==◌, Bool, if◌then◌else◌, List, Option, Some, None, Result, Ok, Err, slice_index}
 use Rattle.lexer_literals.specs.declared.fault.Fault.{Fault}
 use Rattle.lexer_literals.specs.declared.escaped.Escape.{Escape}
 use Rattle.lexer_literals.specs.declared.plain_escapes.Delimiters.{Delimiters}
-use Rattle.lexer_literals.specs.Escaping.{bytes_of, full_escape_at}
+use Rattle.lexer_literals.specs.Escaping.{bytes_of}
+use Rattle.lexer_literals.specs.Modified.{full_escape_at}
 use Rattle.lexer_literals.specs.PlainEscapes.{plain_escape_at, word_escape_at}
 use Rattle.rb_syntax.specs.declared.outside.Outside.TheVariants as outsides
 use Rattle.rb_syntax.specs.declared.token.TokenKind.TheVariants as kinds
 use Rattle.lexer_tables.specs.declared.context.Context.TheVariants as contexts
-use Rattle.lexer_tables.specs.ByteClass.{is_name_start, is_white}
+use Rattle.lexer_tables.specs.ByteClass.{is_white}
 use Rattle.lexer_steps.specs.declared.mode.Literal.{Literal}
 use Rattle.lexer_steps.specs.declared.mode.Mode.{Mode}
 use Rattle.lexer_steps.specs.declared.mode.Mode.TheVariants.{Text, Words}
-use Rattle.lexer_steps.specs.Names.{is_colon, variable_of}
+use Rattle.lexer_steps.specs.Names.{begins_variable, is_colon, variable_step}
 use Rattle.lexer_steps.specs.State.{State, pushed, entered, left, appended, extended, flushed, flushed_word, interpolating}
 
 -- a byte that stands for itself, or the one after a backslash
@@ -34,13 +35,12 @@ escape_step text at s = escaped (full_escape_at text (at + 1)) at s
 abbrev pub open_interpolation : ℕ → State → Result (State × ℕ) ℕ
 open_interpolation at s = Ok (interpolating (pushed (flushed s) at kinds.InterpolationBegin contexts.Start), at + 2)
 
--- #{, #@name and #$name are interpolations
+-- #{, and # before a variable, are interpolations
 unfoldable pub hash_step : List ℕ → ℕ → State → Result (State × ℕ) ℕ
 hash_step text at s =
     let next = slice_index text (at + 1) in
     if next == 123 then open_interpolation at s
-    else if ((next == 64) || (next == 36)) && is_name_start (slice_index text (at + 2))
-    then variable_of text (at + 1) (flushed s)
+    else if begins_variable text (at + 1) then variable_step text (at + 1) (flushed s)
     else byte_step at (slice_index text at) (at + 1) s
 
 -- a byte of a literal with escapes and interpolation that is no delimiter

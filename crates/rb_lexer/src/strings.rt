@@ -8,11 +8,11 @@ ghost use Rattle.rb_lexer.specs.Strings as strings;
 use lexer_literals::{Escape, full_escape, plain_escape, word_escape};
 use lexer_steps::error::LexError;
 use lexer_steps::mode::{Literal, Mode};
-use lexer_steps::names::{is_colon, push_variable};
+use lexer_steps::names::{begins_variable, is_colon, variable_step};
 use lexer_steps::scan::byte_at;
 use lexer_steps::state::Lexer;
 use lexer_tables::Context;
-use lexer_tables::bytes::{is_name_start, is_white};
+use lexer_tables::bytes::is_white;
 use rb_syntax::{Outside, TokenKind};
 use std::alloc::Global;
 
@@ -68,7 +68,7 @@ fn open_interpolation(alloc: Global, lexer: &mut Lexer, at: usize) -> Result<usi
     Ok(at + 2)
 }
 
-/// A `#`: an interpolation, or the byte.
+/// A `#`: an interpolation of statements or of a variable, or the byte.
 #[tactic(auto, unfolding(crate::specs::Strings::hash_step))]
 fn hash_step(alloc: Global, lexer: &mut Lexer, text: &[u8], at: usize) -> Result<usize, LexError>
     requires place { at < length text.now }
@@ -80,9 +80,9 @@ fn hash_step(alloc: Global, lexer: &mut Lexer, text: &[u8], at: usize) -> Result
     let next = byte_at(text, at + 1);
     if next == b'{' {
         open_interpolation(alloc, lexer, at)
-    } else if (next == b'@' || next == b'$') && is_name_start(byte_at(text, at + 2)) {
+    } else if begins_variable(text, at + 1) {
         lexer.flush(alloc)?;
-        push_variable(alloc, lexer, text, at + 1)
+        variable_step(alloc, lexer, text, at + 1)
     } else {
         byte_step(lexer, at, text[at], at + 1)
     }

@@ -1,7 +1,11 @@
-use Rattle.std.proofs.Common.{◌≡◌, map, take}
-use Rattle.ir_core.specs.Parts.{item_form}
+use Rattle.std.proofs.Common.{◌≡◌, map, drop}
 use Rattle.ir_core.specs.CoreForm as form
+use Rattle.ir_core.specs.Parts.{items}
+use Rattle.ir_core.specs.Forms.{append_items}
+use Rattle.ir_builder.specs.Forms.{plain_items}
 use Rattle.ir_builder.proofs.leaf.symbol_array.Given as goal
 
 abbrev pub invariant-loop-name : goal.invariant-loop-name
-invariant-loop-name l = map item_form l.items.items ≡ map form.sym (take l.name-index l.names)
+invariant-loop-name l =
+    append_items (items l.items.items) (plain_items (map form.sym (drop l.name-index l.names)))
+    ≡ plain_items (map form.sym l.names)

@@ -1,10 +1,12 @@
-use Rattle.std.proofs.Common.{◌≡◌, map, take}
-use Rattle.ir_core.specs.Parts.{clause_form}
-use Rattle.lower_table.specs.Lowering.{core}
-use Rattle.parser_tree.specs.PartsBy.{rescue_by}
+use Rattle.std.proofs.Common.{◌≡◌, drop}
+use Rattle.parser_tree.specs.PartsBy.{rescues_by}
+use Rattle.ir_core.specs.Forms.{append_clauses}
+use Rattle.ir_core.specs.Parts as part
+use Rattle.lower_table.specs.Lowering.{passes, clauses}
 use Rattle.lower_table.proofs.clauses.lower_clauses.Given as goal
 
 abbrev pub invariant-loop-clause : goal.invariant-loop-clause
 invariant-loop-clause g l =
-    map clause_form l.all.items
-    ≡ map (core l.fn.passed l.fn.depth) (map (rescue_by g.T.Whole.node) (take l.clause-index l.clauses.items))
+    append_clauses (part.clauses l.all.items)
+    (clauses (passes l.fn.passed) l.fn.depth (rescues_by g.T.Whole.node (drop l.clause-index l.clauses.items)))
+    ≡ clauses (passes l.fn.passed) l.fn.depth (rescues_by g.T.Whole.node l.clauses.items)

@@ -7,5 +7,5 @@ use Rattle.lower_table.proofs.jumps.lower_value.Goals as goal
 pub returns-in_default : goal.returns-in_default
 returns-in_default g c =
     subst (λ f. IfOk c.lower_array.result (λ v. core_view v ≡ f))
-    (value-several (item_by g.T.Whole.node) _ _ _ c.as_slice.ensures.value c.in_default.len_at_least)
+    (value-several (item_by g.T.Whole.node) _ _ _ _ c.as_slice.ensures.value c.in_default.len_at_least)
     c.lower_array.ensures

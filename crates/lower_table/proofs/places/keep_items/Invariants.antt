@@ -1,11 +1,12 @@
-use Rattle.std.proofs.Common.{◌≡◌, [], fold, map, take}
-use Rattle.ir_core.specs.View.{core_view}
-use Rattle.lower_table.specs.Numbered.{numbered_step, kept_by}
-use Rattle.parser_tree.specs.PartsBy.{item_by}
+use Rattle.std.proofs.Common.{◌≡◌, drop}
+use Rattle.parser_tree.specs.PartsBy.{items_by}
+use Rattle.ir_core.specs.Forms.{append}
+use Rattle.ir_core.specs.Parts.{cores}
+use Rattle.lower_table.specs.Lowering.{passes, keeps}
 use Rattle.lower_table.proofs.places.keep_items.Given as goal
 
 abbrev pub invariant-loop-item : goal.invariant-loop-item
 invariant-loop-item g l =
-    (map core_view l.all.items, l.number)
-    ≡ fold (numbered_step (kept_by l.fn.passed l.fn.depth)) ([], l.fn.first)
-    (map (item_by g.T.Whole.node) (take l.item-index l.items))
+    append (cores l.all.items)
+    (keeps (passes l.fn.passed) l.fn.depth l.number (items_by g.T.Whole.node (drop l.item-index l.items)))
+    ≡ keeps (passes l.fn.passed) l.fn.depth l.fn.first (items_by g.T.Whole.node l.items)

@@ -1,12 +1,13 @@
-use Rattle.std.proofs.Common.{◌≡◌, [], fold, map, take}
-use Rattle.ir_core.specs.View.{core_view}
-use Rattle.lower_table.specs.Numbered.{numbered_step, assigned}
+use Rattle.std.proofs.Common.{◌≡◌, drop}
+use Rattle.parser_tree.specs.PartsBy.{trees_by}
+use Rattle.ir_core.specs.Forms.{append}
+use Rattle.ir_core.specs.Parts.{cores}
+use Rattle.lower_table.specs.Lowering.{passes, stores}
 use Rattle.lower_table.specs.Sources.{source_form}
-use Rattle.parser_tree.specs.PartsBy.{tree_by}
 use Rattle.lower_table.proofs.stores.store_each.Given as goal
 
 abbrev pub invariant-loop-target : goal.invariant-loop-target
 invariant-loop-target g l =
-    (map core_view l.all.items, l.place)
-    ≡ fold (numbered_step (assigned l.fn.passed l.fn.depth (source_form l.fn.source))) ([], 0)
-    (map (tree_by g.T.Whole.node) (take l.target-index l.targets))
+    append (cores l.all.items)
+    (stores (passes l.fn.passed) l.fn.depth (source_form l.fn.source) l.place (trees_by g.T.Whole.node (drop l.target-index l.targets)))
+    ≡ stores (passes l.fn.passed) l.fn.depth (source_form l.fn.source) 0 (trees_by g.T.Whole.node l.targets)

@@ -5,8 +5,8 @@ use Rattle.mrb_tool.specs.Running.{Runs}
 use Rattle.mrb_tool.proofs.Runs.{runs}
 use Rattle.mrb_tool.proofs.exec.exec.Goals as goal
 
-pub returns : goal.returns
-returns g c =
+pub returns-clause-execs : goal.returns-clause-execs
+returns-clause-execs g c =
     let given : Stream = record { taken = g.O.Sink.taken c.args.out.now; faults = g.O.Sink.faults c.args.out.now } in
     let left : Stream = record { taken = g.O.Sink.taken c.run.new.out; faults = g.O.Sink.faults c.run.new.out } in
     let said = c.run.ensures in (

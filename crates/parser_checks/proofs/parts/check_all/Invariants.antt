@@ -5,5 +5,5 @@ use Rattle.parser_checks.proofs.parts.check_all.Given as goal
 
 abbrev pub invariant-loop-tree : goal.invariant-loop-tree
 invariant-loop-tree g l =
-    walk_all l.context.around (trees_by g.T.Placed.node (drop l.tree-index l.trees.items)) l.count
-    ≡ walk_all l.context.around (trees_by g.T.Placed.node l.trees.items) l.seen
+    walk_all l.context.around (trees_by g.T.Placed.node (drop l.tree-index l.trees.items)) l.found
+    ≡ walk_all l.context.around (trees_by g.T.Placed.node l.trees.items) l.fn.best

@@ -5,5 +5,5 @@ use Rattle.parser_checks.proofs.parts.check_branches.Given as goal
 
 abbrev pub invariant-loop-branch : goal.invariant-loop-branch
 invariant-loop-branch g l =
-    walk_all l.context.around (branches_by g.T.Placed.node (drop l.branch-index l.branches.items)) l.count
-    ≡ walk_all l.context.around (branches_by g.T.Placed.node l.branches.items) l.seen
+    walk_all l.context.around (branches_by g.T.Placed.node (drop l.branch-index l.branches.items)) l.found
+    ≡ walk_all l.context.around (branches_by g.T.Placed.node l.branches.items) l.fn.best

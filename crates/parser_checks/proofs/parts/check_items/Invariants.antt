@@ -5,5 +5,5 @@ use Rattle.parser_checks.proofs.parts.check_items.Given as goal
 
 abbrev pub invariant-loop-item : goal.invariant-loop-item
 invariant-loop-item g l =
-    walk_all l.context.around (items_by g.T.Placed.node (drop l.item-index l.items.items)) l.count
-    ≡ walk_all l.context.around (items_by g.T.Placed.node l.items.items) l.seen
+    walk_all l.context.around (items_by g.T.Placed.node (drop l.item-index l.items.items)) l.found
+    ≡ walk_all l.context.around (items_by g.T.Placed.node l.items.items) l.fn.best

@@ -5,5 +5,5 @@ use Rattle.parser_checks.proofs.parts.check_optionals.Given as goal
 
 abbrev pub invariant-loop-parameter : goal.invariant-loop-parameter
 invariant-loop-parameter g l =
-    walk_all l.context.around (optionals_by g.T.Placed.node (drop l.parameter-index l.parameters.items)) l.count
-    ≡ walk_all l.context.around (optionals_by g.T.Placed.node l.parameters.items) l.seen
+    walk_all l.context.around (optionals_by g.T.Placed.node (drop l.parameter-index l.parameters.items)) l.found
+    ≡ walk_all l.context.around (optionals_by g.T.Placed.node l.parameters.items) l.fn.best

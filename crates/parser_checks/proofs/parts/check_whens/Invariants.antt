@@ -5,5 +5,5 @@ use Rattle.parser_checks.proofs.parts.check_whens.Given as goal
 
 abbrev pub invariant-loop-clause : goal.invariant-loop-clause
 invariant-loop-clause g l =
-    walk_all l.context.around (whens_by g.T.Placed.node (drop l.clause-index l.clauses.items)) l.count
-    ≡ walk_all l.context.around (whens_by g.T.Placed.node l.clauses.items) l.seen
+    walk_all l.context.around (whens_by g.T.Placed.node (drop l.clause-index l.clauses.items)) l.found
+    ≡ walk_all l.context.around (whens_by g.T.Placed.node l.clauses.items) l.fn.best

@@ -1,7 +1,7 @@
 use Rattle.ir_core.specs.View.{core_view}
-use Rattle.lower_table.specs.Lowering.{operate, store}
+use Rattle.lower_table.specs.Lowering.{passes, operate, store}
 use Rattle.parser_tree.proofs.ViewsBy.{view-If, view-For, view-Case, view-Index, view-Super, view-Yield, view-Return, view-Break, view-Next, view-MultipleAssign}
-use Rattle.lower_table.proofs.Lowered.{shown-by, lowered-by, call-by, define-by, class-by}
+use Rattle.lower_table.proofs.Lowered.{shown-by, lowered-by, call-by, define-by, class-by, module-by}
 use Rattle.lower_table.proofs.form.TreeFormLower.+lower.Goals as goal
 
 pub lower-returns-in-If : goal.lower-returns-in-If
@@ -38,15 +38,15 @@ lower-returns-in-Yield t c =
 
 pub lower-returns-in-Return : goal.lower-returns-in-Return
 lower-returns-in-Return t c =
-    lowered-by _ _ _ _ _ _ c.in-Return.is (view-Return c.in-Return.items c.in-Return.at) c.lower_return.ensures
+    lowered-by _ _ _ _ _ _ c.in-Return.is (view-Return c.in-Return.items c.in-Return.at) c.lower_jump.ensures
 
 pub lower-returns-in-Break : goal.lower-returns-in-Break
 lower-returns-in-Break t c =
-    lowered-by _ _ _ _ _ _ c.in-Break.is (view-Break c.in-Break.items c.in-Break.at) c.lower_break.ensures
+    lowered-by _ _ _ _ _ _ c.in-Break.is (view-Break c.in-Break.items c.in-Break.at) c.lower_jump-in-Break.ensures
 
 pub lower-returns-in-Next : goal.lower-returns-in-Next
 lower-returns-in-Next t c =
-    lowered-by _ _ _ _ _ _ c.in-Next.is (view-Next c.in-Next.items c.in-Next.at) c.lower_next.ensures
+    lowered-by _ _ _ _ _ _ c.in-Next.is (view-Next c.in-Next.items c.in-Next.at) c.lower_jump-in-Next.ensures
 
 pub lower-returns-in-MultipleAssign : goal.lower-returns-in-MultipleAssign
 lower-returns-in-MultipleAssign t c =
@@ -65,13 +65,19 @@ lower-returns-in-Class t c =
     (class-by c.in-Class.scope c.in-Class.name _ c.in-Class.parent c.in-Class.body c.as_slice-in-Class.ensures)
     c.lower_class.ensures
 
+pub lower-returns-in-Module : goal.lower-returns-in-Module
+lower-returns-in-Module t c =
+    lowered-by _ _ _ _ _ _ c.in-Module.is
+    (module-by c.in-Module.scope c.in-Module.name _ c.in-Module.body c.as_slice-in-Module.ensures)
+    c.lower_module.ensures
+
 pub operate-returns-in-Index : goal.operate-returns-in-Index
 operate-returns-in-Index t c =
-    shown-by _ (λ n. operate c.args.passed.now c.args.depth n c.args.operator
+    shown-by _ (λ n. operate (passes c.args.passed.now) c.args.depth n c.args.operator
     (core_view c.args.value)) _ _ _ c.in-Index.is
     (view-Index c.in-Index.e c.in-Index.items) c.operate_index.ensures
 
 pub store-returns-in-Index : goal.store-returns-in-Index
 store-returns-in-Index t c =
-    shown-by _ (λ n. store c.args.passed.now c.args.depth n (core_view c.args.value)) _ _ _ c.in-Index.is
+    shown-by _ (λ n. store (passes c.args.passed.now) c.args.depth n (core_view c.args.value)) _ _ _ c.in-Index.is
     (view-Index c.in-Index.e c.in-Index.items) c.store_index.ensures

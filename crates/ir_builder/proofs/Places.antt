@@ -1,1 +1,0 @@
--- Places as bounded numbers.

@@ -1,0 +1,11 @@
+use Rattle.std.proofs.Common.{◌≡◌, ◌++◌, drop}
+use Rattle.parser_tree.specs.PartsBy.{parameters_by}
+use Rattle.ir_core.specs.View.{locals_of}
+use Rattle.lower_table.specs.Parts as read
+use Rattle.lower_table.proofs.functions.parameter_locals.Given as goal
+
+abbrev pub invariant-loop-parameter : goal.invariant-loop-parameter
+invariant-loop-parameter g l =
+    locals_of l.locals.items
+    ++ read.parameter_locals l.place (parameters_by g.T.Whole.node (drop l.parameter-index l.parameters))
+    ≡ read.parameter_locals l.fn.first (parameters_by g.T.Whole.node l.parameters)
