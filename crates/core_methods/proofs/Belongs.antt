@@ -14,8 +14,9 @@ use Rattle.def_core.specs.Store.{Store, sort_at}
 use Rattle.def_core.specs.Sound.{Census, census, Sound, Class, Is, IsValue, AllAre, plays}
 use Rattle.def_core.proofs.Roles.{is_by_sort, is_within}
 use Rattle.row_table.specs.declared.line.CoreRow.{CoreRow}
-use Rattle.row_table.specs.declared.line.CoreRow.TheVariants.{Integer, Range, RangeClass}
-use Rattle.row_table.specs.declared.range.RangeClassMethod.TheVariants.{New}
+use Rattle.row_table.specs.declared.line.CoreRow.TheVariants.{Integer, Range, RangeClass, String, StringClass, Symbol, Nil, True, False}
+use Rattle.row_table.specs.declared.range.RangeClassMethod.TheVariants as range_class
+use Rattle.row_table.specs.declared.string.StringClassMethod.TheVariants as string_class
 use Rattle.def_rows.specs.declared.answer.Answer.{Answer}
 use Rattle.def_rows.specs.Operands.{argument}
 use Rattle.def_rows.specs.RangeRows.{item_of, kept_ends, made, made_in, new_range}
@@ -23,6 +24,7 @@ use Rattle.def_rows.specs.Rows.{gives}
 use Rattle.core_rows.specs.Belonging.{SoundAnswer}
 use Rattle.core_rows.proofs.Places.{by_place}
 use Rattle.core_rows.proofs.Checked.{core_is, plain_is}
+use Rattle.core_string.proofs.Belonging as strings
 
 made_belongs : (k : Census) (c : ObjId) → Is k Class c → (exclusive : Bool) (ends : Option RangeEnds)
     → SoundAnswer k (made c exclusive ends)
@@ -42,10 +44,16 @@ new_belongs st sound recv args is = by_place st sort.Class recv
     (is_true (argument args 2)) (kept_ends (item_of st.objects (argument args 0)) (item_of st.objects (argument args 1))))
 
 pub gives_belongs : (st : Store) (row : CoreRow) (recv : Value) (args : List Value) → Sound st
-    → AllAre (IsValue (census st)) (recv ∷ args) → SoundAnswer (census st) (gives row st.objects recv args)
+    → AllAre (IsValue (census st)) (recv ∷ args) → SoundAnswer (census st) (gives row st recv args)
 gives_belongs st (Integer m) recv args sound all = tt
 gives_belongs st (Range m) recv args sound all = tt
-gives_belongs st (RangeClass New) recv args sound all = new_belongs st sound recv args all.0
+gives_belongs st (RangeClass range_class.New) recv args sound all = new_belongs st sound recv args all.0
+gives_belongs st (String m) recv args sound all = strings.gives_belongs st sound m recv args all.1
+gives_belongs st (StringClass string_class.New) recv args sound all = strings.new_belongs st sound recv args all.0
+gives_belongs st (Symbol m) recv args sound all = tt
+gives_belongs st (Nil m) recv args sound all = tt
+gives_belongs st (True m) recv args sound all = tt
+gives_belongs st (False m) recv args sound all = tt
 
 pub answer_belongs : (k : Census) (r : Result Answer AllocError) (a : Answer) → SoundAnswer k a
     → IfOk r (λ x. x ≡ a) → IfOk r (SoundAnswer k)

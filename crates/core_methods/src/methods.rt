@@ -9,7 +9,7 @@ use core_rows::Row;
 use def_rows::Answer;
 use rb_store::Store;
 use rb_value::{ObjId, Outcome, Value};
-use row_table::{CoreRow, Line, RangeClassMethod, Signature, line_at};
+use row_table::{CoreRow, Line, RangeClassMethod, Signature, StringClassMethod, line_at};
 use std::alloc::AllocError;
 
 /// A core method with what it takes.
@@ -20,18 +20,21 @@ struct Method {
 
 /// What a core method gives, where its call isn't refused.
 fn give(st: &Store, row: CoreRow, recv: Value, args: &[Value]) -> Result<Answer, AllocError>
-    ensures { IfOk result (λ a. a ≡ rows.gives row st.now.store.objects recv args.now) }
+    requires { AllAre (IsValue (census st.now.store)) (recv ∷ args.now) }
+    ensures { IfOk result (λ a. a ≡ rows.gives row st.now.store recv args.now) }
 {
-    match row {
-        CoreRow::Integer(method) => Ok(Answer::Plain(core_integer::give(
-            st.alloc(),
-            method,
-            recv,
-            args,
-        )?)),
-        CoreRow::Range(method) => Ok(Answer::Plain(core_range::give(st, method, recv, args)?)),
-        CoreRow::RangeClass(RangeClassMethod::New) => Ok(core_range::new_range(st, recv, args)),
-    }
+    let alloc = st.alloc();
+    Ok(match row {
+        CoreRow::Integer(method) => Answer::Plain(core_integer::give(alloc, method, recv, args)?),
+        CoreRow::Range(method) => Answer::Plain(core_range::give(st, method, recv, args)?),
+        CoreRow::RangeClass(RangeClassMethod::New) => core_range::new_range(st, recv, args),
+        CoreRow::String(method) => core_string::give(st, method, recv, args)?,
+        CoreRow::StringClass(StringClassMethod::New) => core_string::new_string(st, recv, args)?,
+        CoreRow::Symbol(method) => Answer::Plain(core_singletons::give(st, method, recv, args)?),
+        CoreRow::Nil(method) => Answer::Plain(core_singletons::nil_gives(alloc, method, args)?),
+        CoreRow::True(method) => Answer::Plain(core_singletons::true_gives(alloc, method, args)?),
+        CoreRow::False(method) => Answer::Plain(core_singletons::false_gives(alloc, method, args)?),
+    })
 }
 
 impl Row for Method {

@@ -17,7 +17,7 @@ fn bounds_of(ends: RangeEnds) -> Bounds
 }
 
 /// The ends of a Range, if the value is one.
-pub(crate) fn range_of(st: &Store, value: Value) -> Option<Ends>
+pub fn range_of(st: &Store, value: Value) -> Option<Ends>
     ensures { result ≡ rows.range_of st.now.store.objects value }
 {
     match st.get(place_of(st, Sort::Range, value)?).kind() {

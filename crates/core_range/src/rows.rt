@@ -4,7 +4,7 @@ ghost use Rattle.rb_integer.specs.Ends as numbers;
 ghost use Rattle.def_rows.specs.RangeRows as rows;
 
 use crate::ends::{has_item, range, same_ends};
-use crate::escapes::inspection;
+use crate::inspection::shown;
 use crate::items::{item, items};
 use core_integer::answers::{fault_of, number, text};
 use core_rows::operands::{argument, integer};
@@ -60,6 +60,6 @@ pub fn give(
         ),
         RangeMethod::Equal => Plain::Truth(same_ends(st, ends, first)),
         RangeMethod::ToText => text(alloc, &ends.to_text())?,
-        RangeMethod::Inspect => Plain::Text(Bytes::from_vec(inspection(alloc, ends)?)),
+        RangeMethod::Inspect => Plain::Text(Bytes::from_vec(shown(alloc, ends)?)),
     })
 }

@@ -35,7 +35,7 @@ use Rattle.def_rows.specs.Answers.{cause_of, appended, rewritten, appends, pushe
 use Rattle.core_rows.specs.Belonging.{SoundAnswer}
 use Rattle.core_rows.specs.Completes.{Does, Completes}
 use Rattle.core_rows.proofs.Places.{by_place, elements_are}
-use Rattle.core_rows.proofs.Leaving.{Leaves, given, more_same, changed, text_made, items_made, range_made, texts_made, numbers_made}
+use Rattle.core_rows.proofs.Leaving.{Leaves, given, more_same, changed, text_made, items_made, range_made, string_made, symbol_made, texts_made, numbers_made}
 
 -- A sort that passes the test is the one that is asked for; no class has the sort String or Array.
 
@@ -62,6 +62,16 @@ module _ (st : Store) (sound : Sound st) (recv : Value) (is : IsValue (census st
       let s = is_string (sort_at st.objects id) test in
       subst (λ (v : Value). Leaves st (gives v (rewritten st bytes (Some id)))) (sym e)
       (changed st sound id there (kind.String bytes) (sym s) (ap (plays ClassOrModule) s) tt))
+
+  put_leaves : (bytes : List ℕ) (v : Value) → IsValue (census st) v → Leaves st (finish st recv (answer.Put bytes v))
+  put_leaves bytes v right =
+      let k = rewritten_leaves bytes in
+      record {
+        sound = k.sound;
+        extends = k.extends;
+        looks = k.looks;
+        belongs = value_grows _ _ k.extends v right;
+      }
 
   pushed_leaves : (more : List Value) → AllAre (IsValue (census st)) more → Leaves st (pushes st recv more)
   pushed_leaves more all = by_place st sort.Array recv (λ p. Leaves st (gives recv (pushed st more p))) is
@@ -117,6 +127,7 @@ plain_leaves st sound recv is (plain.Truth false) = given st sound False tt
 plain_leaves st sound recv is (plain.Int z) = given st sound (Int z) tt
 plain_leaves st sound recv is plain.Receiver = given st sound recv is
 plain_leaves st sound recv is (plain.Text bytes) = text_made st sound bytes
+plain_leaves st sound recv is (plain.Symbol name) = symbol_made st sound name
 plain_leaves st sound recv is (plain.Texts texts) = texts_made st sound texts
 plain_leaves st sound recv is (plain.Numbers zs) = numbers_made st sound zs
 plain_leaves st sound recv is (plain.Append more) = appended_leaves st sound recv is more
@@ -129,6 +140,8 @@ finish_leaves st sound recv is (answer.Plain a) h = plain_leaves st sound recv i
 finish_leaves st sound recv is (answer.Value v) h = given st sound v h
 finish_leaves st sound recv is (answer.Items xs) h = items_made st sound xs h
 finish_leaves st sound recv is (answer.Range c r) h = range_made st sound c r h
+finish_leaves st sound recv is (answer.String c bytes) h = string_made st sound c bytes h
+finish_leaves st sound recv is (answer.Put bytes v) h = put_leaves st sound recv is bytes v h
 finish_leaves st sound recv is (answer.Push more) h = pushed_leaves st sound recv is more h
 finish_leaves st sound recv is (answer.Replace xs) h = replaced_leaves st sound recv is xs h
 finish_leaves st sound recv is (answer.Fail c) h = failed st sound c h

@@ -14,16 +14,17 @@ use Rattle.rb_value.specs.Object.{Object}
 use Rattle.rb_value.specs.Sort.{sort_of}
 use Rattle.def_core.specs.Store.{Store, Done, absent, object_at, object_number, set_object, sort_at, with_object}
 use Rattle.def_core.specs.Classes.{contents_of}
-use Rattle.def_core.specs.Changes.{gives}
+use Rattle.def_core.specs.Changes.{gives, intern}
 use Rattle.def_core.specs.Parts.{with_kind, with_objects}
 use Rattle.def_core.specs.Sound.{Census, census, Sound, SoundObject, SoundKind, Any, Class, ClassOrModule, Is, IsOutcome, IsValue, AllAre, plays, Extends}
 use Rattle.def_core.proofs.Sorts.{sorts-set}
 use Rattle.def_core.proofs.Roles.{is_within}
 use Rattle.def_core.proofs.PartsSound.{sound_with_kind}
-use Rattle.def_core.proofs.Grows.{more_objects, one_more, sound_with_object, core_is_class, extends_itself, extends_both, same_objects}
+use Rattle.def_core.proofs.Grows.{more_objects, one_more, sound_with_object, sound_with_interned, interned as names_kept, core_is_class, extends_itself, extends_both, same_objects}
 use Rattle.rb_store.specs.Counted.{SameLooks, looks_of}
-use Rattle.rb_store.proofs.Counted.{same_looks, same_then, other_changed}
-use Rattle.def_rows.specs.Answers.{text_object, items_object, makes, numbered, with_texts, makes_texts}
+use Rattle.rb_store.proofs.Counted.{same_looks, same_then, one_interned, other_changed}
+use Rattle.rb_store.proofs.Start.{interned_symbol}
+use Rattle.def_rows.specs.Answers.{text_object, items_object, interned, makes, numbered, with_texts, makes_texts}
 use Rattle.core_rows.proofs.Texts.{object_is, texts_sound, numbered_are, length-with_texts}
 
 -- what a call gives and leaves, beside a sound store
@@ -72,6 +73,18 @@ items_made st sound items all = made st sound _
 pub range_made : (st : Store) → Sound st → (c : ObjId) (r : RangeContents) → Is (census st) Class c
     → Leaves st (makes st (record { class = c; singleton = None; variables = []; kind = kind.Range r }))
 range_made st sound c r is = made st sound _ (record { class = is; singleton = tt; variables = tt; kind = tt })
+
+pub string_made : (st : Store) → Sound st → (c : ObjId) (bytes : List ℕ) → Is (census st) Class c
+    → Leaves st (makes st (record { class = c; singleton = None; variables = []; kind = kind.String bytes }))
+string_made st sound c bytes is = made st sound _ (record { class = is; singleton = tt; variables = tt; kind = tt })
+
+pub symbol_made : (st : Store) → Sound st → (name : List ℕ) → Leaves st (interned (intern st name))
+symbol_made st sound name = record {
+  sound = sound_with_interned st sound name;
+  extends = names_kept st name;
+  looks = one_interned st name;
+  belongs = interned_symbol st name;
+}
 
 pub texts_made : (st : Store) → Sound st → (texts : List (List ℕ)) → Leaves st (makes_texts st texts)
 texts_made st sound texts =

@@ -17,14 +17,14 @@ use std::alloc::AllocError;
 /// A row: what a core method takes, and what it gives where its call isn't refused.
 pub trait Row: Copy {
     ghost use Rattle.std.specs.Prelude.{List};
-    ghost use Rattle.rb_value.specs.Object.{Object};
+    ghost use Rattle.def_core.specs.Store.{Store as Definition};
     ghost use Rattle.rb_value.specs.declared.value.Value.{Value as Operand};
     ghost use Rattle.row_table.specs.declared.signature.Signature.{Signature as Takes};
     ghost use Rattle.def_rows.specs.declared.answer.Answer.{Answer as Gives};
 
     ghost takes: { Self → Takes };
 
-    ghost gives: { Self → List Object → Operand → List Operand → Gives };
+    ghost gives: { Self → Definition → Operand → List Operand → Gives };
 
     /// What it takes.
     fn signature(self) -> Signature
@@ -34,7 +34,7 @@ pub trait Row: Copy {
     fn give(self, st: &Store, recv: Value, args: &[Value]) -> Result<Answer, AllocError>
         requires sound { Sound st.now.store }
         requires values { AllAre (IsValue (census st.now.store)) (recv ∷ args.now) }
-        ensures value { IfOk result (λ a. a ≡ gives self st.now.store.objects recv args.now) }
+        ensures value { IfOk result (λ a. a ≡ gives self st.now.store recv args.now) }
         ensures sound { IfOk result (SoundAnswer (census st.now.store)) };
 }
 
@@ -50,7 +50,7 @@ fn answer<R: Row>(
     requires values { AllAre (IsValue (census st.now.store)) (recv ∷ args.now) }
     ensures value { IfOk result (λ a. a ≡ answer_of
         (checking.check (R.takes row) st.now.store.objects recv args.now block)
-        (R.gives row st.now.store.objects recv args.now)) }
+        (R.gives row st.now.store recv args.now)) }
     ensures sound { IfOk result (SoundAnswer (census st.now.store)) }
 {
     match check(st, row.signature(), recv, args, block) {

@@ -1,5 +1,6 @@
 //! From what a core method gives to the outcome of its call.
 ghost use Rattle.std.specs.Prelude.{◌≡◌};
+ghost use Rattle.def_core.specs.Changes.{intern};
 ghost use Rattle.def_core.specs.Sound.{Sound, census, IsValue};
 ghost use Rattle.rb_value.specs.declared.kind.Sort.TheVariants as sorts;
 ghost use Rattle.def_rows.specs.Operands.{place_of as place};
@@ -61,6 +62,23 @@ fn rewrite(st: &mut Store, recv: Value, bytes: Bytes) -> Outcome
     Outcome::Value(recv)
 }
 
+/// Gives a value, where the receiver, if it is a String, has other bytes.
+fn put(st: &mut Store, recv: Value, bytes: Bytes, given: Value) -> Outcome
+    ensures outcome { result ≡ answers.given given }
+    ensures store { st.new ≡ record st.old { store = answers.rewritten st.old.store bytes (place st.old.store.objects sorts.String recv) } }
+{
+    let _ = rewrite(st, recv, bytes);
+    Outcome::Value(given)
+}
+
+/// Gives the symbol of a name.
+fn symbol(st: &mut Store, name: &[u8]) -> Result<Outcome, AllocError>
+    ensures { Does st.old st.new result (answers.interned (intern st.old.store name.now)) }
+{
+    let symbol = st.intern(name)?;
+    Ok(Outcome::Value(Value::Sym(symbol)))
+}
+
 /// Gives what belongs to every store.
 fn finish_plain(st: &mut Store, recv: Value, answer: Plain) -> Result<Outcome, AllocError>
     requires { Sound st.old.store }
@@ -72,6 +90,7 @@ fn finish_plain(st: &mut Store, recv: Value, answer: Plain) -> Result<Outcome, A
         Plain::Int(number) => Ok(Outcome::Value(Value::Int(number))),
         Plain::Receiver => Ok(Outcome::Value(recv)),
         Plain::Text(bytes) => make_text(st, bytes),
+        Plain::Symbol(name) => symbol(st, name.as_slice()),
         Plain::Texts(texts) => make_texts(st, texts),
         Plain::Numbers(numbers) => make_numbers(st, numbers.as_slice()),
         Plain::Append(more) => append(st, recv, more.as_slice()),
@@ -112,6 +131,8 @@ fn give(st: &mut Store, recv: Value, answer: Answer) -> Result<Outcome, AllocErr
         Answer::Value(value) => Ok(Outcome::Value(value)),
         Answer::Items(items) => make_items(st, items.into_vec()),
         Answer::Range { class, contents } => make(st, Object::new(class, Kind::Range(contents))),
+        Answer::String { class, bytes } => make(st, Object::new(class, Kind::String(bytes))),
+        Answer::Put { bytes, given } => Ok(put(st, recv, bytes, given)),
         Answer::Push(more) => push(st, recv, more.as_slice()),
         Answer::Replace(items) => Ok(replace(st, recv, items)),
         Answer::Fail(cause) => raise(st, cause),

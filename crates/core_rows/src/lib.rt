@@ -8,7 +8,7 @@
 pub mod calling;
 pub mod checking;
 pub mod finishing;
-mod making;
+pub mod making;
 pub mod operands;
 
 pub use calling::{Row, call};

@@ -75,7 +75,7 @@ fn text_objects(st: &Store, texts: List<Bytes>) -> Result<Vec<Object>, AllocErro
 
 /// So many objects with numbers in a row.
 #[tactic(auto, using(crate::proofs::Texts::numbered_more), unfolding(def_rows::specs::Answers::numbered))]
-fn numbered(alloc: Global, first: u64, count: u64) -> Result<Vec<Value>, AllocError>
+pub fn numbered(alloc: Global, first: u64, count: u64) -> Result<Vec<Value>, AllocError>
     requires { first + count < 2 ^ 64 }
     ensures { IfOk result (λ values. values.items ≡ answers.numbered first count) }
 {

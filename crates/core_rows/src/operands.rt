@@ -2,7 +2,9 @@
 ghost use Rattle.std.specs.Prelude.{◌≡◌, ◌<◌, length, IfSome};
 ghost use Rattle.rb_value.specs.declared.kind.Sort.TheVariants as sorts;
 ghost use Rattle.def_core.specs.Store.{sort_at};
+ghost use Rattle.def_core.specs.Sound.{census, IsValue};
 ghost use Rattle.def_rows.specs.Operands as operands;
+ghost use Rattle.def_rows.specs.SymbolRows as symbols;
 
 use rb_store::Store;
 use rb_value::{ObjId, Sort, Value};
@@ -51,6 +53,13 @@ pub fn text(st: &Store, value: Value) -> &[u8]
     }
 }
 
+/// Whether a value is a String.
+pub fn is_text(st: &Store, value: Value) -> bool
+    ensures { result ≡ operands.is_text st.now.store.objects value }
+{
+    place_of(st, Sort::String, value).is_some()
+}
+
 /// The bytes of the argument at that place, or others where there is none.
 pub fn text_or<'a>(st: &'a Store, args: &[Value], place: usize, otherwise: &'a [u8]) -> &'a [u8]
     ensures { result.now ≡ operands.text_or st.now.store.objects args.now place otherwise.now }
@@ -59,6 +68,17 @@ pub fn text_or<'a>(st: &'a Store, args: &[Value], place: usize, otherwise: &'a [
         text(st, args[place])
     } else {
         otherwise
+    }
+}
+
+/// The name of a Symbol.
+pub fn name(st: &Store, value: Value) -> &[u8]
+    requires { IsValue (census st.now.store) value }
+    ensures { result.now ≡ symbols.name st.now.store value }
+{
+    match value {
+        Value::Sym(symbol) => st.symbol_name(symbol),
+        _ => &[],
     }
 }
 

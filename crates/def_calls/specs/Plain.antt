@@ -1,5 +1,5 @@
 -- What the core methods give that open no activation (ISO/IEC 30170:2012, clause 15).
-use Rattle.std.specs.Prelude.{ℕ, ℤ, pos, negsuc, List, [], ◌++◌, length, get_or, nat_lt, codes, Bool, true, false, not, if◌then◌else◌, Option, Some, None}
+use Rattle.std.specs.Prelude.{ℕ, ℤ, pos, negsuc, List, ◌++◌, length, get_or, nat_lt, codes, Bool, true, false, not, if◌then◌else◌, Option, Some, None}
 use Rattle.rb_value.specs.declared.value.Value.{Value}
 use Rattle.rb_value.specs.declared.value.Value.TheVariants.{Nil, True, False, Int, Sym, Obj}
 use Rattle.rb_value.specs.declared.value.ObjId.{ObjId}
@@ -10,7 +10,7 @@ use Rattle.rb_value.specs.declared.kind.Kind.TheVariants as kind
 use Rattle.rb_value.specs.declared.core_class.CoreClass.TheVariants as class
 use Rattle.rb_value.specs.Value.{truth, is_true}
 use Rattle.def_core.specs.declared.cause.Cause.TheVariants as cause
-use Rattle.def_core.specs.Store.{Store, Done, core, fresh, object_at, name_at}
+use Rattle.def_core.specs.Store.{Store, Done, core, fresh, object_at}
 use Rattle.def_core.specs.Classes.{class_at, class_of, plain_class_of, chain, is_member}
 use Rattle.def_core.specs.Find.{same_value}
 use Rattle.def_core.specs.Bind.{elements_in}
@@ -19,7 +19,7 @@ use Rattle.def_core.specs.Texts.{class_name}
 use Rattle.def_core.specs.Parts.{with_objects, with_kind}
 use Rattle.rb_store.specs.Opening.{main_object}
 use Rattle.def_rows.specs.Answers.{makes, text_object}
-use Rattle.def_calls.specs.Views.{Callable, by_body, by_row, integer_in, symbol_in, present, kind_in, string_of, callable_of, message_of, detail_of, fiber_of, an_array, an_exception}
+use Rattle.def_calls.specs.Views.{Callable, by_body, by_row, integer_in, symbol_in, present, kind_in, callable_of, message_of, detail_of, fiber_of, an_array, an_exception}
 use Rattle.def_calls.specs.Checks.{counted, with_block, wanted}
 use Rattle.def_calls.specs.Constants.{is_space_sort}
 use Rattle.def_calls.specs.Values.{element_at, pushed}
@@ -96,22 +96,10 @@ outright Rows.proc_of_block st recv args block =
 outright Rows.lambda_of_block st recv args block =
     counted (fails st) 0 (Some 0) args (with_block (fails st) block
     (λ p. as_lambda st p (callable_of (kind_in st.objects (Obj p)))))
--- nil, true, false (15.2.4 to 15.2.6) and Symbol (15.2.11)
-outright Rows.nil_text st recv args block = counted (fails st) 0 (Some 0) args (makes_text st [])
-outright Rows.nil_inspection st recv args block = counted (fails st) 0 (Some 0) args (makes_text st (codes "nil"))
-outright Rows.true_text st recv args block = counted (fails st) 0 (Some 0) args (makes_text st (codes "true"))
-outright Rows.false_text st recv args block = counted (fails st) 0 (Some 0) args (makes_text st (codes "false"))
-outright Rows.symbol_text st recv args block =
-    counted (fails st) 0 (Some 0) args (wanted (fails st) st.objects class.Symbol recv (symbol_in recv)
-    (λ s. makes_text st (name_at st s)))
+-- Symbol (15.2.11)
 outright Rows.proc_of_symbol st recv args block =
     counted (fails st) 0 (Some 0) args (makes st (fresh (core class.Proc) (kind.CoreProc Rows.send_kept_row recv)))
--- String (15.2.10) and Array (15.2.12)
-outright Rows.itself st recv args block = counted (fails st) 0 (Some 0) args (gives recv st)
-outright Rows.string_sum st recv args block =
-    counted (fails st) 1 (Some 1) args (wanted (fails st) st.objects class.String recv
-    (string_of (kind_in st.objects recv)) (λ bytes. wanted (fails st) st.objects class.String (get_or args 0 Nil)
-    (string_of (kind_in st.objects (get_or args 0 Nil))) (λ more. makes_text st (bytes ++ more))))
+-- Array (15.2.12)
 outright Rows.array_push st recv args block =
     counted (fails st) 1 (Some 1) args (wanted (fails st) st.objects class.Array recv (an_array st.objects recv)
     (λ id. gives recv (pushed st id args)))

@@ -29,14 +29,7 @@ pub data PlainRow : Type 0 where
   exit_program : PlainRow
   proc_of_block : PlainRow
   lambda_of_block : PlainRow
-  nil_text : PlainRow
-  nil_inspection : PlainRow
-  true_text : PlainRow
-  false_text : PlainRow
-  symbol_text : PlainRow
   proc_of_symbol : PlainRow
-  itself : PlainRow
-  string_sum : PlainRow
   array_push : PlainRow
   array_length : PlainRow
   array_element : PlainRow
@@ -105,16 +98,8 @@ segments =
     ((codes "new", iterates new_object) ∷ [])
     ∷ methods_of class.Integer
     ((codes "times", iterates count_up) ∷ [])
-    ∷ methods_of class.NilClass
-    ((codes "to_s", outright nil_text) ∷ (codes "inspect", outright nil_inspection) ∷ [])
-    ∷ methods_of class.TrueClass
-    ((codes "to_s", outright true_text) ∷ (codes "inspect", outright true_text) ∷ [])
-    ∷ methods_of class.FalseClass
-    ((codes "to_s", outright false_text) ∷ (codes "inspect", outright false_text) ∷ [])
-    ∷ methods_of class.String
-    ((codes "to_s", outright itself) ∷ (codes "+", outright string_sum) ∷ [])
     ∷ methods_of class.Symbol
-    ((codes "to_s", outright symbol_text) ∷ (codes "to_proc", outright proc_of_symbol) ∷ [])
+    ((codes "to_proc", outright proc_of_symbol) ∷ [])
     ∷ methods_of class.Array
     ((codes "<<", outright array_push) ∷ (codes "length", outright array_length)
     ∷ (codes "[]", outright array_element) ∷ (codes "each", iterates each_element) ∷ [])

@@ -7,14 +7,22 @@ use Rattle.def_core.specs.Changes.{fails, intern, make_all, missing, with_single
 use Rattle.def_core.specs.Classes.{chain_within, chain, lineage_within, lineage, ancestors, nearest_singleton, class_of}
 use Rattle.def_core.specs.Find.{first_of, find, find_super, allowed}
 use Rattle.def_core.specs.Texts.{class_name, text_of}
-use Rattle.row_table.specs.Names.{integer_names, range_names, range_class_names}
+use Rattle.row_table.specs.Names.{integer_names, nil_names, truth_names, string_names, string_class_names, symbol_names, range_names, range_class_names}
 use Rattle.row_table.specs.RowTable.{segment, line_at}
 use Rattle.rb_store.specs.Opening.{object_constants, core_contents, core_object, nameless, with_names, bare as core_store, with_rows, with_segments, opening as table_store}
 use Rattle.rb_integer.specs.Exact.{exact}
 use Rattle.rb_integer.specs.Numeral.{letters}
+use Rattle.rb_string.specs.Inspection.{shown as shown_byte, escaped}
+use Rattle.rb_string.specs.Limit.{limited}
+use Rattle.rb_string.specs.Numeral.{digits as digits_from, number, number_of}
+use Rattle.rb_string.specs.Padding.{padding}
+use Rattle.rb_string.specs.Parts.{ended as ended_parts, between}
+use Rattle.rb_string.specs.Substitution.{reference, expanded, with_each}
+use Rattle.rb_string.specs.Symbols.{operators}
 use Rattle.def_rows.specs.Answers.{numbered, called}
 use Rattle.def_rows.specs.Checking.{first_unfit}
 use Rattle.def_rows.specs.Rows.{prim}
+use Rattle.def_rows.specs.StringRows.{joined, gives as string_gives}
 use Rattle.def_calls.specs.Calls.{enter_proc, enter_method, missing as enter_missing, send_by_core, call as enter_call, block_argument, settle, is_of, with_class_body, close, unrescued, read}
 use Rattle.def_calls.specs.Constants.{constant_path, find_constant, get_constant, constant_within, set_constant_in}
 use Rattle.def_calls.specs.Definitions.{define_method, singleton_class, open_class, open_module, alias_method, undefine_method, has_method, instance_variable_told, global_told, constant_told, constant_in_told, method_told, yield_told, super_told}
@@ -34,9 +42,11 @@ use Rattle.def_machine.specs.Unwind.{receive, covering, unwind, throw}
 unfoldable pub run : ℕ
 unfolding digits core_classes bind fails intern make_all missing with_singleton singleton with_included include
     with_method set_visibility with_default define_class define_module chain_within chain lineage_within lineage
-    ancestors nearest_singleton class_of first_of find find_super allowed class_name text_of integer_names range_names
-    range_class_names segment line_at object_constants core_contents core_object nameless with_names core_store
-    with_rows with_segments table_store exact letters numbered called first_unfit prim enter_proc enter_method
+    ancestors nearest_singleton class_of first_of find find_super allowed class_name text_of integer_names nil_names
+    truth_names string_names string_class_names symbol_names range_names range_class_names segment line_at
+    object_constants core_contents core_object nameless with_names core_store with_rows with_segments table_store
+    exact letters shown_byte escaped limited digits_from number number_of padding ended_parts between reference
+    expanded with_each operators joined string_gives numbered called first_unfit prim enter_proc enter_method
     enter_missing send_by_core enter_call block_argument settle is_of with_class_body close unrescued read
     constant_path find_constant get_constant constant_within set_constant_in define_method singleton_class open_class
     open_module alias_method undefine_method has_method instance_variable_told global_told constant_told

@@ -1,7 +1,7 @@
 -- What a core method gives, and what its call then gives and leaves.
 use Rattle.std.specs.Prelude.{ℕ, ℤ, zero, suc, ◌+◌, List, [], ◌∷◌, ◌++◌, map, length, Option, Some, None}
 use Rattle.rb_value.specs.declared.value.Value.{Value}
-use Rattle.rb_value.specs.declared.value.Value.TheVariants.{Nil, Int, Obj}
+use Rattle.rb_value.specs.declared.value.Value.TheVariants.{Nil, Int, Sym, Obj}
 use Rattle.rb_value.specs.declared.value.ObjId.{ObjId}
 use Rattle.rb_value.specs.declared.core_class.CoreClass.{CoreClass}
 use Rattle.rb_value.specs.declared.core_class.CoreClass.TheVariants as class
@@ -16,7 +16,7 @@ use Rattle.def_core.specs.declared.cause.Cause.{Cause}
 use Rattle.def_core.specs.declared.cause.Cause.TheVariants as cause
 use Rattle.def_core.specs.Store.{Store, Done, core, fresh, object_number, next_number, with_object}
 use Rattle.def_core.specs.Parts.{with_objects, text_at, with_text, with_more, with_elements}
-use Rattle.def_core.specs.Changes.{gives, fails}
+use Rattle.def_core.specs.Changes.{gives, fails, intern, Interned}
 use Rattle.row_answer.specs.declared.answer.Fault.{Fault}
 use Rattle.row_answer.specs.declared.answer.Fault.TheVariants as fault
 use Rattle.row_answer.specs.declared.answer.Plain.{Plain}
@@ -81,12 +81,16 @@ rewritten st bytes (Some id) = with_objects st (with_text st.objects id bytes)
 abbrev pub appends : Store → Value → List ℕ → Done
 appends st recv more = gives recv (appended st more (place_of st.objects sort.String recv))
 
+abbrev pub interned : Interned → Done
+interned i = gives (Sym i.symbol) i.store
+
 abbrev pub finish_plain : Store → Value → Plain → Done
 finish_plain st recv plain.Nil = gives Nil st
 finish_plain st recv (plain.Truth b) = gives (truth b) st
 finish_plain st recv (plain.Int z) = gives (Int z) st
 finish_plain st recv plain.Receiver = gives recv st
 finish_plain st recv (plain.Text bytes) = makes st (text_object bytes)
+finish_plain st recv (plain.Symbol name) = interned (intern st name)
 finish_plain st recv (plain.Texts texts) = makes_texts st texts
 finish_plain st recv (plain.Numbers zs) = makes st (items_object (map Int zs))
 finish_plain st recv (plain.Append more) = appends st recv more
@@ -110,6 +114,8 @@ finish st recv (answer.Plain a) = finish_plain st recv a
 finish st recv (answer.Value v) = gives v st
 finish st recv (answer.Items xs) = makes st (items_object xs)
 finish st recv (answer.Range c r) = makes st (fresh c (kind.Range r))
+finish st recv (answer.String c bytes) = makes st (fresh c (kind.String bytes))
+finish st recv (answer.Put bytes v) = gives v (rewritten st bytes (place_of st.objects sort.String recv))
 finish st recv (answer.Push more) = pushes st recv more
 finish st recv (answer.Replace xs) = gives recv (replaced st xs (place_of st.objects sort.Array recv))
 finish st recv (answer.Fail c) = fails st c
@@ -120,7 +126,7 @@ answer_of (Some c) a = answer.Fail c
 answer_of None a = a
 
 -- what the call of a row gives and leaves, by what it takes and what it gives
-unfoldable pub called : Signature → (List Object → Value → List Value → Answer) → Store → Value → List Value
+unfoldable pub called : Signature → (Store → Value → List Value → Answer) → Store → Value → List Value
     → Option ObjId → Done
 called takes gives st recv args block =
-    finish st recv (answer_of (check takes st.objects recv args block) (gives st.objects recv args))
+    finish st recv (answer_of (check takes st.objects recv args block) (gives st recv args))

@@ -1,7 +1,9 @@
 pub mod Operands
 pub mod Checking
 pub mod Answers
-pub mod Escapes
 pub mod IntegerRows
 pub mod RangeRows
+pub mod StringRows
+pub mod SymbolRows
+pub mod TruthRows
 pub mod Rows

@@ -27,6 +27,7 @@ use Rattle.rb_integer.specs.declared.ends.Item.TheVariants.{Integer, Byte}
 use Rattle.rb_integer.specs.Dots.{dots_of}
 use Rattle.rb_integer.specs.Ends as ends
 use Rattle.rb_integer.specs.Comparison.{is_equal}
+use Rattle.rb_string.specs.Inspection.{quoted}
 use Rattle.row_answer.specs.declared.answer.Fault.TheVariants.{BadRange}
 use Rattle.row_answer.specs.declared.answer.Plain.{Plain}
 use Rattle.row_answer.specs.declared.answer.Plain.TheVariants as plain
@@ -34,7 +35,6 @@ use Rattle.row_table.specs.declared.range.RangeMethod.{RangeMethod}
 use Rattle.row_table.specs.declared.range.RangeMethod.TheVariants as method
 use Rattle.def_rows.specs.declared.answer.Answer.{Answer}
 use Rattle.def_rows.specs.declared.answer.Answer.TheVariants as answer
-use Rattle.def_rows.specs.Escapes.{quoted}
 use Rattle.def_rows.specs.IntegerRows.{fault_of, number}
 use Rattle.def_rows.specs.Operands.{argument, integer, place_of, text}
 

@@ -3,12 +3,12 @@ use Rattle.std.specs.Prelude.{ℕ, List, Option, Some, None}
 use Rattle.rb_value.specs.declared.value.Value.{Value}
 use Rattle.rb_value.specs.declared.value.Value.TheVariants.{Nil}
 use Rattle.rb_value.specs.declared.value.ObjId.{ObjId}
-use Rattle.rb_value.specs.Object.{Object}
 use Rattle.def_core.specs.Store.{Store, Done}
 use Rattle.def_core.specs.Changes.{gives as outcome_of}
 use Rattle.row_table.specs.declared.line.CoreRow.{CoreRow}
-use Rattle.row_table.specs.declared.line.CoreRow.TheVariants.{Integer, Range, RangeClass}
-use Rattle.row_table.specs.declared.range.RangeClassMethod.TheVariants.{New}
+use Rattle.row_table.specs.declared.line.CoreRow.TheVariants.{Integer, Range, RangeClass, String, StringClass, Symbol, Nil as OfNil, True as OfTrue, False as OfFalse}
+use Rattle.row_table.specs.declared.range.RangeClassMethod.TheVariants as range_class
+use Rattle.row_table.specs.declared.string.StringClassMethod.TheVariants as string_class
 use Rattle.row_table.specs.declared.line.Line.{Line}
 use Rattle.row_table.specs.RowTable.{line_at}
 use Rattle.def_rows.specs.declared.answer.Answer.{Answer}
@@ -16,11 +16,20 @@ use Rattle.def_rows.specs.declared.answer.Answer.TheVariants as answer
 use Rattle.def_rows.specs.Answers.{called}
 use Rattle.def_rows.specs.IntegerRows as integers
 use Rattle.def_rows.specs.RangeRows as ranges
+use Rattle.def_rows.specs.StringRows as strings
+use Rattle.def_rows.specs.SymbolRows as symbols
+use Rattle.def_rows.specs.TruthRows as truths
 
-abbrev pub gives : CoreRow → List Object → Value → List Value → Answer
-gives (Integer m) objects recv args = answer.Plain (integers.gives m recv args)
-gives (Range m) objects recv args = answer.Plain (ranges.gives m objects recv args)
-gives (RangeClass New) objects recv args = ranges.new_range objects recv args
+abbrev pub gives : CoreRow → Store → Value → List Value → Answer
+gives (Integer m) st recv args = answer.Plain (integers.gives m recv args)
+gives (Range m) st recv args = answer.Plain (ranges.gives m st.objects recv args)
+gives (RangeClass range_class.New) st recv args = ranges.new_range st.objects recv args
+gives (String m) st recv args = strings.gives m st.objects recv args
+gives (StringClass string_class.New) st recv args = strings.new_string st.objects recv args
+gives (Symbol m) st recv args = answer.Plain (symbols.gives m st recv args)
+gives (OfNil m) st recv args = answer.Plain (truths.nil_gives m args)
+gives (OfTrue m) st recv args = answer.Plain (truths.true_gives m args)
+gives (OfFalse m) st recv args = answer.Plain (truths.false_gives m args)
 
 -- a number that is of no row gives nil
 abbrev pub by_line : Option Line → Value → List Value → Option ObjId → Store → Done

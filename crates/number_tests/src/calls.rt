@@ -53,37 +53,37 @@ const GIVEN_2_FOR_0_TO_1: Wanted = Raises(
 );
 
 /// Objects that stand after those of the store at the start, in this order.
-const LETTER_A: Value = Obj(ObjId(41));
+const LETTER_A: Value = Obj(ObjId(42));
 
-const LETTER_C: Value = Obj(ObjId(42));
+const LETTER_C: Value = Obj(ObjId(43));
 
-const TWO_LETTERS: Value = Obj(ObjId(43));
+const TWO_LETTERS: Value = Obj(ObjId(44));
 
-const NO_LETTER: Value = Obj(ObjId(44));
+const NO_LETTER: Value = Obj(ObjId(45));
 
-const NEWLINE: Value = Obj(ObjId(45));
+const NEWLINE: Value = Obj(ObjId(46));
 
-const BYTE_128: Value = Obj(ObjId(46));
+const BYTE_128: Value = Obj(ObjId(47));
 
-const QUOTE: Value = Obj(ObjId(47));
+const QUOTE: Value = Obj(ObjId(48));
 
 const TEXTS: [&[u8]; 7] = [b"a", b"c", b"ab", b"", b"\n", b"\x80", b"\""];
 
-const ONE_TO_THREE: Value = Obj(ObjId(48));
+const ONE_TO_THREE: Value = Obj(ObjId(49));
 
-const ONE_TO_TWO: Value = Obj(ObjId(49));
+const ONE_TO_TWO: Value = Obj(ObjId(50));
 
-const A_TO_C: Value = Obj(ObjId(50));
+const A_TO_C: Value = Obj(ObjId(51));
 
-const A_TO_B: Value = Obj(ObjId(51));
+const A_TO_B: Value = Obj(ObjId(52));
 
-const DOWNWARD: Value = Obj(ObjId(52));
+const DOWNWARD: Value = Obj(ObjId(53));
 
-const BYTES: Value = Obj(ObjId(53));
+const BYTES: Value = Obj(ObjId(54));
 
-const FROM_QUOTE: Value = Obj(ObjId(54));
+const FROM_QUOTE: Value = Obj(ObjId(55));
 
-const ALL_INTEGERS: Value = Obj(ObjId(55));
+const ALL_INTEGERS: Value = Obj(ObjId(56));
 
 const RANGES: [[Value; 3]; 8] = [
     [Int(1), Int(3), Nil],

@@ -185,7 +185,7 @@ added_counted h g o s e = record {
       λ _ _. subst (SameLooks h.store) (sym s) (one_added h.store o);
 }
 
-one_interned : (st : Store) (name : List ℕ) → SameLooks st (intern st name).store
+pub one_interned : (st : Store) (name : List ℕ) → SameLooks st (intern st name).store
 unfolding intern
 one_interned st name = by (position (bytes_eq name) st.symbols)
   where

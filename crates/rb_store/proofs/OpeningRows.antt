@@ -12,15 +12,16 @@ use Rattle.def_core.specs.Store.{absent, object_number}
 use Rattle.def_core.specs.Classes.{contents_of, class_at}
 use Rattle.def_core.specs.Changes.{intern, with_method}
 use Rattle.def_core.specs.Sound.{AllAre}
-use Rattle.row_table.specs.Names.{integer_names, range_names, range_class_names}
+use Rattle.row_table.specs.Names.{integer_names, nil_names, truth_names, string_names, string_class_names, symbol_names, range_names, range_class_names}
 use Rattle.row_table.specs.Segments.{segments}
 use Rattle.rb_store.specs.Opening.{opening, with_segments, bare, with_names, with_rows, nameless, core_object, core_contents}
 use Rattle.rb_store.specs.Methods.{HasSegment, is_holder}
 
 pub segments_are_had : AllAre HasSegment segments
 unfolding opening with_segments bare with_names nameless core_classes core_object core_contents intern with_rows
-    with_method integer_names range_names range_class_names
-segments_are_had = (refl, (refl, (refl, tt)))
+    with_method integer_names nil_names truth_names string_names string_class_names symbol_names range_names
+    range_class_names
+segments_are_had = (refl, (refl, (refl, (refl, (refl, (refl, (refl, (refl, (refl, tt)))))))))
 
 abbrev has_none : List (ℕ × MethodEntry) → Bool
 has_none [] = true
@@ -34,7 +35,8 @@ others_have_none n (o ∷ os) =
 
 computed : others_have_none 0 opening.objects ≡ true
 unfolding opening with_segments bare with_names nameless core_classes core_object core_contents intern with_rows
-    with_method integer_names range_names range_class_names
+    with_method integer_names nil_names truth_names string_names string_class_names symbol_names range_names
+    range_class_names
 computed = refl
 
 none_are_empty : (es : List (ℕ × MethodEntry)) → has_none es ≡ true → es ≡ []

@@ -9,7 +9,7 @@ use Rattle.def_core.specs.Changes.{intern}
 use Rattle.def_core.specs.Sound.{sorts_of, plays, Role, ClassOrModule, AllAre}
 use Rattle.def_core.proofs.Sorts.{is_there, same_sort}
 use Rattle.row_table.specs.Segments.{segments}
-use Rattle.row_table.specs.Names.{integer_names, range_names, range_class_names}
+use Rattle.row_table.specs.Names.{integer_names, nil_names, truth_names, string_names, string_class_names, symbol_names, range_names, range_class_names}
 use Rattle.rb_store.specs.Opening.{with_names, with_row, with_rows, IsHeld, holder, with_segment, with_segments, nameless, core_object, core_contents}
 
 pub names_step : {A : Type 0} (f : A → List ℕ) (st : Store) (i : ℕ) (names : List A) (d : A) → i < length names
@@ -72,11 +72,6 @@ held_at objects (s ∷ ss) (suc i) d all h = held_at objects ss i d all.1 (omega
 
 -- the first store has what holds the methods
 pub nameless_held : AllAre (IsHeld nameless.objects) segments
-unfolding nameless core_classes core_object core_contents integer_names range_names range_class_names
-nameless_held = (
-  record { there = lit< tt; is_class = refl; rows = lit< tt },
-  (
-    record { there = lit< tt; is_class = refl; rows = lit< tt },
-    (record { there = lit< tt; is_class = refl; rows = lit< tt }, tt),
-  ),
-)
+unfolding nameless core_classes core_object core_contents integer_names nil_names truth_names string_names
+    string_class_names symbol_names range_names range_class_names
+nameless_held = (record { there = lit< tt; is_class = refl; rows = lit< tt }, (record { there = lit< tt; is_class = refl; rows = lit< tt }, (record { there = lit< tt; is_class = refl; rows = lit< tt }, (record { there = lit< tt; is_class = refl; rows = lit< tt }, (record { there = lit< tt; is_class = refl; rows = lit< tt }, (record { there = lit< tt; is_class = refl; rows = lit< tt }, (record { there = lit< tt; is_class = refl; rows = lit< tt }, (record { there = lit< tt; is_class = refl; rows = lit< tt }, (record { there = lit< tt; is_class = refl; rows = lit< tt }, tt)))))))))

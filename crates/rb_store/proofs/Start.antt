@@ -23,23 +23,24 @@ use Rattle.rb_value.specs.CoreClass.{core_classes, number_of, is_module}
 use Rattle.def_core.specs.Store.{Store, absent, core, fresh}
 use Rattle.def_core.specs.Changes.{intern, intern_at}
 use Rattle.row_table.specs.RowTable.{is_row, line_at, segment}
-use Rattle.row_table.specs.Names.{names, integer_names, range_names, range_class_names}
+use Rattle.row_table.specs.Names.{names, integer_names, nil_names, truth_names, string_names, string_class_names, symbol_names, range_names, range_class_names}
 use Rattle.row_table.specs.Segments.{segments}
 use Rattle.def_core.specs.Sound.{sorts_of, census, Census, Role, Any, Class, Module, ClassOrModule, Superclass, SingletonClass, plays, plays_at, Is, IsSymbol, IsValue, OptionIs, AllAre, SoundConstant, IsSuperclass, SoundObject, core_sort, Sound}
 use Rattle.def_core.proofs.Roles.{is_plays, is_by_sort}
 use Rattle.def_core.proofs.Sorts.{sorts-with_method}
 use Rattle.def_core.proofs.Grows.{sound_with_interned, interned}
 use Rattle.def_core.proofs.Keeps.{sound_with_method, named_kept}
-use Rattle.rb_store.specs.Opening.{with_constant_for, with_constants_for, object_constants, constants_of, included_in, superclass_of, core_contents, core_object, nameless, with_names, bare, with_row, with_rows, IsHeld, holder, with_segment, with_segments, opening, object_singleton, range_singleton, singleton_of, singleton_object}
+use Rattle.rb_store.specs.Opening.{with_constant_for, with_constants_for, object_constants, constants_of, included_in, superclass_of, core_contents, core_object, nameless, with_names, bare, with_row, with_rows, IsHeld, holder, with_segment, with_segments, opening, object_singleton, range_singleton, string_singleton, singleton_of, singleton_object}
 use Rattle.rb_store.proofs.Rows.{held_still, nameless_held}
 
--- the sorts of the core classes, the main object and the two singleton classes, in their order
+-- the sorts of the core classes, the main object and the three singleton classes, in their order
 abbrev start_sorts : List Sort
 start_sorts = sort.Class ∷ sort.Module ∷ sort.Class ∷ sort.Class ∷ sort.Module ∷ sort.Module ∷ sort.Class ∷ sort.Class ∷
     sort.Class ∷ sort.Class ∷ sort.Class ∷ sort.Class ∷ sort.Class ∷ sort.Class ∷ sort.Class ∷ sort.Class ∷ sort.Class ∷
     sort.Class ∷ sort.Class ∷ sort.Class ∷ sort.Class ∷ sort.Class ∷ sort.Class ∷ sort.Class ∷ sort.Class ∷ sort.Class ∷
     sort.Class ∷ sort.Class ∷ sort.Class ∷ sort.Class ∷ sort.Class ∷ sort.Class ∷ sort.Class ∷ sort.Class ∷ sort.Class ∷
-    sort.Class ∷ sort.Class ∷ sort.Class ∷ sort.Plain ∷ sort.Singleton ∷ sort.Singleton ∷ []
+    sort.Class ∷ sort.Class ∷ sort.Class ∷ sort.Plain ∷ sort.Singleton ∷ sort.Singleton ∷ sort.Singleton ∷
+    []
 
 abbrev start : Census
 start = record { sorts = start_sorts; symbols = 39 }
@@ -253,12 +254,18 @@ class_of_class c = elim (is_module c) as (λ b. Is start Class (if b then core c
 singleton_is : (c : CoreClass) → OptionIs (Is start SingletonClass) (singleton_of c)
 singleton_is c = elim (nat_eq (number_of c) 0) as
     (λ b. OptionIs (Is start SingletonClass) (if b then Some object_singleton else
-    (if nat_eq (number_of c) 15 then Some range_singleton else None))) [
+    (if nat_eq (number_of c) 15 then Some range_singleton else
+    (if nat_eq (number_of c) 11 then Some string_singleton else None)))) [
       | true ↦ record { holds = refl }
       | false ↦ elim (nat_eq (number_of c) 15) as
-          (λ b. OptionIs (Is start SingletonClass) (if b then Some range_singleton else None)) [
+          (λ b. OptionIs (Is start SingletonClass) (if b then Some range_singleton else
+          (if nat_eq (number_of c) 11 then Some string_singleton else None))) [
             | true ↦ record { holds = refl }
-            | false ↦ tt
+            | false ↦ elim (nat_eq (number_of c) 11) as
+                (λ b. OptionIs (Is start SingletonClass) (if b then Some string_singleton else None)) [
+                  | true ↦ record { holds = refl }
+                  | false ↦ tt
+                ]
           ]
     ]
 
@@ -397,7 +404,7 @@ nameless_sound = (
                                                                                   singleton_sound 40 object_singleton
                                                                                       (record { holds = refl })
                                                                                       (lit< tt),
-                                                                                  tt,
+                                                                                  (singleton_sound 41 object_singleton (record { holds = refl }) (lit< tt), tt),
                                                                                 ),
                                                                               ),
                                                                             ),
@@ -478,7 +485,7 @@ intern_objects st name = by (position (bytes_eq name) st.symbols)
     by None = refl
     by (Some i) = refl
 
-interned_symbol : (st : Store) (name : List ℕ) → IsSymbol (census (intern st name).store) (intern st name).symbol
+pub interned_symbol : (st : Store) (name : List ℕ) → IsSymbol (census (intern st name).store) (intern st name).symbol
 unfolding intern
 interned_symbol st name = by (position (bytes_eq name) st.symbols) refl
   where
@@ -545,8 +552,9 @@ segments_sound st sound (s ∷ ss) held rows =
     all_held (q ∷ qs) all e = (held_still (with_segment st s).objects st.objects q e all.0, all_held qs all.1 e)
 
 segments_have_rows : AllAre HasRows segments
-unfolding line_at segment integer_names range_names range_class_names
-segments_have_rows = (refl, (refl, (refl, tt)))
+unfolding line_at segment integer_names nil_names truth_names string_names string_class_names symbol_names range_names
+    range_class_names
+segments_have_rows = (refl, (refl, (refl, (refl, (refl, (refl, (refl, (refl, (refl, tt)))))))))
 
 pub opening_sound : Sound opening
 unfolding opening

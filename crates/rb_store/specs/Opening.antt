@@ -64,17 +64,21 @@ core_contents c = record {
   methods = [];
 }
 
--- the singleton class of Range, which has its own methods, and that of its superclass Object
+-- the singleton classes of Range and String, which have methods of their own, and that of their superclass Object
 abbrev pub object_singleton : ObjId
 object_singleton = object_number 39
 
 abbrev pub range_singleton : ObjId
 range_singleton = object_number 40
 
+abbrev pub string_singleton : ObjId
+string_singleton = object_number 41
+
 abbrev pub singleton_of : CoreClass → Option ObjId
 singleton_of c =
     if nat_eq (table.number_of c) 0 then Some object_singleton
-    else (if nat_eq (table.number_of c) 15 then Some range_singleton else None)
+    else (if nat_eq (table.number_of c) 15 then Some range_singleton
+    else (if nat_eq (table.number_of c) 11 then Some string_singleton else None))
 
 abbrev pub singleton_object : ObjId → Object
 singleton_object superclass = fresh (core class.Class) (kind.Class (empty_class form.Singleton (Some superclass)))
@@ -90,7 +94,7 @@ core_object c = record {
 -- what stands behind the core classes and modules: the main object and the singleton classes
 abbrev pub others : List Object
 others = fresh (core class.Object) kind.Plain ∷ singleton_object (core class.Class) ∷ singleton_object object_singleton
-    ∷ []
+    ∷ singleton_object object_singleton ∷ []
 
 -- the classes, modules and the main object, without methods and symbols
 unfoldable pub nameless : Store
@@ -119,7 +123,8 @@ with_rows st c n (name ∷ names) = with_rows (with_row c n (intern st name)) c 
 
 -- whose own methods stand in a segment of the table: the class, or the singleton class of the class object
 abbrev pub holder : ℕ → ObjId
-holder s = if nat_eq s (of_class_object class.Range) then range_singleton else object_number (s / 2)
+holder s = if nat_eq s (of_class_object class.Range) then range_singleton
+    else (if nat_eq s (of_class_object class.String) then string_singleton else object_number (s / 2))
 
 -- a class or module holds the methods of the segment, and its rows have numbers
 pub record IsHeld (objects : List Object) (s : ℕ) : Type 0 where

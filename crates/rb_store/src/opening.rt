@@ -62,10 +62,12 @@ const CORE_CLASSES: [CoreClass; 38] = [
 /// The number of the symbol `Yielder`.
 const YIELDER: u64 = 38;
 
-/// The numbers of the singleton classes of Object and of Range.
+/// The numbers of the singleton classes of Object, Range and String.
 const OBJECT_SINGLETON: u64 = 39;
 
 const RANGE_SINGLETON: u64 = 40;
+
+const STRING_SINGLETON: u64 = 41;
 
 /// The constants of a class or module by the numbers of their names.
 type Constants = PairTable<u64, Value>;
@@ -125,7 +127,7 @@ fn superclass_of(class: CoreClass) -> Option<ObjId>
     }
 }
 
-/// The singleton class of a core class, which Object and Range have.
+/// The singleton class of a core class, which Object, Range and String have.
 fn singleton_of(class: CoreClass) -> Option<ObjId>
     ensures { result ≡ opening.singleton_of class }
 {
@@ -133,6 +135,8 @@ fn singleton_of(class: CoreClass) -> Option<ObjId>
         Some(ObjId(OBJECT_SINGLETON))
     } else if class.number() == 15 {
         Some(ObjId(RANGE_SINGLETON))
+    } else if class.number() == 11 {
+        Some(ObjId(STRING_SINGLETON))
     } else {
         None
     }
@@ -222,6 +226,8 @@ fn holder(segment: u16) -> ObjId
 {
     if segment == 31 {
         ObjId(RANGE_SINGLETON)
+    } else if segment == 23 {
+        ObjId(STRING_SINGLETON)
     } else {
         ObjId(u64::from(segment / 2))
     }
@@ -236,6 +242,7 @@ impl Store {
         let mut objects = core_objects(alloc, &CORE_CLASSES)?;
         objects.push(Object::new(ObjId(0), Kind::Plain))?;
         objects.push(singleton_object(alloc, ObjId(3))?)?;
+        objects.push(singleton_object(alloc, ObjId(OBJECT_SINGLETON))?)?;
         objects.push(singleton_object(alloc, ObjId(OBJECT_SINGLETON))?)?;
         Ok(Store {
             alloc,

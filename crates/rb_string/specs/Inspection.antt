@@ -36,6 +36,10 @@ shown_by None b next = shown_plain b next
 unfoldable pub shown : ℕ → ℕ → List ℕ
 shown b next = shown_by (letter b) b next
 
+-- a text of one byte in quotes
+abbrev pub quoted : ℕ → List ℕ
+quoted b = codes "\"" ++ shown b 0 ++ codes "\""
+
 unfoldable pub escaped : List ℕ → List ℕ
 escaped [] = []
 escaped (x ∷ xs) = shown x (slice_index xs 0) ++ escaped xs

@@ -11,3 +11,4 @@ pub mod Searching
 pub mod Slicing
 pub mod Stripping
 pub mod Substitution
+pub mod Symbols

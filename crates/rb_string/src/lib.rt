@@ -1,4 +1,4 @@
-//! What the core methods of String give on plain bytes: pure functions over slices, each equal to a definition over
+//! What the core methods of String, and those of Symbol on names, give on plain bytes: pure functions over slices, each equal to a definition over
 //! lists in specs/. Lengths and indexes count bytes. Where the result is a text that may be longer than the receiver
 //! and has more than 2^28 bytes, it is a failure. A method that gives its receiver, or that only asks for its length,
 //! has no function here.
@@ -8,7 +8,7 @@
 //!
 //! Types: [`StringFailure`], [`ExceptionClass`], [`Text`], [`Part`].
 //! Calls: those of [`comparison`], [`slicing`], [`editing`], [`letters`], [`stripping`], [`searching`],
-//! [`substitution`], [`splitting`], [`padding`], [`numeral`] and [`inspection`], and of the types.
+//! [`substitution`], [`splitting`], [`padding`], [`numeral`], [`inspection`] and [`symbols`], and of the types.
 //! Law: [`laws_of_parts`].
 #![tactic(auto)]
 
@@ -27,6 +27,7 @@ pub mod slicing;
 pub mod splitting;
 pub mod stripping;
 pub mod substitution;
+pub mod symbols;
 pub mod text;
 
 pub use failure::{ExceptionClass, StringFailure};

@@ -54,7 +54,7 @@ pub fn stripped(text: &[u8]) -> &[u8]
 }
 
 /// The text without so many bytes at its end.
-fn without_last(text: &[u8], count: usize) -> &[u8]
+pub(crate) fn without_last(text: &[u8], count: usize) -> &[u8]
     ensures { result.now ≡ texts.without_last text.now count }
 {
     front(text, text.len().saturating_sub(count))

@@ -28,6 +28,8 @@ pub enum Plain {
     Receiver,
     /// A new String.
     Text(Bytes),
+    /// The symbol of that name.
+    Symbol(Bytes),
     /// A new Array of new Strings.
     Texts(List<Bytes>),
     /// A new Array of Integers.

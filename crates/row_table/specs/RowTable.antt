@@ -6,13 +6,22 @@ use Rattle.row_table.specs.declared.signature.Marks.{Marks}
 use Rattle.row_table.specs.declared.signature.Marks.TheVariants.{Plain, Block, Star, StarBlock}
 use Rattle.row_table.specs.declared.integer.TheConstants.{INTEGER_ROWS}
 use Rattle.row_table.specs.declared.range.TheConstants.{RANGE_ROWS, RANGE_CLASS_ROWS}
+use Rattle.row_table.specs.declared.string.TheConstants.{STRING_ROWS, STRING_CLASS_ROWS}
+use Rattle.row_table.specs.declared.symbol.TheConstants.{SYMBOL_ROWS}
+use Rattle.row_table.specs.declared.truth.TheConstants.{NIL_ROWS, TRUE_ROWS, FALSE_ROWS}
 use Rattle.row_table.specs.Segments.{of_class, of_class_object}
 
 -- the rows of a segment
 unfoldable pub segment : ℕ → List Line
 segment s = if nat_eq s (of_class class.Integer) then INTEGER_ROWS
+    else (if nat_eq s (of_class class.NilClass) then NIL_ROWS
+    else (if nat_eq s (of_class class.TrueClass) then TRUE_ROWS
+    else (if nat_eq s (of_class class.FalseClass) then FALSE_ROWS
+    else (if nat_eq s (of_class class.String) then STRING_ROWS
+    else (if nat_eq s (of_class_object class.String) then STRING_CLASS_ROWS
+    else (if nat_eq s (of_class class.Symbol) then SYMBOL_ROWS
     else (if nat_eq s (of_class class.Range) then RANGE_ROWS
-    else (if nat_eq s (of_class_object class.Range) then RANGE_CLASS_ROWS else []))
+    else (if nat_eq s (of_class_object class.Range) then RANGE_CLASS_ROWS else []))))))))
 
 unfoldable pub line_at : ℕ → Option Line
 line_at row = slice_get (segment (row / 256)) (row % 256)

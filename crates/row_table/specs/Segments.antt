@@ -14,4 +14,6 @@ of_class_object c = 2 * number_of c + 1
 
 -- those that have rows, in the order of their numbers
 abbrev pub segments : List ℕ
-segments = of_class class.Integer ∷ of_class class.Range ∷ of_class_object class.Range ∷ []
+segments = of_class class.Integer ∷ of_class class.NilClass ∷ of_class class.TrueClass ∷ of_class class.FalseClass ∷
+    of_class class.String ∷ of_class_object class.String ∷ of_class class.Symbol ∷ of_class class.Range ∷
+    of_class_object class.Range ∷ []

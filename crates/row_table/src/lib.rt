@@ -36,10 +36,16 @@ pub mod integer;
 pub mod line;
 pub mod range;
 pub mod signature;
+pub mod string;
+pub mod symbol;
 pub mod table;
+pub mod truth;
 
 pub use integer::IntegerMethod;
 pub use line::{CoreRow, Line};
 pub use range::{RangeClassMethod, RangeMethod};
 pub use signature::{Marks, Signature, Wanted};
+pub use string::{StringClassMethod, StringMethod};
+pub use symbol::SymbolMethod;
 pub use table::{SEGMENTS, line_at, names};
+pub use truth::{NilMethod, TruthMethod};
