@@ -55,7 +55,7 @@ module _ (k l : Census) (e : Extends k l) where
 
   method_grows : (m : Method) → SoundMethod k m → SoundMethod l m
   method_grows (method.Body b s) h = tt
-  method_grows (method.Core r) h = h
+  method_grows (method.Core r) h = tt
   method_grows (method.Reader n) h = symbol n h
   method_grows (method.Writer n) h = symbol n h
   method_grows (method.Block p) h = e.roles Proc p h
@@ -112,7 +112,7 @@ module _ (k l : Census) (e : Extends k l) where
     name = option_grows (IsSymbol k) (IsSymbol l) symbol p.name h.name;
     block = option_grows (Is k Proc) (Is l Proc) (e.roles Proc) p.block h.block;
   }
-  kind_grows n (kind.CoreProc r v) h = (h.0, value_grows v h.1)
+  kind_grows n (kind.CoreProc r v) h = value_grows v h
   kind_grows n (kind.Fiber b x) h = e.roles Proc b h
   kind_grows n (kind.Exception m d) h = (value_grows m h.0, value_grows d h.1)
   kind_grows n (kind.Enumerator x) h = record {

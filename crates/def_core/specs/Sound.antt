@@ -34,7 +34,6 @@ use Rattle.rb_value.specs.CoreClass.{number_of, is_module}
 use Rattle.rb_value.specs.Sort.{sort_of}
 use Rattle.def_core.specs.declared.found.Found.{Found}
 use Rattle.def_core.specs.Store.{Store, absent}
-use Rattle.row_table.specs.RowTable.{is_row, is_iteration}
 
 -- What is known of the numbers of a store: the sort of each object, and how many symbols there are.
 pub record Census : Type 0 where
@@ -227,7 +226,7 @@ AllAre P (x ∷ xs) = P x × AllAre P xs
 
 abbrev pub SoundMethod : Census → Method → Type 0
 SoundMethod k (method.Body b s) = Unit {0}
-SoundMethod k (method.Core r) = is_row r ≡ true
+SoundMethod k (method.Core r) = Unit {0}
 SoundMethod k (method.Reader n) = IsSymbol k n
 SoundMethod k (method.Writer n) = IsSymbol k n
 SoundMethod k (method.Block p) = Is k Proc p
@@ -301,7 +300,7 @@ SoundKind k n (kind.Array a) = AllAre (IsValue k) a
 SoundKind k n (kind.Hash h) = SoundHash k h
 SoundKind k n (kind.Range r) = Unit {0}
 SoundKind k n (kind.Proc p) = SoundProc k p
-SoundKind k n (kind.CoreProc r v) = (is_iteration r ≡ true) × IsValue k v
+SoundKind k n (kind.CoreProc r v) = IsValue k v
 SoundKind k n (kind.Fiber b e) = Is k Proc b
 SoundKind k n (kind.Exception m d) = IsValue k m × IsValue k d
 SoundKind k n (kind.Enumerator e) = SoundEnumerator k e

@@ -1,7 +1,6 @@
 -- The store at the start is sound.
 use Rattle.std.proofs.Common.{◌≡◌, ℕ, zero, suc, ◌+◌, ◌<◌, ◌≤◌, List, [], ◌∷◌, ◌++◌, length, map, get_or, Bool, true, false, ◌&&◌, ◌*◌, cond, if◌then◌else◌, refl, ap, sym, ◌∙◌, subst, arith, lit<, lit≤, length-append}
 use Rattle.std.specs.Prelude.{Option, Some, None, nat_eq, nat_lt, slice_get, codes}
-use Rattle.std.specs.Cmp.{first_so, second_so}
 use Rattle.std.specs.List.{position}
 use Rattle.std.specs.Str.{bytes_eq}
 use Rattle.std.proofs.lemmas.Bool.Decides.{nat_tests}
@@ -22,7 +21,6 @@ use Rattle.rb_value.specs.declared.core_class.CoreClass.TheVariants as class
 use Rattle.rb_value.specs.CoreClass.{core_classes, number_of, is_module}
 use Rattle.def_core.specs.Store.{Store, absent, core, fresh}
 use Rattle.def_core.specs.Changes.{intern, intern_at}
-use Rattle.row_table.specs.RowTable.{is_row, line_at, segment}
 use Rattle.row_table.specs.Names.{names, integer_names, nil_names, truth_names, string_names, string_class_names, symbol_names, range_names, range_class_names}
 use Rattle.row_table.specs.Segments.{segments}
 use Rattle.def_core.specs.Sound.{sorts_of, census, Census, Role, Any, Class, Module, ClassOrModule, Superclass, SingletonClass, plays, plays_at, Is, IsSymbol, IsValue, OptionIs, AllAre, SoundConstant, IsSuperclass, SoundObject, core_sort, Sound}
@@ -494,11 +492,6 @@ interned_symbol st name = by (position (bytes_eq name) st.symbols) refl
     by None e = record { below = rw length-append (omega arith) }
     by (Some i) e = record { below = (position-Some (bytes_eq name) st.symbols i [] e).0 }
 
--- the numbers from n on, as many as there are names, are of rows
-abbrev rows_from : ℕ → List (List ℕ) → Bool
-rows_from n [] = true
-rows_from n (name ∷ names) = is_row n && rows_from (n + 1) names
-
 -- a core method keeps the sort of each object
 row_sorts : (st : Store) (c : ObjId) (n : ℕ) (name : List ℕ) → Is (census st) ClassOrModule c
     → sorts_of (with_row c n (intern st name)).objects ≡ sorts_of st.objects
@@ -521,43 +514,31 @@ rows_sorts st c n (name ∷ names) is =
     rows_sorts (with_row c n (intern st name)) c (n + 1) names (same_role st _ ClassOrModule c e is) ∙ e
 
 rows_sound : (st : Store) → Sound st → (c : ObjId) → Is (census st) ClassOrModule c → (n : ℕ) (names : List (List ℕ))
-    → rows_from n names ≡ true → Sound (with_rows st c n names)
+    → Sound (with_rows st c n names)
 unfolding with_rows
-rows_sound st sound c is n [] h = sound
-rows_sound st sound c is n (name ∷ names) h =
+rows_sound st sound c is n [] = sound
+rows_sound st sound c is n (name ∷ names) =
     let there = (interned st name).roles ClassOrModule c is in
     rows_sound (with_row c n (intern st name))
     (sound_with_method (intern st name).store (sound_with_interned st sound name) c (intern st name).symbol
-    (method.Core n) Public there (interned_symbol st name) (first_so (is_row n) (rows_from (n + 1) names) h))
+    (method.Core n) Public there (interned_symbol st name) tt)
     c (same_role st _ ClassOrModule c (row_sorts st c n name is) is) (n + 1) names
-    (second_so (is_row n) (rows_from (n + 1) names) h)
 
--- the rows of a segment are rows
-abbrev HasRows : ℕ → Type 0
-HasRows s = rows_from (s * 256) (names s) ≡ true
-
-segments_sound : (st : Store) → Sound st → (ss : List ℕ) → AllAre (IsHeld st.objects) ss → AllAre HasRows ss
-    → Sound (with_segments st ss)
+segments_sound : (st : Store) → Sound st → (ss : List ℕ) → AllAre (IsHeld st.objects) ss → Sound (with_segments st ss)
 unfolding with_segments
-segments_sound st sound [] held rows = sound
-segments_sound st sound (s ∷ ss) held rows =
+segments_sound st sound [] held = sound
+segments_sound st sound (s ∷ ss) held =
     let is = is_by_sort st ClassOrModule (holder s) held.0.there held.0.is_class in
     let e = rows_sorts st (holder s) (s * 256) (names s) is in
-    segments_sound (with_segment st s) (rows_sound st sound (holder s) is (s * 256) (names s) rows.0) ss
-    (all_held ss held.1 e) rows.1
+    segments_sound (with_segment st s) (rows_sound st sound (holder s) is (s * 256) (names s)) ss
+    (all_held ss held.1 e)
   where
     all_held : (ss : List ℕ) → AllAre (IsHeld st.objects) ss
         → sorts_of (with_segment st s).objects ≡ sorts_of st.objects → AllAre (IsHeld (with_segment st s).objects) ss
     all_held [] all e = tt
     all_held (q ∷ qs) all e = (held_still (with_segment st s).objects st.objects q e all.0, all_held qs all.1 e)
 
-segments_have_rows : AllAre HasRows segments
-unfolding line_at segment integer_names nil_names truth_names string_names string_class_names symbol_names range_names
-    range_class_names
-segments_have_rows = (refl, (refl, (refl, (refl, (refl, (refl, (refl, (refl, (refl, tt)))))))))
-
 pub opening_sound : Sound opening
 unfolding opening
 opening_sound = segments_sound bare bare_sound segments
     (subst (λ (objects : List Object). AllAre (IsHeld objects) segments) (sym bare_objects) nameless_held)
-    segments_have_rows

@@ -134,6 +134,13 @@ impl Store {
         self.symbols.name_at(symbol.0 as usize)
     }
 
+    /// How many symbols there are.
+    pub fn symbol_count(&self) -> u64
+        ensures { result ≡ length self.now.store.symbols }
+    {
+        self.symbols.len() as u64
+    }
+
     /// The symbol of a name, which is added where it isn't there. Where memory runs out all is as before.
     #[tactic(auto, using(crate::proofs::Counted::interned_counted, crate::proofs::Counted::unchanged))]
     pub fn intern(&mut self, name: &[u8]) -> Result<SymId, AllocError>
