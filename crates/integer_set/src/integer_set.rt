@@ -1,4 +1,5 @@
-ghost use Rattle.std.specs.Prelude.{◌≡◌, [], length, not, IfOk, OnOk};
+ghost use Rattle.std.specs.Prelude.{◌≡◌, ◌<◌, [], length, not, position, IfOk, IfSome, OnOk};
+ghost use Rattle.std.specs.Ordering.{int_eq};
 ghost use Rattle.integer_set.specs.Sets.{is_among, with_integer};
 
 use indexmap::IndexSet;
@@ -36,6 +37,21 @@ impl IntegerSet {
     {
         let new = self.integers.insert(integer)?;
         Ok(new)
+    }
+
+    /// The place of an integer among them. None where it isn't there.
+    pub fn position(&self, integer: i64) -> Option<usize>
+        ensures value { result ≡ position (int_eq integer) self.now }
+        ensures within { IfSome result (λ place. place < length self.now) }
+    {
+        self.integers.get_index_of(&integer)
+    }
+
+    /// The integers as a slice.
+    pub fn as_slice(&self) -> &[i64]
+        ensures { result.now ≡ self.now }
+    {
+        self.integers.as_slice()
     }
 
     /// How many integers there are.

@@ -1,7 +1,7 @@
 ghost use Rattle.std.specs.Prelude.{◌≡◌, ◌<◌, ℕ, length};
 ghost use Rattle.vm_env.specs.Env.{Lies, contents, env};
 
-use rb_value::{ObjId, Slot, Value};
+use rb_value::{ObjId, Value};
 use stack_bank::StackBank;
 use std::process::Abort;
 use std::test::Fail;
@@ -15,10 +15,10 @@ fn an_environment_is_one_list(rt: HostRuntime) -> Result<(), Fail> {
     let stack = bank.open_stack()?;
     bank.grow(stack, 70)?;
     let env = envs.capture(stack, 60, 10)?;
-    bank.set(stack, 63, Slot::V(Value::Int(1)));
+    bank.set(stack, 63, Value::Int(1));
     assert_eq!(rt; envs.read(&bank, env, 3), Value::Int(1));
     envs.write(&mut bank, env, 4, Value::Int(2));
-    assert_eq!(rt; bank.get(stack, 64), Slot::V(Value::Int(2)));
+    assert_eq!(rt; bank.get(stack, 64), Value::Int(2));
     envs.close_env(&bank, env);
     bank.shrink(stack, 10);
     assert_eq!(rt; envs.read(&bank, env, 3), Value::Int(1));

@@ -1,7 +1,7 @@
 ghost use Rattle.std.specs.Prelude.{ℕ, ◌<◌};
 ghost use Rattle.stack_bank.specs.Bank.{IsLive};
 
-use rb_value::{Slot, SymId, Value};
+use rb_value::{SymId, Value};
 use stack_bank::{StackBank, StackId};
 use std::alloc::AllocError;
 use std::process::Abort;
@@ -29,8 +29,8 @@ fn a_window_reaches_its_slots(rt: HostRuntime) -> Result<(), Fail> {
     bank.grow(stack, 70)?;
     let window = bank.window(stack, 60, 10);
     assert_eq!(rt; window.near, 10);
-    bank.set_in(window, 9, Slot::V(Value::Int(5)));
-    assert_eq!(rt; bank.get(stack, 69), Slot::V(Value::Int(5)));
+    bank.set_in(window, 9, Value::Int(5));
+    assert_eq!(rt; bank.get(stack, 69), Value::Int(5));
     Ok(())
 }
 
@@ -38,18 +38,18 @@ fn a_window_reaches_its_slots(rt: HostRuntime) -> Result<(), Fail> {
 fn grow_both(
     bank: &mut StackBank,
     stack: StackId,
-    list: &mut Vec<Slot>,
+    list: &mut Vec<Value>,
     n: usize,
 ) -> Result<(), AllocError>
     requires { IsLive bank.old stack.0 }
     ensures { (other : ℕ) → IsLive bank.old other → IsLive bank.new other }
 {
     bank.grow(stack, n)?;
-    list.resize(list.len().saturating_add(n), Slot::V(Value::Nil))
+    list.resize(list.len().saturating_add(n), Value::Nil)
 }
 
 /// Shrinks a stack and its list.
-fn shrink_both(bank: &mut StackBank, stack: StackId, list: &mut Vec<Slot>, n: usize)
+fn shrink_both(bank: &mut StackBank, stack: StackId, list: &mut Vec<Value>, n: usize)
     requires { IsLive bank.old stack.0 }
     ensures { (other : ℕ) → IsLive bank.old other → IsLive bank.new other }
 {
@@ -59,7 +59,7 @@ fn shrink_both(bank: &mut StackBank, stack: StackId, list: &mut Vec<Slot>, n: us
 }
 
 /// Writes a slot of a stack, and of its list.
-fn write_both(bank: &mut StackBank, stack: StackId, list: &mut [Slot], i: usize, value: Slot)
+fn write_both(bank: &mut StackBank, stack: StackId, list: &mut [Value], i: usize, value: Value)
     requires { IsLive bank.old stack.0 }
     ensures { (other : ℕ) → IsLive bank.old other → IsLive bank.new other }
 {
@@ -73,7 +73,7 @@ fn write_both(bank: &mut StackBank, stack: StackId, list: &mut [Slot], i: usize,
 fn change_both(
     bank: &mut StackBank,
     stack: StackId,
-    list: &mut Vec<Slot>,
+    list: &mut Vec<Value>,
     step: usize,
 ) -> Result<(), AllocError>
     requires live { IsLive bank.old stack.0 }
@@ -88,14 +88,14 @@ fn change_both(
             Ok(())
         }
         _ => {
-            write_both(bank, stack, list, size, Slot::V(Value::Sym(SymId(7))));
+            write_both(bank, stack, list, size, Value::Sym(SymId(7)));
             Ok(())
         }
     }
 }
 
 /// A stack has the slots of the list.
-fn expect_same(rt: &impl Abort, bank: &StackBank, stack: StackId, list: &[Slot])
+fn expect_same(rt: &impl Abort, bank: &StackBank, stack: StackId, list: &[Value])
     requires { IsLive bank.now stack.0 }
 {
     assert_eq!(rt; bank.len(stack), list.len());

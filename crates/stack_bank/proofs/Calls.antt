@@ -6,7 +6,7 @@ use Rattle.std.proofs.lemmas.List.{same_lists, map-set, map_push, length-map, le
 use Rattle.std.proofs.lemmas.List.Sums.{sum_by-set, sum_by_push, sum-map}
 use Rattle.std.proofs.lemmas.List.Elements.{All-push}
 use Rattle.std.proofs.lemmas.Option.{slice_get-get_or, get_or_from_slice_get}
-use Rattle.rb_value.specs.declared.exit.Slot.{Slot}
+use Rattle.rb_value.specs.declared.value.Value.{Value}
 use Rattle.slot_pool.specs.Pool.{live_blocks}
 use Rattle.stack_bank.specs.declared.blocks.Stack.{Stack}
 use Rattle.stack_bank.specs.Bank.{Bank, Grows, nil, blocks_for, blocks_of, shrunk, with_slot, closed}
@@ -46,7 +46,7 @@ block_live blocks table j b holds within is =
     let at : get_or table j 0 ≡ b = sym (is ∙ get_or_default table j b 0 within) in
     full_live blocks b (rw at at (holds.full j within))
 
-pub slot_read : (blocks : Blocks) (hs : List Held) (k i b : ℕ) (h : Held) (v : Slot) → IsSeen blocks hs k h
+pub slot_read : (blocks : Blocks) (hs : List Held) (k i b : ℕ) (h : Held) (v : Value) → IsSeen blocks hs k h
     → i < h.length → b ≡ get_or h.table (i / 64) b → slice_get (values_at blocks b) (i % 64) ≡ Some v
     → slice_get (unwrap_or (get_or (map (seen blocks) hs) k None) []) i ≡ Some v
 slot_read blocks hs k i b h v s within is read =
@@ -56,18 +56,18 @@ slot_read blocks hs k i b h v s within is read =
     (omega (arith, length-slots_of blocks h.table h.length))
     ∙ ap Some (get_or-slots_of blocks h.table h.length i nil within ∙ slot))
 
-pub record SetsSlot (old new : Blocks) (hs : List Held) (k i : ℕ) (v : Slot) : Type 0 where
+pub record SetsSlot (old new : Blocks) (hs : List Held) (k i : ℕ) (v : Value) : Type 0 where
   pub sound : IsSound new hs
   pub seen_as : see new hs ≡ with_slot (see old hs) k i v
 
-pub sets_slot : (blocks : Blocks) (hs : List Held) (k i b : ℕ) (h : Held) (v : Slot) → IsSound blocks hs
+pub sets_slot : (blocks : Blocks) (hs : List Held) (k i b : ℕ) (h : Held) (v : Value) → IsSound blocks hs
     → IsStack hs k h → IsSeen blocks hs k h → i < h.length → b ≡ get_or h.table (i / 64) b
     → SetsSlot blocks (set blocks b (Some (set (values_at blocks b) (i % 64) v))) hs k i v
 sets_slot blocks hs k i b h v sound at s within is =
     let in_table : i / 64 < length h.table = omega (arith, s.sized) in
     let is' : b ≡ get_or h.table (i / 64) 0 = is ∙ get_or_default h.table (i / 64) b 0 in_table in
     let full : length (values_at blocks b) ≡ 64 = rw (sym is') at (s.holds.full (i / 64) in_table) in
-    let xs : List Slot = set (values_at blocks b) (i % 64) v in
+    let xs : List Value = set (values_at blocks b) (i % 64) v in
     let new : Blocks = set blocks b (Some xs) in
     let moves : Moves blocks new h.table h.table =
     write_step blocks blocks h.table h.table b (i / 64) xs (moves_none blocks h.table s.holds) in_table (sym is')

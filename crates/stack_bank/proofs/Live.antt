@@ -4,14 +4,14 @@ use Rattle.std.specs.Prelude.{Option, Some, None, IsSome, is_some, unwrap_or}
 use Rattle.std.proofs.lemmas.Bool.{cases_lt}
 use Rattle.std.proofs.lemmas.List.{get_or_past, get_or_append_left, get_or_push, length_push}
 use Rattle.std.proofs.lemmas.List.Sums.{sum_by-set}
-use Rattle.rb_value.specs.declared.exit.Slot.{Slot}
+use Rattle.rb_value.specs.declared.value.Value.{Value}
 use Rattle.slot_pool.specs.Pool.{live_blocks}
 use Rattle.stack_bank.specs.Inside.{Blocks, block_at, values_at}
 
-abbrev pub one_if_live : Option (List Slot) → ℕ
+abbrev pub one_if_live : Option (List Value) → ℕ
 one_if_live o = cond (is_some o) 1 0
 
-some_of_full : (o : Option (List Slot)) → length (unwrap_or o []) ≡ 64 → IsSome o
+some_of_full : (o : Option (List Value)) → length (unwrap_or o []) ≡ 64 → IsSome o
 some_of_full None is = absurd (omega arith)
 some_of_full (Some xs) is = refl
 
@@ -31,7 +31,7 @@ same_values old new b same = ap (λ o. unwrap_or o []) same
 pub other_block : (blocks : Blocks) (b c : ℕ) → IsSome (block_at blocks b) → block_at blocks c ≡ None → b ≢ c
 other_block blocks b c live none same = cc (ap (block_at blocks) same)
 
-pub live_set_some : (blocks : Blocks) (b : ℕ) (xs : List Slot) → IsSome (block_at blocks b)
+pub live_set_some : (blocks : Blocks) (b : ℕ) (xs : List Value) → IsSome (block_at blocks b)
     → live_blocks (set blocks b (Some xs)) ≡ live_blocks blocks
 live_set_some blocks b xs live =
     let sums : live_blocks (set blocks b (Some xs)) + one_if_live (get_or blocks b None) ≡ live_blocks blocks + 1 =

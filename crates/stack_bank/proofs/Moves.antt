@@ -3,7 +3,7 @@ use Rattle.std.proofs.Common.{◌≡◌, ◌≢◌, ◌⊎◌, ℕ, ◌+◌, ◌
 use Rattle.std.specs.Prelude.{Option, Some, None, IsSome}
 use Rattle.std.proofs.lemmas.Bool.{cases_lt, cases_eq}
 use Rattle.std.proofs.lemmas.List.{get_or_append_left, get_or_push, length_push, length-replicate, get_or-set_same, get_or-set_other}
-use Rattle.rb_value.specs.declared.exit.Slot.{Slot}
+use Rattle.rb_value.specs.declared.value.Value.{Value}
 use Rattle.slot_pool.specs.Pool.{Pool, Leases, live_blocks}
 use Rattle.stack_bank.specs.Bank.{nil}
 use Rattle.stack_bank.specs.Inside.{Blocks, block_at, values_at, HoldsTable, IsOutside, Moves}
@@ -18,7 +18,7 @@ moves_none blocks table holds = record {
 
 -- ---- a lease
 
-lease_holds : (mid new : Pool Slot) (table : List ℕ) (b : ℕ) → HoldsTable mid.blocks table → Leases mid new b nil
+lease_holds : (mid new : Pool Value) (table : List ℕ) (b : ℕ) → HoldsTable mid.blocks table → Leases mid new b nil
     → HoldsTable new.blocks (table ++ b ∷ [])
 lease_holds mid new table b holds leases =
     let other : (j : ℕ) → j < length table → get_or table j 0 ≢ b =
@@ -46,7 +46,7 @@ lease_holds mid new table b holds leases =
       ];
     }
 
-pub lease_step : (old : Blocks) (mid new : Pool Slot) (before after : List ℕ) (b : ℕ)
+pub lease_step : (old : Blocks) (mid new : Pool Value) (before after : List ℕ) (b : ℕ)
     → Moves old mid.blocks before after → Leases mid new b nil → Moves old new.blocks before (after ++ b ∷ [])
 lease_step old mid new before after b moves leases = record {
   others = λ k live outside.
@@ -103,7 +103,7 @@ give_step old mid before front b moves =
 
 -- ---- a block is written
 
-pub write_step : (old mid : Blocks) (before after : List ℕ) (b at : ℕ) (xs : List Slot) → Moves old mid before after
+pub write_step : (old mid : Blocks) (before after : List ℕ) (b at : ℕ) (xs : List Value) → Moves old mid before after
     → at < length after → get_or after at 0 ≡ b → length xs ≡ 64 → Moves old (set mid b (Some xs)) before after
 write_step old mid before after b at xs moves within is full =
     let live : IsSome (block_at mid b) = full_live mid b (rw is at (moves.holds.full at within)) in

@@ -3,7 +3,7 @@ use Rattle.std.proofs.Common.{◌≡◌, ◌≢◌, ℕ, ◌+◌, ◌-◌, ◌*�
 use Rattle.std.specs.Prelude.{Some, None, IsSome, unwrap_or, slice_get}
 use Rattle.std.proofs.lemmas.Bool.{cases_lt, cases_eq}
 use Rattle.std.proofs.lemmas.List.{get_or_default, get_or_append_left, get_or_past, get_or-take, get_or-set_same, get_or-set_other, set_past, length-append, length-take}
-use Rattle.rb_value.specs.declared.exit.Slot.{Slot}
+use Rattle.rb_value.specs.declared.value.Value.{Value}
 use Rattle.stack_bank.specs.Bank.{Bank, Grows, table, blocks_for, cut, closed, opened}
 use Rattle.stack_bank.specs.Window.{Reaches}
 use Rattle.stack_bank.specs.declared.window.Window.{Window}
@@ -68,13 +68,13 @@ at_place blocks hs w i sound reaches live within near =
       live = block_live blocks h.table ((w.base + i) / 64) ((w.start + i) / 64) s.holds in_table block;
     }
 
-pub place_read : (blocks : Blocks) (hs : List Held) (k p q : ℕ) (v : Slot) → AtPlace blocks hs k p q
+pub place_read : (blocks : Blocks) (hs : List Held) (k p q : ℕ) (v : Value) → AtPlace blocks hs k p q
     → slice_get (values_at blocks (q / 64)) (q % 64) ≡ Some v
     → slice_get (unwrap_or (get_or (map (seen blocks) hs) k None) []) p ≡ Some v
 place_read blocks hs k p q v a is =
     slot_read blocks hs k p (q / 64) a.stack v a.s a.within a.block (rw a.place at is)
 
-pub place_written : (blocks : Blocks) (hs : List Held) (k p q : ℕ) (v : Slot) → IsSound blocks hs
+pub place_written : (blocks : Blocks) (hs : List Held) (k p q : ℕ) (v : Value) → IsSound blocks hs
     → AtPlace blocks hs k p q → SetsSlot blocks
     (set blocks (q / 64) (Some (set (values_at blocks (q / 64)) (q % 64) v))) hs k p v
 place_written blocks hs k p q v sound a =

@@ -5,7 +5,7 @@ use Rattle.std.specs.List.{range_with_len}
 use Rattle.std.proofs.lemmas.Bool.{cases_lt, cases_eq}
 use Rattle.std.proofs.lemmas.List.{same_lists, get_or_append_left, get_or-append_right, get_or-take, get_or-replicate, length-append, length-replicate, length-take-le, length-set, get_or-set_same, get_or-set_other}
 use Rattle.std.proofs.lemmas.List.FromFn.{length-map-range_with_len}
-use Rattle.rb_value.specs.declared.exit.Slot.{Slot}
+use Rattle.rb_value.specs.declared.value.Value.{Value}
 use Rattle.slot_pool.specs.Pool.{Pool}
 use Rattle.slot_pool.proofs.Blocks.{at_number}
 use Rattle.stack_bank.specs.Bank.{nil, blocks_for}
@@ -16,7 +16,7 @@ use Rattle.stack_bank.proofs.Moves.{moves_twice}
 pub length-slots_of : (blocks : Blocks) (table : List ℕ) (n : ℕ) → length (slots_of blocks table n) ≡ n
 length-slots_of blocks table n = length-map-range_with_len (slot_at blocks table) 0 n
 
-pub get_or-slots_of : (blocks : Blocks) (table : List ℕ) (n i : ℕ) (d : Slot) → i < n
+pub get_or-slots_of : (blocks : Blocks) (table : List ℕ) (n i : ℕ) (d : Value) → i < n
     → get_or (slots_of blocks table n) i d ≡ slot_at blocks table i
 get_or-slots_of blocks table n i d within = at_number (slot_at blocks table) n i d within
 
@@ -37,7 +37,7 @@ slots_same old new table n sized same = same_lists _ _ (length-slots_of new tabl
 abbrev pub stack_of : Bool → ℕ → List ℕ → Held
 stack_of live n table = record { live = live; length = n; table = table }
 
-pub stack_grows : (mid : Pool Slot) (old : Pool Slot) (new : Blocks) (table after : List ℕ) (live : Bool)
+pub stack_grows : (mid : Pool Value) (old : Pool Value) (new : Blocks) (table after : List ℕ) (live : Bool)
     (n more blocks : ℕ) → length table ≡ blocks_for n → Clears old mid table n more
     → Adds mid.blocks new table after blocks → blocks + length table ≡ blocks_for (n + more) → n + more < 2 ^ 64
     → StackGrows old.blocks new (stack_of live n table) (stack_of live (n + more) after) more
@@ -105,11 +105,11 @@ first_slots old new table after n m keep sized less is drops =
 
 -- ---- one slot is written
 
-pub slot_written : (blocks : Blocks) (table : List ℕ) (n i b : ℕ) (v : Slot) → HoldsTable blocks table
+pub slot_written : (blocks : Blocks) (table : List ℕ) (n i b : ℕ) (v : Value) → HoldsTable blocks table
     → length table ≡ blocks_for n → i < n → b ≡ get_or table (i / 64) 0
     → slots_of (set blocks b (Some (set (values_at blocks b) (i % 64) v))) table n ≡ set (slots_of blocks table n) i v
 slot_written blocks table n i b v holds sized within is =
-    let old : List Slot = slots_of blocks table n in
+    let old : List Value = slots_of blocks table n in
     let new : Blocks = set blocks b (Some (set (values_at blocks b) (i % 64) v)) in
     let full : length (values_at blocks b) ≡ 64 = rw is (holds.full (i / 64) (omega arith)) in
     let in_blocks : b < length blocks = live_within blocks b (full_live blocks b full) in
@@ -140,7 +140,7 @@ slot_written blocks table n i b v holds sized within is =
     ]))
 
 -- the same, by what the calls on the way say
-pub stack_grown : (pool mid : Pool Slot) (old new : Blocks) (table between after : List ℕ) (live : Bool)
+pub stack_grown : (pool mid : Pool Value) (old new : Blocks) (table between after : List ℕ) (live : Bool)
     (n more size blocks : ℕ) → pool.blocks ≡ old → between ≡ table → size ≡ n + more → length table ≡ blocks_for n
     → blocks + length table ≡ blocks_for size → Clears pool mid between n more
     → Adds mid.blocks new between after blocks → n + more < 2 ^ 64

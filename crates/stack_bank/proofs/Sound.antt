@@ -5,7 +5,7 @@ use Rattle.std.proofs.lemmas.Bool.{cases_lt, cases_eq}
 use Rattle.std.proofs.lemmas.List.{same_lists, map-set, length-map, length-set, get_or-map, get_or_past, get_or-set_same, get_or-set_other}
 use Rattle.std.proofs.lemmas.List.Sums.{sum_by-set}
 use Rattle.std.proofs.lemmas.List.Elements.{All-set}
-use Rattle.rb_value.specs.declared.exit.Slot.{Slot}
+use Rattle.rb_value.specs.declared.value.Value.{Value}
 use Rattle.slot_pool.specs.Pool.{live_blocks}
 use Rattle.stack_bank.specs.declared.blocks.Stack.{Stack}
 use Rattle.stack_bank.specs.Bank.{Bank, blocks_for}
@@ -98,7 +98,7 @@ sound_moves old new hs k h sound within moves whole =
 pub seen_moves : (old new : Blocks) (hs : List Held) (k : ℕ) (h : Held) → IsSound old hs
     → Moves old new (table_at hs k) h.table → map (seen new) (set hs k h) ≡ set (map (seen old) hs) k (seen new h)
 seen_moves old new hs k h sound moves =
-    let x : Option (List Slot) = seen new h in
+    let x : Option (List Value) = seen new h in
     let lengths : length (set (map (seen new) hs) k x) ≡ length (set (map (seen old) hs) k x) =
     length-set (map (seen new) hs) k x ∙ (length-map hs (seen new)
     ∙ sym (length-set (map (seen old) hs) k x ∙ length-map hs (seen old))) in

@@ -3,11 +3,11 @@ use Rattle.std.proofs.Common.{◌≡◌, ◌≢◌, ◌⊎◌, ℕ, ◌<◌, ◌
 use Rattle.std.specs.Prelude.{Option, Some, None, IsSome}
 use Rattle.std.proofs.lemmas.Bool.{cases_lt, cases_eq}
 use Rattle.std.proofs.lemmas.List.{get_or_past, get_or-set_same, get_or-set_other}
-use Rattle.rb_value.specs.declared.exit.Slot.{Slot}
+use Rattle.rb_value.specs.declared.value.Value.{Value}
 use Rattle.stack_bank.specs.Bank.{Bank, IsLive, shrunk}
 use Rattle.stack_bank.proofs.Live.{live_within}
 
-pub live_set : (stacks : List (Option (List Slot))) (id other : ℕ) (xs : List Slot) → IsSome (get_or stacks other None)
+pub live_set : (stacks : List (Option (List Value))) (id other : ℕ) (xs : List Value) → IsSome (get_or stacks other None)
     → IsSome (get_or (set stacks id (Some xs)) other None)
 live_set stacks id other xs live = elim (cases_eq other id) as
     (λ _. IsSome (get_or (set stacks id (Some xs)) other None)) [

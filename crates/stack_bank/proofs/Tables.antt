@@ -4,7 +4,7 @@ use Rattle.std.specs.Prelude.{Option, Some, None, IsSome}
 use Rattle.std.specs.Int.{div_ceil}
 use Rattle.std.proofs.lemmas.Bool.{cases_lt, cases_eq}
 use Rattle.std.proofs.lemmas.List.{append-nil, append_assoc, get_or_append_left, get_or_push, get_or-take, get_or-replicate, length_push, length-replicate, length-take-le, take_all, take_at, take-take, get_or-set_same, get_or-set_other}
-use Rattle.rb_value.specs.declared.exit.Slot.{Slot}
+use Rattle.rb_value.specs.declared.value.Value.{Value}
 use Rattle.slot_pool.specs.Pool.{Pool, Leases, filled, with_part, live_blocks}
 use Rattle.slot_pool.proofs.Blocks.{length-with_part, part_before, part_inside}
 use Rattle.stack_bank.specs.Bank.{nil, blocks_for}
@@ -24,7 +24,7 @@ adds_none blocks table holds = record {
   nils = λ j within. absurd (omega arith);
 }
 
-pub adds_step : (old : Blocks) (mid new : Pool Slot) (before after : List ℕ) (b n : ℕ)
+pub adds_step : (old : Blocks) (mid new : Pool Value) (before after : List ℕ) (b n : ℕ)
     → Adds old mid.blocks before after n → Leases mid new b nil → Adds old new.blocks before (after ++ b ∷ []) (n + 1)
 adds_step old mid new before after b n adds leases = record {
   moves = lease_step old mid new before after b adds.moves leases;
@@ -93,7 +93,7 @@ last_live old mid before after front b n is drops =
 
 -- ---- the places behind the slots
 
-pub clears_none : (pool : Pool Slot) (table : List ℕ) (n more : ℕ) → HoldsTable pool.blocks table
+pub clears_none : (pool : Pool Value) (table : List ℕ) (n more : ℕ) → HoldsTable pool.blocks table
     → length table ≡ blocks_for n → n % 64 ≡ 0 → Clears pool pool table n more
 clears_none pool table n more holds sized even = record {
   moves = moves_none pool.blocks table holds;
@@ -102,18 +102,18 @@ clears_none pool table n more holds sized even = record {
   spare = refl;
 }
 
-pub clears_some : (pool : Pool Slot) (table : List ℕ) (n more b : ℕ) → HoldsTable pool.blocks table
+pub clears_some : (pool : Pool Value) (table : List ℕ) (n more b : ℕ) → HoldsTable pool.blocks table
     → length table ≡ blocks_for n → n % 64 ≢ 0 → b ≡ get_or table (n / 64) 0
     → Clears pool (filled pool b (n % 64) (min 64 (n % 64 + more)) nil) table n more
 clears_some pool table n more b holds sized odd is =
     let from : ℕ = n % 64 in
     let to : ℕ = min 64 (n % 64 + more) in
     let last : n / 64 < length table = omega arith in
-    let old : List Slot = values_at pool.blocks b in
+    let old : List Value = values_at pool.blocks b in
     let old_length : length old ≡ 64 = rw is (holds.full (n / 64) last) in
-    let ys : List Slot = replicate (to - from) nil in
+    let ys : List Value = replicate (to - from) nil in
     let ys_length : length ys ≡ to - from = length-replicate (to - from) nil in
-    let new : List Slot = with_part from (to - from) old ys in
+    let new : List Value = with_part from (to - from) old ys in
     let new_length : length new ≡ 64 = length-with_part from (to - from) old ys ys_length (omega arith) ∙ old_length in
     let live : IsSome (block_at pool.blocks b) = full_live pool.blocks b old_length in
     let in_blocks : b < length pool.blocks = live_within pool.blocks b live in

@@ -2,13 +2,12 @@
 use Rattle.std.specs.Prelude.{◌≡◌, ℕ, ◌+◌, ◌-◌, List, [], ◌∷◌, ◌++◌, Option, Some, None, length, take, replicate, unwrap_or, IsSome, slice_set}
 use Rattle.std.specs.List.{slice_index_or}
 use Rattle.std.specs.Int.{div_ceil}
-use Rattle.rb_value.specs.declared.exit.Slot.{Slot}
-use Rattle.rb_value.specs.declared.exit.Slot.TheVariants.{V}
+use Rattle.rb_value.specs.declared.value.Value.{Value}
 use Rattle.rb_value.specs.declared.value.Value.TheVariants.{Nil}
 
 pub record Bank : Type 0 where
   -- by number: a live stack as its slots, a closed one as none
-  pub stacks : List (Option (List Slot))
+  pub stacks : List (Option (List Value))
   -- by number: the blocks that hold a stack, in order
   pub tables : List (List ℕ)
 
@@ -16,22 +15,22 @@ abbrev pub no_stacks : Bank
 no_stacks = record { stacks = []; tables = [] }
 
 -- the slots of a live stack, none of every other number
-abbrev pub stack : Bank → ℕ → Option (List Slot)
+abbrev pub stack : Bank → ℕ → Option (List Value)
 stack bank id = slice_index_or bank.stacks id None
 
 abbrev pub IsLive : Bank → ℕ → Type 0
 IsLive bank id = IsSome (stack bank id)
 
 -- the slots of a live stack
-abbrev pub slots : Bank → ℕ → List Slot
+abbrev pub slots : Bank → ℕ → List Value
 slots bank id = unwrap_or (stack bank id) []
 
 -- the blocks that hold a stack
 abbrev pub table : Bank → ℕ → List ℕ
 table bank id = slice_index_or bank.tables id []
 
-abbrev pub nil : Slot
-nil = V Nil
+abbrev pub nil : Value
+nil = Nil
 
 -- a stack without slots has the next number
 abbrev pub opened : Bank → Bank
@@ -47,7 +46,7 @@ pub record Grows (old new : Bank) (id n : ℕ) : Type 0 where
 abbrev pub blocks_for : ℕ → ℕ
 blocks_for n = div_ceil n 64
 
-abbrev pub blocks_of : Option (List Slot) → ℕ
+abbrev pub blocks_of : Option (List Value) → ℕ
 blocks_of None = 0
 blocks_of (Some xs) = blocks_for (length xs)
 
@@ -62,7 +61,7 @@ cut bank id n = record {
 abbrev pub shrunk : Bank → ℕ → ℕ → Bank
 shrunk bank id n = cut bank id (length (slots bank id) - n)
 
-abbrev pub with_slot : Bank → ℕ → ℕ → Slot → Bank
+abbrev pub with_slot : Bank → ℕ → ℕ → Value → Bank
 with_slot bank id i v = record bank { stacks = slice_set bank.stacks id (Some (slice_set (slots bank id) i v)) }
 
 abbrev pub closed : Bank → ℕ → Bank

@@ -1,19 +1,19 @@
 -- How a bank keeps its stacks: the blocks of its pool, and for each stack a table of those that hold it.
 use Rattle.std.specs.Prelude.{◌≡◌, ◌≢◌, ℕ, ◌+◌, ◌*◌, ◌^◌, ◌/◌, ◌%◌, ◌<◌, ◌≤◌, List, [], ◌∷◌, ◌++◌, Option, Some, None, Bool, true, false, length, take, map, replicate, unwrap_or, sum_by, IsSome, All, if◌then◌else◌}
 use Rattle.std.specs.List.{slice_index_or, range_with_len}
-use Rattle.rb_value.specs.declared.exit.Slot.{Slot}
+use Rattle.rb_value.specs.declared.value.Value.{Value}
 use Rattle.slot_pool.specs.Pool.{Pool, live_blocks}
 use Rattle.stack_bank.specs.Bank.{Bank, nil, blocks_for}
 use Rattle.stack_bank.specs.declared.blocks.Stack.{Stack}
 
 -- the blocks of the pool by number
 abbrev pub Blocks : Type 0
-Blocks = List (Option (List Slot))
+Blocks = List (Option (List Value))
 
-abbrev pub block_at : Blocks → ℕ → Option (List Slot)
+abbrev pub block_at : Blocks → ℕ → Option (List Value)
 block_at blocks b = slice_index_or blocks b None
 
-abbrev pub values_at : Blocks → ℕ → List Slot
+abbrev pub values_at : Blocks → ℕ → List Value
 values_at blocks b = unwrap_or (block_at blocks b) []
 
 pub record Held : Type 0 where
@@ -29,13 +29,13 @@ abbrev pub no_stack : Held
 no_stack = record { live = true; length = 0; table = [] }
 
 -- slot i of the stack that the table holds
-abbrev pub slot_at : Blocks → List ℕ → ℕ → Slot
+abbrev pub slot_at : Blocks → List ℕ → ℕ → Value
 slot_at blocks table i = slice_index_or (values_at blocks (slice_index_or table (i / 64) 0)) (i % 64) nil
 
-abbrev pub slots_of : Blocks → List ℕ → ℕ → List Slot
+abbrev pub slots_of : Blocks → List ℕ → ℕ → List Value
 slots_of blocks table n = map (slot_at blocks table) (range_with_len 0 n)
 
-abbrev pub seen : Blocks → Held → Option (List Slot)
+abbrev pub seen : Blocks → Held → Option (List Value)
 seen blocks h = if h.live then Some (slots_of blocks h.table h.length) else None
 
 abbrev pub table_of : Held → List ℕ
@@ -78,7 +78,7 @@ pub record Drops (old new : Blocks) (before after : List ℕ) (keep : ℕ) : Typ
   pub kept : (j : ℕ) → j < keep → block_at new (slice_index_or before j 0) ≡ block_at old (slice_index_or before j 0)
 
 -- the places behind the slots are nil, as far as n slots more need them and the blocks of the table have them
-pub record Clears (old new : Pool Slot) (table : List ℕ) (n more : ℕ) : Type 0 where
+pub record Clears (old new : Pool Value) (table : List ℕ) (n more : ℕ) : Type 0 where
   pub moves : Moves old.blocks new.blocks table table
   pub before : (i : ℕ) → i < n → slot_at new.blocks table i ≡ slot_at old.blocks table i
   pub behind : (i : ℕ) → n ≤ i → i < n + more → i < 64 * length table → slot_at new.blocks table i ≡ nil

@@ -2,7 +2,7 @@ ghost use Rattle.std.specs.Prelude.{◌≡◌, ◌<◌, ◌≤◌, length, sum_b
 ghost use Rattle.stack_bank.specs.Bank.{no_stacks, IsLive, slots, opened, Grows, shrunk, with_slot, closed, blocks_of};
 
 use crate::blocks::{PLACES, Stack, give_blocks, grow_stack};
-use rb_value::Slot;
+use rb_value::Value;
 use slot_pool::{BlockId, SlotPool};
 use std::alloc::{AllocError, Global};
 use std::marker::Model;
@@ -14,7 +14,7 @@ pub struct StackId(pub u64);
 /// Stacks of slots.
 #[derive(Debug, Drop)]
 pub struct StackBank {
-    pub(crate) pool: SlotPool<Slot>,
+    pub(crate) pool: SlotPool<Value>,
     pub(crate) stacks: Vec<Stack>,
     alloc: Global,
 }
@@ -85,7 +85,7 @@ impl StackBank {
     }
 
     /// Slot `i` of a stack.
-    pub fn get(&self, id: StackId, i: usize) -> Slot
+    pub fn get(&self, id: StackId, i: usize) -> Value
         requires live { IsLive self.now id.0 }
         requires within { i < length (slots self.now id.0) }
         ensures { slice_get (slots self.now id.0) i ≡ Some result }
@@ -96,7 +96,7 @@ impl StackBank {
     }
 
     /// Writes slot `i` of a stack.
-    pub fn set(&mut self, id: StackId, i: usize, v: Slot)
+    pub fn set(&mut self, id: StackId, i: usize, v: Value)
         requires live { IsLive self.old id.0 }
         requires within { i < length (slots self.old id.0) }
         ensures { self.new ≡ with_slot self.old id.0 i v }

@@ -4,14 +4,14 @@ ghost use Rattle.std.specs.Vec.{vec_capacity};
 ghost use Rattle.std.specs.Int.{div_ceil};
 ghost use Rattle.stack_bank.specs.Inside.{held, no_stack, HoldsTable, Adds, Drops, Clears, StackGrows};
 
-use rb_value::{Slot, Value};
+use rb_value::Value;
 use slot_pool::{BlockId, SlotPool};
 use std::alloc::{AllocError, Global};
 
 /// How many places a block has.
 pub(crate) const PLACES: usize = 64;
 
-const NIL: Slot = Slot::V(Value::Nil);
+const NIL: Value = Value::Nil;
 
 /// Whether a stack is live, how many slots it has, and the blocks that hold them, in order.
 #[derive(Debug, Drop)]
@@ -36,7 +36,7 @@ impl Stack {
 
 /// Puts `n` times nil after the slots of a stack. All memory is taken before anything is changed.
 pub(crate) fn grow_stack(
-    pool: &mut SlotPool<Slot>,
+    pool: &mut SlotPool<Value>,
     stack: &mut Stack,
     n: usize,
 ) -> Result<(), AllocError>
@@ -57,7 +57,7 @@ pub(crate) fn grow_stack(
 }
 
 /// Writes nil into the places after the slots, as far as `n` slots more need them and the last block has them.
-fn clear_rest(pool: &mut SlotPool<Slot>, blocks: &Vec<usize>, len: usize, n: usize)
+fn clear_rest(pool: &mut SlotPool<Value>, blocks: &Vec<usize>, len: usize, n: usize)
     requires holds { HoldsTable pool.old.blocks blocks.now.items }
     requires sized { length blocks.now.items ≡ div_ceil len 64 }
     requires fits { len + n < 2 ^ 64 }
@@ -71,7 +71,7 @@ fn clear_rest(pool: &mut SlotPool<Slot>, blocks: &Vec<usize>, len: usize, n: usi
 }
 
 /// Leases `n` blocks of nil for a stack. There is room for them.
-fn lease_blocks(pool: &mut SlotPool<Slot>, blocks: &mut Vec<usize>, n: usize)
+fn lease_blocks(pool: &mut SlotPool<Value>, blocks: &mut Vec<usize>, n: usize)
     requires spare { n ≤ pool.old.spare }
     requires room { vec_len blocks.old + n ≤ vec_capacity blocks.old }
     requires holds { HoldsTable pool.old.blocks blocks.old.items }
@@ -84,7 +84,7 @@ fn lease_blocks(pool: &mut SlotPool<Slot>, blocks: &mut Vec<usize>, n: usize)
 }
 
 /// Gives the blocks of a stack back, but for the first `keep`.
-pub(crate) fn give_blocks(pool: &mut SlotPool<Slot>, blocks: &mut Vec<usize>, keep: usize)
+pub(crate) fn give_blocks(pool: &mut SlotPool<Value>, blocks: &mut Vec<usize>, keep: usize)
     requires holds { HoldsTable pool.old.blocks blocks.old.items }
     requires within { keep ≤ vec_len blocks.old }
     ensures { Drops pool.old.blocks pool.new.blocks blocks.old.items blocks.new.items keep }

@@ -5,7 +5,7 @@ ghost use Rattle.stack_bank.specs.Window.{Reaches, near_slots, run_last};
 
 use crate::bank::{StackBank, StackId};
 use crate::blocks::PLACES;
-use rb_value::Slot;
+use rb_value::Value;
 use slot_pool::BlockId;
 
 /// The slots of the stack `id` from `base` on. The first `near` of them stand one after another in the pool, from
@@ -53,7 +53,7 @@ impl StackBank {
 
     /// Slot `i` of a window.
     #[inline]
-    pub fn get_in(&self, window: Window, i: usize) -> Slot
+    pub fn get_in(&self, window: Window, i: usize) -> Value
         requires reaches { Reaches self.now window }
         requires live { IsLive self.now window.id.0 }
         requires within { window.base + i < length (slots self.now window.id.0) }
@@ -70,7 +70,7 @@ impl StackBank {
 
     /// Writes slot `i` of a window.
     #[inline]
-    pub fn set_in(&mut self, window: Window, i: usize, v: Slot)
+    pub fn set_in(&mut self, window: Window, i: usize, v: Value)
         requires reaches { Reaches self.old window }
         requires live { IsLive self.old window.id.0 }
         requires within { window.base + i < length (slots self.old window.id.0) }

@@ -2,14 +2,11 @@
 use Rattle.std.proofs.Common.{◌≡◌, ◌≢◌, ◌⊎◌, ℕ, ◌+◌, ◌^◌, ◌<◌, ◌≤◌, List, [], ◌∷◌, ◌++◌, length, get_or, set, map, Bool, true, false, refl, ap, sym, ◌∙◌, subst, arith, inl, inr}
 use Rattle.std.specs.Prelude.{Some, slice_get, All, if◌then◌else◌}
 use Rattle.std.proofs.lemmas.Option.{slice_get-get_or}
-use Rattle.rb_value.specs.declared.exit.Slot.{Slot}
-use Rattle.rb_value.specs.Slot.{read}
 use Rattle.std.proofs.lemmas.Bool.{cases_lt, cases_eq}
 use Rattle.std.proofs.lemmas.List.{map-set, map_push, length-map, length-set, length_push, set_past, get_or-map, get_or_past, get_or_push, get_or_append_left, get_or_default, get_or-set_same, get_or-set_other}
 use Rattle.std.proofs.lemmas.List.Elements.{All-push, All-set}
 use Rattle.rb_value.specs.declared.value.Value.{Value}
 use Rattle.stack_bank.specs.Bank.{Bank, IsLive, slots, with_slot}
-use Rattle.rb_value.specs.declared.exit.Slot.TheVariants.{V}
 use Rattle.stack_bank.proofs.Staying.{live_set}
 use Rattle.vm_env.specs.declared.envs.Env.{Env as Stored}
 use Rattle.vm_env.specs.Env.{Env, Open, Closed, contents, env, Lies, IsOpen, MeetsNot, MeetsNone, Writes, WritesAt, WritesOne, closed}
@@ -131,7 +128,7 @@ closed_seen ks e k is = map-set seen ks e k ∙ ap (set (map seen ks) e) (seen_c
 -- into a slot of the window
 pub writes_slot : (ks : List Kept) (bank : Bank) (e i : ℕ) (k : Kept) (v : Value) → IsSound ks → IsKept ks e k
     → k.open_now ≡ true → IsLive bank k.stack → i < k.size
-    → WritesOne (map seen ks) (map seen ks) bank (with_slot bank k.stack (k.base + i) (V v)) e i v
+    → WritesOne (map seen ks) (map seen ks) bank (with_slot bank k.stack (k.base + i) v) e i v
 writes_slot ks bank e i k v sound at is live within =
     let here : env (map seen ks) e ≡ Open k.stack k.base k.size = at.is ∙ seen_open k is in
     record {
@@ -176,11 +173,11 @@ closed_at ks bank e i k at is within = subst (λ x. i < length (contents bank x)
 
 -- ---- a value is read
 
-pub value_open : (ks : List Kept) (bank : Bank) (e i : ℕ) (k : Kept) (s : Slot) (v : Value) → IsKept ks e k
-    → k.open_now ≡ true → OpenAt bank i k → slice_get (slots bank k.stack) (k.base + i) ≡ Some s → v ≡ read s
+pub value_open : (ks : List Kept) (bank : Bank) (e i : ℕ) (k : Kept) (v : Value) → IsKept ks e k
+    → k.open_now ≡ true → OpenAt bank i k → slice_get (slots bank k.stack) (k.base + i) ≡ Some v
     → slice_get (contents bank (env (map seen ks) e)) i ≡ Some v
-value_open ks bank e i k s v at is o slot value =
-    rw (at.is ∙ seen_open k is, value) (window_value k.base k.size i (slots bank k.stack) s o.lies o.within slot)
+value_open ks bank e i k v at is o slot =
+    rw (at.is ∙ seen_open k is) (window_value k.base k.size i (slots bank k.stack) v o.lies o.within slot)
 
 pub value_closed : (ks : List Kept) (bank : Bank) (e i : ℕ) (k : Kept) (v : Value) → IsKept ks e k → k.open_now ≡ false
     → i < length k.values → v ≡ get_or k.values i v → slice_get (contents bank (env (map seen ks) e)) i ≡ Some v
@@ -190,13 +187,13 @@ value_closed ks bank e i k v at is within value =
 -- ---- where a value is written
 
 pub places_slot : (ks : List Kept) (bank after : Bank) (e i : ℕ) (k : Kept) (v : Value) → IsKept ks e k
-    → k.open_now ≡ true → after ≡ with_slot bank k.stack (k.base + i) (V v)
+    → k.open_now ≡ true → after ≡ with_slot bank k.stack (k.base + i) v
     → Writes (map seen ks) (map seen ks) bank after e i v
 places_slot ks bank after e i k v at is written =
     subst (λ x. WritesAt x (map seen ks) (map seen ks) bank after e i v) (sym (at.is ∙ seen_open k is)) (refl, written)
 
 pub one_slot : (ks : List Kept) (bank after : Bank) (e i : ℕ) (k : Kept) (v : Value) → IsSound ks → IsKept ks e k
-    → k.open_now ≡ true → OpenAt bank i k → after ≡ with_slot bank k.stack (k.base + i) (V v)
+    → k.open_now ≡ true → OpenAt bank i k → after ≡ with_slot bank k.stack (k.base + i) v
     → WritesOne (map seen ks) (map seen ks) bank after e i v
 one_slot ks bank after e i k v sound at is o written =
     rw written (writes_slot ks bank e i k v sound at is o.live o.within)
@@ -241,11 +238,11 @@ pub record Closes (ks : List Kept) (bank : Bank) (e : ℕ) (k : Kept) : Type 0 w
 
 pub closes : (ks : List Kept) (bank : Bank) (e : ℕ) (k after : Kept) → IsSound ks → IsKept ks e k → k.open_now ≡ true
     → after.open_now ≡ false → after.base + after.size < 2 ^ 64 → after.values ≡ k.values
-    ++ map read (window k.base k.size (slots bank k.stack)) → Closes ks bank e after
+    ++ window k.base k.size (slots bank k.stack) → Closes ks bank e after
 closes ks bank e k after sound at is is_after fits copied =
     let here : env (map seen ks) e ≡ Open k.stack k.base k.size = at.is ∙ seen_open k is in
     let values : after.values ≡ contents bank (env (map seen ks) e) = copied
-    ∙ (ap (λ xs. xs ++ map read (window k.base k.size (slots bank k.stack))) (at.whole.empty is)
+    ∙ (ap (λ xs. xs ++ window k.base k.size (slots bank k.stack)) (at.whole.empty is)
     ∙ ap (contents bank) (sym here)) in
     let now : map seen (set ks e after) ≡ closed (map seen ks) bank e = closed_seen ks e after is_after
     ∙ ap (λ xs. set (map seen ks) e (Closed xs)) values in
@@ -274,7 +271,7 @@ same_entry items e x y x_is y_is there =
 
 -- ---- what a write keeps
 
-slots_kept : (bank : Bank) (id p k : ℕ) (v : Slot) → IsLive bank k → IsLive (with_slot bank id p v) k
+slots_kept : (bank : Bank) (id p k : ℕ) (v : Value) → IsLive bank k → IsLive (with_slot bank id p v) k
     × (length (slots (with_slot bank id p v) k) ≡ length (slots bank k))
 slots_kept bank id p k v live = elim (cases_eq k id) as
     (λ _. IsLive (with_slot bank id p v) k × (length (slots (with_slot bank id p v) k) ≡ length (slots bank k))) [
@@ -291,7 +288,7 @@ slots_kept bank id p k v live = elim (cases_eq k id) as
       )
     ]
 
-lies_kept : (bank : Bank) (id p : ℕ) (v : Slot) (x : Env) → Lies bank x → Lies (with_slot bank id p v) x
+lies_kept : (bank : Bank) (id p : ℕ) (v : Value) (x : Env) → Lies bank x → Lies (with_slot bank id p v) x
 lies_kept bank id p v (Open stack base n) lies =
     let kept = slots_kept bank id p stack v lies.0 in
     (kept.0, rw kept.1 lies.1)
@@ -300,7 +297,7 @@ lies_kept bank id p v (Closed values) lies = tt
 writes_lie : (x : Env) (old new : List Env) (bank after : Bank) (e i other : ℕ) (v : Value)
     → WritesAt x old new bank after e i v → Lies bank (env old other) → Lies after (env new other)
 writes_lie (Open stack base n) old new bank after e i other v writes lies =
-    rw (writes.0, writes.1) (lies_kept bank stack (base + i) (V v) (env old other) lies)
+    rw (writes.0, writes.1) (lies_kept bank stack (base + i) v (env old other) lies)
 writes_lie (Closed values) old new bank after e i other v writes lies =
     rw (writes.0, writes.1) (elim (cases_eq other e) as
     (λ _. Lies bank (env (set old e (Closed (set values i v))) other)) [

@@ -1,9 +1,7 @@
 -- What environments are seen as, and what their calls do.
-use Rattle.std.specs.Prelude.{◌≡◌, ◌≢◌, ℕ, ◌+◌, ◌<◌, ◌≤◌, List, [], ◌∷◌, ◌++◌, length, take, drop, map, slice_set}
+use Rattle.std.specs.Prelude.{◌≡◌, ◌≢◌, ℕ, ◌+◌, ◌<◌, ◌≤◌, List, [], ◌∷◌, ◌++◌, length, take, drop, slice_set}
 use Rattle.std.specs.List.{slice_index_or}
 use Rattle.rb_value.specs.declared.value.Value.{Value}
-use Rattle.rb_value.specs.declared.exit.Slot.TheVariants.{V}
-use Rattle.rb_value.specs.Slot.{read}
 use Rattle.stack_bank.specs.Bank.{Bank, IsLive, slots, with_slot}
 
 -- open onto n slots of a stack, from a place on; or closed, with its values
@@ -13,7 +11,7 @@ pub data Env : Type 0 where
 
 -- the one list of an environment
 abbrev pub contents : Bank → Env → List Value
-contents bank (Open stack base n) = map read (take n (drop base (slots bank stack)))
+contents bank (Open stack base n) = take n (drop base (slots bank stack))
 contents bank (Closed values) = values
 
 abbrev pub env : List Env → ℕ → Env
@@ -41,7 +39,7 @@ captured envs stack base n = envs ++ Open stack base n ∷ []
 
 -- value i is written where it stands: in its slot, or in the room of the environment
 abbrev pub WritesAt : Env → List Env → List Env → Bank → Bank → ℕ → ℕ → Value → Type 0
-WritesAt (Open stack base n) old new bank bank' e i v = (new ≡ old) × (bank' ≡ with_slot bank stack (base + i) (V v))
+WritesAt (Open stack base n) old new bank bank' e i v = (new ≡ old) × (bank' ≡ with_slot bank stack (base + i) v)
 WritesAt (Closed values) old new bank bank' e i v = (new ≡ slice_set old e (Closed (slice_set values i v)))
     × (bank' ≡ bank)
 

@@ -1,10 +1,9 @@
-ghost use Rattle.std.specs.Prelude.{◌≡◌, ◌+◌, ◌^◌, ◌<◌, ◌≤◌, ◌++◌, [], ◌∷◌, ℕ, length, take, drop, map, OnOk, OnErr, IfOk, Some, slice_get, slice_set, vec_len};
+ghost use Rattle.std.specs.Prelude.{◌≡◌, ◌+◌, ◌^◌, ◌<◌, ◌≤◌, ◌++◌, [], ◌∷◌, ℕ, length, take, drop, OnOk, OnErr, IfOk, Some, slice_get, slice_set, vec_len};
 ghost use Rattle.std.specs.Vec.{vec_capacity};
 ghost use Rattle.stack_bank.specs.Bank.{IsLive, slots};
-ghost use Rattle.rb_value.specs.Slot.{read as value_of};
 ghost use Rattle.vm_env.specs.Env.{Env as Seen, captured, env, contents, Lies, IsOpen, MeetsNone, Writes, WritesOne, closed};
 
-use rb_value::{Slot, Value};
+use rb_value::Value;
 use stack_bank::{StackBank, StackId};
 use std::alloc::{AllocError, Global};
 use std::marker::Model;
@@ -83,7 +82,7 @@ impl Envs {
     {
         let env = &self.envs[e.0 as usize];
         if env.open {
-            bank.get(env.stack, env.base + i).read()
+            bank.get(env.stack, env.base + i)
         } else {
             env.values[i]
         }
@@ -99,7 +98,7 @@ impl Envs {
     {
         let env = &self.envs[e.0 as usize];
         if env.open {
-            bank.set(env.stack, env.base + i, Slot::V(v));
+            bank.set(env.stack, env.base + i, v);
         } else {
             self.envs[e.0 as usize].values[i] = v;
         }
@@ -118,15 +117,15 @@ impl Envs {
     }
 }
 
-/// Puts what the slots of a window read as after the values. There is room for them.
+/// Puts the slots of a window after the values. There is room for them.
 fn copy_window(bank: &StackBank, stack: StackId, base: usize, size: usize, values: &mut Vec<Value>)
     requires live { IsLive bank.now stack.0 }
     requires within { base + size ≤ length (slots bank.now stack.0) }
     requires fits { base + size < 2 ^ 64 }
     requires room { vec_len values.old + size ≤ vec_capacity values.old }
-    ensures { values.new.items ≡ values.old.items ++ map value_of (take size (drop base (slots bank.now stack.0))) }
+    ensures { values.new.items ≡ values.old.items ++ take size (drop base (slots bank.now stack.0)) }
 {
     for i in 0..size {
-        values.push_reserved(bank.get(stack, base + i).read());
+        values.push_reserved(bank.get(stack, base + i));
     }
 }

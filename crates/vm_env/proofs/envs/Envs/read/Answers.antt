@@ -43,8 +43,8 @@ returns-then-env c =
     c.index-env.ensures in
     let o = open_at _ c.args.bank.now c.args.e.0 c.args.i _ at c.if-env.true (rw (← c.self.view_is) at c.requires.lies)
     (rw (← c.self.view_is) at c.requires.within) in
-    rw (← c.self.view_is) (value_open _ c.args.bank.now c.args.e.0 c.args.i _ c.get.result c.read.result at
-    c.if-env.true o c.get.ensures c.read.ensures)
+    rw (← c.self.view_is) (value_open _ c.args.bank.now c.args.e.0 c.args.i _ c.get.result at
+    c.if-env.true o c.get.ensures)
 
 pub returns-else-env : goal.returns-else-env
 returns-else-env c =
