@@ -1,0 +1,48 @@
+//! What a core method checks before it does anything: the number of arguments, then the block, then the classes of
+//! values, left to right.
+
+use def_core::Cause;
+use heap::Heap;
+use rb_value::{CoreClass, SymId, Value};
+use std::alloc::AllocError;
+
+/// Why a method can't take so many arguments, where it takes at least and at most so many; `None` stands for no bound.
+pub fn miscounted(given: usize, least: u64, most: Option<u64>) -> Option<Cause> {
+    let given = given as u64;
+    let within = match most {
+        Some(most) => given <= most,
+        None => true,
+    };
+    if given >= least && within {
+        None
+    } else {
+        Some(Cause::WrongCount { given, least, most })
+    }
+}
+
+/// The argument at a place; nil where there are fewer.
+pub fn argument(args: &[Value], place: usize) -> Value {
+    args.get(place).copied().unwrap_or(Value::Nil)
+}
+
+/// The number that a value is, or why it is none.
+pub fn integer(heap: &Heap, value: Value) -> Result<i64, Cause> {
+    match value {
+        Value::Int(number) => Ok(number),
+        other => Err(heap.refusal(CoreClass::Integer, other)),
+    }
+}
+
+/// The name that a Symbol or a String is, or why a value is none.
+pub fn name_in(heap: &mut Heap, value: Value) -> Result<Result<SymId, Cause>, AllocError> {
+    match value {
+        Value::Sym(name) => Ok(Ok(name)),
+        other => match heap.text_of(other) {
+            Some(text) => {
+                let text = Vec::from_slice(heap.alloc(), text)?;
+                Ok(Ok(heap.intern(&text)?))
+            }
+            None => Ok(Err(heap.refusal(CoreClass::Symbol, other))),
+        },
+    }
+}

@@ -1,0 +1,142 @@
+//! Changes of Arrays.
+ghost use Rattle.def_core.specs.Sound.{Sound, census};
+ghost use Rattle.rb_store.specs.Keeps.{Keeps};
+
+use crate::heap::Heap;
+use crate::testing::{are_own, array, own};
+use list_queue::Queue;
+use rb_store::Store;
+use rb_value::{ObjId, Value};
+use std::alloc::AllocError;
+
+/// Puts a value after the elements of an Array. Where memory runs out the Array is as before.
+#[tactic(auto, using(rb_store::proofs::Keeping::keeps_itself, def_core::proofs::Roles::is_within))]
+pub(crate) fn push(st: &mut Store, id: ObjId, value: Value) -> Result<(), AllocError>
+    requires sound { Sound st.old.store }
+    ensures keeps { Keeps st.old st.new }
+{
+    let value = own(st, value);
+    match array(st, id) {
+        Some(id) => st.push(id, value),
+        None => Ok(()),
+    }
+}
+
+/// Puts values after the elements of an Array. Where memory runs out the Array is as before.
+#[tactic(auto, using(rb_store::proofs::Keeping::keeps_itself, def_core::proofs::Roles::is_within))]
+pub(crate) fn append(st: &mut Store, id: ObjId, values: &[Value]) -> Result<(), AllocError>
+    requires sound { Sound st.old.store }
+    ensures keeps { Keeps st.old st.new }
+{
+    if !are_own(st, values) {
+        return Ok(());
+    }
+    match array(st, id) {
+        Some(id) => st.append(id, values),
+        None => Ok(()),
+    }
+}
+
+/// Takes the last element of an Array.
+#[tactic(auto, using(rb_store::proofs::Keeping::keeps_itself, def_core::proofs::Roles::is_within))]
+pub(crate) fn pop(st: &mut Store, id: ObjId) -> Option<Value>
+    requires sound { Sound st.old.store }
+    ensures keeps { Keeps st.old st.new }
+{
+    match array(st, id) {
+        Some(id) => st.pop(id),
+        None => None,
+    }
+}
+
+/// Takes the first element of an Array.
+#[tactic(auto, using(rb_store::proofs::Keeping::keeps_itself, def_core::proofs::Roles::is_within))]
+pub(crate) fn shift(st: &mut Store, id: ObjId) -> Option<Value>
+    requires sound { Sound st.old.store }
+    ensures keeps { Keeps st.old st.new }
+{
+    match array(st, id) {
+        Some(id) => st.shift(id),
+        None => None,
+    }
+}
+
+/// Puts a value before the elements of an Array. Where memory runs out the Array is as before.
+#[tactic(auto, using(rb_store::proofs::Keeping::keeps_itself, def_core::proofs::Roles::is_within))]
+pub(crate) fn unshift(st: &mut Store, id: ObjId, value: Value) -> Result<(), AllocError>
+    requires sound { Sound st.old.store }
+    ensures keeps { Keeps st.old st.new }
+{
+    let value = own(st, value);
+    match array(st, id) {
+        Some(id) => st.unshift(id, value),
+        None => Ok(()),
+    }
+}
+
+/// Puts a value in the place of an element of an Array, where there is one at that place.
+#[tactic(auto, using(rb_store::proofs::Keeping::keeps_itself, def_core::proofs::Roles::is_within))]
+pub(crate) fn set_element(st: &mut Store, id: ObjId, place: usize, value: Value)
+    requires sound { Sound st.old.store }
+    ensures keeps { Keeps st.old st.new }
+{
+    let value = own(st, value);
+    if let Some(id) = array(st, id) {
+        if place < st.elements(id).len() {
+            st.set_element(id, place, value);
+        }
+    }
+}
+
+/// Puts other elements in the place of all elements of an Array.
+#[tactic(auto, using(rb_store::proofs::Keeping::keeps_itself, def_core::proofs::Roles::is_within))]
+pub(crate) fn replace_elements(st: &mut Store, id: ObjId, elements: Vec<Value>)
+    requires sound { Sound st.old.store }
+    ensures keeps { Keeps st.old st.new }
+{
+    if !are_own(st, &elements) {
+        return;
+    }
+    if let Some(id) = array(st, id) {
+        let _before = st.replace_elements(id, Queue::from_vec(elements));
+    }
+}
+
+impl Heap {
+    /// Puts a value after the elements of an Array. Where memory runs out the Array is as before.
+    #[inline(always)]
+    pub fn push(&mut self, id: ObjId, value: Value) -> Result<(), AllocError> {
+        push(&mut self.st, id, value)
+    }
+
+    /// Puts values after the elements of an Array. Where memory runs out the Array is as before.
+    pub fn append(&mut self, id: ObjId, values: &[Value]) -> Result<(), AllocError> {
+        append(&mut self.st, id, values)
+    }
+
+    /// Takes the last element of an Array.
+    pub fn pop(&mut self, id: ObjId) -> Option<Value> {
+        pop(&mut self.st, id)
+    }
+
+    /// Takes the first element of an Array.
+    pub fn shift(&mut self, id: ObjId) -> Option<Value> {
+        shift(&mut self.st, id)
+    }
+
+    /// Puts a value before the elements of an Array. Where memory runs out the Array is as before.
+    pub fn unshift(&mut self, id: ObjId, value: Value) -> Result<(), AllocError> {
+        unshift(&mut self.st, id, value)
+    }
+
+    /// Puts a value in the place of an element of an Array, where there is one at that place.
+    #[inline(always)]
+    pub fn set_element(&mut self, id: ObjId, place: usize, value: Value) {
+        set_element(&mut self.st, id, place, value);
+    }
+
+    /// Puts other elements in the place of all elements of an Array.
+    pub fn replace_elements(&mut self, id: ObjId, elements: Vec<Value>) {
+        replace_elements(&mut self.st, id, elements);
+    }
+}

@@ -1,0 +1,145 @@
+//! Classes of values, and what is above them.
+
+ghost use Rattle.std.specs.Prelude.{◌≡◌};
+ghost use Rattle.def_core.specs.Classes.{empty_class};
+ghost use Rattle.def_core.specs.Sound.{Sound, census};
+ghost use Rattle.rb_store.specs.Keeps.{Keeps};
+
+use crate::heap::Heap;
+use crate::making::add;
+use crate::testing::{class_or_object, own, space};
+use class_model::{ancestors, superclass_of};
+use pair_table::PairTable;
+use rb_base::List;
+use rb_store::Store;
+use rb_value::{
+    Boxed, ClassContents, ClassForm, CoreClass, Kind, MethodTable, ObjId, Value, Visibility,
+};
+use std::alloc::{AllocError, Global};
+
+/// A class or module without a name, modules, constants and methods. It takes no memory.
+fn empty(alloc: Global, form: ClassForm, superclass: Option<ObjId>) -> ClassContents
+    ensures { result ≡ empty_class form superclass }
+{
+    ClassContents {
+        form,
+        name: None,
+        superclass,
+        included: List::new(alloc),
+        constants: PairTable::new(alloc),
+        visibility: Visibility::Public,
+        methods: MethodTable::new(alloc),
+    }
+}
+
+/// Makes a class without a name under a superclass, and Object where that is no class.
+#[tactic(auto, using(rb_store::proofs::Keeping::keeps_itself, crate::proofs::Fresh::class_under, def_core::proofs::Roles::class_is_superclass, def_core::proofs::Roles::is_within))]
+pub(crate) fn make_class(st: &mut Store, superclass: ObjId) -> Result<ObjId, AllocError>
+    requires sound { Sound st.old.store }
+    ensures keeps { Keeps st.old st.new }
+{
+    let superclass = class_or_object(st, superclass);
+    let of = class_or_object(st, st.class_object(CoreClass::Class));
+    let contents = empty(st.alloc(), ClassForm::Class, Some(superclass));
+    let kind = Kind::Class(Boxed::new(st.alloc(), contents)?);
+    add(st, of, kind)
+}
+
+/// Makes a class without a name and without a superclass.
+#[tactic(auto, using(rb_store::proofs::Keeping::keeps_itself, crate::proofs::Fresh::rootless_is))]
+pub(crate) fn make_root(st: &mut Store) -> Result<ObjId, AllocError>
+    requires sound { Sound st.old.store }
+    ensures keeps { Keeps st.old st.new }
+{
+    let of = class_or_object(st, st.class_object(CoreClass::Class));
+    let contents = empty(st.alloc(), ClassForm::Class, None);
+    let kind = Kind::Class(Boxed::new(st.alloc(), contents)?);
+    add(st, of, kind)
+}
+
+/// Makes a module without a name.
+#[tactic(auto, using(rb_store::proofs::Keeping::keeps_itself, crate::proofs::Fresh::module_is))]
+pub(crate) fn make_module(st: &mut Store) -> Result<ObjId, AllocError>
+    requires sound { Sound st.old.store }
+    ensures keeps { Keeps st.old st.new }
+{
+    let of = class_or_object(st, st.class_object(CoreClass::Module));
+    let contents = empty(st.alloc(), ClassForm::Module, None);
+    let kind = Kind::Class(Boxed::new(st.alloc(), contents)?);
+    add(st, of, kind)
+}
+
+impl Heap {
+    /// The class of a value, by which its methods are found: its singleton class, where it has one.
+    #[inline(always)]
+    pub fn class_of(&self, value: Value) -> ObjId {
+        class_model::class_of(&self.st, own(&self.st, value))
+    }
+
+    /// The class of a value, and no singleton class.
+    pub fn plain_class_of(&self, value: Value) -> ObjId {
+        class_model::plain_class_of(&self.st, own(&self.st, value))
+    }
+
+    /// The name of a class or module as texts show it.
+    pub fn class_name(&self, class: ObjId) -> &[u8] {
+        match space(&self.st, class) {
+            Some(class) => rb_raise::class_name(&self.st, class),
+            None => b"",
+        }
+    }
+
+    /// The class or module that a value is.
+    pub fn space_in(&self, value: Value) -> Option<ObjId> {
+        run_definitions::space_in(&self.st, own(&self.st, value))
+    }
+
+    /// Whether a class or module is among the ancestors of a class.
+    pub fn is_in_chain(&self, class: ObjId, other: ObjId) -> bool {
+        match space(&self.st, class) {
+            Some(class) => class_model::is_in_chain(&self.st, class, other),
+            None => false,
+        }
+    }
+
+    /// Whether a value is of a class or module: that is among the ancestors of its class.
+    pub fn is_a(&self, value: Value, other: ObjId) -> bool {
+        self.is_in_chain(self.class_of(value), other)
+    }
+
+    /// The superclass of a class.
+    pub fn superclass_of(&self, class: ObjId) -> Option<ObjId> {
+        superclass_of(&self.st, space(&self.st, class)?)
+    }
+
+    /// Whether a class is a core class or below it.
+    pub fn is_below(&self, class: ObjId, core: CoreClass) -> bool {
+        self.is_in_chain(class, self.class_object(core))
+    }
+
+    /// The ancestors of a class or module, the nearest first.
+    pub fn ancestors(&self, class: ObjId) -> Result<Vec<ObjId>, AllocError> {
+        let mut all = Vec::new(self.alloc());
+        if let Some(class) = space(&self.st, class) {
+            'ancestors: for id in ancestors(&self.st, class) {
+                all.push(id)?;
+            }
+        }
+        Ok(all)
+    }
+
+    /// Makes a class without a name under a superclass, and Object where that is no class.
+    pub fn make_class(&mut self, superclass: ObjId) -> Result<ObjId, AllocError> {
+        make_class(&mut self.st, superclass)
+    }
+
+    /// Makes a class without a name and without a superclass, as Object is one.
+    pub fn make_root(&mut self) -> Result<ObjId, AllocError> {
+        make_root(&mut self.st)
+    }
+
+    /// Makes a module without a name.
+    pub fn make_module(&mut self) -> Result<ObjId, AllocError> {
+        make_module(&mut self.st)
+    }
+}

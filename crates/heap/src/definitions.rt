@@ -1,0 +1,200 @@
+//! Definitions of methods, classes and modules.
+ghost use Rattle.def_core.specs.Sound.{Sound, census};
+ghost use Rattle.rb_store.specs.Keeps.{Keeps};
+
+use crate::heap::Heap;
+use crate::testing::{own, space, symbol};
+use rb_store::Store;
+use rb_value::{ObjId, SymId, Value};
+use run_values::Given;
+use std::alloc::AllocError;
+
+/// The symbol of a name, which is added where it isn't there.
+#[tactic(auto, using(rb_store::proofs::Keeping::keeps_itself))]
+pub(crate) fn intern(st: &mut Store, name: &[u8]) -> Result<SymId, AllocError>
+    requires sound { Sound st.old.store }
+    ensures keeps { Keeps st.old st.new }
+{
+    st.intern(name)
+}
+
+/// Defines a method of a class or module: a body of the program, by its number, with the list of classes around its
+/// text. It takes the default visibility, and its name is given.
+#[tactic(auto, using(rb_store::proofs::Keeping::keeps_itself))]
+pub(crate) fn define_method(
+    st: &mut Store,
+    class: ObjId,
+    name: SymId,
+    body: u32,
+    around: u64,
+) -> Result<Given, AllocError>
+    requires sound { Sound st.old.store }
+    ensures keeps { Keeps st.old st.new }
+{
+    let Some(class) = space(st, class) else {
+        return Ok(Given::Gives(Value::Nil));
+    };
+    match symbol(st, name) {
+        Some(name) => run_definitions::define_method(st, class, name, body, around),
+        None => Ok(Given::Gives(Value::Nil)),
+    }
+}
+
+/// Gives the singleton class of a value; a value that has none raises.
+#[tactic(auto, using(rb_store::proofs::Keeping::keeps_itself))]
+pub(crate) fn singleton_class(st: &mut Store, value: Value) -> Result<Given, AllocError>
+    requires sound { Sound st.old.store }
+    ensures keeps { Keeps st.old st.new }
+{
+    let value = own(st, value);
+    run_definitions::singleton_class(st, value)
+}
+
+/// Gives the class of that name in a scope, under a parent: the one that is there, or a new one. What can't be so
+/// raises.
+#[tactic(auto, using(rb_store::proofs::Keeping::keeps_itself))]
+pub(crate) fn open_class(
+    st: &mut Store,
+    scope: Value,
+    name: SymId,
+    parent: Value,
+) -> Result<Given, AllocError>
+    requires sound { Sound st.old.store }
+    ensures keeps { Keeps st.old st.new }
+{
+    let scope = own(st, scope);
+    let parent = own(st, parent);
+    match symbol(st, name) {
+        Some(name) => run_definitions::open_class(st, scope, name, parent),
+        None => Ok(Given::Gives(Value::Nil)),
+    }
+}
+
+/// Gives the module of that name in a scope: the one that is there, or a new one. What can't be so raises.
+#[tactic(auto, using(rb_store::proofs::Keeping::keeps_itself))]
+pub(crate) fn open_module(st: &mut Store, scope: Value, name: SymId) -> Result<Given, AllocError>
+    requires sound { Sound st.old.store }
+    ensures keeps { Keeps st.old st.new }
+{
+    let scope = own(st, scope);
+    match symbol(st, name) {
+        Some(name) => run_definitions::open_module(st, scope, name),
+        None => Ok(Given::Gives(Value::Nil)),
+    }
+}
+
+/// Gives a method that is found one more name in a class or module, with its visibility. A name that isn't found
+/// raises.
+#[tactic(auto, using(rb_store::proofs::Keeping::keeps_itself))]
+pub(crate) fn alias_method(
+    st: &mut Store,
+    class: ObjId,
+    alias: SymId,
+    name: SymId,
+) -> Result<Given, AllocError>
+    requires sound { Sound st.old.store }
+    ensures keeps { Keeps st.old st.new }
+{
+    let Some(class) = space(st, class) else {
+        return Ok(Given::Gives(Value::Nil));
+    };
+    let Some(alias) = symbol(st, alias) else {
+        return Ok(Given::Gives(Value::Nil));
+    };
+    match symbol(st, name) {
+        Some(name) => run_definitions::alias_method(st, class, alias, name),
+        None => Ok(Given::Gives(Value::Nil)),
+    }
+}
+
+/// Ends the search for a method in a class or module with nothing. A name that isn't found raises.
+#[tactic(auto, using(rb_store::proofs::Keeping::keeps_itself))]
+pub(crate) fn undefine_method(
+    st: &mut Store,
+    class: ObjId,
+    name: SymId,
+) -> Result<Given, AllocError>
+    requires sound { Sound st.old.store }
+    ensures keeps { Keeps st.old st.new }
+{
+    let Some(class) = space(st, class) else {
+        return Ok(Given::Gives(Value::Nil));
+    };
+    match symbol(st, name) {
+        Some(name) => run_definitions::undefine_method(st, class, name),
+        None => Ok(Given::Gives(Value::Nil)),
+    }
+}
+
+/// Takes a method out of the own list of a class or module, so that what stands above is found.
+#[tactic(auto, using(rb_store::proofs::Keeping::keeps_itself))]
+pub(crate) fn remove_method(st: &mut Store, class: ObjId, name: SymId) -> Result<(), AllocError>
+    requires sound { Sound st.old.store }
+    ensures keeps { Keeps st.old st.new }
+{
+    match space(st, class) {
+        Some(class) => run_definitions::remove_method(st, class, name),
+        None => Ok(()),
+    }
+}
+
+impl Heap {
+    /// The symbol of a name, which is added where it isn't there.
+    pub fn intern(&mut self, name: &[u8]) -> Result<SymId, AllocError> {
+        intern(&mut self.st, name)
+    }
+
+    /// Defines a method of a class or module: a body of the program, by its number, with the list of classes around its
+    /// text. It takes the default visibility, and its name is given.
+    pub fn define_method(
+        &mut self,
+        class: ObjId,
+        name: SymId,
+        body: u32,
+        around: u64,
+    ) -> Result<Given, AllocError> {
+        define_method(&mut self.st, class, name, body, around)
+    }
+
+    /// Gives the singleton class of a value; a value that has none raises.
+    pub fn singleton_class(&mut self, value: Value) -> Result<Given, AllocError> {
+        singleton_class(&mut self.st, value)
+    }
+
+    /// Gives the class of that name in a scope, under a parent: the one that is there, or a new one. What can't be so
+    /// raises.
+    pub fn open_class(
+        &mut self,
+        scope: Value,
+        name: SymId,
+        parent: Value,
+    ) -> Result<Given, AllocError> {
+        open_class(&mut self.st, scope, name, parent)
+    }
+
+    /// Gives the module of that name in a scope: the one that is there, or a new one. What can't be so raises.
+    pub fn open_module(&mut self, scope: Value, name: SymId) -> Result<Given, AllocError> {
+        open_module(&mut self.st, scope, name)
+    }
+
+    /// Gives a method that is found one more name in a class or module, with its visibility. A name that isn't found
+    /// raises.
+    pub fn alias_method(
+        &mut self,
+        class: ObjId,
+        alias: SymId,
+        name: SymId,
+    ) -> Result<Given, AllocError> {
+        alias_method(&mut self.st, class, alias, name)
+    }
+
+    /// Ends the search for a method in a class or module with nothing. A name that isn't found raises.
+    pub fn undefine_method(&mut self, class: ObjId, name: SymId) -> Result<Given, AllocError> {
+        undefine_method(&mut self.st, class, name)
+    }
+
+    /// Takes a method out of the own list of a class or module, so that what stands above is found.
+    pub fn remove_method(&mut self, class: ObjId, name: SymId) -> Result<(), AllocError> {
+        remove_method(&mut self.st, class, name)
+    }
+}

@@ -1,0 +1,72 @@
+//! The heap.
+ghost use Rattle.std.specs.Prelude.{◌≡◌, IfOk};
+
+use method_lookup::{Cache, new_cache};
+use rb_base::Steps;
+use rb_store::Store;
+use rb_value::{CoreClass, ObjId, Value};
+use run_definitions::EnclosingLists;
+use std::alloc::{AllocError, Global};
+use std::marker::Model;
+
+/// The store, the lists of enclosing classes, the cache of the search for methods, and how many classes and modules the
+/// searches asked.
+#[derive(Drop)]
+pub struct Heap {
+    pub(crate) st: Store,
+    pub(crate) lists: EnclosingLists,
+    pub(crate) cache: Cache,
+    pub(crate) steps: Steps,
+}
+
+impl Model for Heap {
+    ghost use Rattle.rb_store.specs.Held.{Held};
+
+    ghost Value = { Held };
+
+    ghost use Rattle.heap.specs.Whole.{IsWhole};
+
+    ghost view = { λ h. h.st };
+
+    ghost invariant = { λ h. IsWhole h.st h.lists h.cache };
+}
+
+impl Heap {
+    /// A heap with the core classes, the main object, and the core methods of the table of rows.
+    pub fn new(alloc: Global) -> Result<Heap, AllocError> {
+        Ok(Heap {
+            st: Store::new(alloc)?,
+            lists: EnclosingLists::new(alloc),
+            cache: new_cache(alloc),
+            steps: Steps::new(),
+        })
+    }
+
+    /// The allocator.
+    #[inline(always)]
+    pub fn alloc(&self) -> Global {
+        self.st.alloc()
+    }
+
+    /// The main object.
+    pub fn main_object(&self) -> Value {
+        Value::Obj(self.st.main_object())
+    }
+
+    /// The number of the object of a core class.
+    #[inline(always)]
+    pub fn class_object(&self, class: CoreClass) -> ObjId {
+        self.st.class_object(class)
+    }
+
+    /// The number of changes of classes and modules, which rises where one may find methods differently.
+    #[inline(always)]
+    pub fn changes(&self) -> u64 {
+        self.st.changes()
+    }
+
+    /// How many classes and modules the searches for methods asked.
+    pub fn probes(&self) -> u64 {
+        self.steps.count()
+    }
+}

@@ -1,0 +1,131 @@
+//! Changes of single facts of objects.
+ghost use Rattle.def_core.specs.Sound.{Sound, census};
+ghost use Rattle.rb_store.specs.Keeps.{Keeps};
+
+use crate::heap::Heap;
+use crate::testing::{exception, fiber, object, own, symbol};
+use rb_store::Store;
+use rb_value::{Kind, ObjId, SymId, Value};
+use run_values::Given;
+use std::alloc::AllocError;
+
+/// The message and the detail of an exception; nil of another object.
+#[tactic(auto, using(def_core::proofs::Roles::is_within))]
+fn held(st: &Store, id: ObjId) -> (Value, Value) {
+    match object(st, id) {
+        Some(id) => match st.get(id).kind() {
+            Kind::Exception { message, detail } => (*message, *detail),
+            _ => (Value::Nil, Value::Nil),
+        },
+        None => (Value::Nil, Value::Nil),
+    }
+}
+
+/// Sets an instance variable of a value, and gives what it is set to; a value that can have none raises.
+#[tactic(auto, using(rb_store::proofs::Keeping::keeps_itself))]
+pub(crate) fn set_instance_variable(
+    st: &mut Store,
+    receiver: Value,
+    name: SymId,
+    value: Value,
+) -> Result<Given, AllocError>
+    requires sound { Sound st.old.store }
+    ensures keeps { Keeps st.old st.new }
+{
+    let receiver = own(st, receiver);
+    let value = own(st, value);
+    match symbol(st, name) {
+        Some(name) => run_values::set_instance_variable(st, receiver, name, value),
+        None => Ok(Given::Gives(Value::Nil)),
+    }
+}
+
+/// Gives an exception another message.
+#[tactic(auto, using(rb_store::proofs::Keeping::keeps_itself))]
+pub(crate) fn set_message(st: &mut Store, id: ObjId, message: Value)
+    requires sound { Sound st.old.store }
+    ensures keeps { Keeps st.old st.new }
+{
+    let message = own(st, message);
+    let detail = own(st, held(st, id).1);
+    if let Some(id) = exception(st, id) {
+        let _before = st.put_kind(id, Kind::Exception { message, detail });
+    }
+}
+
+/// Gives an exception another detail: the name of a NameError, the status of a SystemExit, the result of a
+/// StopIteration.
+#[tactic(auto, using(rb_store::proofs::Keeping::keeps_itself))]
+pub(crate) fn set_detail(st: &mut Store, id: ObjId, detail: Value)
+    requires sound { Sound st.old.store }
+    ensures keeps { Keeps st.old st.new }
+{
+    let message = own(st, held(st, id).0);
+    let detail = own(st, detail);
+    if let Some(id) = exception(st, id) {
+        let _before = st.put_kind(id, Kind::Exception { message, detail });
+    }
+}
+
+/// Notes that a Proc was the block of a call that opened that activation, or none. Only the first call counts.
+#[tactic(auto, using(rb_store::proofs::Keeping::keeps_itself, def_core::proofs::Roles::is_within))]
+pub(crate) fn send_proc(st: &mut Store, id: ObjId, activation: Option<u64>)
+    requires sound { Sound st.old.store }
+    ensures keeps { Keeps st.old st.new }
+{
+    if let Some(id) = object(st, id) {
+        st.send_proc(id, activation);
+    }
+}
+
+/// Notes that a fiber has ended.
+#[tactic(auto, using(rb_store::proofs::Keeping::keeps_itself, def_core::proofs::Roles::is_within))]
+pub(crate) fn end_fiber(st: &mut Store, id: ObjId)
+    requires sound { Sound st.old.store }
+    ensures keeps { Keeps st.old st.new }
+{
+    if let Some(id) = fiber(st, id) {
+        st.end_fiber(id);
+    }
+}
+
+impl Heap {
+    /// The value of an instance variable of a value; nil where it wasn't set.
+    #[inline(always)]
+    pub fn instance_variable(&self, receiver: Value, name: SymId) -> Value {
+        run_values::instance_variable(&self.st, own(&self.st, receiver), name)
+    }
+
+    /// Sets an instance variable of a value, and gives what it is set to; a value that can have none raises.
+    #[inline(always)]
+    pub fn set_instance_variable(
+        &mut self,
+        receiver: Value,
+        name: SymId,
+        value: Value,
+    ) -> Result<Given, AllocError> {
+        set_instance_variable(&mut self.st, receiver, name, value)
+    }
+
+    /// Gives an exception another message.
+    pub fn set_message(&mut self, id: ObjId, message: Value) {
+        set_message(&mut self.st, id, message);
+    }
+
+    /// Gives an exception another detail: the name of a NameError, the status of a SystemExit, the result of a
+    /// StopIteration.
+    pub fn set_detail(&mut self, id: ObjId, detail: Value) {
+        set_detail(&mut self.st, id, detail);
+    }
+
+    /// Notes that a Proc was the block of a call that opened that activation, or none. Only the first call counts.
+    #[inline(always)]
+    pub fn send_proc(&mut self, id: ObjId, activation: Option<u64>) {
+        send_proc(&mut self.st, id, activation);
+    }
+
+    /// Notes that a fiber has ended.
+    pub fn end_fiber(&mut self, id: ObjId) {
+        end_fiber(&mut self.st, id);
+    }
+}

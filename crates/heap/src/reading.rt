@@ -1,0 +1,234 @@
+//! What objects hold.
+
+use crate::heap::Heap;
+use crate::testing::{object, own, symbol};
+use rb_value::{
+    EnumeratorContents, HashItem, Key, Kind, ObjId, ProcContents, RangeContents, Sort, SymId,
+    Value, Variable,
+};
+
+impl Heap {
+    /// What an object holds.
+    #[inline(always)]
+    #[tactic(auto, using(def_core::proofs::Roles::is_within))]
+    pub fn kind(&self, id: ObjId) -> Option<&Kind> {
+        let id = object(&self.st, id)?;
+        Some(self.st.get(id).kind())
+    }
+
+    /// What sort of object a value is.
+    #[inline(always)]
+    pub fn sort(&self, value: Value) -> Option<Sort> {
+        match value {
+            Value::Obj(id) => Some(self.kind(id)?.sort()),
+            _ => None,
+        }
+    }
+
+    /// The object that a value is, where it is of that sort.
+    #[inline(always)]
+    fn of_sort(&self, value: Value, sort: Sort) -> Option<ObjId> {
+        match value {
+            Value::Obj(id) => if self.kind(id)?.sort() == sort {
+                Some(id)
+            } else {
+                None
+            },
+            _ => None,
+        }
+    }
+
+    /// The Array that a value is.
+    #[inline(always)]
+    pub fn an_array(&self, value: Value) -> Option<ObjId> {
+        self.of_sort(value, Sort::Array)
+    }
+
+    /// The String that a value is.
+    #[inline(always)]
+    pub fn a_string(&self, value: Value) -> Option<ObjId> {
+        self.of_sort(value, Sort::String)
+    }
+
+    /// The Hash that a value is.
+    #[inline(always)]
+    pub fn a_hash(&self, value: Value) -> Option<ObjId> {
+        self.of_sort(value, Sort::Hash)
+    }
+
+    /// The Proc that a value is.
+    #[inline(always)]
+    pub fn a_proc(&self, value: Value) -> Option<ObjId> {
+        self.of_sort(value, Sort::Proc)
+    }
+
+    /// The fiber that a value is.
+    pub fn a_fiber(&self, value: Value) -> Option<ObjId> {
+        self.of_sort(value, Sort::Fiber)
+    }
+
+    /// The exception that a value is.
+    pub fn an_exception(&self, value: Value) -> Option<ObjId> {
+        self.of_sort(value, Sort::Exception)
+    }
+
+    /// The elements of an Array; none of another object.
+    #[inline(always)]
+    #[tactic(auto, using(def_core::proofs::Roles::is_within))]
+    pub fn elements(&self, id: ObjId) -> &[Value] {
+        match object(&self.st, id) {
+            Some(id) => self.st.elements(id),
+            None => &[],
+        }
+    }
+
+    /// The elements of an Array.
+    pub fn elements_of(&self, value: Value) -> Option<&[Value]> {
+        let id = self.an_array(value)?;
+        Some(self.elements(id))
+    }
+
+    /// The bytes of a String; none of another object.
+    #[tactic(auto, using(def_core::proofs::Roles::is_within))]
+    pub fn text(&self, id: ObjId) -> &[u8] {
+        match object(&self.st, id) {
+            Some(id) => self.st.text(id),
+            None => &[],
+        }
+    }
+
+    /// The bytes of a String.
+    pub fn text_of(&self, value: Value) -> Option<&[u8]> {
+        let id = self.a_string(value)?;
+        Some(self.text(id))
+    }
+
+    /// How many symbols there are.
+    pub fn symbol_count(&self) -> u64 {
+        self.st.symbol_count()
+    }
+
+    /// The name of a symbol.
+    #[tactic(auto)]
+    pub fn symbol_name(&self, name: SymId) -> &[u8] {
+        match symbol(&self.st, name) {
+            Some(name) => self.st.symbol_name(name),
+            None => b"",
+        }
+    }
+
+    /// The ends of a Range.
+    pub fn range_of(&self, value: Value) -> Option<RangeContents> {
+        let Value::Obj(id) = value else {
+            return None;
+        };
+        match self.kind(id)? {
+            Kind::Range(contents) => Some(*contents),
+            _ => None,
+        }
+    }
+
+    /// What a Proc with a body holds.
+    #[inline(always)]
+    pub fn proc_of(&self, id: ObjId) -> Option<&ProcContents> {
+        match self.kind(id)? {
+            Kind::Proc(contents) => Some(contents.get()),
+            _ => None,
+        }
+    }
+
+    /// The row that a call of a Proc without a body enters, and the value that it keeps.
+    pub fn core_proc_of(&self, id: ObjId) -> Option<(u16, Value)> {
+        match self.kind(id)? {
+            Kind::CoreProc { row, kept } => Some((*row, own(&self.st, *kept))),
+            _ => None,
+        }
+    }
+
+    /// The Proc that a fiber runs, and whether it has ended.
+    pub fn fiber_of(&self, id: ObjId) -> Option<(ObjId, bool)> {
+        match self.kind(id)? {
+            Kind::Fiber { block, ended } => Some((*block, *ended)),
+            _ => None,
+        }
+    }
+
+    /// The message of an exception; nil of another object.
+    pub fn message_of(&self, id: ObjId) -> Value {
+        match self.kind(id) {
+            Some(Kind::Exception { message, detail: _ }) => *message,
+            _ => Value::Nil,
+        }
+    }
+
+    /// The name, status or result that an exception has; nil of another object.
+    pub fn detail_of(&self, id: ObjId) -> Value {
+        match self.kind(id) {
+            Some(Kind::Exception { message: _, detail }) => *detail,
+            _ => Value::Nil,
+        }
+    }
+
+    /// What an Enumerator holds.
+    pub fn enumerator_of(&self, id: ObjId) -> Option<&EnumeratorContents> {
+        match self.kind(id)? {
+            Kind::Enumerator(contents) => Some(contents.get()),
+            _ => None,
+        }
+    }
+
+    /// The Proc that a Yielder gives its items to.
+    pub fn yielder_of(&self, id: ObjId) -> Option<ObjId> {
+        match self.kind(id)? {
+            Kind::Yielder { block } => Some(*block),
+            _ => None,
+        }
+    }
+
+    /// How many pairs a Hash has; none of another object.
+    #[tactic(auto, using(def_core::proofs::Roles::is_within))]
+    pub fn pair_count(&self, id: ObjId) -> usize {
+        match object(&self.st, id) {
+            Some(id) => self.st.pair_count(id),
+            None => 0,
+        }
+    }
+
+    /// The pair at a place of a Hash.
+    #[tactic(auto, using(def_core::proofs::Roles::is_within))]
+    pub fn pair_at(&self, id: ObjId, place: usize) -> Option<HashItem> {
+        let id = object(&self.st, id)?;
+        self.st.pair_at(id, place)
+    }
+
+    /// What stands under a key of a Hash.
+    #[tactic(auto, using(def_core::proofs::Roles::is_within))]
+    pub fn pair(&self, id: ObjId, key: &Key) -> Option<HashItem> {
+        let id = object(&self.st, id)?;
+        self.st.pair(id, key)
+    }
+
+    /// What an absent key of a Hash gives, and the Proc that is called for it.
+    pub fn absent_of(&self, id: ObjId) -> (Value, Option<ObjId>) {
+        match self.kind(id) {
+            Some(Kind::Hash(contents)) => (contents.get().default, contents.get().block),
+            _ => (Value::Nil, None),
+        }
+    }
+
+    /// The instance variables of an object, in the order in which they were first set.
+    #[tactic(auto, using(def_core::proofs::Roles::is_within))]
+    pub fn variables(&self, id: ObjId) -> &[Variable] {
+        match object(&self.st, id) {
+            Some(id) => self.st.get(id).variables(),
+            None => &[],
+        }
+    }
+
+    /// The value of an instance variable of an object, where it was set.
+    #[tactic(auto, using(def_core::proofs::Roles::is_within))]
+    pub fn variable(&self, id: ObjId, name: SymId) -> Option<Value> {
+        let id = object(&self.st, id)?;
+        self.st.variable(id, name)
+    }
+}

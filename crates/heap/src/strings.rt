@@ -1,0 +1,45 @@
+//! Changes of Strings.
+ghost use Rattle.def_core.specs.Sound.{Sound, census};
+ghost use Rattle.rb_store.specs.Keeps.{Keeps};
+
+use crate::heap::Heap;
+use crate::testing::string;
+use rb_base::Bytes;
+use rb_store::Store;
+use rb_value::ObjId;
+use std::alloc::AllocError;
+
+/// Puts bytes after those of a String. Where memory runs out the String is as before.
+#[tactic(auto, using(rb_store::proofs::Keeping::keeps_itself, def_core::proofs::Roles::is_within))]
+pub(crate) fn append_bytes(st: &mut Store, id: ObjId, more: &[u8]) -> Result<(), AllocError>
+    requires sound { Sound st.old.store }
+    ensures keeps { Keeps st.old st.new }
+{
+    match string(st, id) {
+        Some(id) => st.append_bytes(id, more),
+        None => Ok(()),
+    }
+}
+
+/// Puts other bytes in the place of all bytes of a String.
+#[tactic(auto, using(rb_store::proofs::Keeping::keeps_itself, def_core::proofs::Roles::is_within))]
+pub(crate) fn replace_text(st: &mut Store, id: ObjId, bytes: Vec<u8>)
+    requires sound { Sound st.old.store }
+    ensures keeps { Keeps st.old st.new }
+{
+    if let Some(id) = string(st, id) {
+        let _before = st.replace_text(id, Bytes::from_vec(bytes));
+    }
+}
+
+impl Heap {
+    /// Puts bytes after those of a String. Where memory runs out the String is as before.
+    pub fn append_bytes(&mut self, id: ObjId, more: &[u8]) -> Result<(), AllocError> {
+        append_bytes(&mut self.st, id, more)
+    }
+
+    /// Puts other bytes in the place of all bytes of a String.
+    pub fn replace_text(&mut self, id: ObjId, bytes: Vec<u8>) {
+        replace_text(&mut self.st, id, bytes);
+    }
+}

@@ -1,0 +1,5 @@
+pub mod Paths
+pub mod Among
+pub mod Outcomes
+pub mod Renamed
+pub mod Removed

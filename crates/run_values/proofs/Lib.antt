@@ -1,0 +1,10 @@
+pub mod Answered
+pub mod Causes
+pub mod Members
+pub mod Made
+pub mod Strings
+pub mod Splatting
+pub mod Finishing
+pub mod RangeMade
+pub mod Joining
+pub mod Steps

@@ -1,0 +1,4 @@
+pub mod Answers
+pub mod Raisable
+pub mod Splats
+pub mod Levels
