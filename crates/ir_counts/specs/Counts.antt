@@ -1,6 +1,6 @@
 -- The counts of a body.
 use Rattle.std.specs.Prelude.{ℕ, ◌+◌, ◌*◌, max, List, [], ◌∷◌, length, map}
-use Rattle.ir_core.specs.CoreForm.{Body, body, form_of}
+use Rattle.ir_core.specs.CoreForm.{CoreForm, Body, body, form_of}
 use Rattle.ir_counts.specs.Bodies.{bodies}
 use Rattle.ir_counts.specs.Tally.{tallied, no_form}
 use Rattle.ir_walk.specs.Walk.{walked}
@@ -25,8 +25,12 @@ abbrev pub text_bytes : ℕ → List (List ℕ) → ℕ
 text_bytes n [] = n
 text_bytes n (x ∷ xs) = text_bytes (n + (8 + length x)) xs
 
+-- the tally of a body with this form
+abbrev pub form_tally : CoreForm → Tally
+form_tally f = tallied no_form (walked extent.Body [] f)
+
 abbrev pub tally : Body → Tally
-tally b = tallied no_form (walked extent.Body [] (form_of b))
+tally b = form_tally (form_of b)
 
 abbrev pub registers_of : Body → Tally → ℕ
 registers_of b t = 2 + parameter_count b + local_count b + t.hidden + width (form_of b)

@@ -1,11 +1,11 @@
 //! The counts of a body.
 ghost use Rattle.std.specs.Prelude.{◌≡◌, length, IfOk};
-ghost use Rattle.ir_core.specs.View.{body_view, maybe_local};
+ghost use Rattle.ir_core.specs.View.{body_view, maybe_local, term_view};
 ghost use Rattle.ir_counts.specs.Counts as spec;
 ghost use Rattle.text_set.specs.Sets.{texts as shown};
 
 use crate::tally::{Tally, tally_of};
-use ir_core::{Body, Core, Local};
+use ir_core::{Body, Core, Local, Term};
 use ir_walk::sums::{add, scaled, scaled_by};
 use ir_walk::{Extent, Measured, Walked};
 use std::alloc::{AllocError, Global};
@@ -83,11 +83,12 @@ fn byte_count(code: u64, tally: &Tally) -> Result<u64, AllocError>
     text_bytes(texts, tally.symbols.as_slice())
 }
 
-fn own_tally<'a>(alloc: Global, body: &'a Body<Core>) -> Result<Tally<'a>, AllocError>
-    ensures { IfOk result (λ t. t ≡ spec.tally (body_view body.now)) }
+/// The tally of a body with this form.
+pub fn form_tally<'a>(alloc: Global, form: &'a Term) -> Result<Tally<'a>, AllocError>
+    ensures { IfOk result (λ t. t ≡ spec.form_tally (term_view form.now)) }
 {
     let mut steps = Vec::new(alloc);
-    body.form.walk(Extent::Body, &mut steps)?;
+    form.walk(Extent::Body, &mut steps)?;
     tally_of(alloc, &steps)
 }
 
@@ -137,6 +138,6 @@ fn counts_from(alloc: Global, body: &Body<Core>, tally: &Tally) -> Result<Counts
 pub fn counts_of(alloc: Global, body: &Body<Core>) -> Result<Counts, AllocError>
     ensures { IfOk result (λ c. c ≡ spec.counts (body_view body.now)) }
 {
-    let tally = own_tally(alloc, body)?;
+    let tally = form_tally(alloc, &*body.form)?;
     counts_from(alloc, body, &tally)
 }

@@ -17,7 +17,9 @@ mod names;
 mod shares;
 mod tally;
 
+pub use counts::form_tally;
 pub use excess::{Excess, first_past_limit};
+pub use tally::Tally;
 
 #[cfg(test)]
 mod tests;

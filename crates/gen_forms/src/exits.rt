@@ -1,0 +1,77 @@
+//! What leaves a body or a loop.
+
+use crate::context::{Context, Loop};
+use crate::emits::{Emits, Emitted};
+use gen_parts::{Emitter, Line};
+use rite_code::Operation;
+use scope_resolver::BodyKind;
+
+/// The instruction of a return: in a block it leaves another activation.
+fn return_by(kind: BodyKind, a: u16) -> Operation {
+    match kind {
+        BodyKind::Block => Operation::ReturnBlk { a },
+        BodyKind::Main | BodyKind::Method | BodyKind::Class => Operation::Return { a },
+    }
+}
+
+/// What a break does once its value is there.
+fn break_by(code: &mut Emitter, around: Option<Loop>, a: u16) -> Emitted {
+    match around {
+        Some(around) => {
+            code.does(Operation::Move {
+                a: around.value,
+                b: a,
+            })?;
+            code.put(Line::Leave { to: around.out })
+        }
+        None => code.does(Operation::Break { a }),
+    }
+}
+
+/// What a next does once its value is there.
+fn next_by(code: &mut Emitter, around: Option<Loop>, a: u16) -> Emitted {
+    match around {
+        Some(around) => code.put(Line::Leave { to: around.round }),
+        None => code.does(Operation::Return { a }),
+    }
+}
+
+/// A return: from the method around, which in a block is another activation.
+pub fn return_value<'s, T: Emits>(
+    code: &mut Emitter,
+    context: &Context<'_, 's>,
+    a: u16,
+    value: &'s Box<T>,
+) -> Emitted {
+    value.emit(code, context, a)?;
+    code.does(return_by(context.kind, a))
+}
+
+/// A break: out of the loop around, or of the call that the block was given to.
+pub fn break_with<'s, T: Emits>(
+    code: &mut Emitter,
+    context: &Context<'_, 's>,
+    a: u16,
+    value: &'s Box<T>,
+) -> Emitted {
+    value.emit(code, context, a)?;
+    break_by(code, context.around, a)
+}
+
+/// A next: to the next round of the loop around, or to the end of the block.
+pub fn next_with<'s, T: Emits>(
+    code: &mut Emitter,
+    context: &Context<'_, 's>,
+    a: u16,
+    value: &'s Box<T>,
+) -> Emitted {
+    value.emit(code, context, a)?;
+    next_by(code, context.around, a)
+}
+
+/// A retry: to the beginning of the body that the clause is of.
+pub fn retry(code: &mut Emitter, context: &Context, a: u16) -> Emitted {
+    code.put(Line::Leave {
+        to: context.body_start,
+    })
+}

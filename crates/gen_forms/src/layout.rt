@@ -1,0 +1,86 @@
+//! What a body says besides its code: its registers, its constant pool and its symbols.
+
+use crate::numbers::operand;
+use gen_parts::Head;
+use ir_core::Parameters;
+use ir_counts::Tally;
+use ir_walk::sums::{add, scaled_by};
+use rb_base::{Bytes, List};
+use rite_code::PoolItem;
+use scope_resolver::{Scope, slot_count};
+use std::alloc::{AllocError, Global};
+
+/// The most that a narrow jump passes over.
+const NARROW: u64 = 32767;
+
+/// The first register of a body's form, and what the body says before its code.
+#[derive(Clone, Copy, Debug, PartialEq, Eq)]
+pub struct Layout {
+    pub first: u16,
+    pub head: Head,
+}
+
+/// How many parameters there are, besides a named block.
+fn parameter_count(parameters: &Parameters) -> Result<u64, AllocError> {
+    let required = parameters.required.len() as u64;
+    let optional = parameters.optional.len() as u64;
+    let rest = if parameters.rest.is_some() { 1 } else { 0 };
+    let front = add(add(required, optional)?, rest)?;
+    add(front, parameters.post.len() as u64)
+}
+
+/// The count of the bytes of a body's code.
+fn code_count(parameters: &Parameters, tally: &Tally) -> Result<u64, AllocError> {
+    add(scaled_by(16, 32, parameter_count(parameters)?)?, tally.code)
+}
+
+/// The layout of a body with that tally, whose form takes so many registers.
+pub fn layout_of(scope: &Scope, tally: &Tally, width: u64) -> Result<Layout, AllocError> {
+    let locals = add(1, slot_count(scope)?)?;
+    let first = add(locals, tally.hidden)?;
+    let registers = add(first, width)?;
+    Ok(Layout {
+        first: operand(first)?,
+        head: Head {
+            locals: operand(locals)?,
+            registers: operand(registers)?,
+            wide: NARROW < code_count(scope.parameters, tally)?,
+        },
+    })
+}
+
+fn add_integers(items: &mut Vec<PoolItem>, integers: &[i64]) -> Result<(), AllocError> {
+    for integer in integers {
+        items.push(PoolItem::Int(*integer))?;
+    }
+    Ok(())
+}
+
+fn add_texts(alloc: Global, items: &mut Vec<PoolItem>, texts: &[&[u8]]) -> Result<(), AllocError> {
+    for text in texts {
+        items.push(PoolItem::Text(Bytes::from_slice(alloc, *text)?))?;
+    }
+    Ok(())
+}
+
+/// The constant pool of a body: its integers, then its texts.
+pub fn constant_pool(alloc: Global, tally: &Tally) -> Result<List<PoolItem>, AllocError> {
+    let mut items = Vec::new(alloc);
+    add_integers(&mut items, tally.integers.as_slice())?;
+    add_texts(alloc, &mut items, tally.texts.as_slice())?;
+    Ok(List::from_vec(items))
+}
+
+fn add_names(alloc: Global, names: &mut Vec<Bytes>, symbols: &[&[u8]]) -> Result<(), AllocError> {
+    for symbol in symbols {
+        names.push(Bytes::from_slice(alloc, *symbol)?)?;
+    }
+    Ok(())
+}
+
+/// The symbols of a body.
+pub fn symbol_list(alloc: Global, tally: &Tally) -> Result<List<Bytes>, AllocError> {
+    let mut names = Vec::new(alloc);
+    add_names(alloc, &mut names, tally.symbols.as_slice())?;
+    Ok(List::from_vec(names))
+}
