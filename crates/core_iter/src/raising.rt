@@ -1,0 +1,54 @@
+//! `raise`.
+
+use crate::iteration::Iteration;
+use crate::sending::send_named;
+use def_core::Cause;
+use rb_value::{CoreClass, Sort, Value};
+use run_rows::core_calls::Plan;
+use run_rows::heap::Heap;
+use std::alloc::AllocError;
+
+/// Raises a RuntimeError with a String as its message.
+fn raise_text(heap: &mut Heap, text: Value) -> Result<Plan<Iteration>, AllocError> {
+    let class = heap.class_object(CoreClass::RuntimeError);
+    let id = heap.make_exception(class, text, Value::Nil)?;
+    Ok(Plan::Raises(id))
+}
+
+/// Raises a String or an exception, to which no more arguments go.
+fn raise_object(
+    heap: &mut Heap,
+    raised: Value,
+    more: &[Value],
+) -> Result<Plan<Iteration>, AllocError> {
+    if !more.is_empty() {
+        return Ok(Plan::Fails(Cause::NotException));
+    }
+    match heap.sort(raised) {
+        Some(Sort::Exception) => Ok(raise_made(heap, raised)),
+        Some(Sort::String) => raise_text(heap, raised),
+        _ => Ok(Plan::Fails(Cause::NotException)),
+    }
+}
+
+/// Begins `raise` with its arguments; without any a RuntimeError is raised.
+pub(crate) fn raise_all(heap: &mut Heap, args: &[Value]) -> Result<Plan<Iteration>, AllocError> {
+    let [first, more @ ..] = args else {
+        return Ok(Plan::Fails(Cause::Unhandled));
+    };
+    match heap.sort(*first) {
+        Some(Sort::Class | Sort::Singleton) => {
+            let more = Vec::from_slice(heap.alloc(), more)?;
+            send_named(heap, Iteration::Raising, *first, b"new", more, None)
+        }
+        _ => raise_object(heap, *first, more),
+    }
+}
+
+/// Raises an exception, such as a class made.
+pub(crate) fn raise_made(heap: &Heap, made: Value) -> Plan<Iteration> {
+    match heap.an_exception(made) {
+        Some(id) => Plan::Raises(id),
+        None => Plan::Fails(Cause::NotException),
+    }
+}

@@ -1,0 +1,160 @@
+//! Calls of methods and Procs.
+
+use crate::iteration::Iteration;
+use def_core::Cause;
+use rb_value::{CoreClass, ObjId, Value};
+use run_rows::core_calls::{Beat, Call, Passed, Plan, argument, name_in};
+use run_rows::heap::Heap;
+use std::alloc::AllocError;
+
+/// Fails since a value isn't of the class that is wanted.
+pub(crate) fn refuse(heap: &Heap, class: CoreClass, value: Value) -> Plan<Iteration> {
+    Plan::Fails(heap.refusal(class, value))
+}
+
+/// Calls a method by a name of the language, with these arguments and that block.
+pub(crate) fn send_named(
+    heap: &mut Heap,
+    then: Iteration,
+    receiver: Value,
+    name: &[u8],
+    args: Vec<Value>,
+    block: Option<ObjId>,
+) -> Result<Plan<Iteration>, AllocError> {
+    let name = heap.intern(name)?;
+    Ok(Plan::Sends {
+        then,
+        receiver,
+        name,
+        args,
+        block,
+        public: false,
+    })
+}
+
+/// Asks a value for what a method without arguments gives.
+pub(crate) fn ask(
+    heap: &mut Heap,
+    then: Iteration,
+    receiver: Value,
+    name: &[u8],
+) -> Result<Plan<Iteration>, AllocError> {
+    let args = Vec::new(heap.alloc());
+    send_named(heap, then, receiver, name, args, None)
+}
+
+/// Calls a block, and goes on then.
+pub(crate) fn call_beat(
+    heap: &Heap,
+    then: Iteration,
+    beat: Beat,
+) -> Result<Plan<Iteration>, AllocError> {
+    Ok(Plan::Calls {
+        then,
+        callee: beat.callee,
+        args: beat.passed.args(heap.alloc())?,
+        block: None,
+    })
+}
+
+/// Calls a Proc with one value.
+pub(crate) fn call_with(
+    heap: &Heap,
+    then: Iteration,
+    callee: ObjId,
+    value: Value,
+) -> Result<Plan<Iteration>, AllocError> {
+    let passed = Passed::One(value);
+    call_beat(heap, then, Beat { callee, passed })
+}
+
+/// The arguments behind the first.
+fn behind_first(args: &[Value]) -> &[Value] {
+    match args {
+        [_, more @ ..] => more,
+        [] => &[],
+    }
+}
+
+/// Calls the method whose name a Symbol or a String is.
+fn send_to(
+    heap: &mut Heap,
+    receiver: Value,
+    name: Value,
+    call: Call<'_>,
+    public: bool,
+) -> Result<Plan<Iteration>, AllocError> {
+    match name_in(heap, name)? {
+        Ok(name) => Ok(Plan::Sends {
+            then: Iteration::Handing,
+            receiver,
+            name,
+            args: Vec::from_slice(heap.alloc(), behind_first(call.args))?,
+            block: call.block,
+            public,
+        }),
+        Err(cause) => Ok(Plan::Fails(cause)),
+    }
+}
+
+/// Begins `send`, where the first argument is the name.
+pub(crate) fn begin_send(
+    heap: &mut Heap,
+    call: Call<'_>,
+    public: bool,
+) -> Result<Plan<Iteration>, AllocError> {
+    send_to(heap, call.receiver, argument(call.args, 0), call, public)
+}
+
+/// Begins to send the kept name to the first argument.
+pub(crate) fn begin_kept(heap: &mut Heap, call: Call<'_>) -> Result<Plan<Iteration>, AllocError> {
+    send_to(heap, argument(call.args, 0), call.receiver, call, false)
+}
+
+/// Calls a Proc without arguments, again and again.
+pub(crate) fn loop_next(heap: &Heap, block: ObjId) -> Plan<Iteration> {
+    Plan::Calls {
+        then: Iteration::Looping(block),
+        callee: block,
+        args: Vec::new(heap.alloc()),
+        block: None,
+    }
+}
+
+/// Begins the call of a Proc.
+pub(crate) fn begin_call(heap: &Heap, call: Call<'_>) -> Result<Plan<Iteration>, AllocError> {
+    match heap.a_proc(call.receiver) {
+        Some(callee) => Ok(Plan::Calls {
+            then: Iteration::Handing,
+            callee,
+            args: Vec::from_slice(heap.alloc(), call.args)?,
+            block: call.block,
+        }),
+        None => Ok(refuse(heap, CoreClass::Proc, call.receiver)),
+    }
+}
+
+/// Begins to resume a fiber.
+pub(crate) fn begin_resume(heap: &Heap, call: Call<'_>) -> Result<Plan<Iteration>, AllocError> {
+    match heap.a_fiber(call.receiver) {
+        Some(fiber) => Ok(Plan::Resumes {
+            then: Iteration::Handing,
+            fiber,
+            args: Vec::from_slice(heap.alloc(), call.args)?,
+        }),
+        None => Ok(refuse(heap, CoreClass::Fiber, call.receiver)),
+    }
+}
+
+/// Yields the arguments to what resumed the fiber.
+pub(crate) fn begin_yield(heap: &Heap, args: &[Value]) -> Result<Plan<Iteration>, AllocError> {
+    Ok(Plan::Yields {
+        then: Iteration::Handing,
+        args: Vec::from_slice(heap.alloc(), args)?,
+    })
+}
+
+/// Fails since a block is wanted and none is given.
+pub(crate) fn blockless() -> Plan<Iteration> {
+    Plan::Fails(Cause::NoBlockGiven)
+}

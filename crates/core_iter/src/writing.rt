@@ -1,0 +1,127 @@
+//! `puts`, `print` and `p`.
+
+use crate::flattening::flattened;
+use crate::iteration::{Iteration, Rest};
+use crate::sending::ask;
+use def_core::Cause;
+use rb_value::Value;
+use run_rows::core_calls::Plan;
+use run_rows::heap::Heap;
+use std::alloc::AllocError;
+
+/// The arguments as values of which none is passed.
+pub(crate) fn all_of(heap: &Heap, args: &[Value]) -> Result<Rest, AllocError> {
+    Ok(Rest {
+        values: Vec::from_slice(heap.alloc(), args)?,
+        place: 0,
+    })
+}
+
+/// Ends a line with one newline.
+fn end_line(text: &mut Vec<u8>) -> Result<(), AllocError> {
+    if text.last().copied() == Some(b'\n') {
+        return Ok(());
+    }
+    text.push(b'\n')?;
+    Ok(())
+}
+
+/// Writes an empty line, and goes on with the rest.
+fn empty_line(heap: &Heap, rest: Rest) -> Result<Plan<Iteration>, AllocError> {
+    Ok(Plan::Writes {
+        then: Iteration::Putting(rest),
+        bytes: Vec::from_slice(heap.alloc(), b"\n")?,
+    })
+}
+
+/// The next line of `puts`: nil is an empty one, and any other value is asked for its text.
+pub(crate) fn put_next(heap: &mut Heap, rest: Rest) -> Result<Plan<Iteration>, AllocError> {
+    let mut rest = rest;
+    match rest.take() {
+        Some(Value::Nil) => empty_line(heap, rest),
+        Some(value) => ask(heap, Iteration::PuttingText(rest), value, b"to_s"),
+        None => Ok(Plan::Finishes(Value::Nil)),
+    }
+}
+
+/// Begins `puts`: the elements of Arrays stand on lines of their own, and no arguments are an empty line.
+pub(crate) fn put_all(heap: &mut Heap, args: &[Value]) -> Result<Plan<Iteration>, AllocError> {
+    match flattened(heap, args)? {
+        Some(values) => {
+            let rest = Rest { values, place: 0 };
+            if args.is_empty() {
+                empty_line(heap, rest)
+            } else {
+                put_next(heap, rest)
+            }
+        }
+        None => Ok(Plan::Fails(Cause::StackTooDeep)),
+    }
+}
+
+/// Writes the text of a value as a line.
+pub(crate) fn put_text(
+    heap: &Heap,
+    rest: Rest,
+    text: Value,
+) -> Result<Plan<Iteration>, AllocError> {
+    let mut bytes = heap.text_of_value(text)?;
+    end_line(&mut bytes)?;
+    Ok(Plan::Writes {
+        then: Iteration::Putting(rest),
+        bytes,
+    })
+}
+
+/// Asks the next value of `print` for its text.
+pub(crate) fn print_next(heap: &mut Heap, rest: Rest) -> Result<Plan<Iteration>, AllocError> {
+    let mut rest = rest;
+    match rest.take() {
+        Some(value) => ask(heap, Iteration::PrintingText(rest), value, b"to_s"),
+        None => Ok(Plan::Finishes(Value::Nil)),
+    }
+}
+
+/// Writes the text of a value of `print`.
+pub(crate) fn print_text(
+    heap: &Heap,
+    rest: Rest,
+    text: Value,
+) -> Result<Plan<Iteration>, AllocError> {
+    Ok(Plan::Writes {
+        then: Iteration::Printing(rest),
+        bytes: heap.text_of_value(text)?,
+    })
+}
+
+/// What `p` gives: nil, its argument, or an Array of its arguments.
+fn give_all(heap: &mut Heap, values: Vec<Value>) -> Result<Plan<Iteration>, AllocError> {
+    match values.as_slice() {
+        [] => Ok(Plan::Finishes(Value::Nil)),
+        [only] => Ok(Plan::Finishes(*only)),
+        _ => Ok(Plan::Finishes(heap.make_array(values)?)),
+    }
+}
+
+/// Asks the next value of `p` what stands for it, or gives all.
+pub(crate) fn inspect_next(heap: &mut Heap, rest: Rest) -> Result<Plan<Iteration>, AllocError> {
+    let mut rest = rest;
+    match rest.take() {
+        Some(value) => ask(heap, Iteration::InspectingText(rest), value, b"inspect"),
+        None => give_all(heap, rest.values),
+    }
+}
+
+/// Writes what stands for a value of `p`, and a newline.
+pub(crate) fn inspect_text(
+    heap: &Heap,
+    rest: Rest,
+    text: Value,
+) -> Result<Plan<Iteration>, AllocError> {
+    let mut bytes = heap.text_of_value(text)?;
+    bytes.push(b'\n')?;
+    Ok(Plan::Writes {
+        then: Iteration::Inspecting(rest),
+        bytes,
+    })
+}

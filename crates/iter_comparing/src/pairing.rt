@@ -1,0 +1,68 @@
+//! `==` and `<=>` of Arrays: their elements are asked in pairs.
+use crate::questions::Question;
+use core_calls::heap::Heap;
+use rb_value::{ObjId, Value};
+
+/// Two Arrays that are compared from a place on: whether they are equal, or which comes first.
+#[derive(Drop)]
+pub(crate) struct Pairing {
+    pub(crate) left: ObjId,
+    pub(crate) right: ObjId,
+    pub(crate) place: usize,
+    pub(crate) ordered: bool,
+}
+
+/// How a number stands to another: below, the same or above.
+fn order(left: usize, right: usize) -> Value {
+    if left < right {
+        Value::Int(-1)
+    } else if left == right {
+        Value::Int(0)
+    } else {
+        Value::Int(1)
+    }
+}
+
+impl Pairing {
+    /// The next pair, while both have an element there; Arrays of different lengths aren't equal.
+    pub(crate) fn question(&self, heap: &Heap) -> Question {
+        let left = heap.elements(self.left);
+        let right = heap.elements(self.right);
+        if !self.ordered && left.len() != right.len() {
+            return Question::Ends(Value::False);
+        }
+        match left.get(self.place) {
+            Some(first) => match right.get(self.place) {
+                Some(second) => Question::compare(*first, *second),
+                None => Question::Ends(self.at_end(left.len(), right.len())),
+            },
+            None => Question::Ends(self.at_end(left.len(), right.len())),
+        }
+    }
+
+    /// What Arrays of these lengths come to, where no pair was different.
+    fn at_end(&self, left: usize, right: usize) -> Value {
+        if self.ordered {
+            order(left, right)
+        } else {
+            Value::from_truth(left == right)
+        }
+    }
+
+    /// Ends with the first pair that is different.
+    pub(crate) fn hear(&mut self, answer: Value) -> Option<Value> {
+        let same = if self.ordered {
+            answer == Value::Int(0)
+        } else {
+            answer.is_true()
+        };
+        if same {
+            self.place = self.place.saturating_add(1);
+            None
+        } else if self.ordered {
+            Some(answer)
+        } else {
+            Some(Value::False)
+        }
+    }
+}

@@ -1,0 +1,43 @@
+//! Changes of all elements of Arrays.
+use rb_value::{ObjId, Value};
+use rows_items::heap::Heap;
+use rows_items::{RowError, an_array, sorted};
+use std::alloc::AllocError;
+
+/// Puts a value in the place of each element.
+pub(crate) fn fill(heap: &mut Heap, id: ObjId, value: Value) -> Result<(), AllocError> {
+    let mut values = Vec::new(heap.alloc());
+    values.resize(heap.elements(id).len(), value)?;
+    heap.replace_elements(id, values);
+    Ok(())
+}
+
+/// Takes out all elements.
+pub(crate) fn clear(heap: &mut Heap, id: ObjId) {
+    let none = Vec::new(heap.alloc());
+    heap.replace_elements(id, none);
+}
+
+/// Puts the elements of an Array in the place of all.
+pub(crate) fn replace(heap: &mut Heap, id: ObjId, other: Value) -> Result<(), RowError> {
+    let other = an_array(heap, other)?;
+    let values = Vec::from_slice(heap.alloc(), heap.elements(other))?;
+    heap.replace_elements(id, values);
+    Ok(())
+}
+
+/// Turns the order of the elements around.
+pub(crate) fn reverse_in_place(heap: &mut Heap, id: ObjId) -> Result<(), AllocError> {
+    let mut values = Vec::from_slice(heap.alloc(), heap.elements(id))?;
+    values.reverse();
+    heap.replace_elements(id, values);
+    Ok(())
+}
+
+/// Sorts the elements.
+pub(crate) fn sort_in_place(heap: &mut Heap, id: ObjId) -> Result<(), RowError> {
+    let values = Vec::from_slice(heap.alloc(), heap.elements(id))?;
+    let values = sorted(heap, values)?;
+    heap.replace_elements(id, values);
+    Ok(())
+}

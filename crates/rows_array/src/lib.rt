@@ -1,0 +1,15 @@
+//! The core methods of Array (ISO/IEC 30170:2012, 15.2.12) that call no others, but for those of its items in general.
+//!
+//! Rows: [`ArrayRow`], [`rows_of`], [`call`].
+#![tactic(auto)]
+
+mod arranging;
+mod changing;
+mod ending;
+mod flattening;
+mod places;
+mod reading;
+pub mod rows;
+mod storing;
+
+pub use rows::{ArrayRow, call, rows_of};

@@ -1,0 +1,59 @@
+//! Places of a list by indexes, which count from the end where they are negative.
+use rb_value::Value;
+
+/// The place of an index in a list of so many; none before its start. It may lie past the end.
+pub(crate) fn place_in(len: usize, index: i64) -> Option<usize> {
+    match usize::try_from(index) {
+        Ok(place) => Some(place),
+        Err(_) => len.checked_sub(index.unsigned_abs() as usize),
+    }
+}
+
+/// The value at an index; nil outside.
+pub(crate) fn value_at(values: &[Value], index: i64) -> Value {
+    match place_in(values.len(), index) {
+        Some(place) => values.get(place).copied().unwrap_or(Value::Nil),
+        None => Value::Nil,
+    }
+}
+
+/// The first values, at most so many.
+pub(crate) fn front(values: &[Value], count: usize) -> &[Value] {
+    match values.get(..count) {
+        Some(front) => front,
+        None => values,
+    }
+}
+
+/// The values from a place on; none past the end.
+pub(crate) fn behind(values: &[Value], place: usize) -> &[Value] {
+    match values.get(place..) {
+        Some(rest) => rest,
+        None => &[],
+    }
+}
+
+/// The values from an index on, at most so many; nothing where the index lies outside or the count is negative.
+pub(crate) fn part(values: &[Value], index: i64, count: i64) -> Option<&[Value]> {
+    let place = place_in(values.len(), index)?;
+    let count = usize::try_from(count).ok()?;
+    let rest = values.get(place..)?;
+    Some(front(rest, count))
+}
+
+/// The values from an index up to another; nothing where the first lies outside.
+pub(crate) fn range_part(
+    values: &[Value],
+    first: i64,
+    last: i64,
+    exclusive: bool,
+) -> Option<&[Value]> {
+    let place = place_in(values.len(), first)?;
+    let rest = values.get(place..)?;
+    let end = match place_in(values.len(), last) {
+        Some(end) if exclusive => end,
+        Some(end) => end.saturating_add(1),
+        None => 0,
+    };
+    Some(front(rest, end.saturating_sub(place)))
+}

@@ -1,0 +1,92 @@
+//! Methods on the methods of a class or module.
+use crate::accessors::names_in;
+use crate::row::ClassRow;
+use core_calls::heap::{Given, Heap};
+use core_calls::name_in;
+use def_core::Cause;
+use rb_value::{Method, ObjId, SymId, Value, Visibility};
+use std::alloc::AllocError;
+
+/// `method_defined?`: whether a public or protected method of that name is found.
+pub(crate) fn has(heap: &mut Heap, space: ObjId, name: SymId) -> Result<Given, AllocError> {
+    let open = match heap.find(space, name)? {
+        Some(found) => found.visibility != Visibility::Private,
+        None => false,
+    };
+    Ok(Given::Gives(Value::from_truth(open)))
+}
+
+/// `define_method`: a block becomes a method with the default visibility, and the name is given.
+pub(crate) fn define(
+    heap: &mut Heap,
+    space: ObjId,
+    name: SymId,
+    block: Option<ObjId>,
+) -> Result<Given, AllocError> {
+    match block {
+        Some(block) => {
+            let visibility = heap.default_visibility(space);
+            heap.set_method(space, name, Method::Block(block), visibility)?;
+            Ok(Given::Gives(Value::Sym(name)))
+        }
+        None => heap.fail(Cause::NoBlockGiven),
+    }
+}
+
+/// `alias_method`: a method gets one more name, which is given.
+pub(crate) fn alias(
+    heap: &mut Heap,
+    space: ObjId,
+    alias: SymId,
+    name: Value,
+) -> Result<Given, AllocError> {
+    match name_in(heap, name)? {
+        Ok(name) => match heap.alias_method(space, alias, name)? {
+            Given::Gives(_) => Ok(Given::Gives(Value::Sym(alias))),
+            Given::Raises(exception) => Ok(Given::Raises(exception)),
+        },
+        Err(cause) => heap.fail(cause),
+    }
+}
+
+/// Whether a class or module has a method of that name itself.
+fn is_own(heap: &Heap, space: ObjId, name: SymId) -> bool {
+    match heap.own_entry(space, name) {
+        Some(entry) => entry.method != Method::Undefined,
+        None => false,
+    }
+}
+
+/// Takes a method that a class or module has itself away, so that what stands above is found.
+fn remove(heap: &mut Heap, space: ObjId, name: SymId) -> Result<Given, AllocError> {
+    if !is_own(heap, space, name) {
+        return heap.fail(Cause::UndefinedInClass { name, class: space });
+    }
+    heap.remove_method(space, name)?;
+    Ok(Given::Gives(Value::Nil))
+}
+
+/// `undef_method` of names, which then aren't found, and `remove_method`, by which a class or module loses what it has
+/// itself. The class or module is given.
+pub(crate) fn take_away(
+    heap: &mut Heap,
+    row: ClassRow,
+    space: ObjId,
+    args: &[Value],
+) -> Result<Given, AllocError> {
+    let names = match names_in(heap, args)? {
+        Ok(names) => names,
+        Err(cause) => return heap.fail(cause),
+    };
+    'names: for name in &names {
+        let done = if row == ClassRow::RemoveMethod {
+            remove(heap, space, *name)?
+        } else {
+            heap.undefine_method(space, *name)?
+        };
+        if let Given::Raises(exception) = done {
+            return Ok(Given::Raises(exception));
+        }
+    }
+    Ok(Given::Gives(Value::Obj(space)))
+}

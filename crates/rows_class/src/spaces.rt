@@ -1,0 +1,103 @@
+//! What a class or module is called, what stands above it, and what it includes.
+use core_calls::heap::{Given, Heap};
+use rb_value::{CoreClass, Kind, ObjId, Sort, SymId, Value};
+use std::alloc::AllocError;
+
+/// What a class or module is called by texts.
+pub(crate) fn text(heap: &mut Heap, space: ObjId) -> Result<Given, AllocError> {
+    let text = Vec::from_slice(heap.alloc(), heap.class_name(space))?;
+    Ok(Given::Gives(heap.make_string(text)?))
+}
+
+/// The name of a class or module that has one.
+fn own_name(heap: &Heap, space: ObjId) -> Option<SymId> {
+    match heap.kind(space)? {
+        Kind::Class(contents) => contents.get().name,
+        _ => None,
+    }
+}
+
+/// `name`: that of a class or module, and nil of one without a name.
+pub(crate) fn name(heap: &mut Heap, space: ObjId) -> Result<Given, AllocError> {
+    match own_name(heap, space) {
+        Some(_) => text(heap, space),
+        None => Ok(Given::Gives(Value::Nil)),
+    }
+}
+
+/// Whether a class or module has another among its ancestors; nil where neither has the other.
+fn order(heap: &Heap, space: ObjId, other: ObjId) -> Value {
+    if heap.is_in_chain(space, other) {
+        return Value::True;
+    }
+    if heap.is_in_chain(other, space) {
+        Value::False
+    } else {
+        Value::Nil
+    }
+}
+
+/// `<=`: whether a class or module is another or has it among its ancestors; nil where neither has the other.
+pub(crate) fn is_at_most(heap: &mut Heap, space: ObjId, other: Value) -> Result<Given, AllocError> {
+    match heap.space_in(other) {
+        Some(other) => Ok(Given::Gives(order(heap, space, other))),
+        None => heap.unexpected(CoreClass::Module, other),
+    }
+}
+
+/// `<`: whether a class or module has another, which it isn't, among its ancestors; nil where neither has the other.
+pub(crate) fn is_below(heap: &mut Heap, space: ObjId, other: Value) -> Result<Given, AllocError> {
+    match heap.space_in(other) {
+        Some(other) => if other == space {
+            Ok(Given::Gives(Value::False))
+        } else {
+            Ok(Given::Gives(order(heap, space, other)))
+        },
+        None => heap.unexpected(CoreClass::Module, other),
+    }
+}
+
+/// `ancestors`: a class or module and what stands above it, the nearest first.
+pub(crate) fn ancestors(heap: &mut Heap, space: ObjId) -> Result<Given, AllocError> {
+    let mut all = Vec::new(heap.alloc());
+    let above = heap.ancestors(space)?;
+    'ancestors: for id in &above {
+        all.push(Value::Obj(*id))?;
+    }
+    Ok(Given::Gives(heap.make_array(all)?))
+}
+
+/// The first of some values that is no module.
+fn no_module(heap: &Heap, values: &[Value]) -> Option<Value> {
+    'values: for value in values {
+        if heap.sort(*value) != Some(Sort::Module) {
+            return Some(*value);
+        }
+    }
+    None
+}
+
+/// `include`: the last of the modules first, so that the first stands first among the ancestors.
+pub(crate) fn include(
+    heap: &mut Heap,
+    space: ObjId,
+    mixins: &[Value],
+) -> Result<Given, AllocError> {
+    if let Some(other) = no_module(heap, mixins) {
+        return heap.unexpected(CoreClass::Module, other);
+    }
+    'mixins: for mixin in mixins.iter().rev() {
+        if let Given::Raises(exception) = heap.include(space, *mixin)? {
+            return Ok(Given::Raises(exception));
+        }
+    }
+    Ok(Given::Gives(Value::Obj(space)))
+}
+
+/// `superclass`: that of a class, and nil where it has none.
+pub(crate) fn superclass(heap: &Heap, class: ObjId) -> Given {
+    match heap.superclass_of(class) {
+        Some(above) => Given::Gives(Value::Obj(above)),
+        None => Given::Gives(Value::Nil),
+    }
+}

@@ -1,0 +1,119 @@
+//! Pairs of Hashes.
+use def_core::Cause;
+use rb_value::{CoreClass, Key, ObjId, Value};
+use rows_items::heap::Heap;
+use rows_items::{RowError, put_pair};
+use std::alloc::AllocError;
+
+/// The Hash that a value is.
+pub(crate) fn a_hash(heap: &Heap, value: Value) -> Result<ObjId, Cause> {
+    match heap.a_hash(value) {
+        Some(id) => Ok(id),
+        None => Err(heap.refusal(CoreClass::Hash, value)),
+    }
+}
+
+/// The key that a value is; Arrays that are nested too deep are refused.
+fn key_of(heap: &Heap, value: Value) -> Result<Key, RowError> {
+    match heap.key_of(value)? {
+        Some(key) => Ok(key),
+        None => Err(RowError::Fails(Cause::StackTooDeep)),
+    }
+}
+
+/// Whether a Hash has a key.
+pub(crate) fn has_key(heap: &Heap, id: ObjId, key: Value) -> Result<bool, RowError> {
+    let key = key_of(heap, key)?;
+    Ok(heap.pair(id, &key).is_some())
+}
+
+/// Gives a key a value, and gives the value.
+pub(crate) fn store(
+    heap: &mut Heap,
+    id: ObjId,
+    key: Value,
+    value: Value,
+) -> Result<Value, RowError> {
+    put_pair(heap, id, key, value)?;
+    Ok(value)
+}
+
+/// The value of a key, which is taken out; nil where it isn't there.
+pub(crate) fn delete(heap: &mut Heap, id: ObjId, key: Value) -> Result<Value, RowError> {
+    let key = key_of(heap, key)?;
+    match heap.remove_pair(id, &key) {
+        Some(pair) => Ok(pair.value),
+        None => Ok(Value::Nil),
+    }
+}
+
+/// The keys in their order.
+pub(crate) fn keys(heap: &Heap, id: ObjId) -> Result<Vec<Value>, AllocError> {
+    let mut keys = Vec::with_capacity(heap.alloc(), heap.pair_count(id))?;
+    'pairs: for place in 0..heap.pair_count(id) {
+        if let Some(pair) = heap.pair_at(id, place) {
+            keys.push(pair.shown)?;
+        }
+    }
+    Ok(keys)
+}
+
+/// The values in the order of their keys.
+pub(crate) fn values(heap: &Heap, id: ObjId) -> Result<Vec<Value>, AllocError> {
+    let mut values = Vec::with_capacity(heap.alloc(), heap.pair_count(id))?;
+    'pairs: for place in 0..heap.pair_count(id) {
+        if let Some(pair) = heap.pair_at(id, place) {
+            values.push(pair.value)?;
+        }
+    }
+    Ok(values)
+}
+
+/// Puts the pairs of a Hash into another.
+pub(crate) fn update(heap: &mut Heap, id: ObjId, other: Value) -> Result<Value, RowError> {
+    let other = a_hash(heap, other)?;
+    'pairs: for place in 0..heap.pair_count(other) {
+        if let Some(pair) = heap.pair_at(other, place) {
+            if !heap.put_pair(id, pair.shown, pair.value)? {
+                return Err(RowError::Fails(Cause::StackTooDeep));
+            }
+        }
+    }
+    Ok(Value::Obj(id))
+}
+
+/// A new Hash with the pairs of a Hash and of another, and with what the first gives for an absent key.
+pub(crate) fn merge(heap: &mut Heap, id: ObjId, other: Value) -> Result<Value, RowError> {
+    a_hash(heap, other)?;
+    let merged = heap.make_hash()?;
+    if let Value::Obj(own) = merged {
+        let (default, block) = heap.absent_of(id);
+        heap.set_absent(own, default, block);
+        update(heap, own, Value::Obj(id))?;
+        update(heap, own, other)?;
+    }
+    Ok(merged)
+}
+
+/// A new Hash whose keys are the values of a Hash, and whose values are its keys; of equal ones the last counts.
+pub(crate) fn invert(heap: &mut Heap, id: ObjId) -> Result<Value, RowError> {
+    let inverted = heap.make_hash()?;
+    let Value::Obj(own) = inverted else {
+        return Ok(inverted);
+    };
+    'pairs: for place in 0..heap.pair_count(id) {
+        if let Some(pair) = heap.pair_at(id, place) {
+            put_pair(heap, own, pair.value, pair.shown)?;
+        }
+    }
+    Ok(inverted)
+}
+
+/// Takes all pairs out of a Hash.
+pub(crate) fn clear(heap: &mut Heap, id: ObjId) -> Result<(), RowError> {
+    let keys = keys(heap, id)?;
+    'keys: for key in keys.iter().rev() {
+        delete(heap, id, *key)?;
+    }
+    Ok(())
+}

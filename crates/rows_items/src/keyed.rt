@@ -1,0 +1,76 @@
+//! Items as keys of Hashes.
+use crate::error::RowError;
+use core_calls::heap::Heap;
+use def_core::Cause;
+use pair_table::PairTable;
+use rb_value::{CoreClass, Key, ObjId, Value};
+
+/// The key of a Hash that a value is; Arrays that are nested too deep are refused.
+fn key_of(heap: &Heap, value: Value) -> Result<Key, RowError> {
+    match heap.key_of(value)? {
+        Some(key) => Ok(key),
+        None => Err(RowError::Fails(Cause::StackTooDeep)),
+    }
+}
+
+/// What a Hash shows as a key that it doesn't have yet: a copy of a String, and else the value.
+fn shown_key(heap: &mut Heap, key: Value) -> Result<Value, RowError> {
+    let class = heap.class_object(CoreClass::String);
+    match heap.text_of(key) {
+        Some(text) if heap.plain_class_of(key) == class => {
+            let text = Vec::from_slice(heap.alloc(), text)?;
+            Ok(heap.make_string(text)?)
+        }
+        _ => Ok(key),
+    }
+}
+
+/// Gives a key of a Hash a value. A key that is there keeps its place and what is shown as the key; a new one that is a
+/// String is shown by a copy.
+pub fn put_pair(heap: &mut Heap, id: ObjId, key: Value, value: Value) -> Result<(), RowError> {
+    let own = key_of(heap, key)?;
+    let shown = match heap.pair(id, &own) {
+        Some(pair) => pair.shown,
+        None => shown_key(heap, key)?,
+    };
+    if heap.put_pair(id, shown, value)? {
+        Ok(())
+    } else {
+        Err(RowError::Fails(Cause::StackTooDeep))
+    }
+}
+
+/// The first of the values that are equal as keys.
+pub(crate) fn unique(heap: &Heap, values: &[Value]) -> Result<Vec<Value>, RowError> {
+    let mut seen: PairTable<Key, Value> = PairTable::new(heap.alloc());
+    let mut unique = Vec::new(heap.alloc());
+    'values: for value in values {
+        let key = key_of(heap, *value)?;
+        if seen.insert(key, *value)?.is_none() {
+            unique.push(*value)?;
+        }
+    }
+    Ok(unique)
+}
+
+/// One more than a count that is kept as a value.
+fn one_more(value: Value) -> Value {
+    match value {
+        Value::Int(count) => Value::Int(count.saturating_add(1)),
+        _ => Value::Int(1),
+    }
+}
+
+/// A new Hash that tells how often each of the values is there.
+pub(crate) fn tallied(heap: &mut Heap, values: &[Value]) -> Result<Value, RowError> {
+    let hash = heap.make_hash()?;
+    let Value::Obj(id) = hash else {
+        return Ok(hash);
+    };
+    'values: for value in values {
+        let key = key_of(heap, *value)?;
+        let before = heap.pair(id, &key).map(|pair| pair.value);
+        put_pair(heap, id, *value, one_more(before.unwrap_or(Value::Nil)))?;
+    }
+    Ok(hash)
+}

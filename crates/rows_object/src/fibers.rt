@@ -1,0 +1,30 @@
+//! Methods of Fiber.
+use core_calls::heap::{Given, Heap};
+use rb_value::{CoreClass, ObjId, Value};
+use std::alloc::AllocError;
+
+/// `new` of Fiber: a fiber that runs a block.
+pub(crate) fn of_block(
+    heap: &mut Heap,
+    receiver: Value,
+    block: ObjId,
+) -> Result<Given, AllocError> {
+    let Some(class) = heap.space_in(receiver) else {
+        return heap.unexpected(CoreClass::Class, receiver);
+    };
+    match heap.make_fiber(class, block)? {
+        Some(fiber) => Ok(Given::Gives(Value::Obj(fiber))),
+        None => Ok(Given::Gives(Value::Nil)),
+    }
+}
+
+/// `alive?`: whether a fiber hasn't ended.
+pub(crate) fn is_alive(heap: &mut Heap, receiver: Value) -> Result<Given, AllocError> {
+    let Some(id) = heap.a_fiber(receiver) else {
+        return heap.unexpected(CoreClass::Fiber, receiver);
+    };
+    match heap.fiber_of(id) {
+        Some((_, ended)) => Ok(Given::Gives(Value::from_truth(!ended))),
+        None => heap.unexpected(CoreClass::Fiber, receiver),
+    }
+}

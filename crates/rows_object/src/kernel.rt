@@ -1,0 +1,89 @@
+//! Methods of Kernel, and `method_missing`.
+use core_calls::heap::{Given, Heap};
+use core_calls::name_in;
+use def_core::Cause;
+use rb_string::numeral;
+use rb_value::{CoreClass, Value};
+use std::alloc::AllocError;
+
+/// `method_missing`, where a program calls it: no method of that name is found.
+pub(crate) fn method_missing(
+    heap: &mut Heap,
+    receiver: Value,
+    name: Value,
+) -> Result<Given, AllocError> {
+    match name_in(heap, name)? {
+        Ok(name) => {
+            let class = heap.plain_class_of(receiver);
+            heap.fail(Cause::UndefinedMethod { name, class })
+        }
+        Err(cause) => heap.fail(cause),
+    }
+}
+
+/// The status that a value stands for: true is a good end, and false isn't.
+fn status_in(value: Value) -> Option<i64> {
+    match value {
+        Value::True => Some(0),
+        Value::False => Some(1),
+        Value::Int(status) => Some(status),
+        _ => None,
+    }
+}
+
+/// The end of a program with a status, or why there is no such end.
+fn ending(status: i64) -> Cause {
+    match u8::try_from(status) {
+        Ok(status) => Cause::Exit { status },
+        Err(_) => Cause::StatusOutOfRange,
+    }
+}
+
+/// `exit`, with a status or without one.
+pub(crate) fn exit(heap: &mut Heap, args: &[Value]) -> Result<Given, AllocError> {
+    let wish = args.first().copied().unwrap_or(Value::True);
+    match status_in(wish) {
+        Some(status) => heap.fail(ending(status)),
+        None => heap.unexpected(CoreClass::Integer, wish),
+    }
+}
+
+/// Whether all bytes are decimal digits.
+fn are_digits(text: &[u8]) -> bool {
+    'bytes: for byte in text {
+        if !byte.is_ascii_digit() {
+            return false;
+        }
+    }
+    true
+}
+
+/// The number that a text is: decimal digits after a sign or none.
+fn whole_number(text: &[u8]) -> Result<i64, Cause> {
+    let digits = match text.split_first() {
+        Some((b'+', rest)) => rest,
+        Some((b'-', rest)) => rest,
+        _ => text,
+    };
+    if digits.is_empty() || !are_digits(digits) {
+        return Err(Cause::InvalidInteger);
+    }
+    match numeral::to_integer(text, 10) {
+        Ok(number) => Ok(number),
+        Err(_) => Err(Cause::IntegerOverflow),
+    }
+}
+
+/// `Integer`: the number that a value is.
+pub(crate) fn to_integer(heap: &mut Heap, value: Value) -> Result<Given, AllocError> {
+    if let Value::Int(_) = value {
+        return Ok(Given::Gives(value));
+    }
+    match heap.text_of(value) {
+        Some(text) => match whole_number(text) {
+            Ok(number) => Ok(Given::Gives(Value::Int(number))),
+            Err(cause) => heap.fail(cause),
+        },
+        None => heap.unexpected(CoreClass::Integer, value),
+    }
+}
