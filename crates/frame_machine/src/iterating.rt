@@ -1,0 +1,219 @@
+//! One plan of an iteration.
+
+use def_core::Cause;
+use rb_value::{ObjId, SymId, Value};
+use std::alloc::AllocError;
+use vm_acts::core_calls::{Call, Plan};
+use vm_acts::core_iter::{Iteration, next};
+use vm_acts::fiber_switch::Resumed;
+use vm_acts::heap::Given;
+use vm_acts::run_calls::{Request, enter_proc, one_of, send_by_core};
+use vm_acts::vm_frames::{Frame, Iterating, Level};
+use vm_acts::vm_parts::entering::{enter_first, enter_from};
+use vm_acts::vm_parts::exits::{hand_out, handed, raise_out, receive};
+use vm_acts::vm_parts::flow::{Flow, Step};
+use vm_acts::vm_parts::loaded::Loaded;
+use vm_acts::vm_parts::parts::Parts;
+
+/// An iteration that waits.
+fn waiting(number: u64, then: Iteration) -> Iterating {
+    Iterating {
+        number,
+        state: then,
+        answer: Value::Nil,
+    }
+}
+
+/// A method that an iteration calls by its name.
+#[derive(Drop)]
+struct Sent {
+    receiver: Value,
+    name: SymId,
+    args: Vec<Value>,
+    block: Option<ObjId>,
+    public: bool,
+}
+
+/// Enters the method that an iteration calls.
+fn send(
+    code: &Loaded,
+    hot: &mut Frame,
+    parts: &mut Parts,
+    waiting: Iterating,
+    sent: Sent,
+) -> Result<Flow, AllocError> {
+    let first = parts.frames.kept_count();
+    parts.frames.keep_all(sent.args.as_slice())?;
+    let request = Request {
+        name: sent.name,
+        call: Call {
+            receiver: sent.receiver,
+            args: sent.args.as_slice(),
+            block: sent.block,
+        },
+        next: parts.next_activation()?,
+    };
+    let entry = send_by_core(&mut parts.heap, sent.public, request)?;
+    enter_from(code, hot, parts, waiting, entry, first)
+}
+
+/// Enters the Proc that an iteration calls.
+fn call(
+    code: &Loaded,
+    hot: &mut Frame,
+    parts: &mut Parts,
+    waiting: Iterating,
+    callee: ObjId,
+    args: Vec<Value>,
+    block: Option<ObjId>,
+) -> Result<Flow, AllocError> {
+    let first = parts.frames.kept_count();
+    parts.frames.keep_all(args.as_slice())?;
+    let next = parts.next_activation()?;
+    let call = Call {
+        receiver: Value::Nil,
+        args: args.as_slice(),
+        block,
+    };
+    let entry = enter_proc(&mut parts.heap, callee, call, next)?;
+    enter_from(code, hot, parts, waiting, entry, first)
+}
+
+/// Begins the fiber whose line runs now: its Proc is entered.
+fn begin_fiber(
+    code: &Loaded,
+    hot: &mut Frame,
+    parts: &mut Parts,
+    block: ObjId,
+    args: Vec<Value>,
+) -> Result<Flow, AllocError> {
+    let first = parts.frames.kept_count();
+    parts.frames.keep_all(args.as_slice())?;
+    let next = parts.next_activation()?;
+    let call = Call {
+        receiver: Value::Nil,
+        args: args.as_slice(),
+        block: None,
+    };
+    let entry = enter_proc(&mut parts.heap, block, call, next)?;
+    enter_first(code, hot, parts, entry, first)
+}
+
+/// The innermost level that waits is given what a resume or a yield hands over: nil, one value, or an Array of more.
+fn hand_over(code: &Loaded, parts: &mut Parts, args: Vec<Value>) -> Result<Flow, AllocError> {
+    let given = one_of(&mut parts.heap, args.as_slice())?;
+    hand_out(code, parts, handed(given))
+}
+
+/// The innermost level that waits fails by a cause.
+fn fail_out(code: &Loaded, parts: &mut Parts, cause: Cause) -> Result<Flow, AllocError> {
+    let given = parts.heap.fail(cause)?;
+    hand_out(code, parts, handed(given))
+}
+
+/// Resumes a fiber for an iteration, which waits.
+fn resume(
+    code: &Loaded,
+    hot: &mut Frame,
+    parts: &mut Parts,
+    waiting: Iterating,
+    fiber: ObjId,
+    args: Vec<Value>,
+) -> Result<Flow, AllocError> {
+    parts.frames.push(Level::Iteration(waiting))?;
+    match parts.fibers.resume(&parts.heap, &mut parts.frames, fiber)? {
+        Resumed::Refused(cause) => fail_out(code, parts, cause),
+        Resumed::Begins(block) => begin_fiber(code, hot, parts, block, args),
+        Resumed::Continues => hand_over(code, parts, args),
+    }
+}
+
+/// Yields to the fiber that resumed this one, for an iteration, which waits.
+fn yield_back(
+    code: &Loaded,
+    parts: &mut Parts,
+    waiting: Iterating,
+    args: Vec<Value>,
+) -> Result<Flow, AllocError> {
+    parts.frames.push(Level::Iteration(waiting))?;
+    if parts.fibers.yield_back(&mut parts.frames) {
+        hand_over(code, parts, args)
+    } else {
+        fail_out(code, parts, Cause::RootYield)
+    }
+}
+
+/// Carries out a plan that neither reads nor writes.
+fn carry_out(
+    code: &Loaded,
+    hot: &mut Frame,
+    parts: &mut Parts,
+    number: u64,
+    plan: Plan<Iteration>,
+) -> Result<Flow, AllocError> {
+    match plan {
+        Plan::Finishes(value) => Ok(receive(parts, value)),
+        Plan::Fails(cause) => fail_out(code, parts, cause),
+        Plan::Raises(exception) => raise_out(code, parts, exception),
+        Plan::Sends {
+            then,
+            receiver,
+            name,
+            args,
+            block,
+            public,
+        } => {
+            let sent = Sent {
+                receiver,
+                name,
+                args,
+                block,
+                public,
+            };
+            send(code, hot, parts, waiting(number, then), sent)
+        }
+        Plan::Calls {
+            then,
+            callee,
+            args,
+            block,
+        } => call(code, hot, parts, waiting(number, then), callee, args, block),
+        Plan::Resumes { then, fiber, args } => {
+            resume(code, hot, parts, waiting(number, then), fiber, args)
+        }
+        Plan::Yields { then, args } => yield_back(code, parts, waiting(number, then), args),
+        _ => Ok(Flow::Stays),
+    }
+}
+
+/// An iteration waits for its writing or reading.
+fn wait(parts: &mut Parts, number: u64, then: Iteration) -> Result<(), AllocError> {
+    parts.frames.push(Level::Iteration(waiting(number, then)))
+}
+
+/// The next plan of an iteration. A body that it enters is the frame in hand then.
+pub fn iterate(
+    code: &Loaded,
+    hot: &mut Frame,
+    parts: &mut Parts,
+    iterating: Iterating,
+) -> Result<Step, AllocError> {
+    let number = iterating.number;
+    let plan = next(&mut parts.heap, iterating.state, iterating.answer)?;
+    match plan {
+        Plan::Writes { then, bytes } => {
+            wait(parts, number, then)?;
+            Ok(Step::Writes(bytes))
+        }
+        Plan::Reads { then } => {
+            wait(parts, number, then)?;
+            Ok(Step::Reads)
+        }
+        other => Ok(Step::Goes(carry_out(code, hot, parts, number, other)?)),
+    }
+}
+
+/// The iteration that read, the innermost level that waits, has its answer, or fails.
+pub fn answer_read(code: &Loaded, parts: &mut Parts, given: Given) -> Result<Flow, AllocError> {
+    hand_out(code, parts, handed(given))
+}

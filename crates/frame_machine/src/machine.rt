@@ -1,0 +1,264 @@
+//! The machine.
+
+use crate::iterating::answer_read;
+use crate::reading::{Line, Lines};
+use crate::running::{At, Pause, run_turns};
+use def_core::Cause;
+use rb_base::{Sink, Source, write_all};
+use rb_value::{ObjId, Value};
+use std::alloc::{AllocError, AllocFailed, Global};
+use std::mem;
+use vm_acts::fiber_switch::Fibers;
+use vm_acts::heap::{Given, Heap};
+use vm_acts::run_calls::{Unrescued, seen_of};
+use vm_acts::vm_frames::{Frame, Frames};
+use vm_acts::vm_parts::flow::{End, Flow};
+use vm_acts::vm_parts::loaded::Loaded;
+use vm_acts::vm_parts::parts::Parts;
+
+/// What one turn comes to.
+#[derive(Clone, Copy, Debug, PartialEq, Eq)]
+pub enum Turn {
+    Going,
+    Ended(u8),
+    Uncaught(ObjId),
+}
+
+/// What so many turns come to.
+#[derive(Clone, Copy, Debug, PartialEq, Eq)]
+pub enum Ran {
+    Spent,
+    Ended(u8),
+    Uncaught(ObjId),
+}
+
+/// Why a machine makes no turn: memory ran out, a call on the input or the output failed, or one of these came before.
+#[derive(Clone, Copy, Debug, PartialEq, Eq)]
+pub enum StepFault {
+    NoMemory,
+    InputFault,
+    OutputFault,
+    Stopped,
+}
+
+impl From<AllocError> for StepFault {
+    ghost use Rattle.std.specs.Prelude.{◌≡◌};
+    ghost use Rattle.frame_machine.specs.declared.machine.StepFault.TheVariants.{NoMemory};
+
+    ghost from_gives = { λ _ e. e ≡ NoMemory };
+
+    fn from(_error: AllocError) -> StepFault {
+        StepFault::NoMemory
+    }
+}
+
+impl<T: Drop> From<AllocFailed<T>> for StepFault {
+    ghost use Rattle.std.specs.Prelude.{◌≡◌};
+    ghost use Rattle.frame_machine.specs.declared.machine.StepFault.TheVariants.{NoMemory};
+
+    ghost from_gives = { λ _ e. e ≡ NoMemory };
+
+    fn from(_error: AllocFailed<T>) -> StepFault {
+        StepFault::NoMemory
+    }
+}
+
+/// How a machine stands: a level runs, the program has ended, or a fault came.
+#[derive(Drop)]
+enum Standing {
+    At(At),
+    Over(End),
+    Stopped,
+}
+
+/// A machine with its code and the frame in hand. It counts the turns that it makes.
+#[derive(Drop)]
+pub struct Machine {
+    alloc: Global,
+    code: Loaded,
+    hot: Frame,
+    parts: Parts,
+    lines: Lines,
+    standing: Standing,
+    turns: u64,
+}
+
+/// What an end is to the caller of a run.
+fn ran_by(end: End) -> Ran {
+    match end {
+        End::Ended(status) => Ran::Ended(status),
+        End::Uncaught(exception) => Ran::Uncaught(exception),
+    }
+}
+
+impl Machine {
+    /// A machine at a frame, before its first turn.
+    pub(crate) fn new(alloc: Global, code: Loaded, parts: Parts, hot: Frame) -> Machine {
+        Machine {
+            alloc,
+            code,
+            hot,
+            parts,
+            lines: Lines::new(alloc),
+            standing: Standing::At(At::Hand),
+            turns: 0,
+        }
+    }
+
+    /// How many turns were made.
+    pub fn turns(&self) -> u64 {
+        self.turns
+    }
+
+    /// How many classes and modules the searches for methods asked.
+    pub fn probes(&self) -> u64 {
+        self.parts.heap.probes()
+    }
+
+    /// The levels, registers and environments.
+    pub fn frames(&self) -> &Frames {
+        &self.parts.frames
+    }
+
+    /// The fibers.
+    pub fn fibers(&self) -> &Fibers {
+        &self.parts.fibers
+    }
+
+    /// The heap.
+    pub fn heap(&self) -> &Heap {
+        &self.parts.heap
+    }
+
+    /// What is seen of an exception that nothing rescued: the name of its class, and its message.
+    pub fn unrescued(&self, exception: ObjId) -> Result<Unrescued, AllocError> {
+        seen_of(&self.parts.heap, exception)
+    }
+
+    /// The end of a program by an exception: with its status, where it is a SystemExit.
+    fn end_of(&self, end: End) -> Result<End, AllocError> {
+        match end {
+            End::Uncaught(exception) => {
+                let seen = seen_of(&self.parts.heap, exception)?;
+                if seen.exits {
+                    Ok(End::Ended(u8::try_from(seen.status).unwrap_or(u8::MAX)))
+                } else {
+                    Ok(end)
+                }
+            }
+            End::Ended(_) => Ok(end),
+        }
+    }
+
+    /// What a read gives: a String with the line, nil at the end, or an exception.
+    fn read_line<S: Source>(&mut self, input: &mut S) -> Result<Given, StepFault> {
+        match self.lines.next(self.alloc, input)? {
+            Line::Text(text) => Ok(Given::Gives(self.parts.heap.make_string(text)?)),
+            Line::End => Ok(Given::Gives(Value::Nil)),
+            Line::TooLong => Ok(self.parts.heap.fail(Cause::StringTooLong)?),
+        }
+    }
+
+    /// How the machine stands by what comes next.
+    fn stands(&self, flow: Flow) -> Result<Standing, AllocError> {
+        match flow {
+            Flow::Stays => Ok(Standing::At(At::Hand)),
+            Flow::Wakes => Ok(Standing::At(At::Waiting)),
+            Flow::Ends(end) => Ok(Standing::Over(self.end_of(end)?)),
+        }
+    }
+
+    /// The read of the iteration that is the innermost level that waits.
+    fn read<S: Source>(&mut self, input: &mut S) -> Result<Standing, StepFault> {
+        let given = self.read_line(input)?;
+        let flow = answer_read(&self.code, &mut self.parts, given)?;
+        Ok(self.stands(flow)?)
+    }
+
+    /// Goes on from a level for at most so many turns, and gives where it comes to and how many turns are left.
+    fn go_on<S: Source, O: Sink>(
+        &mut self,
+        at: At,
+        budget: u64,
+        input: &mut S,
+        out: &mut O,
+    ) -> Result<(Standing, u64), StepFault> {
+        match run_turns(&self.code, at, &mut self.hot, &mut self.parts, budget)? {
+            Pause::Spent(at) => Ok((Standing::At(at), 0)),
+            Pause::Ends { end, left } => Ok((Standing::Over(self.end_of(end)?), left)),
+            Pause::Writes { bytes, left } => {
+                if write_all(out, &bytes).is_err() {
+                    return Err(StepFault::OutputFault);
+                }
+                Ok((Standing::At(At::Waiting), left))
+            }
+            Pause::Reads { left } => Ok((self.read(input)?, left)),
+        }
+    }
+
+    /// Goes on from a level until no turn is left or the program has ended, and gives where it comes to and how many
+    /// turns are left.
+    fn run_from<S: Source, O: Sink>(
+        &mut self,
+        at: At,
+        budget: u64,
+        input: &mut S,
+        out: &mut O,
+    ) -> Result<(Standing, u64), StepFault> {
+        let mut at = at;
+        let mut left = budget;
+        'pauses: for _ in 0..budget {
+            if left == 0 {
+                break 'pauses;
+            }
+            let (standing, rest) = self.go_on(at, left, input, out)?;
+            left = rest;
+            match standing {
+                Standing::At(next) => at = next,
+                other => return Ok((other, left)),
+            }
+        }
+        Ok((Standing::At(at), left))
+    }
+
+    /// Makes so many turns, or fewer where the program ends before. After a fault it makes none any more.
+    pub fn run<S: Source, O: Sink>(
+        &mut self,
+        budget: u64,
+        input: &mut S,
+        out: &mut O,
+    ) -> Result<Ran, StepFault> {
+        match mem::replace(&mut self.standing, Standing::Stopped) {
+            Standing::At(at) => {
+                let (after, left) = self.run_from(at, budget, input, out)?;
+                self.turns = self.turns.saturating_add(budget.saturating_sub(left));
+                Ok(self.stand(after))
+            }
+            Standing::Over(end) => Ok(self.stand(Standing::Over(end))),
+            Standing::Stopped => Err(StepFault::Stopped),
+        }
+    }
+
+    /// Stands so, and tells it.
+    fn stand(&mut self, standing: Standing) -> Ran {
+        let ran = match &standing {
+            Standing::Over(end) => ran_by(*end),
+            _ => Ran::Spent,
+        };
+        self.standing = standing;
+        ran
+    }
+
+    /// Makes one turn.
+    pub fn step<S: Source, O: Sink>(
+        &mut self,
+        input: &mut S,
+        out: &mut O,
+    ) -> Result<Turn, StepFault> {
+        match self.run(1, input, out)? {
+            Ran::Spent => Ok(Turn::Going),
+            Ran::Ended(status) => Ok(Turn::Ended(status)),
+            Ran::Uncaught(exception) => Ok(Turn::Uncaught(exception)),
+        }
+    }
+}

@@ -1,0 +1,83 @@
+//! A machine before its first turn.
+
+use crate::machine::Machine;
+use code_instructions::{IndexedCode, index_code};
+use code_verifier::Verified;
+use def_core::BindKind;
+use pair_table::PairTable;
+use rb_value::Value;
+use std::alloc::{AllocError, Global};
+use vm_acts::fiber_switch::Fibers;
+use vm_acts::heap::Site;
+use vm_acts::run_calls::{Activation, Runs};
+use vm_acts::run_rows::{KnownRows, opening_heap};
+use vm_acts::vm_frames::frames::Beginning;
+use vm_acts::vm_frames::{Frame, Frames};
+use vm_acts::vm_parts::loaded::Loaded;
+use vm_acts::vm_parts::operators::Operators;
+use vm_acts::vm_parts::parts::Parts;
+
+/// The activation of the main program, which has the number 1.
+fn main_activation(own: Value) -> Activation {
+    Activation {
+        runs: Runs::MainProgram,
+        receiver: own,
+        owner: None,
+        name: None,
+        home: 1,
+        classes: 0,
+        block: None,
+    }
+}
+
+/// The frame of the main program.
+fn main_frame(code: &Loaded, parts: &mut Parts) -> Result<Frame, AllocError> {
+    let own = parts.heap.main_object();
+    parts.frames.open(Beginning {
+        number: 1,
+        activation: main_activation(own),
+        body: 0,
+        registers: code.registers(0),
+        outer: None,
+        first: 0,
+        given: 0,
+        block: None,
+        binds: BindKind::Method,
+    })
+}
+
+/// A site for each instruction, none of which has found anything.
+fn sites_for(alloc: Global, count: usize) -> Result<Vec<Site>, AllocError> {
+    let mut sites = Vec::new(alloc);
+    'sites: for _ in 0..count {
+        sites.push(Site { place: 0 })?;
+    }
+    Ok(sites)
+}
+
+/// The heap with the names of the code, and all else that is empty.
+fn opened(alloc: Global, code: IndexedCode) -> Result<(Loaded, Parts), AllocError> {
+    let mut heap = opening_heap(alloc)?;
+    let loaded = Loaded::load(&mut heap, code)?;
+    let operators = Operators::of(&mut heap)?;
+    let sites = sites_for(alloc, loaded.instruction_count())?;
+    let parts = Parts {
+        heap,
+        frames: Frames::new(alloc)?,
+        fibers: Fibers::new(alloc)?,
+        globals: PairTable::new(alloc),
+        sites,
+        rows: KnownRows::new(alloc),
+        operators,
+        activations: 1,
+    };
+    Ok((loaded, parts))
+}
+
+/// A machine before the first turn of verified code. An `Err` only where memory runs out.
+pub fn start(alloc: Global, code: Verified) -> Result<Machine, AllocError> {
+    let indexed = index_code(alloc, code)?;
+    let (loaded, mut parts) = opened(alloc, indexed)?;
+    let frame = main_frame(&loaded, &mut parts)?;
+    Ok(Machine::new(alloc, loaded, parts, frame))
+}

@@ -1,0 +1,56 @@
+//! Programs of one body.
+use crate::assembler::{plain, run};
+use frame_machine::Ran;
+use rite_code::Operation;
+use std::alloc::AllocError;
+
+#[test]
+fn loops(rt: HostRuntime) -> Result<(), AllocError> {
+    let main_operations = [
+        Operation::LoadI { a: 1, b: 0 },
+        Operation::Move { a: 2, b: 1 },
+        Operation::LoadI { a: 3, b: 100 },
+        Operation::Lt { a: 2 },
+        Operation::JmpNot { a: 2, by: 14 },
+        Operation::Move { a: 2, b: 1 },
+        Operation::LoadI { a: 3, b: 1 },
+        Operation::Add { a: 2 },
+        Operation::Move { a: 1, b: 2 },
+        Operation::Jmp { by: -26 },
+        Operation::Move { a: 3, b: 1 },
+        Operation::SSend { a: 2, b: 0, c: 1 },
+        Operation::Stop,
+    ];
+    let main_symbols: [&[u8]; 1] = [b"puts"];
+    let main = plain(2, 5, &main_operations, &main_symbols);
+    let seen = run(rt.alloc(), &[main], b"", 10_000)?;
+    assert!(rt; seen.out.as_slice() == b"100\n".as_slice());
+    Ok(())
+}
+
+#[test]
+fn echoes_a_line(rt: HostRuntime) -> Result<(), AllocError> {
+    let main_operations = [
+        Operation::SSend { a: 2, b: 0, c: 0 },
+        Operation::SSend { a: 1, b: 1, c: 1 },
+        Operation::SSend { a: 2, b: 0, c: 0 },
+        Operation::SSend { a: 1, b: 1, c: 1 },
+        Operation::Stop,
+    ];
+    let main_symbols: [&[u8]; 2] = [b"gets", b"puts"];
+    let main = plain(1, 5, &main_operations, &main_symbols);
+    let seen = run(rt.alloc(), &[main], b"hi\nthere", 1000)?;
+    assert!(rt; seen.out.as_slice() == b"hi\nthere\n".as_slice());
+    Ok(())
+}
+
+#[test]
+fn tells_what_nothing_rescued(rt: HostRuntime) -> Result<(), AllocError> {
+    let main_operations = [Operation::SSend { a: 1, b: 0, c: 254 }, Operation::Stop];
+    let main_symbols: [&[u8]; 1] = [b"nothing"];
+    let main = plain(1, 3, &main_operations, &main_symbols);
+    let seen = run(rt.alloc(), &[main], b"", 1000)?;
+    let is_uncaught = matches!(seen.ran, Some(Ran::Uncaught(_)));
+    assert!(rt; is_uncaught);
+    Ok(())
+}

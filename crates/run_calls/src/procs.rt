@@ -1,0 +1,166 @@
+//! What the call of a Proc enters.
+
+use crate::activation::{Activation, Runs};
+use crate::entry::{Entry, Opening};
+use crate::rows::enter_row;
+use core_iter::core_calls::Call;
+use core_iter::heap::Heap;
+use def_core::BindKind;
+use rb_value::{Kind, ObjId, ProcContents, Value};
+use std::alloc::AllocError;
+
+/// What a Proc is to its call: a body, or a row with the value that it keeps.
+#[derive(Clone, Copy)]
+enum Callee {
+    Body(Opening),
+    Row { row: u16, kept: Value },
+}
+
+/// The activation of a Proc's body: that of a lambda is the home of its returns itself.
+#[inline(always)]
+fn proc_activation(id: ObjId, contents: &ProcContents, next: u64) -> Activation {
+    Activation {
+        runs: if contents.lambda {
+            Runs::LambdaBody
+        } else {
+            Runs::BlockBody(id)
+        },
+        receiver: contents.receiver,
+        owner: contents.owner,
+        name: contents.name,
+        home: if contents.lambda { next } else { contents.home },
+        classes: contents.classes,
+        block: contents.block,
+    }
+}
+
+/// The activation of a block that was made a method: it has the receiver as `self`, and return and break end it.
+fn method_activation(receiver: Value, contents: &ProcContents, next: u64) -> Activation {
+    Activation {
+        runs: Runs::LambdaBody,
+        receiver,
+        owner: contents.owner,
+        name: contents.name,
+        home: next,
+        classes: contents.classes,
+        block: contents.block,
+    }
+}
+
+/// The body of a Proc in an activation.
+#[inline(always)]
+fn opening(
+    contents: &ProcContents,
+    activation: Activation,
+    block: Option<ObjId>,
+    binds: BindKind,
+) -> Opening {
+    Opening {
+        body: contents.code,
+        outer: contents.scopes.as_slice().first().copied(),
+        activation,
+        name_first: None,
+        block,
+        binds,
+    }
+}
+
+/// How the arguments of a Proc are bound.
+#[inline(always)]
+fn binds_of(lambda: bool) -> BindKind {
+    if lambda {
+        BindKind::Lambda
+    } else {
+        BindKind::Proc
+    }
+}
+
+/// What the call of a Proc with a body opens; nothing of another object.
+#[inline(always)]
+pub fn proc_opening(heap: &Heap, id: ObjId, block: Option<ObjId>, next: u64) -> Option<Opening> {
+    let contents = heap.proc_of(id)?;
+    let activation = proc_activation(id, contents, next);
+    Some(opening(contents, activation, block, binds_of(contents.lambda)))
+}
+
+/// What an object is to a call, where it is a Proc.
+fn proc_callee(heap: &Heap, id: ObjId, block: Option<ObjId>, next: u64) -> Option<Callee> {
+    match proc_opening(heap, id, block, next) {
+        Some(opening) => Some(Callee::Body(opening)),
+        None => row_callee(heap, id),
+    }
+}
+
+/// What a Proc without a body is to a call.
+fn row_callee(heap: &Heap, id: ObjId) -> Option<Callee> {
+    match heap.kind(id)? {
+        Kind::CoreProc { row, kept } => Some(Callee::Row {
+            row: *row,
+            kept: *kept,
+        }),
+        _ => None,
+    }
+}
+
+/// What a Proc that was made a method is to a call.
+fn method_callee(heap: &Heap, id: ObjId, call: Call<'_>, next: u64) -> Option<Callee> {
+    match heap.proc_of(id) {
+        Some(contents) => {
+            let activation = method_activation(call.receiver, contents, next);
+            let opening = opening(contents, activation, call.block, BindKind::Lambda);
+            Some(Callee::Body(opening))
+        }
+        None => row_callee(heap, id),
+    }
+}
+
+/// The same call, on a value that a Proc keeps.
+fn on(call: Call<'_>, kept: Value) -> Call<'_> {
+    Call {
+        receiver: kept,
+        ..call
+    }
+}
+
+/// What the call of what may be a Proc enters; what is none raises.
+fn enter_callee(
+    heap: &mut Heap,
+    callee: Option<Callee>,
+    call: Call<'_>,
+) -> Result<Entry, AllocError> {
+    match callee {
+        Some(Callee::Body(opening)) => Ok(Entry::Enters(opening)),
+        Some(Callee::Row { row, kept }) => enter_row(heap, row, on(call, kept)),
+        None => Ok(Entry::Answers(heap.wrong_value(b"CALL")?)),
+    }
+}
+
+/// What the call of an object enters, where it is a Proc; what is none raises. The receiver of the call plays no part.
+pub fn enter_proc(
+    heap: &mut Heap,
+    id: ObjId,
+    call: Call<'_>,
+    next: u64,
+) -> Result<Entry, AllocError> {
+    let callee = proc_callee(heap, id, call.block, next);
+    enter_callee(heap, callee, call)
+}
+
+/// What the call of a method enters that was made of a block.
+pub(crate) fn enter_block(
+    heap: &mut Heap,
+    id: ObjId,
+    call: Call<'_>,
+    next: u64,
+) -> Result<Entry, AllocError> {
+    let callee = method_callee(heap, id, call, next);
+    enter_callee(heap, callee, call)
+}
+
+/// What the call of a value itself enters; what is no Proc raises.
+pub fn enter_value(heap: &mut Heap, call: Call<'_>, next: u64) -> Result<Entry, AllocError> {
+    match call.receiver {
+        Value::Obj(id) => enter_proc(heap, id, call, next),
+        _ => Ok(Entry::Answers(heap.wrong_value(b"CALL")?)),
+    }
+}

@@ -1,0 +1,24 @@
+//! What the call of a core method enters.
+
+use crate::entry::{Beginning, Entry};
+use core_iter::core_calls::Call;
+use core_iter::heap::Heap;
+use core_iter::run_rows::{Row, call_plain, row_at};
+use std::alloc::AllocError;
+
+/// What the call of a core method enters, by its row: nothing, or an iteration.
+pub fn enter_row(heap: &mut Heap, row: u16, call: Call<'_>) -> Result<Entry, AllocError> {
+    match row_at(row) {
+        Row::OfTable => {
+            let given = heap.call_row(row, call.receiver, call.args, call.block)?;
+            Ok(Entry::Answers(given))
+        }
+        Row::Plain(plain) => Ok(Entry::Answers(call_plain(heap, plain, call)?)),
+        Row::Star(star) => Ok(Entry::Begins(Beginning {
+            row: star,
+            receiver: call.receiver,
+            name_first: None,
+            block: call.block,
+        })),
+    }
+}

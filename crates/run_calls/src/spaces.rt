@@ -1,0 +1,35 @@
+//! Bodies of classes and modules.
+
+use crate::activation::{Activation, Runs};
+use core_iter::heap::Heap;
+use rb_value::{ObjId, Value, Visibility};
+use std::alloc::AllocError;
+
+/// Begins the body of a class or module in an activation: the next methods of it are public, it is the innermost class
+/// around the text, and it is `self`. Where memory runs out all is as before.
+pub fn open_space(
+    heap: &mut Heap,
+    caller: &Activation,
+    class: ObjId,
+) -> Result<Activation, AllocError> {
+    let classes = heap.open_list(class, caller.classes)?;
+    heap.set_default(class, Visibility::Public);
+    Ok(Activation {
+        runs: Runs::ClassBody,
+        receiver: Value::Obj(class),
+        owner: None,
+        name: None,
+        home: caller.home,
+        classes,
+        block: None,
+    })
+}
+
+/// Ends an activation: after the body of a class or module its next methods are public. It takes no memory.
+#[inline(always)]
+pub fn close(heap: &mut Heap, activation: &Activation) {
+    match (activation.runs, activation.receiver) {
+        (Runs::ClassBody, Value::Obj(class)) => heap.set_default(class, Visibility::Public),
+        _ => {}
+    }
+}

@@ -1,0 +1,207 @@
+//! Arrays, Strings, Hashes, Ranges and Symbols.
+
+use rb_value::{ObjId, Value};
+use rite_code::PoolItem;
+use std::alloc::AllocError;
+use vm_parts::exits::after;
+use vm_parts::flow::{End, Flow};
+use vm_parts::heap::Given;
+use vm_parts::loaded::Loaded;
+use vm_parts::parts::{Parts, behind, put};
+use vm_parts::run_rows::iter_items::rows_items::{RowError, put_pair};
+use vm_parts::vm_frames::Frame;
+
+/// ARRAY: a new Array of `n` registers from `a` on.
+pub fn new_array(
+    code: &Loaded,
+    hot: &mut Frame,
+    parts: &mut Parts,
+    a: u16,
+    n: u16,
+) -> Result<Flow, AllocError> {
+    let values = parts.frames.row(hot, a, n)?;
+    let array = parts.heap.make_array(values)?;
+    put(hot, parts, a, array);
+    Ok(Flow::Stays)
+}
+
+/// Puts values after the elements of a value that is an Array.
+fn append(parts: &mut Parts, array: Option<ObjId>, values: &[Value]) -> Result<Given, AllocError> {
+    match array {
+        Some(id) => {
+            parts.heap.append(id, values)?;
+            Ok(Given::Gives(Value::Obj(id)))
+        }
+        None => parts.heap.wrong_value(b"ARYPUSH"),
+    }
+}
+
+/// ARYPUSH: the Array in register `a` gets the values of the next `n`.
+pub fn push_row(
+    code: &Loaded,
+    hot: &mut Frame,
+    parts: &mut Parts,
+    a: u16,
+    n: u16,
+) -> Result<Flow, AllocError> {
+    let values = parts.frames.row(hot, behind(a), n)?;
+    let array = parts.heap.an_array(parts.get(hot, a));
+    let given = append(parts, array, &values)?;
+    after(code, hot, parts, given, a)
+}
+
+/// ARYCAT: the Array in register `a` gets what a splat of the next one stands for.
+pub fn push_splatted(
+    code: &Loaded,
+    hot: &mut Frame,
+    parts: &mut Parts,
+    a: u16,
+) -> Result<Flow, AllocError> {
+    let value = parts.get(hot, behind(a));
+    let given = match parts.heap.an_array(parts.get(hot, a)) {
+        Some(id) => {
+            parts.heap.push_splat(id, value)?;
+            Given::Gives(Value::Obj(id))
+        }
+        None => parts.heap.wrong_value(b"ARYCAT")?,
+    };
+    after(code, hot, parts, given, a)
+}
+
+/// An element of a register.
+pub fn element(hot: &Frame, parts: &Parts, b: u16, place: i32) -> Value {
+    parts.heap.element(parts.get(hot, b), i64::from(place))
+}
+
+/// APOST: the elements of register `a` between so many at the front and so many at the end, or the last ones.
+pub fn get_rest(
+    code: &Loaded,
+    hot: &mut Frame,
+    parts: &mut Parts,
+    a: u16,
+    front: u16,
+    end: i32,
+) -> Result<Flow, AllocError> {
+    let value = parts.get(hot, a);
+    let front = usize::from(front);
+    let count = end.unsigned_abs() as usize;
+    let given = if end >= 0 {
+        parts.heap.elements_between(value, front, count)?
+    } else {
+        parts.heap.last_elements(value, front, count)?
+    };
+    after(code, hot, parts, given, a)
+}
+
+/// INTERN: the Symbol whose name the String in register `a` is.
+pub fn intern(
+    code: &Loaded,
+    hot: &mut Frame,
+    parts: &mut Parts,
+    a: u16,
+) -> Result<Flow, AllocError> {
+    let value = parts.get(hot, a);
+    let given = parts.heap.make_symbol(value)?;
+    after(code, hot, parts, given, a)
+}
+
+/// STRING: a new String with a text of the pool.
+pub fn new_text(
+    code: &Loaded,
+    hot: &mut Frame,
+    parts: &mut Parts,
+    a: u16,
+    place: u16,
+) -> Result<Flow, AllocError> {
+    match code.pool_item(hot.body, place) {
+        Some(PoolItem::Text(text)) => {
+            let text = parts.heap.make_text(text.as_slice())?;
+            put(hot, parts, a, text);
+            Ok(Flow::Stays)
+        }
+        _ => Ok(Flow::Ends(End::Ended(0))),
+    }
+}
+
+/// STRCAT: the String in register `a` gets the text of the next one.
+pub fn push_text(
+    code: &Loaded,
+    hot: &mut Frame,
+    parts: &mut Parts,
+    a: u16,
+) -> Result<Flow, AllocError> {
+    let value = parts.get(hot, behind(a));
+    let given = match parts.heap.a_string(parts.get(hot, a)) {
+        Some(id) => {
+            parts.heap.append_text(id, value)?;
+            Given::Gives(Value::Obj(id))
+        }
+        None => parts.heap.wrong_value(b"STRCAT")?,
+    };
+    after(code, hot, parts, given, a)
+}
+
+/// Gives a Hash the pairs of keys and values that follow one another.
+fn add_pairs(parts: &mut Parts, id: ObjId, values: &[Value]) -> Result<Given, AllocError> {
+    let mut key = None;
+    'values: for value in values {
+        match key {
+            Some(shown) => {
+                match put_pair(&mut parts.heap, id, shown, *value) {
+                    Ok(()) => {}
+                    Err(RowError::Fails(cause)) => return parts.heap.fail(cause),
+                    Err(RowError::NoMemory) => return Err(AllocError),
+                }
+                key = None;
+            }
+            None => key = Some(*value),
+        }
+    }
+    Ok(Given::Gives(Value::Obj(id)))
+}
+
+/// HASH: a new Hash of `n` pairs of registers from `a` on.
+pub fn new_hash(
+    code: &Loaded,
+    hot: &mut Frame,
+    parts: &mut Parts,
+    a: u16,
+    n: u16,
+) -> Result<Flow, AllocError> {
+    let values = parts.frames.row(hot, a, n.saturating_add(n))?;
+    let given = match parts.heap.make_hash()? {
+        Value::Obj(id) => add_pairs(parts, id, &values)?,
+        other => Given::Gives(other),
+    };
+    after(code, hot, parts, given, a)
+}
+
+/// HASHADD: the Hash in register `a` gets `n` pairs of the registers behind it.
+pub fn push_pairs(
+    code: &Loaded,
+    hot: &mut Frame,
+    parts: &mut Parts,
+    a: u16,
+    n: u16,
+) -> Result<Flow, AllocError> {
+    let values = parts.frames.row(hot, behind(a), n.saturating_add(n))?;
+    let given = match parts.heap.a_hash(parts.get(hot, a)) {
+        Some(id) => add_pairs(parts, id, &values)?,
+        None => parts.heap.wrong_value(b"HASHADD")?,
+    };
+    after(code, hot, parts, given, a)
+}
+
+/// RANGE_INC and RANGE_EXC: a Range between registers `a` and `a + 1`.
+pub fn new_range(
+    code: &Loaded,
+    hot: &mut Frame,
+    parts: &mut Parts,
+    a: u16,
+    exclusive: bool,
+) -> Result<Flow, AllocError> {
+    let first = parts.get(hot, a);
+    let last = parts.get(hot, behind(a));
+    let given = parts.heap.make_range(first, last, exclusive)?;
+    after(code, hot, parts, given, a)
+}

@@ -1,0 +1,46 @@
+//! The arguments of an instruction's call, which the line keeps: so many registers after the receiver, or the elements
+//! of an Array.
+
+use crate::parts::{Parts, behind};
+use fiber_switch::vm_frames::Frame;
+use rb_value::Value;
+use std::alloc::AllocError;
+
+/// The count that stands for one Array of all arguments.
+pub const IN_ARRAY: u16 = 255;
+
+/// The count by which a call on `self` is of a bare name.
+pub const BARE_NAME: u16 = 254;
+
+/// How many registers hold the arguments.
+#[inline(always)]
+pub fn registers_of(count: u16) -> u16 {
+    if count == IN_ARRAY { 1 } else { count }
+}
+
+/// The elements of an Array, or another value itself, are arguments.
+#[cold]
+fn keep_elements(parts: &mut Parts, value: Value) -> Result<(), AllocError> {
+    match parts.heap.elements_of(value) {
+        Some(elements) => parts.frames.keep_all(elements),
+        None => parts.frames.keep(value),
+    }
+}
+
+/// The line keeps the arguments of a call on register `a`; the place of the first of them is given.
+#[inline(always)]
+pub fn keep_arguments(
+    hot: &Frame,
+    parts: &mut Parts,
+    a: u16,
+    count: u16,
+) -> Result<usize, AllocError> {
+    let first = parts.frames.kept_count();
+    if count == IN_ARRAY {
+        let value = parts.get(hot, behind(a));
+        keep_elements(parts, value)?;
+    } else {
+        parts.frames.keep_row(hot, behind(a), count)?;
+    }
+    Ok(first)
+}

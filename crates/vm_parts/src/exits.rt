@@ -1,0 +1,153 @@
+//! Values that go back to levels that wait, and exits.
+
+use crate::flow::{End, Flow, Handed};
+use crate::loaded::Loaded;
+use crate::parts::{Parts, put, step};
+use fiber_switch::heap::Given;
+use fiber_switch::vm_frames::{Frame, Level};
+use fiber_switch::vm_unwind::{Landing, unwind};
+use rb_value::{Exit, ObjId, Value};
+use std::alloc::AllocError;
+
+/// The end of the fiber that runs, with a value: that of its resume, or the end of the program.
+fn end_fiber(parts: &mut Parts, value: Value) -> Flow {
+    if parts.fibers.end(&mut parts.heap, &mut parts.frames) && parts.frames.hand(value) {
+        Flow::Wakes
+    } else {
+        Flow::Ends(End::Ended(0))
+    }
+}
+
+/// A value goes to the level that waits.
+pub fn receive(parts: &mut Parts, value: Value) -> Flow {
+    if parts.frames.hand(value) {
+        Flow::Wakes
+    } else {
+        end_fiber(parts, value)
+    }
+}
+
+/// A value goes to the level that waits, which mostly is a frame: that one is in hand then.
+#[inline(always)]
+pub fn receive_here(hot: &mut Frame, parts: &mut Parts, value: Value) -> Flow {
+    match parts.frames.pop_frame() {
+        Some(frame) => {
+            *hot = frame;
+            let waits = hot.waits;
+            put(hot, parts, waits, value);
+            Flow::Stays
+        }
+        None => receive(parts, value),
+    }
+}
+
+/// An exception goes past the last level of a fiber: it is raised at the resume, where there is one.
+fn fallen(parts: &mut Parts) -> Option<Level> {
+    if parts.fibers.end(&mut parts.heap, &mut parts.frames) {
+        parts.frames.pop()
+    } else {
+        None
+    }
+}
+
+/// Where an exit comes to from a level: it ends the program where it is an exception that nothing takes.
+pub fn throw(
+    code: &Loaded,
+    parts: &mut Parts,
+    level: Level,
+    exit: Exit,
+) -> Result<Flow, AllocError> {
+    let mut at = level;
+    let mut exit = exit;
+    'fibers: for _ in 0..=parts.fibers.begun().len() {
+        match unwind(&code.code, &mut parts.heap, &mut parts.frames, at, exit)? {
+            Landing::Runs(level) => {
+                parts.frames.push(level)?;
+                return Ok(Flow::Wakes);
+            }
+            Landing::Gives(value) => return Ok(receive(parts, value)),
+            Landing::Falls(Exit::Raise(exception)) => match fallen(parts) {
+                Some(next) => {
+                    at = next;
+                    exit = Exit::Raise(exception);
+                }
+                None => return Ok(Flow::Ends(End::Uncaught(exception))),
+            },
+            Landing::Falls(_) => return Ok(Flow::Ends(End::Ended(0))),
+        }
+    }
+    Ok(Flow::Ends(End::Ended(0)))
+}
+
+/// Where an exception comes to that is raised at the innermost level that waits, or past the last one.
+pub fn raise_out(code: &Loaded, parts: &mut Parts, exception: ObjId) -> Result<Flow, AllocError> {
+    let level = match parts.frames.pop() {
+        Some(level) => Some(level),
+        None => fallen(parts),
+    };
+    match level {
+        Some(level) => throw(code, parts, level, Exit::Raise(exception)),
+        None => Ok(Flow::Ends(End::Uncaught(exception))),
+    }
+}
+
+/// Where an exit comes to from the frame in hand.
+#[cold]
+pub fn throw_here(
+    code: &Loaded,
+    hot: &mut Frame,
+    parts: &mut Parts,
+    exit: Exit,
+) -> Result<Flow, AllocError> {
+    throw(code, parts, Level::Frame(*hot), exit)
+}
+
+/// Register `a` gets what is given, and the frame goes on; or the exception is thrown.
+#[inline(always)]
+pub fn after(
+    code: &Loaded,
+    hot: &mut Frame,
+    parts: &mut Parts,
+    given: Given,
+    a: u16,
+) -> Result<Flow, AllocError> {
+    match given {
+        Given::Gives(value) => {
+            put(hot, parts, a, value);
+            Ok(Flow::Stays)
+        }
+        Given::Raises(exception) => throw_here(code, hot, parts, Exit::Raise(exception)),
+    }
+}
+
+/// The frame goes on where something is given, and no register gets it; or the exception is thrown.
+pub fn only(
+    code: &Loaded,
+    hot: &mut Frame,
+    parts: &mut Parts,
+    given: Given,
+) -> Result<Flow, AllocError> {
+    match given {
+        Given::Gives(_) => {
+            step(hot);
+            Ok(Flow::Stays)
+        }
+        Given::Raises(exception) => throw_here(code, hot, parts, Exit::Raise(exception)),
+    }
+}
+
+/// The innermost level that waits is given a value or an exception; where none waits the fiber ends with it.
+pub fn hand_out(code: &Loaded, parts: &mut Parts, handed: Handed) -> Result<Flow, AllocError> {
+    match handed {
+        Handed::Value(value) => Ok(receive(parts, value)),
+        Handed::Exception(exception) => raise_out(code, parts, exception),
+    }
+}
+
+/// What was given, as it is handed to a level.
+pub fn handed(given: Given) -> Handed {
+    match given {
+        Given::Gives(value) => Handed::Value(value),
+        Given::Raises(exception) => Handed::Exception(exception),
+    }
+}

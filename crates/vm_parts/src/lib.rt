@@ -1,0 +1,23 @@
+//! What the machine keeps beside the level that runs, and what every turn ends with: a register gets a value, a call is
+//! entered, a value goes back to the level that waits, or an exit goes to where it lands.
+//!
+//! All calls are total: code that isn't there ends the program, a register that isn't there reads as nil.
+//!
+//! Types: [`Parts`], [`Loaded`], [`Operators`]; [`Flow`], [`Step`], [`End`], [`Handed`]. Calls: modules [`exits`],
+//! [`entering`], [`arguments`].
+#![tactic(auto)]
+
+pub mod arguments;
+pub mod entering;
+pub mod exits;
+pub mod flow;
+pub mod loaded;
+pub mod operators;
+pub mod parts;
+
+pub use fiber_switch;
+pub use fiber_switch::{core_calls, core_iter, heap, run_calls, run_rows, vm_frames, vm_unwind};
+pub use flow::{End, Flow, Handed, Step};
+pub use loaded::Loaded;
+pub use operators::{Operator, Operators};
+pub use parts::{Parts, behind, put, step};
