@@ -4,6 +4,7 @@
 mod building;
 mod end;
 mod exec;
+mod general;
 mod report;
 mod rite;
 mod sending;
@@ -13,6 +14,7 @@ mod texts;
 mod told;
 mod words;
 
+use general::play;
 use rb_base::{Buffered, DiskFiles, StdSink, StdSource};
 use report::Report;
 use rite::rite;
@@ -24,14 +26,24 @@ use stop::Stop;
 fn main(rt: HostRuntime) -> ExitCode {
     let mut err = Buffered::new(StdSink::new(rt.stderr()));
     let end = match given_words(&rt) {
-        Ok(words) => rite(
-            rt.alloc(),
-            &words,
-            &mut DiskFiles::new(&rt),
-            &mut StdSource::new(rt.stdin()),
-            &mut Buffered::new(StdSink::new(rt.stdout())),
-            &mut err,
-        ),
+        Ok(words) => {
+            let alloc = rt.alloc();
+            let mut files = DiskFiles::new(&rt);
+            let mut input = StdSource::new(rt.stdin());
+            let mut out = Buffered::new(StdSink::new(rt.stdout()));
+            match play(alloc, &words, &mut files, &mut input, &mut out, &mut err) {
+                Some(end) => end,
+                // Nothing was written yet.
+                None => rite(
+                    alloc,
+                    &words,
+                    &mut files,
+                    &mut input,
+                    &mut Buffered::new(StdSink::new(rt.stdout())),
+                    &mut err,
+                ),
+            }
+        }
         Err(report) => report.answer(&mut err),
     };
     ExitCode::from(end.status())

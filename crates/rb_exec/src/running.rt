@@ -1,0 +1,77 @@
+//! A run, and how it comes out.
+
+use code_verifier::Verified;
+use frame_machine::{Machine, Ran, StepFault, start};
+use rb_base::{Buffered, Sink, Source};
+use rb_refusal::Refusal;
+use rb_value::ObjId;
+use std::alloc::{AllocError, Global};
+
+/// How a program comes out: it ended with a status; an exception wasn't rescued, whose class and message are a line;
+/// the turns that were allowed are made; or nothing of it runs, or no more, for a cause.
+#[derive(Debug, Drop)]
+pub enum Played {
+    Ended(u8),
+    Uncaught(Vec<u8>),
+    Spent,
+    Refused(Refusal),
+    FileFault,
+    NoMemory,
+    InputFault,
+    OutputFault,
+}
+
+/// How many turns a run made, and how many classes and modules the searches for methods asked.
+#[derive(Clone, Copy, Debug, Default, PartialEq, Eq)]
+pub struct Counts {
+    pub turns: u64,
+    pub probes: u64,
+}
+
+/// The line of an exception that nothing rescued: its class and its message.
+fn uncaught(machine: &Machine, exception: ObjId) -> Result<Vec<u8>, AllocError> {
+    let seen = machine.unrescued(exception)?;
+    let mut line = seen.class;
+    line.extend_from_slice(b": ")?;
+    line.extend_from_slice(&seen.message)?;
+    line.push(b'\n')?;
+    Ok(line)
+}
+
+/// How a run comes out.
+fn come_out(machine: &Machine, ran: Result<Ran, StepFault>) -> Played {
+    match ran {
+        Ok(Ran::Ended(status)) => Played::Ended(status),
+        Ok(Ran::Uncaught(exception)) => match uncaught(machine, exception) {
+            Ok(line) => Played::Uncaught(line),
+            Err(AllocError) => Played::NoMemory,
+        },
+        Ok(Ran::Spent) => Played::Spent,
+        Err(StepFault::NoMemory) => Played::NoMemory,
+        Err(StepFault::InputFault) => Played::InputFault,
+        Err(StepFault::OutputFault) | Err(StepFault::Stopped) => Played::OutputFault,
+    }
+}
+
+/// Runs verified code for at most so many turns, and sends on what it wrote.
+pub(crate) fn run_code<S: Source, O: Sink + Drop>(
+    alloc: Global,
+    code: Verified,
+    steps: u64,
+    input: &mut S,
+    out: &mut Buffered<O>,
+) -> (Played, Counts) {
+    let mut machine = match start(alloc, code) {
+        Ok(machine) => machine,
+        Err(AllocError) => return (Played::NoMemory, Counts::default()),
+    };
+    let ran = machine.run(steps, input, out);
+    let counts = Counts {
+        turns: machine.turns(),
+        probes: machine.probes(),
+    };
+    match out.flush() {
+        Ok(()) => (come_out(&machine, ran), counts),
+        Err(_) => (Played::OutputFault, counts),
+    }
+}
