@@ -1,19 +1,19 @@
 #!/usr/bin/env python3
-"""Measures what reading a text to its core costs, beside mruby's compiler. Not part of the tests.
+"""Measures what compiling a text costs, beside mruby's compiler. Not part of the tests.
 
     bench/front.py RITE [LINES] [--mebibytes N] [--times N]
 
 RITE is the built program (build/rite), `mrbc` and GNU `time` stand on the path. The texts are
 
-- the programs of examples/programs that both read, again and again up to about so many lines (9,000 without a number;
-  mruby refuses a body of some 11,000);
+- the programs of examples/programs that both compile, again and again up to about so many lines (9,000 without a
+  number; mruby refuses a body of some 11,000);
 - 10,000 local variables, each set once and used three times: in scopes of 200, and in one scope, which mruby refuses;
 - N MiB of methods (16 without a number).
 
-RITE reads a text as tokens, tree and core, and may refuse the core, of which it builds some so far: what is timed is
-the front end alone then. mruby's compiler makes the code, too, also with `-c`, which doesn't write it. The seconds are
-processor time, the least of N runs (5 without a number). The memory is the greatest that a run held, by byte of the
-text, the program itself (some MiB) within it.
+RITE makes the code of a text, writes its file, loads that again and verifies it. mruby's compiler makes the code, and
+with `-c` doesn't write it. The seconds are processor time, the least of N runs (5 without a number). The memory is the
+greatest that a run held, by byte of the text, the program itself (some MiB) within it. Where RITE refuses a text for a
+count past its limit, what is timed is the front end and the counts.
 """
 import argparse
 import glob
@@ -34,13 +34,13 @@ METHOD = """  # adds what it is given
 
 
 def is_read(rite, text, folder):
-    """Whether both compilers read the text."""
+    """Whether both compilers take the text."""
     path, target = os.path.join(folder, "part.rb"), os.path.join(folder, "part.mrb")
     with open(path, "w") as file:
         file.write(text)
     ours = subprocess.run([rite, "build", path, target], capture_output=True)
     theirs = subprocess.run(["mrbc", "-c", path], capture_output=True)
-    return theirs.returncode == 0 and (ours.returncode == 0 or ours.stderr.startswith(b"refused: Outside Unbuilt "))
+    return theirs.returncode == 0 and ours.returncode == 0
 
 
 def programs(rite, lines, folder):

@@ -22,7 +22,7 @@ ghost use Rattle.std.specs.Prelude.{◌≡◌, ◌+◌, ◌≤◌, length, vec_l
 ghost use Rattle.stack_bank.specs.Bank.{IsLive, slots};
 ghost use Rattle.stack_bank.specs.Window.{Reaches};
 
-use rb_value::{Slot, Value};
+use rb_value::Value;
 use stack_bank::{StackBank, Window};
 use std::alloc::AllocError;
 use std::env;
@@ -42,7 +42,7 @@ fn through_window(bank: &mut StackBank, window: Window, rounds: u64)
     }
 }
 
-fn through_vector(places: &mut Vec<Slot>, rounds: u64)
+fn through_vector(places: &mut Vec<Value>, rounds: u64)
     requires { 64 ≤ vec_len places.old }
 {
     for round in 0..rounds {
@@ -61,7 +61,7 @@ fn run(rt: &HostRuntime, window: bool, rounds: u64) -> Result<(), AllocError> {
         through_window(&mut bank, window, rounds);
     } else {
         let mut places = Vec::new(rt.alloc());
-        places.resize(SIZE, Slot::V(Value::Nil))?;
+        places.resize(SIZE, Value::Nil)?;
         through_vector(&mut places, rounds);
     }
     Ok(())

@@ -205,16 +205,16 @@ row(183) { [3, 1, 2].sum }
 row(184) { ["b", "a", "ab"].sort }
 row(185) { ["b", "a", "ab"].min }
 row(186) { ["b", "a", "ab"].max }
-row(187) { [[2, 1], [1, 2], [1]].sort } # not Ruby's: Integers and Strings have an order
-row(188) { [[2, 1], [1, 2], [1]].min } # not Ruby's: Integers and Strings have an order
-row(189) { [[2, 1], [1, 2], [1]].max } # not Ruby's: Integers and Strings have an order
-row(190) { [:b, :a].sort } # not Ruby's: Integers and Strings have an order
-row(191) { [:b, :a].min } # not Ruby's: Integers and Strings have an order
-row(192) { [:b, :a].max } # not Ruby's: Integers and Strings have an order
+row(187) { [[2, 1], [1, 2], [1]].sort }
+row(188) { [[2, 1], [1, 2], [1]].min }
+row(189) { [[2, 1], [1, 2], [1]].max }
+row(190) { [:b, :a].sort } # not Ruby's: Integers, Strings and Arrays have an order
+row(191) { [:b, :a].min } # not Ruby's: Integers, Strings and Arrays have an order
+row(192) { [:b, :a].max } # not Ruby's: Integers, Strings and Arrays have an order
 row(193) { [1, 3, 2].sort { |a, b| b <=> a } } # not Ruby's: a block of sort, min and max is ignored
 row(194) { [1, 3, 2].max { |a, b| b <=> a } } # not Ruby's: a block of sort, min and max is ignored
 row(195) { ["aa", "b"].min { |a, b| a.length <=> b.length } } # not Ruby's: a block of sort, min and max is ignored
-row(196) { [3, 1, 2].sort_by { |x| [x] } } # not Ruby's: Integers and Strings have an order
+row(196) { [3, 1, 2].sort_by { |x| [x] } }
 row(197) { [1, "a"].sort } # not Ruby's: text of a comparison
 row(198) { [1, "a"].min } # not Ruby's: text of a comparison
 row(199) { [1, "a"].max } # not Ruby's: text of a comparison

@@ -149,9 +149,9 @@ row(45) { [v(1), v(2)].include?(v(2)) }
 row(46) { [v(1), v(2), v(1)].index(v(2)) }
 row(47) { [v(1), v(2)] == [v(1), v(2)] }
 row(48) { [v(1)].count(v(1)) }
-row(49) { [v(2), v(1)].sort } # not Ruby's: Integers and Strings have an order
-row(50) { [v(2), v(1)].min } # not Ruby's: Integers and Strings have an order
-row(51) { [v(2), v(1)].max } # not Ruby's: Integers and Strings have an order
+row(49) { [v(2), v(1)].sort } # not Ruby's: Integers, Strings and Arrays have an order
+row(50) { [v(2), v(1)].min } # not Ruby's: Integers, Strings and Arrays have an order
+row(51) { [v(2), v(1)].max } # not Ruby's: Integers, Strings and Arrays have an order
 row(52) { bag.to_a }
 row(53) { bag.entries }
 row(54) { bag.sort }

@@ -120,9 +120,9 @@ row(94) { {}.all? }
 row(95) { {}.none? }
 row(96) { {}.inspect }
 row(97) { {}.default }
-row(98) { ages.sort } # not Ruby's: Integers and Strings have an order
-row(99) { ages.min } # not Ruby's: Integers and Strings have an order
-row(100) { ages.max } # not Ruby's: Integers and Strings have an order
+row(98) { ages.sort }
+row(99) { ages.min }
+row(100) { ages.max }
 row(101) { ages.first(0) }
 row(102) { ages.first(2) }
 row(103) { ages.first(9) }
@@ -234,7 +234,7 @@ row(208) { ages.map { |k, v| [v, k] } }
 row(209) { ages.map { |pair| pair.length } }
 row(210) { ages.map { |k| k } }
 row(211) { ages.flat_map { |k, v| [k, v] } }
-row(212) { ages.sort_by { |k, v| [-v, k] } } # not Ruby's: Integers and Strings have an order
+row(212) { ages.sort_by { |k, v| [-v, k] } }
 row(213) { ages.sort_by { |k, v| k } }
 row(214) { ages.min_by { |k, v| k } }
 row(215) { ages.max_by { |k, v| k } }

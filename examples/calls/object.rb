@@ -407,66 +407,80 @@ row(294) { Class.new.tap { |c| c.define_method(:d) { |x| x } }.new.d }
 row(295) { Class.new(Animal).tap { |c| c.alias_method(:kin, :kind) }.new("a").kin }
 row(296) { Class.new(Dog).tap { |c| c.undef_method(:kind) }.new("a").respond_to?(:kind) }
 row(297) { Class.new(Dog).tap { |c| c.define_method(:kind) { 1 } }.tap { |c| c.remove_method(:kind) }.new("a").kind }
-row(298) { Class.new.tap { |c| c.include(Loud, Comparable) }.ancestors.length } # not Ruby's: Object is the root
-row(299) { Class.new.define_method(:d) } # not Ruby's: text of a block
-row(300) { (class Dog; LEGS; end) }
-row(301) { (class Dog; self; end) }
-row(302) { (class Dog; def more; 1; end; end) }
-row(303) { (class Dog < String; end) }
-row(304) { (begin; class Loud; end; rescue TypeError => e; e.message.split("\n")[0]; end) }
-row(305) { (begin; module Dog; end; rescue TypeError => e; e.message.split("\n")[0]; end) }
-row(306) { (class Later < 5; end) } # not Ruby's: text of a superclass
-row(307) { (class Dog; alias other_kind no_kind; end) } # not Ruby's: text of quotes
-row(308) { (class Dog; private :no_kind; end) } # not Ruby's: text of quotes
-row(309) { (class Dog; undef no_kind; end) } # not Ruby's: text of quotes
-row(310) { (class Dog; def extra; 1; end; private :extra; end) } # not Ruby's: these methods give nil
-row(311) { (class Dog; public; end) }
-row(312) { (class << Plain; def made; :made; end; end) }
-row(313) { (class << Plain; def made_too; :made_too; end; end; Plain.made_too) }
-row(314) { p }
-row(315) { p(1) }
-row(316) { p(1, [2]) }
-row(317) { puts }
-row(318) { puts(1, [2, [nil, "a\n"]], :b) }
-row(319) { puts([]) }
-row(320) { print("a", 1, nil, "\n") }
-row(321) { gets }
-row(322) { raise } # not Ruby's: text of a raise
-row(323) { raise "own" }
-row(324) { raise ArgumentError }
-row(325) { raise TypeError }
-row(326) { raise KeyError }
-row(327) { raise ArgumentError, "own" }
-row(328) { raise ArgumentError.new("own") }
-row(329) { raise 5 } # not Ruby's: text of a raise
-row(330) { raise Object } # not Ruby's: text of a raise
-row(331) { raise nil } # not Ruby's: text of a raise
-row(332) { loop { break 5 } }
-row(333) { loop { raise StopIteration } }
-row(334) { loop } # not Ruby's: no enumerators of rows
-row(335) { lambda } # not Ruby's: text of a block
-row(336) { proc } # not Ruby's: text of a block
-row(337) { exit }
-row(338) { exit(3) }
-row(339) { exit(true) }
-row(340) { exit(false) }
-row(341) { exit(256) } # not Ruby's: text of a status
-row(342) { Integer("12") }
-row(343) { Integer("-12") }
-row(344) { Integer("+12") }
-row(345) { Integer("0") }
-row(346) { Integer(7) }
-row(347) { Integer("007") }
-row(348) { Integer("010") } # not Ruby's: decimal digits alone
-row(349) { Integer(" 5") } # not Ruby's: decimal digits alone
-row(350) { Integer("0x1F") } # not Ruby's: decimal digits alone
-row(351) { Integer("1_000") } # not Ruby's: decimal digits alone
-row(352) { Integer("5\n") } # not Ruby's: decimal digits alone
-row(353) { Integer("") } # not Ruby's: text of a value
-row(354) { Integer("abc") } # not Ruby's: text of a value
-row(355) { Integer("12a") } # not Ruby's: text of a value
-row(356) { Integer("-") } # not Ruby's: text of a value
-row(357) { Integer("1 2") } # not Ruby's: text of a value
-row(358) { Integer("9223372036854775808") } # not Ruby's: 64 bits
-row(359) { [defined?(puts), defined?(nothing), defined?(String), defined?(Nope), defined?(@a), defined?($a), defined?(self), defined?(a = 1), defined?(1)] }
-row(360) { (def self.deep(n); deep(n + 1); end; deep(0)) }
+row(298) { Class.new(Dog).tap { |c| c.define_method(:kind) { 1 } }.tap { |c| 2.times { c.remove_method(:kind) } } } # not Ruby's: text shows a class without a name
+row(299) { Class.new(Dog).tap { |c| c.define_method(:late) { 1 } }.tap { |c| c.remove_method(:late) }.new("a").late } # not Ruby's: text shows the class
+row(300) { Class.new(Animal).then { |c| d = Class.new(c); d.define_method(:kind) { 1 }; d.remove_method(:kind); c.define_method(:kind) { 2 }; d.new("a").kind } }
+row(301) { Plain.dup.then { |c| [c.name, c == Plain, c.superclass, c.ancestors.include?(Plain), c.new.is_a?(Plain)] } }
+row(302) { Dog.dup.then { |c| [c.name, c.new("a").kind, c::LEGS, c.superclass, c.method_defined?(:guarded), c.method_defined?(:secret)] } }
+row(303) { Dog.clone.then { |c| [c.name, c.new("a").kind, c::LEGS, c.superclass, c.method_defined?(:guarded), c.method_defined?(:secret)] } }
+row(304) { Dog.dup.then { |c| c.define_method(:kind) { 1 }; [c.new("a").kind, Dog.new("a").kind] } }
+row(305) { Dog.dup.then { |c| c.include(Loud, Comparable); c.ancestors.include?(Loud) && c.new("a").shout } }
+row(306) { Loud.dup.then { |m| [m.name, m == Loud, Class.new(Animal).include(m).new("a").shout] } }
+row(307) { (1..3).then { |r| [r.dup == r, r.dup.equal?(r), r.clone.to_a, ("a"..."c").dup] } }
+row(308) { proc { |a| a }.then { |f| [f.dup.equal?(f), f.dup.call(4), f.dup.lambda?, f.clone.arity] } }
+row(309) { lambda { |a| a }.then { |f| [f.dup.equal?(f), f.clone.lambda?, f.dup.call(1)] } }
+row(310) { :upcase.to_proc.then { |f| [f.dup.equal?(f), f.dup.call("a"), f.clone.lambda?] } }
+row(311) { Fiber.new { |a| Fiber.yield a; 2 }.then { |f| [f.resume(1), f.dup.resume(3), f.resume, f.clone.alive?] } } # not Ruby's: Ruby copies no fiber
+row(312) { Class.new.tap { |c| c.include(Loud, Comparable) }.ancestors.length } # not Ruby's: Object is the root
+row(313) { Class.new.define_method(:d) } # not Ruby's: text of a block
+row(314) { (class Dog; LEGS; end) }
+row(315) { (class Dog; self; end) }
+row(316) { (class Dog; def more; 1; end; end) }
+row(317) { (class Dog < String; end) }
+row(318) { (begin; class Loud; end; rescue TypeError => e; e.message.split("\n")[0]; end) }
+row(319) { (begin; module Dog; end; rescue TypeError => e; e.message.split("\n")[0]; end) }
+row(320) { (class Later < 5; end) } # not Ruby's: text of a superclass
+row(321) { (class Dog; alias other_kind no_kind; end) } # not Ruby's: text of quotes
+row(322) { (class Dog; private :no_kind; end) } # not Ruby's: text of quotes
+row(323) { (class Dog; undef no_kind; end) } # not Ruby's: text of quotes
+row(324) { (class Dog; def extra; 1; end; private :extra; end) } # not Ruby's: these methods give nil
+row(325) { (class Dog; public; end) }
+row(326) { (class << Plain; def made; :made; end; end) }
+row(327) { (class << Plain; def made_too; :made_too; end; end; Plain.made_too) }
+row(328) { p }
+row(329) { p(1) }
+row(330) { p(1, [2]) }
+row(331) { puts }
+row(332) { puts(1, [2, [nil, "a\n"]], :b) }
+row(333) { puts([]) }
+row(334) { print("a", 1, nil, "\n") }
+row(335) { gets }
+row(336) { raise } # not Ruby's: text of a raise
+row(337) { raise "own" }
+row(338) { raise ArgumentError }
+row(339) { raise TypeError }
+row(340) { raise KeyError }
+row(341) { raise ArgumentError, "own" }
+row(342) { raise ArgumentError.new("own") }
+row(343) { raise 5 } # not Ruby's: text of a raise
+row(344) { raise Object } # not Ruby's: text of a raise
+row(345) { raise nil } # not Ruby's: text of a raise
+row(346) { loop { break 5 } }
+row(347) { loop { raise StopIteration } }
+row(348) { loop } # not Ruby's: no enumerators of rows
+row(349) { lambda } # not Ruby's: text of a block
+row(350) { proc } # not Ruby's: text of a block
+row(351) { exit }
+row(352) { exit(3) }
+row(353) { exit(true) }
+row(354) { exit(false) }
+row(355) { exit(256) } # not Ruby's: text of a status
+row(356) { Integer("12") }
+row(357) { Integer("-12") }
+row(358) { Integer("+12") }
+row(359) { Integer("0") }
+row(360) { Integer(7) }
+row(361) { Integer("007") }
+row(362) { Integer("010") } # not Ruby's: decimal digits alone
+row(363) { Integer(" 5") } # not Ruby's: decimal digits alone
+row(364) { Integer("0x1F") } # not Ruby's: decimal digits alone
+row(365) { Integer("1_000") } # not Ruby's: decimal digits alone
+row(366) { Integer("5\n") } # not Ruby's: decimal digits alone
+row(367) { Integer("") } # not Ruby's: text of a value
+row(368) { Integer("abc") } # not Ruby's: text of a value
+row(369) { Integer("12a") } # not Ruby's: text of a value
+row(370) { Integer("-") } # not Ruby's: text of a value
+row(371) { Integer("1 2") } # not Ruby's: text of a value
+row(372) { Integer("9223372036854775808") } # not Ruby's: 64 bits
+row(373) { [defined?(puts), defined?(nothing), defined?(String), defined?(Nope), defined?(@a), defined?($a), defined?(self), defined?(a = 1), defined?(1)] }
+row(374) { (def self.deep(n); deep(n + 1); end; deep(0)) }

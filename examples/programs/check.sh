@@ -1,25 +1,40 @@
 #!/bin/sh
-# Says of each program of this folder whether Ruby accepts it and writes what stands beside it, and whether `rite` reads it.
-# A program that is read and not built yet is refused as `Outside Unbuilt`. The status is 1 where one of these isn't so.
-# Not part of the tests: it needs Ruby.
+# Says of each program of this folder whether Ruby accepts it and writes what stands beside it, and whether `rite`
+# compiles it and writes the same. The status is 1 where one of these isn't so. Not part of the tests: it needs Ruby.
+#
+#   examples/programs/check.sh RITE
 rite=${1:?usage: check.sh RITE}
 folder=$(dirname "$0")
-made=$(mktemp)
+made=$(mktemp -d)
 status=0
+
+# Whether the command writes what stands in the file.
+writes() {
+  expected=$1
+  shift
+  "$@" </dev/null 2>/dev/null | cmp -s - "$expected"
+}
+
+# Says what isn't so.
+fault() {
+  echo "$1"
+  status=1
+}
+
 for file in "$folder"/*.rb; do
   name=$(basename "$file" .rb)
+  out=$folder/$name.out
   if ! ruby -c "$file" >/dev/null 2>&1; then
-    echo "$name: refused by Ruby"
-    status=1
-  elif ! ruby "$file" </dev/null 2>/dev/null | cmp -s - "$folder/$name.out"; then
-    echo "$name: another output"
-    status=1
-  elif said=$("$rite" build "$file" "$made" 2>&1) || [ "$said" = "refused: Outside Unbuilt at 0" ]; then
-    echo "$name: ${said:-built}"
+    fault "$name: refused by Ruby"
+  elif ! writes "$out" ruby "$file"; then
+    fault "$name: another output of Ruby"
+  elif ! said=$("$rite" build "$file" "$made/$name.mrb" 2>&1); then
+    fault "$name: $said"
+  elif writes "$out" "$rite" run "$made/$name.mrb"; then
+    echo "$name: runs"
   else
-    echo "$name: $said"
-    status=1
+    fault "$name: another output"
   fi
 done
-rm -f "$made"
+rm -r "$made"
 exit $status

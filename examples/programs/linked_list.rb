@@ -70,7 +70,7 @@ class List
   end
 
   def +(other)
-    List.of(*self, *other)
+    List.of(*to_a, *other.to_a)
   end
 
   def ==(other)
@@ -128,7 +128,7 @@ rescue IndexError => e
   puts e.message
 end
 
-first, *rest = *List.of(1, 2, 3, 4)
+first, *rest = *List.of(1, 2, 3, 4).to_a
 p first, rest
 *front, last = List.of(5, 6, 7).to_a
 p front, last

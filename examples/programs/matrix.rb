@@ -178,7 +178,7 @@ m = Matrix[[1, 2], [3, 4]]
 n = Matrix[[0, 1], [1, 1]]
 puts m + n, m - n, m * n, -m
 puts m * 3 == m + m + m, m != n
-puts n ** 10, (n ** 90 % 1000)[0, 1]
+puts n ** 10, (n ** 40 % 1000)[0, 1]
 puts m.transpose, m.determinant
 m[0, 1] += 5
 m[1, 0] ||= 9

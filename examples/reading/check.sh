@@ -1,7 +1,7 @@
 #!/bin/sh
 # Says of each program of this folder, which is about how texts are read, whether Ruby and mruby write what stands
-# beside it, and whether `rite` reads it and writes the same. A program that is read and not built yet is refused as
-# `Outside Unbuilt`. The status is 1 where one of these isn't so. Not part of the tests: it needs Ruby and mruby.
+# beside it, and whether `rite` compiles it and writes the same. The status is 1 where one of these isn't so. Not part
+# of the tests: it needs Ruby and mruby.
 rite=${1:?usage: check.sh RITE}
 folder=$(dirname "$0")
 made=$(mktemp -d)
@@ -43,8 +43,6 @@ for file in "$folder"/*.rb; do
     else
       fault "$name: another output"
     fi
-  elif [ "$said" = "refused: Outside Unbuilt at 0" ]; then
-    echo "$name: $said"
   else
     fault "$name: $said"
   fi
