@@ -3,14 +3,15 @@
 use def_core::Cause;
 use rb_value::{ObjId, SymId, Value};
 use std::alloc::AllocError;
-use vm_acts::core_calls::{Call, Plan};
-use vm_acts::core_iter::{Iteration, next};
+use vm_acts::core_calls::{Call, Passed, Plan};
+use vm_acts::core_iter::{Iteration, next, start};
 use vm_acts::fiber_switch::Resumed;
 use vm_acts::heap::Given;
 use vm_acts::run_calls::{Request, enter_proc, one_of, send_by_core};
-use vm_acts::vm_frames::{Frame, Iterating, Level};
-use vm_acts::vm_parts::entering::{enter_first, enter_from};
-use vm_acts::vm_parts::exits::{hand_out, handed, raise_out, receive};
+use vm_acts::run_rows::{KernelRow, StarRow};
+use vm_acts::vm_frames::{Arguments, Begun, Frame, Iterating};
+use vm_acts::vm_parts::entering::{enter_above, enter_called, enter_first, keep_passed};
+use vm_acts::vm_parts::exits::{hand_out, handed, raise_out, receive, receive_here};
 use vm_acts::vm_parts::flow::{Flow, Step};
 use vm_acts::vm_parts::loaded::Loaded;
 use vm_acts::vm_parts::parts::Parts;
@@ -42,8 +43,7 @@ fn send(
     waiting: Iterating,
     sent: Sent,
 ) -> Result<Flow, AllocError> {
-    let first = parts.frames.kept_count();
-    parts.frames.keep_all(sent.args.as_slice())?;
+    let arguments = parts.frames.keep_all(sent.args.as_slice())?;
     let request = Request {
         name: sent.name,
         call: Call {
@@ -54,7 +54,8 @@ fn send(
         next: parts.next_activation()?,
     };
     let entry = send_by_core(&mut parts.heap, sent.public, request)?;
-    enter_from(code, hot, parts, waiting, entry, first)
+    parts.frames.push_iteration(waiting)?;
+    enter_above(code, hot, parts, entry, arguments)
 }
 
 /// Enters the Proc that an iteration calls.
@@ -67,16 +68,9 @@ fn call(
     args: Vec<Value>,
     block: Option<ObjId>,
 ) -> Result<Flow, AllocError> {
-    let first = parts.frames.kept_count();
-    parts.frames.keep_all(args.as_slice())?;
-    let next = parts.next_activation()?;
-    let call = Call {
-        receiver: Value::Nil,
-        args: args.as_slice(),
-        block,
-    };
-    let entry = enter_proc(&mut parts.heap, callee, call, next)?;
-    enter_from(code, hot, parts, waiting, entry, first)
+    let arguments = parts.frames.keep_all(args.as_slice())?;
+    parts.frames.push_iteration(waiting)?;
+    enter_called(code, hot, parts, callee, block, arguments)
 }
 
 /// Begins the fiber whose line runs now: its Proc is entered.
@@ -87,8 +81,7 @@ fn begin_fiber(
     block: ObjId,
     args: Vec<Value>,
 ) -> Result<Flow, AllocError> {
-    let first = parts.frames.kept_count();
-    parts.frames.keep_all(args.as_slice())?;
+    let arguments = parts.frames.keep_all(args.as_slice())?;
     let next = parts.next_activation()?;
     let call = Call {
         receiver: Value::Nil,
@@ -96,7 +89,7 @@ fn begin_fiber(
         block: None,
     };
     let entry = enter_proc(&mut parts.heap, block, call, next)?;
-    enter_first(code, hot, parts, entry, first)
+    enter_first(code, hot, parts, entry, arguments)
 }
 
 /// The innermost level that waits is given what a resume or a yield hands over: nil, one value, or an Array of more.
@@ -120,7 +113,7 @@ fn resume(
     fiber: ObjId,
     args: Vec<Value>,
 ) -> Result<Flow, AllocError> {
-    parts.frames.push(Level::Iteration(waiting))?;
+    parts.frames.push_iteration(waiting)?;
     match parts.fibers.resume(&parts.heap, &mut parts.frames, fiber)? {
         Resumed::Refused(cause) => fail_out(code, parts, cause),
         Resumed::Begins(block) => begin_fiber(code, hot, parts, block, args),
@@ -135,7 +128,7 @@ fn yield_back(
     waiting: Iterating,
     args: Vec<Value>,
 ) -> Result<Flow, AllocError> {
-    parts.frames.push(Level::Iteration(waiting))?;
+    parts.frames.push_iteration(waiting)?;
     if parts.fibers.yield_back(&mut parts.frames) {
         hand_over(code, parts, args)
     } else {
@@ -188,18 +181,17 @@ fn carry_out(
 
 /// An iteration waits for its writing or reading.
 fn wait(parts: &mut Parts, number: u64, then: Iteration) -> Result<(), AllocError> {
-    parts.frames.push(Level::Iteration(waiting(number, then)))
+    parts.frames.push_iteration(waiting(number, then))
 }
 
-/// The next plan of an iteration. A body that it enters is the frame in hand then.
-pub fn iterate(
+/// Carries out a plan of an iteration. A body that it enters is the frame in hand then.
+fn follow(
     code: &Loaded,
     hot: &mut Frame,
     parts: &mut Parts,
-    iterating: Iterating,
+    number: u64,
+    plan: Plan<Iteration>,
 ) -> Result<Step, AllocError> {
-    let number = iterating.number;
-    let plan = next(&mut parts.heap, iterating.state, iterating.answer)?;
     match plan {
         Plan::Writes { then, bytes } => {
             wait(parts, number, then)?;
@@ -211,6 +203,141 @@ pub fn iterate(
         }
         other => Ok(Step::Goes(carry_out(code, hot, parts, number, other)?)),
     }
+}
+
+/// The first plan of an iteration. A body that it enters is the frame in hand then.
+pub fn begin_by_plan(
+    code: &Loaded,
+    hot: &mut Frame,
+    parts: &mut Parts,
+    begun: Begun,
+) -> Result<Step, AllocError> {
+    let call = Call {
+        receiver: begun.receiver,
+        args: parts.frames.given(begun.arguments),
+        block: begun.block,
+    };
+    let plan = start(&mut parts.heap, begun.row, call)?;
+    parts.frames.drop_arguments(begun.arguments);
+    follow(code, hot, parts, begun.number, plan)
+}
+
+/// What the first plan of an iteration does in place: it calls a Proc, resumes a fiber with at most one value, or yields
+/// at most one.
+#[derive(Clone, Copy)]
+enum First {
+    Calls(ObjId),
+    Resumes { fiber: ObjId, passed: Passed },
+    Yields(Passed),
+}
+
+/// Arguments that are at most one.
+fn passed_of(parts: &Parts, arguments: Arguments) -> Option<Passed> {
+    match parts.frames.given(arguments) {
+        [] => Some(Passed::Nothing),
+        [value] => Some(Passed::One(*value)),
+        _ => None,
+    }
+}
+
+/// What the first plan of an iteration does, where it is done in place.
+fn first_of(parts: &Parts, begun: &Begun) -> Option<First> {
+    match begun.row {
+        StarRow::Kernel(KernelRow::CallProc) => {
+            Some(First::Calls(parts.heap.a_proc(begun.receiver)?))
+        }
+        StarRow::Kernel(KernelRow::Resume) => Some(First::Resumes {
+            fiber: parts.heap.a_fiber(begun.receiver)?,
+            passed: passed_of(parts, begun.arguments)?,
+        }),
+        StarRow::Kernel(KernelRow::Yield) => {
+            Some(First::Yields(passed_of(parts, begun.arguments)?))
+        }
+        _ => None,
+    }
+}
+
+/// The value that a resume or a yield hands over.
+fn value_of(passed: Passed) -> Value {
+    match passed {
+        Passed::Nothing => Value::Nil,
+        Passed::One(value) => value,
+        Passed::Two(value, _) => value,
+    }
+}
+
+/// Resumes a fiber with at most one value, for an iteration that waits.
+fn resume_in_place(
+    code: &Loaded,
+    hot: &mut Frame,
+    parts: &mut Parts,
+    fiber: ObjId,
+    passed: Passed,
+) -> Result<Flow, AllocError> {
+    match parts.fibers.resume(&parts.heap, &mut parts.frames, fiber)? {
+        Resumed::Refused(cause) => fail_out(code, parts, cause),
+        Resumed::Begins(block) => {
+            let arguments = keep_passed(parts, passed)?;
+            enter_called(code, hot, parts, block, None, arguments)
+        }
+        Resumed::Continues => Ok(receive_here(hot, parts, value_of(passed))),
+    }
+}
+
+/// Yields at most one value, for an iteration that waits.
+fn yield_in_place(
+    code: &Loaded,
+    hot: &mut Frame,
+    parts: &mut Parts,
+    passed: Passed,
+) -> Result<Flow, AllocError> {
+    if parts.fibers.yield_back(&mut parts.frames) {
+        Ok(receive_here(hot, parts, value_of(passed)))
+    } else {
+        fail_out(code, parts, Cause::RootYield)
+    }
+}
+
+/// The first turn of an iteration that calls a Proc or switches fibers, made in place; nothing where it needs a plan. A
+/// body that it enters is the frame in hand then.
+pub fn begin_in_place(
+    code: &Loaded,
+    hot: &mut Frame,
+    parts: &mut Parts,
+    begun: Begun,
+) -> Result<Option<Flow>, AllocError> {
+    let Some(first) = first_of(parts, &begun) else {
+        return Ok(None);
+    };
+    let _begun = parts.frames.take_begun();
+    let handing = waiting(begun.number, Iteration::Handing);
+    parts.frames.push_iteration(handing)?;
+    let flow = match first {
+        First::Calls(callee) => {
+            enter_called(code, hot, parts, callee, begun.block, begun.arguments)?
+        }
+        First::Resumes { fiber, passed } => {
+            parts.frames.drop_arguments(begun.arguments);
+            resume_in_place(code, hot, parts, fiber, passed)?
+        }
+        First::Yields(passed) => {
+            parts.frames.drop_arguments(begun.arguments);
+            yield_in_place(code, hot, parts, passed)?
+        }
+    };
+    Ok(Some(flow))
+}
+
+/// The next plan of an iteration. A body that it enters is the frame in hand then.
+pub fn iterate(
+    code: &Loaded,
+    hot: &mut Frame,
+    parts: &mut Parts,
+    iterating: Iterating,
+) -> Result<Step, AllocError> {
+    let number = iterating.number;
+    let plan = next(&mut parts.heap, iterating.state, iterating.answer)?;
+    follow(code, hot, parts, number, plan)
 }
 
 /// The iteration that read, the innermost level that waits, has its answer, or fails.

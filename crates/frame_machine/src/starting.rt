@@ -11,8 +11,9 @@ use vm_acts::fiber_switch::Fibers;
 use vm_acts::heap::Site;
 use vm_acts::run_calls::{Activation, Runs};
 use vm_acts::run_rows::{KnownRows, opening_heap};
-use vm_acts::vm_frames::frames::Beginning;
 use vm_acts::vm_frames::{Frame, Frames};
+use vm_acts::vm_parts::entering::{Entered, open_body};
+use vm_acts::vm_parts::known::KnownCalls;
 use vm_acts::vm_parts::loaded::Loaded;
 use vm_acts::vm_parts::operators::Operators;
 use vm_acts::vm_parts::parts::Parts;
@@ -32,18 +33,17 @@ fn main_activation(own: Value) -> Activation {
 
 /// The frame of the main program.
 fn main_frame(code: &Loaded, parts: &mut Parts) -> Result<Frame, AllocError> {
-    let own = parts.heap.main_object();
-    parts.frames.open(Beginning {
-        number: 1,
-        activation: main_activation(own),
+    let activation = main_activation(parts.heap.main_object());
+    let arguments = parts.frames.no_arguments();
+    let entered = Entered {
         body: 0,
-        registers: code.registers(0),
         outer: None,
-        first: 0,
-        given: 0,
         block: None,
         binds: BindKind::Method,
-    })
+    };
+    let mut frame = Frame::outside();
+    open_body(code, &mut frame, parts, 1, &activation, entered, arguments)?;
+    Ok(frame)
 }
 
 /// A site for each instruction, none of which has found anything.
@@ -68,6 +68,7 @@ fn opened(alloc: Global, code: IndexedCode) -> Result<(Loaded, Parts), AllocErro
         globals: PairTable::new(alloc),
         sites,
         rows: KnownRows::new(alloc),
+        known: KnownCalls::new(alloc)?,
         operators,
         activations: 1,
     };

@@ -2,7 +2,8 @@
 //!
 //! Types: [`Activation`] with [`Runs`]; [`Entry`] with [`Opening`] and [`Beginning`]; [`Request`], [`Naming`];
 //! [`BlockArgument`]; [`Unrescued`]. Entering: [`enter_named`], [`enter_super`], [`enter_value`], [`enter_proc`],
-//! [`send_by_core`]; by what is found [`enter_found`], [`body_opening`]. Blocks: [`block_argument`], [`settle`],
+//! [`send_by_core`]; by what is found [`enter_found`]; activations of
+//! bodies [`method_running`], [`proc_running`], [`proc_binds`]. Blocks: [`block_argument`], [`settle`],
 //! [`break_target`]. Bodies of classes: [`open_space`], [`close`]. Exceptions: [`is_of`], [`seen_of`]. Fibers:
 //! [`one_of`].
 //!
@@ -28,9 +29,9 @@ pub use core_iter;
 pub use core_iter::{core_calls, heap, run_rows};
 pub use entry::{Beginning, Entry, Opening, Request};
 pub use exceptions::{Unrescued, is_of, seen_of};
-pub use methods::{body_opening, enter_found};
+pub use methods::{enter_found, method_running};
 pub use naming::{Naming, enter_named, enter_super, send_by_core};
-pub use procs::{enter_proc, enter_value, proc_opening};
+pub use procs::{enter_proc, enter_value, proc_binds, proc_running};
 pub use rows::enter_row;
 pub use spaces::{close, open_space};
 pub use values::one_of;

@@ -12,25 +12,39 @@ use std::alloc::AllocError;
 
 /// The activation of a method's body.
 #[inline(always)]
-fn method_activation(owner: ObjId, classes: u64, request: Request<'_>) -> Activation {
+pub fn method_running(
+    owner: ObjId,
+    classes: u64,
+    name: SymId,
+    receiver: Value,
+    block: Option<ObjId>,
+    number: u64,
+) -> Activation {
     Activation {
         runs: Runs::MethodBody,
-        receiver: request.call.receiver,
+        receiver,
         owner: Some(owner),
-        name: Some(request.name),
-        home: request.next,
+        name: Some(name),
+        home: number,
         classes,
-        block: request.call.block,
+        block,
     }
 }
 
 /// The body of a method, which is around no other.
 #[inline(always)]
-pub fn body_opening(owner: ObjId, body: u32, classes: u64, request: Request<'_>) -> Opening {
+fn body_opening(owner: ObjId, body: u32, classes: u64, request: Request<'_>) -> Opening {
     Opening {
         body,
         outer: None,
-        activation: method_activation(owner, classes, request),
+        activation: method_running(
+            owner,
+            classes,
+            request.name,
+            request.call.receiver,
+            request.call.block,
+            request.next,
+        ),
         name_first: None,
         block: request.call.block,
         binds: BindKind::Method,

@@ -18,7 +18,7 @@ enum Callee {
 
 /// The activation of a Proc's body: that of a lambda is the home of its returns itself.
 #[inline(always)]
-fn proc_activation(id: ObjId, contents: &ProcContents, next: u64) -> Activation {
+pub fn proc_running(id: ObjId, contents: &ProcContents, next: u64) -> Activation {
     Activation {
         runs: if contents.lambda {
             Runs::LambdaBody
@@ -67,7 +67,7 @@ fn opening(
 
 /// How the arguments of a Proc are bound.
 #[inline(always)]
-fn binds_of(lambda: bool) -> BindKind {
+pub fn proc_binds(lambda: bool) -> BindKind {
     if lambda {
         BindKind::Lambda
     } else {
@@ -77,10 +77,10 @@ fn binds_of(lambda: bool) -> BindKind {
 
 /// What the call of a Proc with a body opens; nothing of another object.
 #[inline(always)]
-pub fn proc_opening(heap: &Heap, id: ObjId, block: Option<ObjId>, next: u64) -> Option<Opening> {
+fn proc_opening(heap: &Heap, id: ObjId, block: Option<ObjId>, next: u64) -> Option<Opening> {
     let contents = heap.proc_of(id)?;
-    let activation = proc_activation(id, contents, next);
-    Some(opening(contents, activation, block, binds_of(contents.lambda)))
+    let activation = proc_running(id, contents, next);
+    Some(opening(contents, activation, block, proc_binds(contents.lambda)))
 }
 
 /// What an object is to a call, where it is a Proc.

@@ -25,11 +25,19 @@ pub fn open_space(
     })
 }
 
+/// After the body of a class or module its next methods are public.
+#[cold]
+fn close_space(heap: &mut Heap, own: Value) {
+    if let Value::Obj(class) = own {
+        heap.set_default(class, Visibility::Public);
+    }
+}
+
 /// Ends an activation: after the body of a class or module its next methods are public. It takes no memory.
 #[inline(always)]
 pub fn close(heap: &mut Heap, activation: &Activation) {
-    match (activation.runs, activation.receiver) {
-        (Runs::ClassBody, Value::Obj(class)) => heap.set_default(class, Visibility::Public),
+    match activation.runs {
+        Runs::ClassBody => close_space(heap, activation.receiver),
         _ => {}
     }
 }

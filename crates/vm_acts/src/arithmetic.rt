@@ -12,6 +12,9 @@ use vm_parts::parts::{Parts, behind, put};
 use vm_parts::run_calls::Naming;
 use vm_parts::vm_frames::Frame;
 
+/// The number of the first row of Integer.
+const INTEGER_ROWS: u16 = 14 * 256;
+
 /// The row of Integer that an operator's method is.
 fn row_of(operator: Operator) -> u16 {
     let place = match operator {
@@ -25,7 +28,7 @@ fn row_of(operator: Operator) -> u16 {
         Operator::Greater => 21,
         Operator::AtLeast => 22,
     };
-    14 * 256 + place
+    INTEGER_ROWS + place
 }
 
 const OPERATORS: [Operator; 9] = [
@@ -96,6 +99,37 @@ fn quotient(left: i64, right: i64) -> Option<i64> {
     }
 }
 
+/// The remainder of two numbers, which has the sign of the right one; nothing where it fails.
+fn remainder(left: i64, right: i64) -> Option<i64> {
+    let rest = left.checked_rem(right)?;
+    if rest != 0 && (rest < 0) != (right < 0) {
+        rest.checked_add(right)
+    } else {
+        Some(rest)
+    }
+}
+
+/// What a row of Integer gives for two numbers, where it is `%`, `&`, `|` or `^`; nothing of any other row, and where it
+/// fails.
+fn computed_of(row: u16, left: i64, right: i64) -> Option<Value> {
+    match row.checked_sub(INTEGER_ROWS)? {
+        4 => number(remainder(left, right)),
+        12 => Some(Value::Int(left & right)),
+        13 => Some(Value::Int(left | right)),
+        14 => Some(Value::Int(left ^ right)),
+        _ => None,
+    }
+}
+
+/// What a row gives straight on; nothing where it has to be called.
+#[inline(always)]
+pub fn computed(row: u16, receiver: Value, args: &[Value]) -> Option<Value> {
+    match (receiver, args) {
+        (Value::Int(left), [Value::Int(right)]) => computed_of(row, left, *right),
+        _ => None,
+    }
+}
+
 /// A number as a value.
 #[inline(always)]
 fn number(found: Option<i64>) -> Option<Value> {
@@ -144,19 +178,12 @@ fn operate_by_call(
     )
 }
 
-/// What an operator gives for registers `a` and `a + 1`, where they hold Integers and its method is seen to be the core
-/// one; nothing where it has to be called.
+/// What an operator gives for two values, where they are Integers; nothing where it has to be called. The operators are
+/// the core methods.
 #[inline(always)]
-pub fn operated(hot: &Frame, parts: &Parts, operator: Operator, a: u16) -> Option<Value> {
-    match (parts.get(hot, a), parts.get(hot, behind(a))) {
-        (Value::Int(left), Value::Int(right)) => if parts
-            .operators
-            .are_core_under(parts.heap.changes())
-        {
-            applied(operator, left, right)
-        } else {
-            None
-        },
+pub fn operated(operator: Operator, left: Value, right: Value) -> Option<Value> {
+    match (left, right) {
+        (Value::Int(left), Value::Int(right)) => applied(operator, left, right),
         _ => None,
     }
 }
@@ -170,7 +197,8 @@ pub fn operate(
     a: u16,
 ) -> Result<Flow, AllocError> {
     if are_core(parts)? {
-        if let Some(value) = operated(hot, parts, operator, a) {
+        let right = parts.get(hot, behind(a));
+        if let Some(value) = operated(operator, parts.get(hot, a), right) {
             put(hot, parts, a, value);
             return Ok(Flow::Stays);
         }

@@ -68,11 +68,6 @@ pub fn push_splatted(
     after(code, hot, parts, given, a)
 }
 
-/// An element of a register.
-pub fn element(hot: &Frame, parts: &Parts, b: u16, place: i32) -> Value {
-    parts.heap.element(parts.get(hot, b), i64::from(place))
-}
-
 /// APOST: the elements of register `a` between so many at the front and so many at the end, or the last ones.
 pub fn get_rest(
     code: &Loaded,

@@ -3,14 +3,14 @@
 use def_core::{BindKind, Cause};
 use rb_value::{CoreClass, ObjId, SymId, Value};
 use std::alloc::AllocError;
+use vm_parts::entering::{Entered, open_body};
 use vm_parts::exits::{after, only};
 use vm_parts::flow::Flow;
 use vm_parts::heap::Given;
 use vm_parts::loaded::Loaded;
 use vm_parts::parts::{Parts, behind, put};
 use vm_parts::run_calls::open_space;
-use vm_parts::vm_frames::frames::Beginning;
-use vm_parts::vm_frames::{Frame, Level};
+use vm_parts::vm_frames::Frame;
 
 /// The class in which a method is defined: the innermost around the text.
 fn around(hot: &Frame, parts: &Parts) -> ObjId {
@@ -66,20 +66,15 @@ fn enter_space(
 ) -> Result<Flow, AllocError> {
     let number = parts.next_activation()?;
     let activation = open_space(&mut parts.heap, parts.frames.activation(), class)?;
-    let first = parts.frames.kept_count();
-    parts.frames.push(Level::Frame(*hot))?;
-    *hot = parts.frames.open(Beginning {
-        number,
-        activation,
+    let arguments = parts.frames.no_arguments();
+    parts.frames.push_frame(hot)?;
+    let entered = Entered {
         body,
-        registers: code.registers(body),
         outer: None,
-        first,
-        given: 0,
         block: None,
         binds: BindKind::Method,
-    })?;
-    parts.activations = number;
+    };
+    open_body(code, hot, parts, number, &activation, entered, arguments)?;
     Ok(Flow::Stays)
 }
 

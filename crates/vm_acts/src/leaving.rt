@@ -20,7 +20,7 @@ pub fn return_value(
     a: u16,
 ) -> Result<Flow, AllocError> {
     let value = parts.get(hot, a);
-    if code.handlers(hot.body).is_empty() {
+    if !code.catches(hot.body) {
         leave(&mut parts.heap, &mut parts.frames, hot);
         return Ok(receive_here(hot, parts, value));
     }

@@ -1,6 +1,6 @@
 //! One instruction of the frame in hand.
 //!
-//! Calls: [`act_here`], for those that need only the registers and the heap, and [`act`] for all others: calls,
+//! Calls: [`act_plainly`], for those that need only the registers and read the heap, and [`act`] for all others: calls,
 //! operators that have to be called, exits, collections and definitions; each family has a module.
 #![tactic(auto)]
 
@@ -11,10 +11,12 @@ pub mod definitions;
 mod execution;
 pub mod leaving;
 pub mod parameters;
+pub mod plain;
 pub mod procs;
 pub mod variables;
 
-pub use execution::{act, act_here};
+pub use execution::act;
+pub use plain::{Plain, act_plainly, set_by};
 pub use vm_parts;
 pub use vm_parts::{
     core_calls, core_iter, fiber_switch, heap, run_calls, run_rows, vm_frames, vm_unwind,

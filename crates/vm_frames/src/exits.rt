@@ -12,7 +12,10 @@ impl Frames {
     /// The exit that register `a` keeps.
     pub fn kept(&self, frame: &Frame, a: u16) -> Option<Exit> {
         if frame.keeps {
-            self.exits.get(&(frame.list, u64::from(a))).copied()
+            self.around
+                .exits
+                .get(&(frame.number, u64::from(a)))
+                .copied()
         } else {
             None
         }
@@ -21,7 +24,7 @@ impl Frames {
     /// The exit that came to the frame's handler, and hasn't been taken.
     pub fn pending(&self, frame: &Frame) -> Option<Exit> {
         if frame.keeps {
-            self.exits.get(&(frame.list, PENDING)).copied()
+            self.around.exits.get(&(frame.number, PENDING)).copied()
         } else {
             None
         }
@@ -29,7 +32,7 @@ impl Frames {
 
     /// An exit comes to a handler of the frame. Where memory runs out all is as before.
     pub fn set_pending(&mut self, frame: &mut Frame, exit: Exit) -> Result<(), AllocError> {
-        self.exits.insert((frame.list, PENDING), exit)?;
+        self.around.exits.insert((frame.number, PENDING), exit)?;
         frame.keeps = true;
         Ok(())
     }
@@ -38,8 +41,10 @@ impl Frames {
     pub fn take_pending(&mut self, frame: &Frame, a: u16) -> Result<(), AllocError> {
         match self.pending(frame) {
             Some(exit) => {
-                self.exits.insert((frame.list, u64::from(a)), exit)?;
-                self.exits.remove(&(frame.list, PENDING));
+                self.around
+                    .exits
+                    .insert((frame.number, u64::from(a)), exit)?;
+                self.around.exits.remove(&(frame.number, PENDING));
                 self.put(frame, a, Slot::E(exit).read());
             }
             None => self.set(frame, a, Value::Nil),
@@ -49,16 +54,16 @@ impl Frames {
 
     /// Register `a` keeps no exit. It takes no memory.
     #[cold]
-    pub(crate) fn drop_exit(&mut self, frame: &Frame, a: u16) {
-        self.exits.remove(&(frame.list, u64::from(a)));
+    pub fn drop_exit(&mut self, frame: &Frame, a: u16) {
+        self.around.exits.remove(&(frame.number, u64::from(a)));
     }
 
     /// The exits of a frame's registers go. It takes no memory.
     #[cold]
     pub(crate) fn drop_exits(&mut self, frame: &Frame) {
-        self.exits.remove(&(frame.list, PENDING));
+        self.around.exits.remove(&(frame.number, PENDING));
         'registers: for a in 0..frame.registers {
-            self.exits.remove(&(frame.list, u64::from(a)));
+            self.around.exits.remove(&(frame.number, u64::from(a)));
         }
     }
 }

@@ -6,7 +6,7 @@ use rb_value::ObjId;
 /// frame is the last.
 #[derive(Clone, Copy, Debug)]
 pub struct Frame {
-    /// The number of its activation.
+    /// The number of its activation, which is that of its list of registers.
     pub number: u64,
     pub body: u32,
     /// The index of its instruction; where it calls, that of the call.
@@ -14,15 +14,15 @@ pub struct Frame {
     /// The register that waits for the value of a call.
     pub waits: u16,
     pub registers: u16,
-    /// The number of its list of registers.
-    pub list: u64,
     /// The place of its first register among those of the line.
     pub base: usize,
+    /// Where the registers of the line end when it is left.
+    pub end: usize,
     /// The environment of its list, once a block has captured it.
     pub own: Option<u32>,
     /// The environment of the list around, where its body has one around.
     pub outer: Option<u32>,
-    /// The place of its first argument among those that the line keeps, and how many they are.
+    /// The place of its first argument among the registers of the line, and how many they are.
     pub first: usize,
     pub given: usize,
     pub block: Option<ObjId>,
@@ -32,6 +32,26 @@ pub struct Frame {
 }
 
 impl Frame {
+    /// A frame of no body, without registers.
+    pub fn outside() -> Frame {
+        Frame {
+            number: 0,
+            body: 0,
+            index: 0,
+            waits: 0,
+            registers: 0,
+            base: 0,
+            end: 0,
+            own: None,
+            outer: None,
+            first: 0,
+            given: 0,
+            block: None,
+            binds: BindKind::Method,
+            keeps: false,
+        }
+    }
+
     /// The place of register `a` among those of the line.
     #[inline(always)]
     pub(crate) fn place(&self, a: u16) -> usize {

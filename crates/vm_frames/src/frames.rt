@@ -1,59 +1,32 @@
 //! All lines, and what they share.
 
-use crate::capturing::Env;
+use crate::arguments::Arguments;
+use crate::capturing::Around;
 use crate::frame::Frame;
 use crate::lines::Line;
-use def_core::BindKind;
-use pair_table::PairTable;
-use rb_value::{Exit, ObjId, Value};
+use crate::registers::clear;
 use run_calls::Activation;
 use std::alloc::{AllocError, Global};
 
 /// How many levels one fiber may have.
 pub const LEVELS: usize = 10_000;
 
-/// The lines of all fibers: the line that runs, the others by their numbers, the environments of captured lists, the
-/// exits that registers keep, by the numbers of the list and the register, how many lists there were, and the activation
-/// outside of all.
+/// The lines of all fibers: the line that runs, what is around its registers, and the activation outside of all.
 #[derive(Drop)]
 pub struct Frames {
     pub(crate) alloc: Global,
-    pub(crate) line: Line,
-    pub(crate) others: Vec<Line>,
-    pub(crate) running: usize,
-    pub(crate) envs: Vec<Env>,
-    pub(crate) exits: PairTable<(u64, u64), Exit>,
-    pub(crate) lists: u64,
+    pub line: Line,
+    pub around: Around,
     outside: Activation,
-}
-
-/// What a frame begins with, beside its registers.
-#[derive(Clone, Copy, Debug)]
-pub struct Beginning {
-    pub number: u64,
-    pub activation: Activation,
-    pub body: u32,
-    pub registers: u16,
-    pub outer: Option<u32>,
-    pub first: usize,
-    pub given: usize,
-    pub block: Option<ObjId>,
-    pub binds: BindKind,
 }
 
 impl Frames {
     /// One line without levels, which runs.
     pub fn new(alloc: Global) -> Result<Frames, AllocError> {
-        let mut others = Vec::new(alloc);
-        others.push(Line::new(alloc))?;
         Ok(Frames {
             alloc,
             line: Line::new(alloc),
-            others,
-            running: 0,
-            envs: Vec::new(alloc),
-            exits: PairTable::new(alloc),
-            lists: 0,
+            around: Around::new(alloc)?,
             outside: Activation::outside(),
         })
     }
@@ -67,39 +40,33 @@ impl Frames {
         }
     }
 
-    /// Opens a frame of a body: its registers are `self` and then nil, and its list has the next number. Where memory
-    /// runs out, or numbers of lists do, all is as before.
+    /// Opens a frame in place of the one in hand, with so many registers, which are `self` and then nil, and with
+    /// arguments. Its body, number, block and surroundings are the caller's to set. Where memory runs out, what the
+    /// machine keeps is lost.
     #[inline(always)]
-    pub fn open(&mut self, beginning: Beginning) -> Result<Frame, AllocError> {
-        let after = self.lists.checked_add(1).ok_or(AllocError)?;
-        let base = self.line.registers.len();
-        let end = base
-            .checked_add(usize::from(beginning.registers))
-            .ok_or(AllocError)?;
-        self.line.activations.reserve(1)?;
-        self.line.registers.resize(end, Value::Nil)?;
-        self.line.activations.push(beginning.activation)?;
-        if let Some(own) = self.line.registers.get_mut(base) {
-            *own = beginning.activation.receiver;
-        }
-        let list = self.lists;
-        self.lists = after;
-        Ok(Frame {
-            number: beginning.number,
-            body: beginning.body,
-            index: 0,
-            waits: 0,
-            registers: beginning.registers,
-            list,
-            base,
-            own: None,
-            outer: beginning.outer,
-            first: beginning.first,
-            given: beginning.given,
-            block: beginning.block,
-            binds: beginning.binds,
-            keeps: false,
-        })
+    pub fn open(
+        &mut self,
+        hot: &mut Frame,
+        activation: &Activation,
+        registers: u16,
+        arguments: Arguments,
+    ) -> Result<(), AllocError> {
+        let base = self.line.end;
+        let end = base.checked_add(usize::from(registers)).ok_or(AllocError)?;
+        self.line.extend_to(end)?;
+        self.line.activations.push(activation)?;
+        self.line.end = end;
+        clear(&mut self.line.registers, base, end, activation.receiver);
+        hot.index = 0;
+        hot.waits = 0;
+        hot.registers = registers;
+        hot.base = base;
+        hot.end = arguments.end;
+        hot.own = None;
+        hot.first = arguments.first;
+        hot.given = arguments.count;
+        hot.keeps = false;
+        Ok(())
     }
 
     /// Leaves a frame, the last one of the line: its environment, where it has one, is closed, and its registers, exits
@@ -112,8 +79,13 @@ impl Frames {
         if frame.keeps {
             self.drop_exits(frame);
         }
-        let _activation = self.line.activations.pop();
-        self.line.args.truncate(frame.first);
-        self.line.registers.truncate(frame.base);
+        self.line.activations.drop_last();
+        self.line.end = frame.end;
+    }
+
+    /// Closes an environment of the line that runs. It takes no memory.
+    #[cold]
+    fn close(&mut self, env: u32) {
+        self.around.close(env, &self.line.registers);
     }
 }

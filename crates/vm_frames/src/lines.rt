@@ -2,20 +2,24 @@
 
 use crate::frame::Frame;
 use crate::frames::{Frames, LEVELS};
-use crate::level::{Iterating, Level};
+use crate::level::{Begun, Iterating, Level};
+use crate::stack::Stack;
 use rb_value::Value;
 use run_calls::Activation;
 use std::alloc::{AllocError, Global};
 use std::mem;
 
-/// The registers of the frames, their activations, the levels that wait, and the arguments that the frames were given;
-/// of each the innermost last.
+/// The registers of the frames, one frame's behind those of its caller, and where they end; the activations of the
+/// frames; the frames that wait, and the iterations, of each the innermost last; and the iteration that begins, which
+/// then is the innermost level.
 #[derive(Drop)]
 pub struct Line {
-    pub(crate) registers: Vec<Value>,
-    pub(crate) activations: Vec<Activation>,
-    pub(crate) waiting: Vec<Level>,
-    pub(crate) args: Vec<Value>,
+    pub registers: Vec<Value>,
+    pub(crate) end: usize,
+    pub(crate) activations: Stack<Activation>,
+    pub(crate) frames: Stack<Frame>,
+    pub(crate) iterations: Vec<Iterating>,
+    pub(crate) begun: Option<Begun>,
 }
 
 impl Line {
@@ -23,112 +27,165 @@ impl Line {
     pub(crate) fn new(alloc: Global) -> Line {
         Line {
             registers: Vec::new(alloc),
-            activations: Vec::new(alloc),
-            waiting: Vec::new(alloc),
-            args: Vec::new(alloc),
+            end: 0,
+            activations: Stack::new(alloc),
+            frames: Stack::new(alloc),
+            iterations: Vec::new(alloc),
+            begun: None,
         }
+    }
+
+    /// There is room for registers up to a place. Where memory runs out all is as before.
+    #[inline(always)]
+    pub(crate) fn extend_to(&mut self, end: usize) -> Result<(), AllocError> {
+        if end > self.registers.len() {
+            self.lengthen(end)
+        } else {
+            Ok(())
+        }
+    }
+
+    /// Makes room for registers up to a place.
+    #[cold]
+    fn lengthen(&mut self, end: usize) -> Result<(), AllocError> {
+        self.registers.resize(end, Value::Nil)
+    }
+
+    /// Whether the innermost level that waits is a frame: its number is above that of the innermost iteration.
+    #[inline(always)]
+    fn frame_is_innermost(&self) -> bool {
+        match (self.frames.last(), self.iterations.last()) {
+            (Some(frame), Some(iterating)) => frame.number > iterating.number,
+            (Some(_), None) => true,
+            _ => false,
+        }
+    }
+
+    /// How many levels wait.
+    #[inline(always)]
+    fn depth(&self) -> usize {
+        self.frames.count().saturating_add(self.iterations.len())
     }
 }
 
 impl Frames {
-    /// Adds a line without levels, which has the next number. Where memory runs out all is as before.
-    pub fn add_line(&mut self) -> Result<usize, AllocError> {
-        let number = self.others.len();
-        self.others.push(Line::new(self.alloc))?;
-        Ok(number)
-    }
-
-    /// The number of the line that runs.
-    pub fn running(&self) -> usize {
-        self.running
-    }
-
-    /// Another line runs, where there is one of that number. It takes no memory.
-    pub fn run_line(&mut self, number: usize) {
-        if number >= self.others.len() {
-            return;
-        }
-        if let Some(place) = self.others.get_mut(self.running) {
-            mem::swap(&mut self.line, place);
-        }
-        if let Some(place) = self.others.get_mut(number) {
-            mem::swap(&mut self.line, place);
-        }
-        self.running = number;
-    }
-
-    /// Gives the memory of a line back that has no levels and doesn't run. It takes no memory.
-    pub fn end_line(&mut self, number: usize) {
-        if let Some(line) = self.others.get_mut(number) {
-            *line = Line::new(self.alloc);
-        }
-    }
-
     /// How many levels of the line wait.
     #[inline(always)]
     pub fn depth(&self) -> usize {
-        self.line.waiting.len()
+        self.line.depth()
     }
 
     /// Whether the line, with a level that runs, has no room for one more.
     #[inline(always)]
     pub fn is_full(&self) -> bool {
-        self.line.waiting.len() >= LEVELS - 1
+        self.line.depth() >= LEVELS - 1
     }
 
     /// Whether one more level may run above those that wait.
     #[inline(always)]
     pub fn has_room(&self) -> bool {
-        self.line.waiting.len() < LEVELS
+        self.line.depth() < LEVELS
+    }
+
+    /// An iteration begins, the innermost level from now on. It takes no memory.
+    #[inline(always)]
+    pub fn begin(&mut self, begun: Begun) {
+        self.line.begun = Some(begun);
+    }
+
+    /// The iteration that begins.
+    #[inline(always)]
+    pub fn begun(&self) -> Option<Begun> {
+        self.line.begun
+    }
+
+    /// The innermost level that waits is in hand, where no iteration begins and it is a frame. It takes no memory.
+    #[inline(always)]
+    pub fn take_frame(&mut self, hot: &mut Frame) -> bool {
+        self.line.begun.is_none() && self.pop_frame(hot)
+    }
+
+    /// The iteration that begins, which is the caller's from now on. It takes no memory.
+    #[inline(always)]
+    pub fn take_begun(&mut self) -> Option<Begun> {
+        let begun = self.line.begun;
+        self.line.begun = None;
+        begun
     }
 
     /// The innermost level that waits, where it is an iteration.
     #[inline(always)]
     pub fn innermost(&mut self) -> Option<&mut Iterating> {
-        match self.line.waiting.last_mut() {
-            Some(Level::Iteration(iterating)) => Some(iterating),
-            _ => None,
+        if self.line.frame_is_innermost() {
+            None
+        } else {
+            self.line.iterations.last_mut()
         }
     }
 
-    /// A level waits. Where memory runs out all is as before.
+    /// A frame waits. Where memory runs out all is as before.
     #[inline(always)]
-    pub fn push(&mut self, level: Level) -> Result<(), AllocError> {
-        self.line.waiting.push(level)?;
+    pub fn push_frame(&mut self, frame: &Frame) -> Result<(), AllocError> {
+        self.line.frames.push(frame)
+    }
+
+    /// An iteration waits. Where memory runs out all is as before.
+    pub fn push_iteration(&mut self, iterating: Iterating) -> Result<(), AllocError> {
+        self.line.iterations.push(iterating)?;
         Ok(())
     }
 
-    /// The innermost level that waits goes on. It takes no memory.
-    #[inline(always)]
-    pub fn pop(&mut self) -> Option<Level> {
-        self.line.waiting.pop()
+    /// A level waits. Where memory runs out all is as before.
+    pub fn push(&mut self, level: Level) -> Result<(), AllocError> {
+        match level {
+            Level::Frame(frame) => self.push_frame(&frame),
+            Level::Iteration(iterating) => self.push_iteration(iterating),
+        }
     }
 
-    /// The innermost level that waits goes on, where it is a frame. It takes no memory.
-    #[inline(always)]
-    pub fn pop_frame(&mut self) -> Option<Frame> {
-        match self.line.waiting.last() {
-            Some(Level::Frame(frame)) => {
-                let frame = *frame;
-                let _level = self.line.waiting.pop();
-                Some(frame)
-            }
-            _ => None,
+    /// The innermost iteration goes. It takes no memory.
+    pub fn drop_iteration(&mut self) {
+        let _iterating = self.line.iterations.pop();
+    }
+
+    /// The innermost level that waits goes on. It takes no memory.
+    pub fn pop(&mut self) -> Option<Level> {
+        if self.line.frame_is_innermost() {
+            let frame = *self.line.frames.last()?;
+            self.line.frames.drop_last();
+            Some(Level::Frame(frame))
+        } else {
+            let iterating = self.line.iterations.pop()?;
+            Some(Level::Iteration(iterating))
         }
+    }
+
+    /// The innermost level that waits is in hand, where it is a frame; false where it is none. It takes no memory.
+    #[inline(always)]
+    pub fn pop_frame(&mut self, hot: &mut Frame) -> bool {
+        if !self.line.frame_is_innermost() {
+            return false;
+        }
+        match self.line.frames.last() {
+            Some(frame) => *hot = *frame,
+            None => return false,
+        }
+        self.line.frames.drop_last();
+        true
     }
 
     /// The innermost level that waits is given a value: the register of a frame that waits for it gets it, and the frame
     /// goes on behind its call; an iteration has its answer. False where no level waits. It takes no memory.
     pub fn hand(&mut self, value: Value) -> bool {
-        match self.line.waiting.last_mut() {
-            Some(Level::Frame(frame)) => {
+        if let Some(iterating) = self.innermost() {
+            iterating.answer = value;
+            return true;
+        }
+        match self.line.frames.last_mut() {
+            Some(frame) => {
                 frame.index = frame.index.wrapping_add(1);
                 let frame = *frame;
                 self.set(&frame, frame.waits, value);
-                true
-            }
-            Some(Level::Iteration(iterating)) => {
-                iterating.answer = value;
                 true
             }
             None => false,
@@ -137,12 +194,55 @@ impl Frames {
 
     /// Whether one of the levels that wait is the activation of that number. The numbers fall from callee to caller.
     pub fn waits_for(&self, number: u64) -> bool {
-        'levels: for level in self.line.waiting.iter().rev() {
-            let other = level.number();
-            if other <= number {
-                return other == number;
+        'frames: for frame in self.line.frames.items().iter().rev() {
+            if frame.number <= number {
+                if frame.number == number {
+                    return true;
+                }
+                break 'frames;
+            }
+        }
+        self.iteration_waits_for(number)
+    }
+
+    /// Whether one of the iterations that wait is the activation of that number.
+    fn iteration_waits_for(&self, number: u64) -> bool {
+        'iterations: for iterating in self.line.iterations.iter().rev() {
+            if iterating.number <= number {
+                return iterating.number == number;
             }
         }
         false
+    }
+
+    /// Adds a line without levels, which has the next number. Where memory runs out all is as before.
+    pub fn add_line(&mut self) -> Result<usize, AllocError> {
+        self.around.add_line(Line::new(self.alloc))
+    }
+
+    /// The number of the line that runs.
+    pub fn running(&self) -> usize {
+        self.around.running
+    }
+
+    /// Another line runs, where there is one of that number. It takes no memory.
+    pub fn run_line(&mut self, number: usize) {
+        if number >= self.around.others.len() {
+            return;
+        }
+        if let Some(place) = self.around.others.get_mut(self.around.running) {
+            mem::swap(&mut self.line, place);
+        }
+        if let Some(place) = self.around.others.get_mut(number) {
+            mem::swap(&mut self.line, place);
+        }
+        self.around.running = number;
+    }
+
+    /// Gives the memory of a line back that has no levels and doesn't run. It takes no memory.
+    pub fn end_line(&mut self, number: usize) {
+        if let Some(line) = self.around.others.get_mut(number) {
+            *line = Line::new(self.alloc);
+        }
     }
 }

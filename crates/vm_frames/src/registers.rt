@@ -13,7 +13,7 @@ pub(crate) fn part(values: &[Value], from: usize, count: usize) -> &[Value] {
 
 /// Puts a value in the place of another, where there is one.
 #[inline(always)]
-pub(crate) fn put_at(registers: &mut [Value], place: usize, value: Value) {
+pub fn put_at(registers: &mut [Value], place: usize, value: Value) {
     if let Some(register) = registers.get_mut(place) {
         *register = value;
     }
@@ -24,6 +24,27 @@ pub(crate) fn put_at(registers: &mut [Value], place: usize, value: Value) {
 fn copy_to(registers: &mut [Value], from: usize, values: &[Value]) {
     'values: for (i, value) in values.iter().enumerate() {
         put_at(registers, from.wrapping_add(i), *value);
+    }
+}
+
+/// The first of the registers between two places gets `self`, the others nil.
+#[inline(always)]
+pub(crate) fn clear(registers: &mut [Value], base: usize, end: usize, own: Value) {
+    if let Some(window) = registers.get_mut(base..end) {
+        'registers: for register in window.iter_mut() {
+            *register = Value::Nil;
+        }
+    }
+    put_at(registers, base, own);
+}
+
+/// So many values from a place on are copied to another.
+#[inline(always)]
+pub fn copy_within(registers: &mut [Value], from: usize, to: usize, count: usize) {
+    'values: for i in 0..count {
+        if let Some(value) = registers.get(from.wrapping_add(i)).copied() {
+            put_at(registers, to.wrapping_add(i), value);
+        }
     }
 }
 
@@ -82,22 +103,13 @@ impl Frames {
         }
     }
 
-    /// The registers from 1 on get the arguments of the frame, as far as they go.
-    #[inline(always)]
-    pub fn set_arguments(&mut self, frame: &Frame) {
-        let values = part(&self.line.args, frame.first, frame.given);
-        copy_to(&mut self.line.registers, frame.place(1), values);
-        if frame.keeps {
-            self.drop_exits_of(frame, frame.given);
-        }
-    }
-
     /// So many registers from 1 on keep no exits.
     #[cold]
     fn drop_exits_of(&mut self, frame: &Frame, count: usize) {
         'registers: for i in 0..count {
-            self.exits
-                .remove(&(frame.list, (i as u64).saturating_add(1)));
+            self.around
+                .exits
+                .remove(&(frame.number, (i as u64).saturating_add(1)));
         }
     }
 }

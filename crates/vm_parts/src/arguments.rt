@@ -1,8 +1,7 @@
-//! The arguments of an instruction's call, which the line keeps: so many registers after the receiver, or the elements
-//! of an Array.
+//! The arguments of an instruction's call: so many registers after the receiver, or the elements of an Array.
 
 use crate::parts::{Parts, behind};
-use fiber_switch::vm_frames::Frame;
+use fiber_switch::vm_frames::{Arguments, Frame};
 use rb_value::Value;
 use std::alloc::AllocError;
 
@@ -18,29 +17,30 @@ pub fn registers_of(count: u16) -> u16 {
     if count == IN_ARRAY { 1 } else { count }
 }
 
-/// The elements of an Array, or another value itself, are arguments.
+/// The elements of an Array, or another value itself, as arguments.
 #[cold]
-fn keep_elements(parts: &mut Parts, value: Value) -> Result<(), AllocError> {
+fn keep_elements(parts: &mut Parts, value: Value) -> Result<Arguments, AllocError> {
     match parts.heap.elements_of(value) {
         Some(elements) => parts.frames.keep_all(elements),
-        None => parts.frames.keep(value),
+        None => {
+            let arguments = parts.frames.no_arguments();
+            parts.frames.keep_after(arguments, value)
+        }
     }
 }
 
-/// The line keeps the arguments of a call on register `a`; the place of the first of them is given.
+/// The arguments of a call on register `a`.
 #[inline(always)]
-pub fn keep_arguments(
+pub fn arguments_of(
     hot: &Frame,
     parts: &mut Parts,
     a: u16,
     count: u16,
-) -> Result<usize, AllocError> {
-    let first = parts.frames.kept_count();
+) -> Result<Arguments, AllocError> {
     if count == IN_ARRAY {
         let value = parts.get(hot, behind(a));
-        keep_elements(parts, value)?;
+        keep_elements(parts, value)
     } else {
-        parts.frames.keep_row(hot, behind(a), count)?;
+        Ok(parts.frames.registers_as_arguments(hot, behind(a), count))
     }
-    Ok(first)
 }

@@ -4,91 +4,135 @@ use crate::exits::{after, hand_out, handed};
 use crate::flow::Flow;
 use crate::loaded::Loaded;
 use crate::parts::Parts;
-use def_core::Cause;
+use def_core::{BindKind, Cause};
 use fiber_switch::core_calls::{Beat, Call, Passed};
-use fiber_switch::core_iter::Iteration;
 use fiber_switch::heap::Given;
-use fiber_switch::run_calls::{Beginning, Entry, Opening, enter_proc, proc_opening, settle};
-use fiber_switch::vm_frames::frames::Beginning as FrameBeginning;
-use fiber_switch::vm_frames::{Frame, Iterating, Level};
+use fiber_switch::run_calls::{
+    Activation, Beginning, Entry, Opening, enter_proc, proc_binds, proc_running, settle,
+};
+use fiber_switch::vm_frames::{Arguments, Begun, Frame};
 use rb_value::{ObjId, SymId, Value};
 use std::alloc::AllocError;
 
-/// The name that goes before the arguments from a place on, where there is one.
+/// The arguments, after the name where there is one.
 #[inline(always)]
-fn put_name(parts: &mut Parts, first: usize, name: Option<SymId>) -> Result<(), AllocError> {
+fn after_name(
+    parts: &mut Parts,
+    arguments: Arguments,
+    name: Option<SymId>,
+) -> Result<Arguments, AllocError> {
     match name {
-        Some(name) => parts.frames.keep_before(first, Value::Sym(name)),
-        None => Ok(()),
+        Some(name) => parts.frames.keep_before(arguments, Value::Sym(name)),
+        None => Ok(arguments),
     }
 }
 
-/// Opens a frame with the arguments from a place on.
+/// A body that is entered: its number, the innermost of the scopes around it, the block that it is given, and how its
+/// arguments are bound.
+#[derive(Clone, Copy)]
+pub struct Entered {
+    pub body: u32,
+    pub outer: Option<u64>,
+    pub block: Option<ObjId>,
+    pub binds: BindKind,
+}
+
+/// Opens a frame of a body, which is the one in hand then, as the activation of that number.
 #[inline(always)]
-pub fn open_frame(
+pub fn open_body(
     code: &Loaded,
+    hot: &mut Frame,
     parts: &mut Parts,
-    opening: &Opening,
-    first: usize,
-) -> Result<Frame, AllocError> {
-    put_name(parts, first, opening.name_first)?;
-    let number = parts.next_activation()?;
-    let outer = match opening.outer {
+    number: u64,
+    activation: &Activation,
+    entered: Entered,
+    arguments: Arguments,
+) -> Result<(), AllocError> {
+    let registers = code.registers(entered.body);
+    parts.frames.open(hot, activation, registers, arguments)?;
+    hot.number = number;
+    hot.body = entered.body;
+    hot.outer = match entered.outer {
         Some(list) => parts.frames.env_of(list),
         None => None,
     };
-    let given = parts.frames.kept_count().saturating_sub(first);
-    let frame = parts.frames.open(FrameBeginning {
-        number,
-        activation: opening.activation,
-        body: opening.body,
-        registers: code.registers(opening.body),
-        outer,
-        first,
-        given,
-        block: opening.block,
-        binds: opening.binds,
-    })?;
+    hot.block = entered.block;
+    hot.binds = entered.binds;
     parts.activations = number;
-    Ok(frame)
+    Ok(())
 }
 
-/// Begins an iteration with the arguments from a place on, which go. It is the innermost level that waits.
-fn begin_iteration(
-    parts: &mut Parts,
-    beginning: Beginning,
-    first: usize,
-) -> Result<Flow, AllocError> {
-    put_name(parts, first, beginning.name_first)?;
-    let number = parts.next_activation()?;
-    let args = Vec::from_slice(parts.heap.alloc(), parts.frames.kept_from(first))?;
-    parts.frames.drop_from(first);
-    parts.activations = number;
-    parts.frames.push(Level::Iteration(Iterating {
-        number,
-        state: Iteration::Begun {
-            row: beginning.row,
-            receiver: beginning.receiver,
-            args,
-            block: beginning.block,
-        },
-        answer: Value::Nil,
-    }))?;
-    Ok(Flow::Wakes)
-}
-
-/// Opens the frame of a body for a call of the frame in hand, which waits.
-#[inline(always)]
-fn enter_body(
+/// Opens a frame as a call wants it, with arguments. It is the one in hand then.
+fn open_frame(
     code: &Loaded,
     hot: &mut Frame,
     parts: &mut Parts,
     opening: &Opening,
-    first: usize,
+    arguments: Arguments,
+) -> Result<(), AllocError> {
+    let arguments = after_name(parts, arguments, opening.name_first)?;
+    let number = parts.next_activation()?;
+    let entered = Entered {
+        body: opening.body,
+        outer: opening.outer,
+        block: opening.block,
+        binds: opening.binds,
+    };
+    open_body(
+        code,
+        hot,
+        parts,
+        number,
+        &opening.activation,
+        entered,
+        arguments,
+    )
+}
+
+/// Opens a frame of a Proc's body, which is the one in hand then; false where the object is no Proc with a body.
+#[inline(always)]
+pub fn open_proc(
+    code: &Loaded,
+    hot: &mut Frame,
+    parts: &mut Parts,
+    number: u64,
+    id: ObjId,
+    block: Option<ObjId>,
+    arguments: Arguments,
+) -> Result<bool, AllocError> {
+    let (activation, entered) = match parts.heap.proc_of(id) {
+        Some(contents) => (
+            proc_running(id, contents, number),
+            Entered {
+                body: contents.code,
+                outer: contents.scopes.as_slice().first().copied(),
+                block,
+                binds: proc_binds(contents.lambda),
+            },
+        ),
+        None => return Ok(false),
+    };
+    open_body(code, hot, parts, number, &activation, entered, arguments)?;
+    Ok(true)
+}
+
+/// Begins an iteration with arguments.
+fn begin_iteration(
+    parts: &mut Parts,
+    beginning: Beginning,
+    arguments: Arguments,
 ) -> Result<Flow, AllocError> {
-    parts.frames.push(Level::Frame(*hot))?;
-    *hot = open_frame(code, parts, opening, first)?;
-    Ok(Flow::Stays)
+    let arguments = after_name(parts, arguments, beginning.name_first)?;
+    let number = parts.next_activation()?;
+    parts.activations = number;
+    parts.frames.begin(Begun {
+        number,
+        row: beginning.row,
+        receiver: beginning.receiver,
+        arguments,
+        block: beginning.block,
+    });
+    Ok(Flow::Wakes)
 }
 
 /// The frame in hand has no room for one level more.
@@ -98,11 +142,11 @@ fn too_deep(
     hot: &mut Frame,
     parts: &mut Parts,
     block: Option<ObjId>,
-    first: usize,
+    arguments: Arguments,
     a: u16,
 ) -> Result<Flow, AllocError> {
     settle(&mut parts.heap, block, None);
-    parts.frames.drop_from(first);
+    parts.frames.drop_arguments(arguments);
     let given = parts.heap.fail(Cause::StackTooDeep)?;
     after(code, hot, parts, given, a)
 }
@@ -121,66 +165,108 @@ pub fn answer(
     after(code, hot, parts, given, a)
 }
 
-/// Enters a body for a call of the frame in hand with that block argument; its value goes into register `a`. The
-/// arguments are those that the line keeps from a place on.
+/// Enters a body for a call of the frame in hand, which waits for register `a`, as the activation of the next number.
 #[inline(always)]
-pub fn enter_opening(
+pub fn enter_body(
+    code: &Loaded,
+    hot: &mut Frame,
+    parts: &mut Parts,
+    activation: &Activation,
+    entered: Entered,
+    arguments: Arguments,
+    a: u16,
+) -> Result<Flow, AllocError> {
+    hot.waits = a;
+    if parts.frames.is_full() {
+        return too_deep(code, hot, parts, entered.block, arguments, a);
+    }
+    let number = parts.next_activation()?;
+    settle(&mut parts.heap, entered.block, Some(number));
+    parts.frames.push_frame(hot)?;
+    open_body(code, hot, parts, number, activation, entered, arguments)?;
+    Ok(Flow::Stays)
+}
+
+/// Enters a body as a call of the frame in hand with that block argument wants it; its value goes into register `a`.
+fn enter_opening(
     code: &Loaded,
     hot: &mut Frame,
     parts: &mut Parts,
     opening: &Opening,
     block: Option<ObjId>,
-    first: usize,
+    arguments: Arguments,
     a: u16,
 ) -> Result<Flow, AllocError> {
     hot.waits = a;
     if parts.frames.is_full() {
-        return too_deep(code, hot, parts, block, first, a);
+        return too_deep(code, hot, parts, block, arguments, a);
     }
-    let next = parts.next_activation()?;
-    settle(&mut parts.heap, block, Some(next));
-    enter_body(code, hot, parts, opening, first)
+    let number = parts.next_activation()?;
+    settle(&mut parts.heap, block, Some(number));
+    parts.frames.push_frame(hot)?;
+    open_frame(code, hot, parts, opening, arguments)?;
+    Ok(Flow::Stays)
 }
 
-/// Begins an iteration for a call of the frame in hand with that block argument; its value goes into register `a`. The
-/// arguments are those that the line keeps from a place on.
+/// Calls a Proc for a call of the frame in hand without a block argument; its value goes into register `a`. False where
+/// the object is no Proc with a body.
+#[inline(always)]
+pub fn enter_yielded(
+    code: &Loaded,
+    hot: &mut Frame,
+    parts: &mut Parts,
+    id: ObjId,
+    arguments: Arguments,
+    a: u16,
+) -> Result<bool, AllocError> {
+    let number = parts.next_activation()?;
+    if parts.frames.is_full() || parts.heap.proc_of(id).is_none() {
+        return Ok(false);
+    }
+    hot.waits = a;
+    parts.frames.push_frame(hot)?;
+    open_proc(code, hot, parts, number, id, None, arguments)
+}
+
+/// Begins an iteration for a call of the frame in hand with that block argument; its value goes into register `a`.
 pub fn enter_beginning(
     code: &Loaded,
     hot: &mut Frame,
     parts: &mut Parts,
     beginning: Beginning,
     block: Option<ObjId>,
-    first: usize,
+    arguments: Arguments,
     a: u16,
 ) -> Result<Flow, AllocError> {
     hot.waits = a;
     if parts.frames.is_full() {
-        return too_deep(code, hot, parts, block, first, a);
+        return too_deep(code, hot, parts, block, arguments, a);
     }
     let next = parts.next_activation()?;
     settle(&mut parts.heap, block, Some(next));
-    parts.frames.push(Level::Frame(*hot))?;
-    begin_iteration(parts, beginning, first)
+    parts.frames.push_frame(hot)?;
+    begin_iteration(parts, beginning, arguments)
 }
 
-/// Enters what a call of the frame in hand with that block argument calls; its value goes into register `a`. The
-/// arguments are those that the line keeps from a place on.
+/// Enters what a call of the frame in hand with that block argument calls; its value goes into register `a`.
 pub fn enter(
     code: &Loaded,
     hot: &mut Frame,
     parts: &mut Parts,
     entry: Entry,
     block: Option<ObjId>,
-    first: usize,
+    arguments: Arguments,
     a: u16,
 ) -> Result<Flow, AllocError> {
     match entry {
         Entry::Answers(given) => {
-            parts.frames.drop_from(first);
+            parts.frames.drop_arguments(arguments);
             answer(code, hot, parts, given, block, a)
         }
-        Entry::Enters(opening) => enter_opening(code, hot, parts, &opening, block, first, a),
-        Entry::Begins(beginning) => enter_beginning(code, hot, parts, beginning, block, first, a),
+        Entry::Enters(opening) => enter_opening(code, hot, parts, &opening, block, arguments, a),
+        Entry::Begins(beginning) => enter_beginning(
+            code, hot, parts, beginning, block, arguments, a,
+        ),
     }
 }
 
@@ -192,27 +278,36 @@ pub fn enter_block(
     parts: &mut Parts,
     beat: Beat,
 ) -> Result<Flow, AllocError> {
-    let first = parts.frames.kept_count();
-    keep_passed(parts, beat.passed)?;
-    let next = parts.next_activation()?;
-    match proc_opening(&parts.heap, beat.callee, None, next) {
-        Some(opening) if parts.frames.has_room() => {
-            *hot = open_frame(code, parts, &opening, first)?;
-            Ok(Flow::Stays)
-        }
-        _ => enter_other(code, hot, parts, beat, first),
-    }
+    let arguments = keep_passed(parts, beat.passed)?;
+    enter_called(code, hot, parts, beat.callee, None, arguments)
 }
 
-/// The line keeps the values that a block is called with.
+/// Calls a Proc for the innermost level that waits; a body that it enters is the frame in hand then.
+pub fn enter_called(
+    code: &Loaded,
+    hot: &mut Frame,
+    parts: &mut Parts,
+    callee: ObjId,
+    block: Option<ObjId>,
+    arguments: Arguments,
+) -> Result<Flow, AllocError> {
+    let number = parts.next_activation()?;
+    if parts.frames.has_room() && open_proc(code, hot, parts, number, callee, block, arguments)? {
+        return Ok(Flow::Stays);
+    }
+    enter_other(code, hot, parts, callee, block, arguments)
+}
+
+/// The values that a block is called with, as arguments.
 #[inline(always)]
-fn keep_passed(parts: &mut Parts, passed: Passed) -> Result<(), AllocError> {
+pub fn keep_passed(parts: &mut Parts, passed: Passed) -> Result<Arguments, AllocError> {
+    let arguments = parts.frames.no_arguments();
     match passed {
-        Passed::Nothing => Ok(()),
-        Passed::One(value) => parts.frames.keep(value),
+        Passed::Nothing => Ok(arguments),
+        Passed::One(value) => parts.frames.keep_after(arguments, value),
         Passed::Two(left, right) => {
-            parts.frames.keep(left)?;
-            parts.frames.keep(right)
+            let arguments = parts.frames.keep_after(arguments, left)?;
+            parts.frames.keep_after(arguments, right)
         }
     }
 }
@@ -223,53 +318,45 @@ fn enter_other(
     code: &Loaded,
     hot: &mut Frame,
     parts: &mut Parts,
-    beat: Beat,
-    first: usize,
+    callee: ObjId,
+    block: Option<ObjId>,
+    arguments: Arguments,
 ) -> Result<Flow, AllocError> {
     let next = parts.next_activation()?;
     let call = Call {
         receiver: Value::Nil,
-        args: parts.frames.kept_from(first),
-        block: None,
+        args: parts.frames.given(arguments),
+        block,
     };
-    let entry = enter_proc(&mut parts.heap, beat.callee, call, next)?;
-    enter_above(code, hot, parts, entry, first)
+    let entry = enter_proc(&mut parts.heap, callee, call, next)?;
+    enter_above(code, hot, parts, entry, arguments)
 }
 
-/// Enters what an iteration calls, which waits; a body that it enters is the frame in hand then. The arguments are those
-/// that the line keeps from a place on.
-pub fn enter_from(
-    code: &Loaded,
-    hot: &mut Frame,
-    parts: &mut Parts,
-    waiting: Iterating,
-    entry: Entry,
-    first: usize,
-) -> Result<Flow, AllocError> {
-    parts.frames.push(Level::Iteration(waiting))?;
-    enter_above(code, hot, parts, entry, first)
-}
-
-/// Enters what the innermost level that waits calls, where there is room for it.
-fn enter_above(
+/// Enters what the innermost level that waits calls, where there is room for it; a body that it enters is the frame in
+/// hand then.
+pub fn enter_above(
     code: &Loaded,
     hot: &mut Frame,
     parts: &mut Parts,
     entry: Entry,
-    first: usize,
+    arguments: Arguments,
 ) -> Result<Flow, AllocError> {
     match entry {
         Entry::Enters(_) | Entry::Begins(_) if !parts.frames.has_room() => {
-            too_deep_from(code, parts, first)
+            too_deep_from(code, parts, arguments)
         }
-        entry => enter_first(code, hot, parts, entry, first),
+        entry => enter_first(code, hot, parts, entry, arguments),
     }
 }
 
 /// An iteration, the innermost level that waits, has no room for one level more.
 #[cold]
-fn too_deep_from(code: &Loaded, parts: &mut Parts, first: usize) -> Result<Flow, AllocError> {
-    parts.frames.drop_from(first);
+fn too_deep_from(
+    code: &Loaded,
+    parts: &mut Parts,
+    arguments: Arguments,
+) -> Result<Flow, AllocError> {
+    parts.frames.drop_arguments(arguments);
     let given = parts.heap.fail(Cause::StackTooDeep)?;
     hand_out(code, parts, handed(given))
 }
@@ -281,17 +368,17 @@ pub fn enter_first(
     hot: &mut Frame,
     parts: &mut Parts,
     entry: Entry,
-    first: usize,
+    arguments: Arguments,
 ) -> Result<Flow, AllocError> {
     match entry {
         Entry::Answers(given) => {
-            parts.frames.drop_from(first);
+            parts.frames.drop_arguments(arguments);
             hand_out(code, parts, handed(given))
         }
         Entry::Enters(opening) => {
-            *hot = open_frame(code, parts, &opening, first)?;
+            open_frame(code, hot, parts, &opening, arguments)?;
             Ok(Flow::Stays)
         }
-        Entry::Begins(beginning) => begin_iteration(parts, beginning, first),
+        Entry::Begins(beginning) => begin_iteration(parts, beginning, arguments),
     }
 }

@@ -30,14 +30,12 @@ pub fn receive(parts: &mut Parts, value: Value) -> Flow {
 /// A value goes to the level that waits, which mostly is a frame: that one is in hand then.
 #[inline(always)]
 pub fn receive_here(hot: &mut Frame, parts: &mut Parts, value: Value) -> Flow {
-    match parts.frames.pop_frame() {
-        Some(frame) => {
-            *hot = frame;
-            let waits = hot.waits;
-            put(hot, parts, waits, value);
-            Flow::Stays
-        }
-        None => receive(parts, value),
+    if parts.frames.pop_frame(hot) {
+        let waits = hot.waits;
+        put(hot, parts, waits, value);
+        Flow::Stays
+    } else {
+        receive(parts, value)
     }
 }
 

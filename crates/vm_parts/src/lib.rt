@@ -3,14 +3,15 @@
 //!
 //! All calls are total: code that isn't there ends the program, a register that isn't there reads as nil.
 //!
-//! Types: [`Parts`], [`Loaded`], [`Operators`]; [`Flow`], [`Step`], [`End`], [`Handed`]. Calls: modules [`exits`],
-//! [`entering`], [`arguments`].
+//! Types: [`Parts`], [`Loaded`], [`Operators`], [`KnownCalls`]; [`Flow`], [`Step`], [`End`], [`Handed`]. Calls: modules
+//! [`exits`], [`entering`], [`arguments`].
 #![tactic(auto)]
 
 pub mod arguments;
 pub mod entering;
 pub mod exits;
 pub mod flow;
+pub mod known;
 pub mod loaded;
 pub mod operators;
 pub mod parts;
@@ -18,6 +19,7 @@ pub mod parts;
 pub use fiber_switch;
 pub use fiber_switch::{core_calls, core_iter, heap, run_calls, run_rows, vm_frames, vm_unwind};
 pub use flow::{End, Flow, Handed, Step};
+pub use known::{KnownCalls, Usual};
 pub use loaded::Loaded;
 pub use operators::{Operator, Operators};
 pub use parts::{Parts, behind, put, step};
