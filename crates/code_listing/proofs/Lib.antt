@@ -1,3 +1,4 @@
 pub mod Numbered
 pub mod CodeLines
 pub mod SectionLists
+pub mod Names

@@ -1,12 +1,12 @@
 //! The code of a body, a line for each instruction.
-ghost use Rattle.std.specs.Prelude.{◌≡◌, ◌++◌, ◌<◌, ◌^◌, length, flat_map};
+ghost use Rattle.std.specs.Prelude.{◌≡◌, ◌+◌, ◌++◌, ◌<◌, ◌≤◌, ◌^◌, length, flat_map};
 ghost use Rattle.code_listing.specs.Listing as texts;
 ghost use Rattle.code_outline.specs.Layout.{standing};
 ghost use Rattle.rb_refusal.specs.Writing.{Says};
 
-use itoa::Buffer;
+use crate::line::Line;
 use rb_base::{Failed, Sink};
-use rb_refusal::{write_pieces, write_text};
+use rb_refusal::write_text;
 use rite_code::{Instr, Opcode, Operation, Shape, decode, word_of};
 
 // The zeros in front of so many digits, so that there are five.
@@ -23,43 +23,46 @@ fn zeros_before(digits: usize) -> &'static [u8]
     }
 }
 
-// Writes an address, and what follows it up to the operands.
+// Puts an address in front.
 #[tactic(auto, unfolding(crate::specs::Listing::address))]
-fn write_address<O: Sink>(
-    out: &mut O,
-    at: usize,
-    prefix: &'static [u8],
-    name: &'static [u8],
-) -> Result<(), Failed>
-    ensures { Says (texts.address at ++ (prefix.now ++ name.now))
-        (record { taken = O.taken out.old; faults = O.faults out.old })
-        (record { taken = O.taken out.new; faults = O.faults out.new }) result }
+fn put_address(line: &mut Line, at: usize)
+    requires { 25 + length line.old ≤ 128 }
+    ensures { line.new ≡ texts.address at ++ line.old }
 {
-    let mut buffer = Buffer::new();
-    let digits = buffer.format(at).as_bytes();
-    write_pieces(out, &[zeros_before(digits.len()), digits, prefix, name])
+    let digits = line.put_decimal(at as u64);
+    line.put_bytes(zeros_before(digits));
 }
 
-// Writes a number after a space.
-fn write_number<O: Sink>(out: &mut O, number: i64) -> Result<(), Failed>
-    ensures { Says (texts.signed_number number)
-        (record { taken = O.taken out.old; faults = O.faults out.old })
-        (record { taken = O.taken out.new; faults = O.faults out.new }) result }
+// Puts a number after a space in front.
+#[inline]
+fn put_number(line: &mut Line, number: i64)
+    requires { 21 + length line.old ≤ 128 }
+    ensures text { line.new ≡ texts.signed_number number ++ line.old }
+    ensures short { length line.new ≤ 21 + length line.old }
 {
-    let mut buffer = Buffer::new();
-    write_pieces(out, &[b" ", buffer.format(number).as_bytes()])
+    line.put_signed(number);
+    line.put_byte(b' ');
 }
 
-// Writes numbers, each after a space.
-fn write_numbers<O: Sink>(out: &mut O, numbers: &[i64]) -> Result<(), Failed>
-    ensures { Says (flat_map texts.signed_number numbers.now)
-        (record { taken = O.taken out.old; faults = O.faults out.old })
-        (record { taken = O.taken out.new; faults = O.faults out.new }) result }
+#[inline]
+fn put_two(line: &mut Line, a: i64, b: i64)
+    requires { 42 + length line.old ≤ 128 }
+    ensures text { line.new ≡ texts.signed_number a ++ (texts.signed_number b ++ line.old) }
+    ensures short { length line.new ≤ 42 + length line.old }
 {
-    'numbers: for number in numbers {
-        write_number(out, *number)?;
-    }
-    Ok(())
+    put_number(line, b);
+    put_number(line, a);
+}
+
+#[inline]
+fn put_three(line: &mut Line, a: i64, b: i64, c: i64)
+    requires { 63 + length line.old ≤ 128 }
+    ensures text { line.new
+        ≡ texts.signed_number a ++ (texts.signed_number b ++ (texts.signed_number c ++ line.old)) }
+    ensures short { length line.new ≤ 63 + length line.old }
+{
+    put_number(line, c);
+    put_two(line, a, b);
 }
 
 fn is_jump(opcode: Opcode) -> bool
@@ -80,12 +83,11 @@ fn signed_shown(next: usize, opcode: Opcode, by: i32) -> i64
     }
 }
 
-// Writes the operands as the shape has them.
-fn write_operands<O: Sink>(out: &mut O, next: usize, operation: Operation) -> Result<(), Failed>
-    requires { next < 2 ^ 32 }
-    ensures { Says (flat_map texts.signed_number (texts.operands_shown next operation))
-        (record { taken = O.taken out.old; faults = O.faults out.old })
-        (record { taken = O.taken out.new; faults = O.faults out.new }) result }
+// Puts the operands in front, as the shape has them.
+fn put_operands(line: &mut Line, next: usize, operation: Operation)
+    requires { (next < 2 ^ 32) × (63 + length line.old ≤ 128) }
+    ensures text { line.new ≡ flat_map texts.signed_number (texts.operands_shown next operation) ++ line.old }
+    ensures short { length line.new ≤ 63 + length line.old }
 {
     let opcode = operation.opcode();
     let operands = operation.operands();
@@ -93,28 +95,45 @@ fn write_operands<O: Sink>(out: &mut O, next: usize, operation: Operation) -> Re
     let b = i64::from(operands.b);
     let by = signed_shown(next, opcode, operands.by);
     match opcode.shape() {
-        Shape::Z => write_numbers(out, &[]),
-        Shape::B => write_numbers(out, &[a]),
-        Shape::BB => write_numbers(out, &[a, b]),
-        Shape::BBB => write_numbers(out, &[a, b, i64::from(operands.c)]),
-        Shape::BBI => write_numbers(out, &[a, b, by]),
-        Shape::S => write_numbers(out, &[by]),
-        Shape::BS => write_numbers(out, &[a, by]),
-        Shape::BSS => write_numbers(out, &[a, by]),
-        Shape::W => write_numbers(out, &[i64::from(word_of(operands.parameters))]),
+        Shape::Z => {}
+        Shape::B => put_number(line, a),
+        Shape::BB => put_two(line, a, b),
+        Shape::BBB => put_three(line, a, b, i64::from(operands.c)),
+        Shape::BBI => put_three(line, a, b, by),
+        Shape::S => put_number(line, by),
+        Shape::BS => put_two(line, a, by),
+        Shape::BSS => put_two(line, a, by),
+        Shape::W => put_number(line, i64::from(word_of(operands.parameters))),
     }
 }
 
 // What stands before a mnemonic.
 fn prefix(wide: bool) -> &'static [u8]
-    ensures { result.now ≡ texts.prefix wide }
+    ensures text { result.now ≡ texts.prefix wide }
+    ensures short { length result.now ≤ 5 }
 {
     if wide { b" EXT " } else { b" " }
+}
+
+// Makes the line of an instruction at a place, with the place after it.
+#[tactic(auto, using(crate::proofs::Names::name_short), unfolding(crate::specs::Listing::instruction_line))]
+fn put_instruction(line: &mut Line, at: usize, next: usize, instr: Instr)
+    requires { next < 2 ^ 32 }
+    ensures { line.new ≡ texts.instruction_line (standing at (instr, next)) }
+{
+    let operation = instr.operation();
+    line.clear();
+    line.put_byte(b'\n');
+    put_operands(line, next, operation);
+    line.put_bytes(operation.opcode().name());
+    line.put_bytes(prefix(instr.is_wide()));
+    put_address(line, at);
 }
 
 // Writes the line of an instruction at a place, with the place after it.
 fn write_instruction<O: Sink>(
     out: &mut O,
+    line: &mut Line,
     at: usize,
     next: usize,
     instr: Instr,
@@ -124,10 +143,21 @@ fn write_instruction<O: Sink>(
         (record { taken = O.taken out.old; faults = O.faults out.old })
         (record { taken = O.taken out.new; faults = O.faults out.new }) result }
 {
-    let operation = instr.operation();
-    write_address(out, at, prefix(instr.is_wide()), operation.opcode().name())?;
-    write_operands(out, next, operation)?;
-    write_text(out, b"\n")
+    put_instruction(line, at, next, instr);
+    write_text(out, line.as_slice())
+}
+
+// Writes the line of a place where no instruction can be read.
+#[tactic(auto, unfolding(crate::specs::Listing::unreadable_line))]
+fn write_unreadable<O: Sink>(out: &mut O, line: &mut Line, at: usize) -> Result<(), Failed>
+    ensures { Says (texts.unreadable_line at)
+        (record { taken = O.taken out.old; faults = O.faults out.old })
+        (record { taken = O.taken out.new; faults = O.faults out.new }) result }
+{
+    line.clear();
+    line.put_bytes(b" ???\n");
+    put_address(line, at);
+    write_text(out, line.as_slice())
 }
 
 /// Writes a line for each instruction of the code, and a last one where none can be read within it.
@@ -139,12 +169,13 @@ pub fn write_code<O: Sink>(out: &mut O, version: u8, code: &[u8]) -> Result<(), 
         (record { taken = O.taken out.old; faults = O.faults out.old })
         (record { taken = O.taken out.new; faults = O.faults out.new }) result }
 {
+    let mut line = Line::new();
     let mut at = 0;
     'instructions: while at < code.len() {
         let Some((instr, next)) = decode(version, code, at) else {
-            return write_address(out, at, b" ???", b"\n");
+            return write_unreadable(out, &mut line, at);
         };
-        write_instruction(out, at, next, instr)?;
+        write_instruction(out, &mut line, at, next, instr)?;
         at = next;
     }
     Ok(())

@@ -9,6 +9,7 @@ pub mod info_fault;
 pub mod informing;
 pub mod inspecting;
 pub mod instructions;
+pub mod line;
 
 pub use bodies::list;
 pub use info_fault::InfoFault;

@@ -1,4 +1,4 @@
-use Rattle.std.proofs.Common.{◌≡◌, ℕ, [], ◌∷◌, ◌++◌, None, length, arith, sym, ◌∙◌, append_assoc}
+use Rattle.std.proofs.Common.{◌≡◌, None, length, arith, sym, ◌∙◌}
 use Rattle.rite_code.specs.Spelling.{decode}
 use Rattle.code_outline.specs.Layout.{layout}
 use Rattle.code_listing.specs.Listing as texts
@@ -15,17 +15,13 @@ instructions-init g c = record {
   progress = started _ _;
 }
 
-unreadable : (at : ℕ) → texts.unreadable_line at ≡ texts.address at ++ (32 ∷ (63 ∷ (63 ∷ (63 ∷ (10 ∷ [])))))
-unfolding texts.unreadable_line
-unreadable at = append_assoc (texts.address at) _ _
-
 pub returns-in_default : goal.returns-in_default
 returns-in_default g c =
     let i = c.instructions.invariant in
     let none : decode c.args.version c.args.code.now c.instructions.at ≡ None = sym c.decode.ensures.value
     ∙ c.in_default.is in
     ended _ _ _ _ _ _ _ (no_line i.most c.args.version c.args.code.now c.instructions.at c.instructions-test.true
-    i.enough none ∙ unreadable c.instructions.at) i.progress c.write_address.ensures
+    i.enough none) i.progress c.write_unreadable.ensures
 
 pub returns-in_err-write_instruction : goal.returns-in_err-write_instruction
 returns-in_err-write_instruction g c =
