@@ -9,17 +9,19 @@ use rb_base::{Failed, Sink};
 use rb_refusal::write_text;
 use rite_code::{Instr, Opcode, Operation, Shape, decode, word_of};
 
-// The zeros in front of so many digits, so that there are five.
-fn zeros_before(digits: usize) -> &'static [u8]
-    ensures { result.now ≡ texts.zeros_before digits }
+// Puts zeros in front of so many digits, so that there are five.
+#[inline]
+fn put_zeros(line: &mut Line, digits: usize)
+    requires { 5 + length line.old ≤ 128 }
+    ensures { line.new ≡ texts.zeros_before digits ++ line.old }
 {
     match digits {
-        0 => b"00000",
-        1 => b"0000",
-        2 => b"000",
-        3 => b"00",
-        4 => b"0",
-        _ => b"",
+        0 => line.put_bytes(b"00000"),
+        1 => line.put_bytes(b"0000"),
+        2 => line.put_bytes(b"000"),
+        3 => line.put_bytes(b"00"),
+        4 => line.put_bytes(b"0"),
+        _ => {}
     }
 }
 
@@ -30,7 +32,7 @@ fn put_address(line: &mut Line, at: usize)
     ensures { line.new ≡ texts.address at ++ line.old }
 {
     let digits = line.put_decimal(at as u64);
-    line.put_bytes(zeros_before(digits));
+    put_zeros(line, digits);
 }
 
 // Puts a number after a space in front.
@@ -107,12 +109,18 @@ fn put_operands(line: &mut Line, next: usize, operation: Operation)
     }
 }
 
-// What stands before a mnemonic.
-fn prefix(wide: bool) -> &'static [u8]
-    ensures text { result.now ≡ texts.prefix wide }
-    ensures short { length result.now ≤ 5 }
+// Puts in front what stands before a mnemonic.
+#[inline]
+fn put_prefix(line: &mut Line, wide: bool)
+    requires { 5 + length line.old ≤ 128 }
+    ensures text { line.new ≡ texts.prefix wide ++ line.old }
+    ensures short { length line.new ≤ 5 + length line.old }
 {
-    if wide { b" EXT " } else { b" " }
+    if wide {
+        line.put_bytes(b" EXT ");
+    } else {
+        line.put_byte(b' ');
+    }
 }
 
 // Makes the line of an instruction at a place, with the place after it.
@@ -126,7 +134,7 @@ fn put_instruction(line: &mut Line, at: usize, next: usize, instr: Instr)
     line.put_byte(b'\n');
     put_operands(line, next, operation);
     line.put_bytes(operation.opcode().name());
-    line.put_bytes(prefix(instr.is_wide()));
+    put_prefix(line, instr.is_wide());
     put_address(line, at);
 }
 
