@@ -4,27 +4,43 @@ use frame_machine::Ran;
 use rite_code::Operation;
 use std::alloc::AllocError;
 
+/// A loop of 100 rounds, of nine turns each, between a turn and the last test of four; then `puts`.
+const LOOP: [Operation; 13] = [
+    Operation::LoadI { a: 1, b: 0 },
+    Operation::Move { a: 2, b: 1 },
+    Operation::LoadI { a: 3, b: 100 },
+    Operation::Lt { a: 2 },
+    Operation::JmpNot { a: 2, by: 14 },
+    Operation::Move { a: 2, b: 1 },
+    Operation::LoadI { a: 3, b: 1 },
+    Operation::Add { a: 2 },
+    Operation::Move { a: 1, b: 2 },
+    Operation::Jmp { by: -26 },
+    Operation::Move { a: 3, b: 1 },
+    Operation::SSend { a: 2, b: 0, c: 1 },
+    Operation::Stop,
+];
+
 #[test]
 fn loops(rt: HostRuntime) -> Result<(), AllocError> {
-    let main_operations = [
-        Operation::LoadI { a: 1, b: 0 },
-        Operation::Move { a: 2, b: 1 },
-        Operation::LoadI { a: 3, b: 100 },
-        Operation::Lt { a: 2 },
-        Operation::JmpNot { a: 2, by: 14 },
-        Operation::Move { a: 2, b: 1 },
-        Operation::LoadI { a: 3, b: 1 },
-        Operation::Add { a: 2 },
-        Operation::Move { a: 1, b: 2 },
-        Operation::Jmp { by: -26 },
-        Operation::Move { a: 3, b: 1 },
-        Operation::SSend { a: 2, b: 0, c: 1 },
-        Operation::Stop,
-    ];
     let main_symbols: [&[u8]; 1] = [b"puts"];
-    let main = plain(2, 5, &main_operations, &main_symbols);
+    let main = plain(2, 5, &LOOP, &main_symbols);
     let seen = run(rt.alloc(), &[main], b"", 10_000)?;
     assert!(rt; seen.out.as_slice() == b"100\n".as_slice());
+    Ok(())
+}
+
+#[test]
+fn spends_what_is_given(rt: HostRuntime) -> Result<(), AllocError> {
+    let main_symbols: [&[u8]; 1] = [b"puts"];
+    let main = plain(2, 5, &LOOP, &main_symbols);
+    let budgets: [u64; 12] = [0, 1, 2, 3, 4, 5, 6, 7, 8, 9, 904, 905];
+    for budget in budgets {
+        let seen = run(rt.alloc(), &[main], b"", budget)?;
+        let is_spent = matches!(seen.ran, Some(Ran::Spent));
+        assert!(rt; is_spent);
+        assert!(rt; seen.out.is_empty());
+    }
     Ok(())
 }
 

@@ -139,19 +139,38 @@ fn number(found: Option<i64>) -> Option<Value> {
     }
 }
 
+/// The number that an operator's core method gives for two numbers; nothing where it fails, or gives a truth.
+#[inline(always)]
+pub fn number_of(operator: Operator, left: i64, right: i64) -> Option<i64> {
+    match operator {
+        Operator::Add => left.checked_add(right),
+        Operator::Subtract => left.checked_sub(right),
+        Operator::Multiply => left.checked_mul(right),
+        Operator::Divide => quotient(left, right),
+        _ => None,
+    }
+}
+
+/// Whether two numbers stand to one another as a comparison tells; of any other operator no.
+#[inline(always)]
+pub fn holds(operator: Operator, left: i64, right: i64) -> bool {
+    match operator {
+        Operator::Equal => left == right,
+        Operator::Less => left < right,
+        Operator::AtMost => left <= right,
+        Operator::Greater => left > right,
+        Operator::AtLeast => left >= right,
+        _ => false,
+    }
+}
+
 /// What an operator's core method gives for two numbers; nothing where it fails.
 #[inline(always)]
 fn applied(operator: Operator, left: i64, right: i64) -> Option<Value> {
-    match operator {
-        Operator::Add => number(left.checked_add(right)),
-        Operator::Subtract => number(left.checked_sub(right)),
-        Operator::Multiply => number(left.checked_mul(right)),
-        Operator::Divide => number(quotient(left, right)),
-        Operator::Equal => Some(Value::from_truth(left == right)),
-        Operator::Less => Some(Value::from_truth(left < right)),
-        Operator::AtMost => Some(Value::from_truth(left <= right)),
-        Operator::Greater => Some(Value::from_truth(left > right)),
-        Operator::AtLeast => Some(Value::from_truth(left >= right)),
+    if operator.compares() {
+        Some(Value::from_truth(holds(operator, left, right)))
+    } else {
+        number(number_of(operator, left, right))
     }
 }
 

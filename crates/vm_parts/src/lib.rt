@@ -3,8 +3,8 @@
 //!
 //! All calls are total: code that isn't there ends the program, a register that isn't there reads as nil.
 //!
-//! Types: [`Parts`], [`Loaded`], [`Operators`], [`KnownCalls`]; [`Flow`], [`Step`], [`End`], [`Handed`]. Calls: modules
-//! [`exits`], [`entering`], [`arguments`].
+//! Types: [`Parts`], [`Loaded`], [`Superinstruction`], [`Operators`], [`KnownCalls`]; [`Flow`], [`Step`], [`End`],
+//! [`Handed`]. Calls: modules [`exits`], [`entering`], [`arguments`].
 #![tactic(auto)]
 
 pub mod arguments;
@@ -15,6 +15,7 @@ pub mod known;
 pub mod loaded;
 pub mod operators;
 pub mod parts;
+pub mod superinstruction;
 
 pub use fiber_switch;
 pub use fiber_switch::{core_calls, core_iter, heap, run_calls, run_rows, vm_frames, vm_unwind};
@@ -23,3 +24,4 @@ pub use known::{KnownCalls, Usual};
 pub use loaded::Loaded;
 pub use operators::{Operator, Operators};
 pub use parts::{Parts, behind, put, step};
+pub use superinstruction::Superinstruction;
