@@ -4,6 +4,7 @@ pub mod Kept
 pub mod Layouts
 pub mod Made
 pub mod Makes
+pub mod Marked
 pub mod Marks
 pub mod Outers
 pub mod Places

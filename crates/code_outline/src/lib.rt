@@ -2,7 +2,7 @@
 //! read, with the place of each instruction, the index of the instruction at each place, for each body the first
 //! instruction that uses it, and the body around each block and lambda.
 //!
-//! Types: [`Standing`], [`Layout`], [`Purpose`], [`Maker`], [`Outline`]. Calls: [`outline`] and
+//! Types: [`Standing`], [`Indices`], [`Layout`], [`Purpose`], [`Maker`], [`Outline`]. Calls: [`outline`] and
 //! [`use_in`]. Law: [`laws_of_outlines`].
 #![tactic(auto)]
 
@@ -12,6 +12,7 @@ ghost use Rattle.rite_code.specs.Code.{Program};
 ghost use Rattle.code_outline.specs.Laws.{Lays, Nests};
 ghost use Rattle.code_outline.specs.Outlined.{AreParts, Outlines};
 
+pub mod indices;
 mod laying;
 pub mod layout;
 pub mod maker;
@@ -21,6 +22,7 @@ mod scoping;
 use crate::laying::layout;
 use crate::making::put_makers;
 use crate::scoping::scopes_of;
+pub use indices::Indices;
 pub use layout::{Layout, Outline, Standing};
 pub use maker::{Maker, Purpose};
 pub use making::use_in;

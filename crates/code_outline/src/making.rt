@@ -10,6 +10,7 @@ use crate::maker::{Maker, Purpose};
 use rite_code::{Irep, Operation};
 
 /// The index among the children and the purpose, where the instruction uses a child.
+#[inline(always)]
 pub fn use_in(operation: Operation) -> Option<(u16, Purpose)>
     ensures { result ≡ made.use_in operation }
 {
