@@ -5,5 +5,6 @@ pub mod InOrder
 pub mod Known
 pub mod Parts
 pub mod Passing
+pub mod PlainCauses
 pub mod Samples
 pub mod Starts

@@ -1,5 +1,6 @@
 pub mod Needs
 pub mod Checks
+pub mod Plain
 pub mod Verified
 pub mod Known
 pub mod Answers

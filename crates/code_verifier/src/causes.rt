@@ -11,6 +11,7 @@ use crate::checks::{
     makes_once, place_holds, takes_arguments, variable_holds,
 };
 use crate::needs::{leaves, registers_of, symbols_hold};
+use crate::plain::{check_plain, is_plain};
 use code_outline::{Layout, Outline, Standing};
 use rite_code::{Cause, Code, Irep};
 
@@ -21,9 +22,9 @@ pub fn check(holds: bool, cause: Cause) -> Result<(), Cause>
     if holds { Ok(()) } else { Err(cause) }
 }
 
-/// The first check of an instruction of body `number` that fails.
+/// The first check of an instruction of body `number` that fails, each being made.
 #[tactic(auto, unfolding(crate::specs::Checks::cause_of, crate::specs::Checks::first))]
-pub fn check_instruction(
+fn check_all(
     code: &Code,
     outline: &Outline,
     number: u32,
@@ -63,4 +64,26 @@ pub fn check_instruction(
         leaves(operation) || (next as usize) < body.code.len(),
         Cause::Fall,
     )
+}
+
+/// The first check of an instruction of body `number` that fails.
+#[inline(always)]
+pub fn check_instruction(
+    code: &Code,
+    outline: &Outline,
+    number: u32,
+    body: &Irep,
+    layout: &Layout,
+    standing: &Standing,
+) -> Result<(), Cause>
+    requires { KnowsBody code.now outline.now number body.now layout.now }
+    ensures { let list = laid.layout code.now.version body.now.code in
+        result ≡ outcome (checks.cause_of code.now number body.now list (seen standing.now)) }
+{
+    let Standing { at, next, instr } = *standing;
+    if at != 0 && is_plain(instr.operation()) {
+        check_plain(body, next, &instr)
+    } else {
+        check_all(code, outline, number, body, layout, standing)
+    }
 }

@@ -14,6 +14,7 @@ mod checks;
 pub mod error;
 pub mod laws;
 mod needs;
+mod plain;
 mod unread;
 pub mod verified;
 

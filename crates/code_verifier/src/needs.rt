@@ -98,6 +98,7 @@ pub fn registers_of(operation: Operation) -> u32
 }
 
 /// Whether its symbols are below this count.
+#[inline(always)]
 pub fn symbols_hold(count: usize, operation: Operation) -> bool
     ensures { result ≡ list_all (λ i. nat_lt i count) (needs.symbols_of operation) }
 {
