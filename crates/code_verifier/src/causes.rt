@@ -16,6 +16,7 @@ use code_outline::{Layout, Outline, Standing};
 use rite_code::{Cause, Code, Irep};
 
 /// The cause, where its check doesn't hold.
+#[inline(always)]
 pub fn check(holds: bool, cause: Cause) -> Result<(), Cause>
     ensures { result ≡ outcome (checks.unless holds cause) }
 {

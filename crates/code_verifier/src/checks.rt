@@ -13,6 +13,7 @@ use code_outline::{Layout, Maker, Outline, Purpose, Standing, use_in};
 use rite_code::{CatchEntry, Code, Instr, Irep, Operation, Parameters, PoolItem};
 
 /// A count of arguments above 255 means nothing.
+#[inline(always)]
 pub fn count_holds(instr: &Instr) -> bool
     ensures { result ≡ checks.count_holds instr.now }
 {

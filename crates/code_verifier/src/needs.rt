@@ -6,6 +6,7 @@ ghost use Rattle.code_verifier.specs.Needs as needs;
 use rite_code::{Operation, Parameters};
 
 /// The registers that hold the arguments of a call.
+#[inline(always)]
 fn arguments(c: u16) -> u32
     ensures value { result ≡ needs.arguments c }
     ensures small { result ≤ 65535 }
@@ -14,6 +15,7 @@ fn arguments(c: u16) -> u32
 }
 
 /// The registers that hold the arguments of a call on self.
+#[inline(always)]
 fn self_arguments(c: u16) -> u32
     ensures value { result ≡ needs.self_arguments c }
     ensures small { result ≤ 65535 }
@@ -22,6 +24,7 @@ fn self_arguments(c: u16) -> u32
 }
 
 /// How many registers a body has at least where the instruction reads and writes those that it names.
+#[inline(always)]
 pub fn registers_of(operation: Operation) -> u32
     ensures { result ≡ needs.registers_of operation }
 {
@@ -140,6 +143,7 @@ pub fn distance_of(operation: Operation) -> Option<i32>
 }
 
 /// The count of arguments, where it may be the sign of a bare name or of an Array; else 0.
+#[inline(always)]
 pub fn count_of(operation: Operation) -> u16
     ensures { result ≡ needs.count_of operation }
 {
