@@ -1,4 +1,13 @@
 //! Calls: the receiver, the arguments, the block, and the instruction that sends them.
+ghost use Rattle.std.specs.Prelude.{◌≡◌, ◌+◌, true, false, OnOk, IfOk};
+ghost use Rattle.ir_core.specs.CoreForm as form;
+ghost use Rattle.ir_core.specs.PartsBy as by;
+ghost use Rattle.gen_parts.specs.Emission.{with_piece, here};
+ghost use Rattle.ir_walk.specs.Width as widths;
+ghost use Rattle.gen_forms.specs.Gen as gens;
+ghost use Rattle.gen_forms.specs.Gen.{gen};
+ghost use Rattle.gen_forms.specs.Open as opened;
+ghost use Rattle.gen_forms.specs.Around.{context_of};
 
 use crate::collections::array;
 use crate::context::{Context, symbol};
@@ -27,7 +36,10 @@ const IN_ARRAY: u16 = 255;
 const BARE: u16 = 254;
 
 /// How these items are passed.
-pub fn passing_of<T: Emits>(items: &Vec<Item<Box<T>>>) -> Result<Passing, AllocError> {
+#[tactic(auto, using(gen_parts::proofs::Laws::piece_laws, crate::proofs::Items::item_laws))]
+pub fn passing_of<T: Emits>(items: &Vec<Item<Box<T>>>) -> Result<Passing, AllocError>
+    ensures { IfOk result (λ p. p ≡ gens.passing (by.items_by T.form items.now.items)) }
+{
     if has_splat(items) {
         Ok(Passing::InArray)
     } else if items.len() > 253 {
@@ -37,14 +49,19 @@ pub fn passing_of<T: Emits>(items: &Vec<Item<Box<T>>>) -> Result<Passing, AllocE
     }
 }
 
-fn is_plain<T: Emits>(item: &Item<Box<T>>) -> bool {
+fn is_plain<T: Emits>(item: &Item<Box<T>>) -> bool
+    ensures { result ≡ by.is_plain item.now }
+{
     match item {
         Item::Plain(_) => true,
         Item::Splat(_) => false,
     }
 }
 
-fn has_splat<T: Emits>(items: &Vec<Item<Box<T>>>) -> bool {
+#[tactic(auto, using(gen_parts::proofs::Laws::piece_laws, ir_walk::proofs::Items::item_laws))]
+fn has_splat<T: Emits>(items: &Vec<Item<Box<T>>>) -> bool
+    ensures { result ≡ widths.has_splat (by.items_by T.form items.now.items) }
+{
     for item in items {
         if !is_plain(item) {
             return true;
@@ -55,7 +72,9 @@ fn has_splat<T: Emits>(items: &Vec<Item<Box<T>>>) -> bool {
 
 impl Passing {
     /// The operand of a call.
-    fn operand(self) -> u16 {
+    fn operand(self) -> u16
+        ensures { result ≡ gens.count_operand self }
+    {
         match self {
             Passing::InRegisters(n) => n,
             Passing::InArrayOf(_) => IN_ARRAY,
@@ -64,7 +83,9 @@ impl Passing {
     }
 
     /// How many registers the arguments take.
-    fn registers(self) -> u16 {
+    fn registers(self) -> u16
+        ensures { result ≡ gens.registers_of self }
+    {
         match self {
             Passing::InRegisters(n) => n,
             Passing::InArrayOf(_) => 1,
@@ -78,19 +99,26 @@ fn emit_value<'s, T: Emits>(
     context: &Context<'_, 's>,
     a: u16,
     item: &'s Item<Box<T>>,
-) -> Emitted {
+) -> Emitted
+    ensures { OnOk result (code.new ≡ with_piece code.old
+        (gen (context_of context.now) (here code.old) a (by.value_by T.form item.now))) }
+{
     match item {
         Item::Plain(core) | Item::Splat(core) => core.emit(code, context, a),
     }
 }
 
 /// The items are plain, one a register.
+#[tactic(auto, using(gen_parts::proofs::Laws::piece_laws, crate::proofs::Items::item_laws))]
 fn pass_in_registers<'s, T: Emits>(
     code: &mut Emitter,
     context: &Context<'_, 's>,
     a: u16,
     items: &'s Vec<Item<Box<T>>>,
-) -> Emitted {
+) -> Emitted
+    ensures { OnOk result (code.new ≡ with_piece code.old
+        (gens.pass_in_registers (context_of context.now) (here code.old) a (by.items_by T.form items.now.items))) }
+{
     let mut register = a;
     for item in items {
         emit_value(code, context, register, item)?;
@@ -106,7 +134,10 @@ fn pass<'s, T: Emits>(
     a: u16,
     items: &'s Vec<Item<Box<T>>>,
     passing: Passing,
-) -> Emitted {
+) -> Emitted
+    ensures { OnOk result (code.new ≡ with_piece code.old
+        (opened.pass (context_of context.now) (here code.old) a (by.items_by T.form items.now.items) passing)) }
+{
     let first = after(a, 1)?;
     match passing {
         Passing::InRegisters(_) => pass_in_registers(code, context, first, items),
@@ -119,7 +150,9 @@ fn pass<'s, T: Emits>(
 }
 
 /// The register of the block behind the arguments of a call whose receiver is in the register.
-fn block_register(a: u16, passing: Passing) -> Result<u16, AllocError> {
+fn block_register(a: u16, passing: Passing) -> Result<u16, AllocError>
+    ensures { IfOk result (λ n. n ≡ a + 1 + gens.registers_of passing) }
+{
     after(after(a, 1)?, passing.registers())
 }
 
@@ -128,7 +161,10 @@ fn receive<'s, T: Emits>(
     context: &Context<'_, 's>,
     a: u16,
     receiver: &'s Receiver<Box<T>>,
-) -> Emitted {
+) -> Emitted
+    ensures { OnOk result (code.new ≡ with_piece code.old
+        (gens.gen_receiver (context_of context.now) (here code.old) a (by.receiver_by T.form receiver.now))) }
+{
     match receiver {
         Receiver::To(core) => core.emit(code, context, a),
         Receiver::OnSelf | Receiver::Bare => Ok(()),
@@ -136,7 +172,9 @@ fn receive<'s, T: Emits>(
 }
 
 /// The instruction of a call without a block.
-fn send<T: Emits>(receiver: &Receiver<Box<T>>, passing: Passing, a: u16, b: u16) -> Operation {
+fn send<T: Emits>(receiver: &Receiver<Box<T>>, passing: Passing, a: u16, b: u16) -> Operation
+    ensures { result ≡ gens.send false (by.receiver_by T.form receiver.now) passing a b }
+{
     let c = passing.operand();
     match receiver {
         Receiver::To(_) => Operation::Send { a, b, c },
@@ -146,17 +184,25 @@ fn send<T: Emits>(receiver: &Receiver<Box<T>>, passing: Passing, a: u16, b: u16)
 }
 
 /// The instruction of a call with a block, whatever the block is.
-fn send_block<T: Emits>(
-    receiver: &Receiver<Box<T>>,
-    passing: Passing,
-    a: u16,
-    b: u16,
-) -> Operation {
+fn send_block<T: Emits>(receiver: &Receiver<Box<T>>, passing: Passing, a: u16, b: u16) -> Operation
+    ensures { result ≡ gens.send true (by.receiver_by T.form receiver.now) passing a b }
+{
     let c = passing.operand();
     match receiver {
         Receiver::To(_) => Operation::SendB { a, b, c },
         Receiver::OnSelf => Operation::SSendB { a, b, c },
         Receiver::Bare => Operation::SSendB { a, b, c },
+    }
+}
+
+/// Whether there is one item, and it is plain.
+#[tactic(auto, using(gen_parts::proofs::Laws::piece_laws, crate::proofs::Items::item_laws))]
+fn is_one_plain<T: Emits>(items: &[Item<Box<T>>]) -> bool
+    ensures { result ≡ gens.is_one_plain (by.items_by T.form items.now) }
+{
+    match items.split_first() {
+        Some((first, others)) => is_plain(first) && others.is_empty(),
+        None => false,
     }
 }
 
@@ -166,12 +212,18 @@ fn operates<T: Emits>(
     name: &Bytes,
     items: &Vec<Item<Box<T>>>,
     a: u16,
-) -> Option<Operation> {
+) -> Option<Operation>
+    ensures { result ≡ gens.operates form.absent (by.receiver_by T.form receiver.now) name.now
+        (by.items_by T.form items.now.items) a }
+{
     match receiver {
-        Receiver::To(_) => match items.as_slice() {
-            [Item::Plain(_)] => operator(name.as_slice(), a),
-            _ => None,
-        },
+        Receiver::To(_) => {
+            if is_one_plain(items.as_slice()) {
+                operator(name.as_slice(), a)
+            } else {
+                None
+            }
+        }
         Receiver::OnSelf | Receiver::Bare => None,
     }
 }
@@ -185,7 +237,10 @@ fn called<'s, T: Emits>(
     items: &'s Vec<Item<Box<T>>>,
     passing: Passing,
     sending: Operation,
-) -> Emitted {
+) -> Emitted
+    ensures { OnOk result (code.new ≡ with_piece code.old (opened.called (context_of context.now) (here code.old) a
+        operation (by.items_by T.form items.now.items) passing sending)) }
+{
     match operation {
         Some(operation) => {
             pass_in_registers(code, context, after(a, 1)?, items)?;
@@ -206,7 +261,10 @@ pub fn call<'s, T: Emits>(
     receiver: &'s Receiver<Box<T>>,
     name: &Bytes,
     items: &'s Vec<Item<Box<T>>>,
-) -> Emitted {
+) -> Emitted
+    ensures { OnOk result (code.new ≡ with_piece code.old (gen (context_of context.now) (here code.old) a
+        (form.call (by.receiver_by T.form receiver.now) name.now (by.items_by T.form items.now.items) form.absent))) }
+{
     let passing = passing_of(items)?;
     let sending = send(receiver, passing, a, symbol(context, name)?);
     receive(code, context, a, receiver)?;
@@ -223,7 +281,11 @@ pub fn block_call<'s, T: Emits>(
     name: &Bytes,
     items: &'s Vec<Item<Box<T>>>,
     block: &'s Box<T>,
-) -> Emitted {
+) -> Emitted
+    ensures { OnOk result (code.new ≡ with_piece code.old (gen (context_of context.now) (here code.old) a
+        (form.call (by.receiver_by T.form receiver.now) name.now (by.items_by T.form items.now.items)
+        (form.there (by.core_by T.form block.now))))) }
+{
     let passing = passing_of(items)?;
     receive(code, context, a, receiver)?;
     pass(code, context, a, items, passing)?;
@@ -237,7 +299,10 @@ pub fn yield_to<'s, T: Emits>(
     context: &Context<'_, 's>,
     a: u16,
     items: &'s Vec<Item<Box<T>>>,
-) -> Emitted {
+) -> Emitted
+    ensures { OnOk result (code.new ≡ with_piece code.old
+        (gen (context_of context.now) (here code.old) a (form.yield_form (by.items_by T.form items.now.items)))) }
+{
     let passing = passing_of(items)?;
     code.does(Operation::BlkPush { a })?;
     pass(code, context, a, items, passing)?;
@@ -253,7 +318,10 @@ fn super_block<'s, T: Emits>(
     context: &Context<'_, 's>,
     a: u16,
     block: &'s Option<Box<T>>,
-) -> Emitted {
+) -> Emitted
+    ensures { OnOk result (code.new ≡ with_piece code.old
+        (gens.super_block (context_of context.now) (here code.old) a (by.boxed_by T.form block.now))) }
+{
     match block {
         Some(core) => core.emit(code, context, a),
         None => own_block(code, a),
@@ -261,7 +329,9 @@ fn super_block<'s, T: Emits>(
 }
 
 /// The block of the method around, or nil.
-fn own_block(code: &mut Emitter, a: u16) -> Emitted {
+fn own_block(code: &mut Emitter, a: u16) -> Emitted
+    ensures { OnOk result (code.new ≡ with_piece code.old (gens.own_block (here code.old) a)) }
+{
     code.does(Operation::Defined { a, b: 6, c: 0 })?;
     let over = code.hold(Held::JumpNot(a))?;
     code.does(Operation::BlkPush { a })?;
@@ -275,7 +345,10 @@ pub fn call_super<'s, T: Emits>(
     a: u16,
     items: &'s Vec<Item<Box<T>>>,
     block: &'s Option<Box<T>>,
-) -> Emitted {
+) -> Emitted
+    ensures { OnOk result (code.new ≡ with_piece code.old (gen (context_of context.now) (here code.old) a
+        (form.super_form (by.items_by T.form items.now.items) (by.boxed_by T.form block.now)))) }
+{
     let passing = passing_of(items)?;
     pass(code, context, a, items, passing)?;
     super_block(code, context, block_register(a, passing)?, block)?;

@@ -1,4 +1,7 @@
 //! What stands around a form.
+ghost use Rattle.std.specs.Prelude.{◌≡◌, IfOk};
+ghost use Rattle.gen_forms.specs.Gen as gens;
+ghost use Rattle.gen_forms.specs.Around.{context_of};
 
 use crate::numbers::{count, operand};
 use ir_counts::Tally;
@@ -32,7 +35,9 @@ pub struct Context<'l, 's> {
 }
 
 /// A place, and the end where there is none.
-fn place_or(place: Option<usize>, end: usize) -> usize {
+fn place_or(place: Option<usize>, end: usize) -> usize
+    ensures { result ≡ gens.place_or place end }
+{
     match place {
         Some(place) => place,
         None => end,
@@ -40,13 +45,17 @@ fn place_or(place: Option<usize>, end: usize) -> usize {
 }
 
 /// The number of a name among the body's symbols.
-pub fn symbol(context: &Context, name: &Bytes) -> Result<u16, AllocError> {
+pub fn symbol(context: &Context, name: &Bytes) -> Result<u16, AllocError>
+    ensures { IfOk result (λ n. n ≡ gens.symbol (context_of context.now) name.now) }
+{
     let place = context.tally.symbols.position(name.as_slice());
     count(place_or(place, context.tally.symbols.len()))
 }
 
 /// The number of a text in the constant pool, where the integers stand before the texts.
-pub fn text_entry(context: &Context, text: &[u8]) -> Result<u16, AllocError> {
+pub fn text_entry(context: &Context, text: &[u8]) -> Result<u16, AllocError>
+    ensures { IfOk result (λ n. n ≡ gens.text_entry (context_of context.now) text.now) }
+{
     let place = place_or(
         context.tally.texts.position(text),
         context.tally.texts.len(),
@@ -58,13 +67,17 @@ pub fn text_entry(context: &Context, text: &[u8]) -> Result<u16, AllocError> {
 }
 
 /// The number of an integer in the constant pool.
-fn integer_entry(context: &Context, integer: i64) -> Result<u16, AllocError> {
+fn integer_entry(context: &Context, integer: i64) -> Result<u16, AllocError>
+    ensures { IfOk result (λ n. n ≡ gens.integer_entry (context_of context.now) integer) }
+{
     let place = context.tally.integers.position(integer);
     count(place_or(place, context.tally.integers.len()))
 }
 
 /// The shortest instruction that loads an integer.
-pub fn load_integer(context: &Context, a: u16, integer: i64) -> Result<Operation, AllocError> {
+pub fn load_integer(context: &Context, a: u16, integer: i64) -> Result<Operation, AllocError>
+    ensures { IfOk result (λ o. o ≡ gens.load_integer (context_of context.now) a integer) }
+{
     if 0 <= integer && integer <= 255 {
         Ok(Operation::LoadI {
             a,
@@ -87,7 +100,9 @@ pub fn load_integer(context: &Context, a: u16, integer: i64) -> Result<Operation
 }
 
 /// The instruction that reads a local into a register.
-pub fn read(a: u16, place: Place) -> Result<Operation, AllocError> {
+pub fn read(a: u16, place: Place) -> Result<Operation, AllocError>
+    ensures { IfOk result (λ o. o ≡ gens.read a place) }
+{
     let b = operand(place.register)?;
     if place.levels == 0 {
         Ok(Operation::Move { a, b })
@@ -98,7 +113,9 @@ pub fn read(a: u16, place: Place) -> Result<Operation, AllocError> {
 }
 
 /// The instruction that sets a local to the value of a register.
-pub fn write(a: u16, place: Place) -> Result<Operation, AllocError> {
+pub fn write(a: u16, place: Place) -> Result<Operation, AllocError>
+    ensures { IfOk result (λ o. o ≡ gens.write a place) }
+{
     let b = operand(place.register)?;
     if place.levels == 0 {
         Ok(Operation::Move { a: b, b: a })
@@ -110,7 +127,9 @@ pub fn write(a: u16, place: Place) -> Result<Operation, AllocError> {
 
 impl<'l, 's> Context<'l, 's> {
     /// The same inside of a loop.
-    pub fn within_loop(&self, around: Loop) -> Context<'l, 's> {
+    pub fn within_loop(&self, around: Loop) -> Context<'l, 's>
+        ensures { context_of result ≡ gens.in_loop (context_of self.now) around }
+    {
         Context {
             around: Some(around),
             ..*self
@@ -118,7 +137,9 @@ impl<'l, 's> Context<'l, 's> {
     }
 
     /// The same inside of the clauses of a body that begins at the line, with the exit in the register.
-    pub fn within_clause(&self, caught: u16, body_start: u32) -> Context<'l, 's> {
+    pub fn within_clause(&self, caught: u16, body_start: u32) -> Context<'l, 's>
+        ensures { context_of result ≡ gens.in_clause (context_of self.now) caught body_start }
+    {
         Context {
             caught,
             body_start,

@@ -1,8 +1,8 @@
 //! The code of core forms: a form leaves its value in a register and uses none below it (docs/formats.md,
 //! docs/core.md).
 //!
-//! [`main_code`] gives the bodies of a program.
-#![tactic(auto)]
+//! What the code of a form is stands in specs/Gen.antt. [`main_code`] gives the bodies of a program.
+#![tactic(auto, using(gen_parts::proofs::Laws::piece_laws))]
 
 pub mod bodies;
 pub mod branches;
@@ -17,6 +17,7 @@ pub mod guards;
 pub mod layout;
 pub mod leaves;
 pub mod loops;
+pub mod names;
 pub mod numbers;
 pub mod operators;
 pub mod questions;

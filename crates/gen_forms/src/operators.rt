@@ -1,9 +1,13 @@
 //! Operators that have an instruction of their own.
+ghost use Rattle.std.specs.Prelude.{◌≡◌};
+ghost use Rattle.gen_forms.specs.Gen as gens;
 
 use rite_code::Operation;
 
 /// The instruction of an operator. None where it has none.
-pub fn operator(name: &[u8], a: u16) -> Option<Operation> {
+pub fn operator(name: &[u8], a: u16) -> Option<Operation>
+    ensures { result ≡ gens.operator name.now a }
+{
     if name == b"+".as_slice() {
         Some(Operation::Add { a })
     } else if name == b"-".as_slice() {
@@ -17,7 +21,9 @@ pub fn operator(name: &[u8], a: u16) -> Option<Operation> {
     }
 }
 
-fn comparison(name: &[u8], a: u16) -> Option<Operation> {
+fn comparison(name: &[u8], a: u16) -> Option<Operation>
+    ensures { result ≡ gens.comparison name.now a }
+{
     if name == b"==".as_slice() {
         Some(Operation::Eq { a })
     } else if name == b"<".as_slice() {

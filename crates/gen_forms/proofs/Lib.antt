@@ -1,0 +1,12 @@
+pub mod Calling
+pub mod Chains
+pub mod Emitting
+pub mod Guarding
+pub mod Items
+pub mod Landings
+pub mod LoopLines
+pub mod Making
+pub mod Marking
+pub mod Starts
+pub mod Turns
+pub mod Wholes

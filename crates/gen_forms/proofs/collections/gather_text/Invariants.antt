@@ -1,0 +1,13 @@
+use Rattle.std.proofs.Common.{◌≡◌, drop}
+use Rattle.ir_core.specs.PartsBy.{cores_by}
+use Rattle.gen_parts.specs.Emission.{with_piece, here}
+use Rattle.gen_forms.specs.Gen.{gather_text}
+use Rattle.gen_forms.specs.Around.{context_of}
+use Rattle.gen_forms.proofs.collections.gather_text.Given as goal
+
+abbrev pub invariant-loop-core : goal.invariant-loop-core
+invariant-loop-core g l =
+    with_piece l.code (gather_text (context_of l.context) (here l.code) l.a
+    (cores_by g.T.Emits.form (drop l.core-index l.list.items)))
+    ≡ with_piece l.fn.code (gather_text (context_of l.context) (here l.fn.code) l.a
+    (cores_by g.T.Emits.form l.list.items))

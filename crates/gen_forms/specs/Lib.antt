@@ -1,0 +1,5 @@
+pub mod Gen
+pub mod Around
+pub mod Making
+pub mod Marks
+pub mod Open
