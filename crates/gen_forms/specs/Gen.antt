@@ -1,6 +1,6 @@
 -- The code of a core form: it leaves its value in a register, and uses none below it (docs/formats.md has the
 -- instructions, docs/core.md the forms).
-use Rattle.std.specs.Prelude.{ℕ, ℤ, pos, negsuc, zero, suc, ◌+◌, ◌-◌, List, [], ◌∷◌, ◌++◌, length, map, replicate, position, nat_eq, neg_ℤ, codes, bytes_eq, nat_lt, int_le, Bool, true, false, ◌&&◌, if◌then◌else◌, Option, Some, None}
+use Rattle.std.specs.Prelude.{ℕ, ℤ, pos, negsuc, zero, suc, ◌+◌, ◌-◌, List, [], ◌∷◌, ◌++◌, length, map, replicate, position, nat_eq, neg_ℤ, codes, bytes_eq, nat_lt, int_le, Bool, true, false, ◌&&◌, ◌||◌, if◌then◌else◌, Option, Some, None}
 use Rattle.std.specs.Ordering.{int_eq}
 use Rattle.rb_syntax.specs.declared.core_form.DefinedKind.{DefinedKind}
 use Rattle.rb_syntax.specs.declared.core_form.DefinedKind.TheVariants as asks
@@ -222,9 +222,10 @@ ask c k x has r (Some t) = op.String r (text_entry c t)
 abbrev pub first_register : BodyKind → Body → Tally → ℕ
 first_register k b t = 1 + length (slots_of k b) + t.hidden
 
--- whether the count of the body's bytes passes what a narrow jump reaches
-abbrev pub has_wide_jumps : Body → Tally → Bool
-has_wide_jumps b t = nat_lt 32767 (code_of b t)
+-- whether the jumps of a body with so many registers are wide: the count of its bytes passes what a narrow jump reaches, or
+-- there are more registers than a byte tells apart
+abbrev pub has_wide_jumps : Body → Tally → ℕ → Bool
+has_wide_jumps b t registers = nat_lt 32767 (code_of b t) || nat_lt 256 registers
 
 -- what stands around the form of a body, by the scopes that it sees
 abbrev pub seeing : BodyKind → Scopes → Tally → Context
@@ -246,7 +247,7 @@ abbrev pub head : BodyKind → Body → Tally → ℕ → Head
 head k b t registers = record {
   locals = 1 + length (slots_of k b);
   registers = registers;
-  wide = has_wide_jumps b t;
+  wide = has_wide_jumps b t registers;
 }
 
 -- the layout of a body whose form takes so many registers

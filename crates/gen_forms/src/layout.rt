@@ -1,5 +1,5 @@
 //! What a body says besides its code: its registers, its constant pool and its symbols.
-ghost use Rattle.std.specs.Prelude.{◌≡◌, ◌++◌, [], map, IfOk, OnOk};
+ghost use Rattle.std.specs.Prelude.{◌≡◌, ◌++◌, [], map, nat_lt, ◌||◌, IfOk, OnOk};
 ghost use Rattle.ir_core.specs.CoreForm.{body, nil};
 ghost use Rattle.ir_core.specs.View.{parameters_of, locals_of};
 ghost use Rattle.ir_counts.specs.Counts as counts;
@@ -19,6 +19,9 @@ use std::alloc::{AllocError, Global};
 
 /// The most that a narrow jump passes over.
 const NARROW: u64 = 32767;
+
+/// How many registers an operand of a narrow jump tells apart.
+const TOLD_APART: u64 = 256;
 
 /// The first register of a body's form, and what the body says before its code.
 #[derive(Clone, Copy, Debug, PartialEq, Eq)]
@@ -45,6 +48,13 @@ fn code_count(parameters: &Parameters, tally: &Tally) -> Result<u64, AllocError>
     add(scaled_by(16, 32, parameter_count(parameters)?)?, tally.code)
 }
 
+/// Whether the jumps of a body with so much code and so many registers are wide.
+fn wide_jumps(code: u64, registers: u64) -> bool
+    ensures { result ≡ (nat_lt 32767 code || nat_lt 256 registers) }
+{
+    NARROW < code || TOLD_APART < registers
+}
+
 /// The layout of a body with that tally, whose form takes so many registers.
 pub fn layout_of(scope: &Scope, tally: &Tally, width: u64) -> Result<Layout, AllocError>
     ensures { IfOk result (λ l. l ≡ gens.laid_out scope.now.kind
@@ -58,7 +68,7 @@ pub fn layout_of(scope: &Scope, tally: &Tally, width: u64) -> Result<Layout, All
         head: Head {
             locals: operand(locals)?,
             registers: operand(registers)?,
-            wide: NARROW < code_count(scope.parameters, tally)?,
+            wide: wide_jumps(code_count(scope.parameters, tally)?, registers),
         },
     })
 }

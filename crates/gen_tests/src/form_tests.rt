@@ -352,6 +352,32 @@ sym 0 \"f\"
 }
 
 #[test]
+fn jumps_on_late_registers(rt: HostRuntime) -> Result<(), Fail> {
+    let mut text = Vec::new(rt.alloc());
+    text.extend_from_slice(b"f(")?;
+    for _ in 0..254 {
+        text.extend_from_slice(b"1, ")?;
+    }
+    text.extend_from_slice(b"(a ? 1 : 2))")?;
+    ends_with(
+        &rt,
+        rt.alloc(),
+        &text,
+        "00762 EXT SSEND 256 1 254
+00770 EXT JMPNOT 256 790
+00778 EXT LOADI 256 1
+00784 EXT JMP 796
+00790 EXT LOADI 256 2
+00796 ARRAY 2 255
+00799 SSEND 1 0 255
+00803 STOP
+sym 0 \"f\"
+sym 1 \"a\"
+",
+    )
+}
+
+#[test]
 fn wide_jumps(rt: HostRuntime) -> Result<(), Fail> {
     let mut text = Vec::new(rt.alloc());
     text.extend_from_slice(b"if a\n")?;
