@@ -139,7 +139,7 @@ row(113) { changed(ages) { |h| h.store("dan", 4) } }
 row(114) { ({}[1] = 2) }
 row(115) { {}.store(1, 2) }
 row(116) { changed({}) { |h| k = "a"; h[k] = 1; k << "b"; h["c"] = k } }
-row(117) { changed({}) { |h| k = [1]; h[k] = 1; k << 2; h[[1]] = 3 } }
+row(117) { changed({}) { |h| k = [1]; h[k] = 1; k << 2; h[[1]] = 3 } } # not Ruby's: an Array is a key by the elements that it had when it came
 row(118) { changed(ages) { |h| h.delete("ann") } }
 row(119) { changed(ages) { |h| h.delete("none") } }
 row(120) { ages.delete("ann") }

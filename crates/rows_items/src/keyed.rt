@@ -25,13 +25,22 @@ fn shown_key(heap: &mut Heap, key: Value) -> Result<Value, RowError> {
     }
 }
 
+/// What a Hash shows as a key that is a String: what it shows already, or a copy.
+fn shown_text(heap: &mut Heap, id: ObjId, key: Value) -> Result<Value, RowError> {
+    let own = key_of(heap, key)?;
+    match heap.pair(id, &own) {
+        Some(pair) => Ok(pair.shown),
+        None => shown_key(heap, key),
+    }
+}
+
 /// Gives a key of a Hash a value. A key that is there keeps its place and what is shown as the key; a new one that is a
 /// String is shown by a copy.
 pub fn put_pair(heap: &mut Heap, id: ObjId, key: Value, value: Value) -> Result<(), RowError> {
-    let own = key_of(heap, key)?;
-    let shown = match heap.pair(id, &own) {
-        Some(pair) => pair.shown,
-        None => shown_key(heap, key)?,
+    let shown = if heap.a_string(key).is_some() {
+        shown_text(heap, id, key)?
+    } else {
+        key
     };
     if heap.put_pair(id, shown, value)? {
         Ok(())
