@@ -346,7 +346,7 @@ row(261) { ArgumentError.new("own").message }
 row(262) { ArgumentError.new("own").to_s }
 row(263) { ArgumentError.new("own").inspect }
 row(264) { ArgumentError.new("own").class }
-row(265) { ArgumentError.new("").inspect } # not Ruby's: a class and a message, always
+row(265) { ArgumentError.new("").inspect }
 row(266) { ArgumentError.new("a", "b") }
 row(267) { Refused.new(7).message }
 row(268) { Refused.new(7).code }
@@ -358,37 +358,39 @@ row(273) { raise Refused, 3 }
 row(274) { raise Odd }
 row(275) { raise Odd, "own" }
 row(276) { (begin; raise "own"; rescue => e; [e.class, e.message]; end) }
-row(277) { (begin; raise ArgumentError; rescue => e; [e.class, e.message]; end) }
-row(278) { (begin; raise Refused.new(5); rescue Refused => e; e.code; end) }
-row(279) { (begin; raise Odd, "own"; rescue Kin => e; e.message; end) }
-row(280) { (begin; raise Odd; rescue ArgumentError, Odd => e; e.class; end) }
-row(281) { (begin; raise Odd; rescue ArgumentError; 1; rescue StandardError; 2; end) }
-row(282) { (begin; raise Odd; rescue ArgumentError; 1; end) }
-row(283) { (begin; raise Exception, "own"; rescue StandardError; 1; end) }
-row(284) { (begin; 1; rescue; 2; else; 3; ensure; 4; end) }
-row(285) { (begin; raise "own"; rescue; 2; else; 3; ensure; 4; end) }
-row(286) { (begin; raise "own"; rescue 5; 2; end) }
-row(287) { (begin; raise "own"; rescue "a"; 2; end) }
-row(288) { (begin; nowhere; rescue NameError => e; [e.name, e.class]; end) }
-row(289) { (begin; 1.nowhere; rescue NoMethodError => e; e.name; end) }
-row(290) { (begin; NoSuch; rescue NameError => e; e.name; end) }
-row(291) { (begin; exit(3); rescue SystemExit => e; [e.status, e.message]; end) }
-row(292) { (begin; exit; rescue SystemExit => e; e.status; end) }
-row(293) { (begin; exit(false); rescue SystemExit => e; e.status; end) }
-row(294) { (begin; begin; raise "own"; ensure; $n = 1; end; rescue; $n; end) }
-row(295) { (begin; begin; raise "own"; rescue => e; raise ArgumentError, "own too"; end; rescue ArgumentError => f; [e.message, f.message]; end) }
-row(296) { (begin; raise "own"; rescue => e; raise e; end) }
-row(297) { (raise "own" rescue 5) }
-row(298) { (Integer("x") rescue 6) }
-row(299) { (x = raise "own" rescue 7) }
-row(300) { (e = RuntimeError.new("own"); begin; raise e; rescue => f; e.equal?(f); end) }
-row(301) { order([]) { 1 } }
-row(302) { order([]) { raise ArgumentError, "own" } }
-row(303) { (a = []; begin; order(a) { raise "own" }; rescue => e; a << e.message; end) }
-row(304) { (a = []; [1, 2, 3].each { |x| begin; next if x == 2; a << x; ensure; a << :e; end }; a) }
-row(305) { (a = []; while true; begin; break; ensure; a << 1; end; end; a) }
-row(306) { retried }
-row(307) { [ensured, $ensured] }
-row(308) { replaced }
-row(309) { 1.then { |x| raise Quiet } }
-row(310) { Quiet.new.message }
+row(277) { (begin; raise Refused.new(5), "own"; rescue Refused => e; [e.class, e.message, e.code]; end) }
+row(278) { (begin; e = Odd.new("own"); begin; raise e, "own other"; rescue => f; [e.message, f.message, e.equal?(f)]; end; end) }
+row(279) { (begin; raise ArgumentError; rescue => e; [e.class, e.message]; end) }
+row(280) { (begin; raise Refused.new(5); rescue Refused => e; e.code; end) }
+row(281) { (begin; raise Odd, "own"; rescue Kin => e; e.message; end) }
+row(282) { (begin; raise Odd; rescue ArgumentError, Odd => e; e.class; end) }
+row(283) { (begin; raise Odd; rescue ArgumentError; 1; rescue StandardError; 2; end) }
+row(284) { (begin; raise Odd; rescue ArgumentError; 1; end) }
+row(285) { (begin; raise Exception, "own"; rescue StandardError; 1; end) }
+row(286) { (begin; 1; rescue; 2; else; 3; ensure; 4; end) }
+row(287) { (begin; raise "own"; rescue; 2; else; 3; ensure; 4; end) }
+row(288) { (begin; raise "own"; rescue 5; 2; end) }
+row(289) { (begin; raise "own"; rescue "a"; 2; end) }
+row(290) { (begin; nowhere; rescue NameError => e; [e.name, e.class]; end) }
+row(291) { (begin; 1.nowhere; rescue NoMethodError => e; e.name; end) }
+row(292) { (begin; NoSuch; rescue NameError => e; e.name; end) }
+row(293) { (begin; exit(3); rescue SystemExit => e; [e.status, e.message]; end) }
+row(294) { (begin; exit; rescue SystemExit => e; e.status; end) }
+row(295) { (begin; exit(false); rescue SystemExit => e; e.status; end) }
+row(296) { (begin; begin; raise "own"; ensure; $n = 1; end; rescue; $n; end) }
+row(297) { (begin; begin; raise "own"; rescue => e; raise ArgumentError, "own too"; end; rescue ArgumentError => f; [e.message, f.message]; end) }
+row(298) { (begin; raise "own"; rescue => e; raise e; end) }
+row(299) { (raise "own" rescue 5) }
+row(300) { (Integer("x") rescue 6) }
+row(301) { (x = raise "own" rescue 7) }
+row(302) { (e = RuntimeError.new("own"); begin; raise e; rescue => f; e.equal?(f); end) }
+row(303) { order([]) { 1 } }
+row(304) { order([]) { raise ArgumentError, "own" } }
+row(305) { (a = []; begin; order(a) { raise "own" }; rescue => e; a << e.message; end) }
+row(306) { (a = []; [1, 2, 3].each { |x| begin; next if x == 2; a << x; ensure; a << :e; end }; a) }
+row(307) { (a = []; while true; begin; break; ensure; a << 1; end; end; a) }
+row(308) { retried }
+row(309) { [ensured, $ensured] }
+row(310) { replaced }
+row(311) { 1.then { |x| raise Quiet } }
+row(312) { Quiet.new.message }

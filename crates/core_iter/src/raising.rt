@@ -15,18 +15,32 @@ fn raise_text(heap: &mut Heap, text: Value) -> Result<Plan<Iteration>, AllocErro
     Ok(Plan::Raises(id))
 }
 
-/// Raises a String or an exception, to which no more arguments go.
+/// Raises a copy of an exception with another message.
+fn raise_copy(
+    heap: &mut Heap,
+    raised: Value,
+    message: Value,
+) -> Result<Plan<Iteration>, AllocError> {
+    let copy = heap.copy(raised)?;
+    match heap.an_exception(copy) {
+        Some(id) => {
+            heap.set_message(id, message);
+            Ok(Plan::Raises(id))
+        }
+        None => Ok(Plan::Fails(Cause::NotException)),
+    }
+}
+
+/// Raises a String, or an exception, which a message may follow.
 fn raise_object(
     heap: &mut Heap,
     raised: Value,
     more: &[Value],
 ) -> Result<Plan<Iteration>, AllocError> {
-    if !more.is_empty() {
-        return Ok(Plan::Fails(Cause::NotException));
-    }
-    match heap.sort(raised) {
-        Some(Sort::Exception) => Ok(raise_made(heap, raised)),
-        Some(Sort::String) => raise_text(heap, raised),
+    match (heap.sort(raised), more) {
+        (Some(Sort::Exception), []) => Ok(raise_made(heap, raised)),
+        (Some(Sort::Exception), [message]) => raise_copy(heap, raised, *message),
+        (Some(Sort::String), []) => raise_text(heap, raised),
         _ => Ok(Plan::Fails(Cause::NotException)),
     }
 }
