@@ -31,7 +31,7 @@ fn core_above(heap: &Heap, class: ObjId) -> ObjId {
 }
 
 /// What a new object of a class holds; none where there is no `new` of it.
-fn blank_for(heap: &Heap, class: ObjId) -> Option<Blank> {
+pub fn blank_for(heap: &Heap, class: ObjId) -> Option<Blank> {
     let core = core_above(heap, class);
     if core == heap.class_object(CoreClass::Object) {
         Some(Blank::Plain)

@@ -3,21 +3,20 @@
 use def_core::Cause;
 use rb_value::{ObjId, SymId, Value};
 use std::alloc::AllocError;
-use vm_acts::core_calls::{Call, Passed, Plan};
+use vm_acts::core_calls::{Call, Plan};
 use vm_acts::core_iter::{Iteration, next, start};
 use vm_acts::fiber_switch::Resumed;
 use vm_acts::heap::Given;
 use vm_acts::run_calls::{Request, enter_proc, one_of, send_by_core};
-use vm_acts::run_rows::{KernelRow, StarRow};
-use vm_acts::vm_frames::{Arguments, Begun, Frame, Iterating};
-use vm_acts::vm_parts::entering::{enter_above, enter_called, enter_first, keep_passed};
-use vm_acts::vm_parts::exits::{hand_out, handed, raise_out, receive, receive_here};
+use vm_acts::vm_frames::{Begun, Frame, Iterating};
+use vm_acts::vm_parts::entering::{enter_above, enter_called, enter_first};
+use vm_acts::vm_parts::exits::{hand_out, handed, raise_out, receive};
 use vm_acts::vm_parts::flow::{Flow, Step};
 use vm_acts::vm_parts::loaded::Loaded;
 use vm_acts::vm_parts::parts::Parts;
 
 /// An iteration that waits.
-fn waiting(number: u64, then: Iteration) -> Iterating {
+pub fn waiting(number: u64, then: Iteration) -> Iterating {
     Iterating {
         number,
         state: then,
@@ -55,7 +54,7 @@ fn send(
     };
     let entry = send_by_core(&mut parts.heap, sent.public, request)?;
     parts.frames.push_iteration(waiting)?;
-    enter_above(code, hot, parts, entry, arguments)
+    enter_above(code, hot, parts, entry, &arguments)
 }
 
 /// Enters the Proc that an iteration calls.
@@ -70,7 +69,7 @@ fn call(
 ) -> Result<Flow, AllocError> {
     let arguments = parts.frames.keep_all(args.as_slice())?;
     parts.frames.push_iteration(waiting)?;
-    enter_called(code, hot, parts, callee, block, arguments)
+    enter_called(code, hot, parts, callee, block, &arguments)
 }
 
 /// Begins the fiber whose line runs now: its Proc is entered.
@@ -89,7 +88,7 @@ fn begin_fiber(
         block: None,
     };
     let entry = enter_proc(&mut parts.heap, block, call, next)?;
-    enter_first(code, hot, parts, entry, arguments)
+    enter_first(code, hot, parts, entry, &arguments)
 }
 
 /// The innermost level that waits is given what a resume or a yield hands over: nil, one value, or an Array of more.
@@ -99,7 +98,7 @@ fn hand_over(code: &Loaded, parts: &mut Parts, args: Vec<Value>) -> Result<Flow,
 }
 
 /// The innermost level that waits fails by a cause.
-fn fail_out(code: &Loaded, parts: &mut Parts, cause: Cause) -> Result<Flow, AllocError> {
+pub fn fail_out(code: &Loaded, parts: &mut Parts, cause: Cause) -> Result<Flow, AllocError> {
     let given = parts.heap.fail(cause)?;
     hand_out(code, parts, handed(given))
 }
@@ -220,112 +219,6 @@ pub fn begin_by_plan(
     let plan = start(&mut parts.heap, begun.row, call)?;
     parts.frames.drop_arguments(begun.arguments);
     follow(code, hot, parts, begun.number, plan)
-}
-
-/// What the first plan of an iteration does in place: it calls a Proc, resumes a fiber with at most one value, or yields
-/// at most one.
-#[derive(Clone, Copy)]
-enum First {
-    Calls(ObjId),
-    Resumes { fiber: ObjId, passed: Passed },
-    Yields(Passed),
-}
-
-/// Arguments that are at most one.
-fn passed_of(parts: &Parts, arguments: Arguments) -> Option<Passed> {
-    match parts.frames.given(arguments) {
-        [] => Some(Passed::Nothing),
-        [value] => Some(Passed::One(*value)),
-        _ => None,
-    }
-}
-
-/// What the first plan of an iteration does, where it is done in place.
-fn first_of(parts: &Parts, begun: &Begun) -> Option<First> {
-    match begun.row {
-        StarRow::Kernel(KernelRow::CallProc) => {
-            Some(First::Calls(parts.heap.a_proc(begun.receiver)?))
-        }
-        StarRow::Kernel(KernelRow::Resume) => Some(First::Resumes {
-            fiber: parts.heap.a_fiber(begun.receiver)?,
-            passed: passed_of(parts, begun.arguments)?,
-        }),
-        StarRow::Kernel(KernelRow::Yield) => {
-            Some(First::Yields(passed_of(parts, begun.arguments)?))
-        }
-        _ => None,
-    }
-}
-
-/// The value that a resume or a yield hands over.
-fn value_of(passed: Passed) -> Value {
-    match passed {
-        Passed::Nothing => Value::Nil,
-        Passed::One(value) => value,
-        Passed::Two(value, _) => value,
-    }
-}
-
-/// Resumes a fiber with at most one value, for an iteration that waits.
-fn resume_in_place(
-    code: &Loaded,
-    hot: &mut Frame,
-    parts: &mut Parts,
-    fiber: ObjId,
-    passed: Passed,
-) -> Result<Flow, AllocError> {
-    match parts.fibers.resume(&parts.heap, &mut parts.frames, fiber)? {
-        Resumed::Refused(cause) => fail_out(code, parts, cause),
-        Resumed::Begins(block) => {
-            let arguments = keep_passed(parts, passed)?;
-            enter_called(code, hot, parts, block, None, arguments)
-        }
-        Resumed::Continues => Ok(receive_here(hot, parts, value_of(passed))),
-    }
-}
-
-/// Yields at most one value, for an iteration that waits.
-fn yield_in_place(
-    code: &Loaded,
-    hot: &mut Frame,
-    parts: &mut Parts,
-    passed: Passed,
-) -> Result<Flow, AllocError> {
-    if parts.fibers.yield_back(&mut parts.frames) {
-        Ok(receive_here(hot, parts, value_of(passed)))
-    } else {
-        fail_out(code, parts, Cause::RootYield)
-    }
-}
-
-/// The first turn of an iteration that calls a Proc or switches fibers, made in place; nothing where it needs a plan. A
-/// body that it enters is the frame in hand then.
-pub fn begin_in_place(
-    code: &Loaded,
-    hot: &mut Frame,
-    parts: &mut Parts,
-    begun: Begun,
-) -> Result<Option<Flow>, AllocError> {
-    let Some(first) = first_of(parts, &begun) else {
-        return Ok(None);
-    };
-    let _begun = parts.frames.take_begun();
-    let handing = waiting(begun.number, Iteration::Handing);
-    parts.frames.push_iteration(handing)?;
-    let flow = match first {
-        First::Calls(callee) => {
-            enter_called(code, hot, parts, callee, begun.block, begun.arguments)?
-        }
-        First::Resumes { fiber, passed } => {
-            parts.frames.drop_arguments(begun.arguments);
-            resume_in_place(code, hot, parts, fiber, passed)?
-        }
-        First::Yields(passed) => {
-            parts.frames.drop_arguments(begun.arguments);
-            yield_in_place(code, hot, parts, passed)?
-        }
-    };
-    Ok(Some(flow))
 }
 
 /// The next plan of an iteration. A body that it enters is the frame in hand then.

@@ -164,7 +164,7 @@ impl Machine {
         match flow {
             Flow::Stays => Ok(Standing::At(At::Hand)),
             Flow::Wakes => Ok(Standing::At(At::Waiting)),
-            Flow::Ends(end) => Ok(Standing::Over(self.end_of(end)?)),
+            Flow::Ends => Ok(Standing::Over(self.end_of(self.parts.end)?)),
         }
     }
 

@@ -10,11 +10,13 @@ use std::alloc::{AllocError, Global};
 use vm_acts::fiber_switch::Fibers;
 use vm_acts::heap::Site;
 use vm_acts::run_calls::{Activation, Runs};
-use vm_acts::run_rows::{KnownRows, opening_heap};
+use vm_acts::run_rows::opening_heap;
 use vm_acts::vm_frames::{Frame, Frames};
 use vm_acts::vm_parts::entering::{Entered, open_body};
+use vm_acts::vm_parts::flow::End;
 use vm_acts::vm_parts::known::KnownCalls;
 use vm_acts::vm_parts::loaded::Loaded;
+use vm_acts::vm_parts::names::Names;
 use vm_acts::vm_parts::operators::Operators;
 use vm_acts::vm_parts::parts::Parts;
 
@@ -42,7 +44,7 @@ fn main_frame(code: &Loaded, parts: &mut Parts) -> Result<Frame, AllocError> {
         binds: BindKind::Method,
     };
     let mut frame = Frame::outside();
-    open_body(code, &mut frame, parts, 1, &activation, entered, arguments)?;
+    open_body(code, &mut frame, parts, 1, &activation, entered, &arguments)?;
     Ok(frame)
 }
 
@@ -60,6 +62,7 @@ fn opened(alloc: Global, code: IndexedCode) -> Result<(Loaded, Parts), AllocErro
     let mut heap = opening_heap(alloc)?;
     let loaded = Loaded::load(&mut heap, code)?;
     let operators = Operators::of(&mut heap)?;
+    let names = Names::of(&mut heap)?;
     let sites = sites_for(alloc, loaded.instruction_count())?;
     let parts = Parts {
         heap,
@@ -67,10 +70,11 @@ fn opened(alloc: Global, code: IndexedCode) -> Result<(Loaded, Parts), AllocErro
         fibers: Fibers::new(alloc)?,
         globals: PairTable::new(alloc),
         sites,
-        rows: KnownRows::new(alloc),
         known: KnownCalls::new(alloc)?,
         operators,
+        names,
         activations: 1,
+        end: End::Ended(0),
     };
     Ok((loaded, parts))
 }

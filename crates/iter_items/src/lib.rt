@@ -23,6 +23,7 @@ mod wish;
 
 pub use gathering::Gathering;
 pub use items::{beat, next, start};
+pub use iter_comparing;
 pub use row::{GatheringRow, ItemsRow, Task};
 pub use rows_items;
 pub use rows_items::{core_calls, heap};

@@ -1,10 +1,11 @@
 //! The core methods of Array (ISO/IEC 30170:2012, 15.2.12) that call no others, but for those of its items in general.
 //!
-//! Rows: [`ArrayRow`], [`rows_of`], [`call`].
+//! Rows: [`ArrayRow`], [`rows_of`], [`call`], [`give_directly`].
 #![tactic(auto)]
 
 mod arranging;
 mod changing;
+pub mod direct;
 mod ending;
 mod flattening;
 mod places;
@@ -12,4 +13,5 @@ mod reading;
 pub mod rows;
 mod storing;
 
+pub use direct::give_directly;
 pub use rows::{ArrayRow, call, rows_of};

@@ -2,6 +2,7 @@
 use rb_value::Value;
 
 /// The place of an index in a list of so many; none before its start. It may lie past the end.
+#[inline(always)]
 pub(crate) fn place_in(len: usize, index: i64) -> Option<usize> {
     match usize::try_from(index) {
         Ok(place) => Some(place),
@@ -10,6 +11,7 @@ pub(crate) fn place_in(len: usize, index: i64) -> Option<usize> {
 }
 
 /// The value at an index; nil outside.
+#[inline(always)]
 pub(crate) fn value_at(values: &[Value], index: i64) -> Value {
     match place_in(values.len(), index) {
         Some(place) => values.get(place).copied().unwrap_or(Value::Nil),

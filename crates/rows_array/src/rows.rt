@@ -105,7 +105,8 @@ fn arity(row: ArrayRow) -> (u64, Option<u64>) {
 }
 
 /// How many elements there are.
-fn length(heap: &Heap, id: ObjId) -> Value {
+#[inline(always)]
+pub(crate) fn length(heap: &Heap, id: ObjId) -> Value {
     match i64::try_from(heap.elements(id).len()) {
         Ok(length) => Value::Int(length),
         Err(_) => Value::Nil,

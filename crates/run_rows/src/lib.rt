@@ -3,12 +3,11 @@
 //! The number of a row is 256 times its segment and its place there. The rows of the table come first, then those of
 //! each crate of rows, one behind another.
 //!
-//! Types: [`Row`], [`PlainRow`], [`StarRow`], [`KernelRow`], [`VisitRow`], [`KnownRows`]. Calls: [`row_at`],
-//! [`call_plain`], [`opening_heap`]. Numbers: [`METHOD_MISSING_ROW`], [`SEND_KEPT_ROW`].
+//! Types: [`Row`], [`PlainRow`], [`StarRow`], [`KernelRow`], [`VisitRow`]. Calls: [`row_at`], [`call_plain`],
+//! [`opening_heap`]. Numbers: [`METHOD_MISSING_ROW`], [`SEND_KEPT_ROW`].
 #![tactic(auto)]
 
 pub mod calling;
-pub mod known;
 pub mod naming;
 pub mod numbering;
 pub mod opening;
@@ -16,7 +15,6 @@ pub mod row;
 
 pub use calling::call_plain;
 pub use iter_items::core_calls::hidden::SEND_KEPT_ROW;
-pub use known::KnownRows;
 pub use numbering::{METHOD_MISSING_ROW, row_at};
 pub use opening::opening_heap;
 pub use row::{KernelRow, PlainRow, Row, StarRow, VisitRow};
@@ -26,4 +24,5 @@ mod tests;
 
 pub use iter_items;
 pub use iter_items::{core_calls, heap};
+pub use rows_array;
 pub use rows_class;

@@ -4,7 +4,7 @@ use rb_value::{ObjId, Value};
 use rite_code::PoolItem;
 use std::alloc::AllocError;
 use vm_parts::exits::after;
-use vm_parts::flow::{End, Flow};
+use vm_parts::flow::Flow;
 use vm_parts::heap::Given;
 use vm_parts::loaded::Loaded;
 use vm_parts::parts::{Parts, behind, put};
@@ -114,7 +114,7 @@ pub fn new_text(
             put(hot, parts, a, text);
             Ok(Flow::Stays)
         }
-        _ => Ok(Flow::Ends(End::Ended(0))),
+        _ => Ok(Flow::Ends),
     }
 }
 

@@ -56,25 +56,26 @@ pub fn module_of_name(
     after(code, hot, parts, given, a)
 }
 
-/// Enters the body of a class or module.
+/// Enters the body of a class or module for register `a`.
 fn enter_space(
     code: &Loaded,
     hot: &mut Frame,
     parts: &mut Parts,
+    a: u16,
     body: u32,
     class: ObjId,
 ) -> Result<Flow, AllocError> {
     let number = parts.next_activation()?;
     let activation = open_space(&mut parts.heap, parts.frames.activation(), class)?;
     let arguments = parts.frames.no_arguments();
-    parts.frames.push_frame(hot)?;
+    parts.frames.push_caller(hot, a)?;
     let entered = Entered {
         body,
         outer: None,
         block: None,
         binds: BindKind::Method,
     };
-    open_body(code, hot, parts, number, &activation, entered, arguments)?;
+    open_body(code, hot, parts, number, &activation, entered, &arguments)?;
     Ok(Flow::Stays)
 }
 
@@ -91,7 +92,7 @@ fn enter_object(
         let given = parts.heap.fail(Cause::StackTooDeep)?;
         after(code, hot, parts, given, a)
     } else {
-        enter_space(code, hot, parts, body, class)
+        enter_space(code, hot, parts, a, body, class)
     }
 }
 
@@ -103,7 +104,6 @@ pub fn execute_body(
     a: u16,
     body: u32,
 ) -> Result<Flow, AllocError> {
-    hot.waits = a;
     match parts.heap.space_in(parts.get(hot, a)) {
         Some(class) => enter_object(code, hot, parts, a, body, class),
         None => {

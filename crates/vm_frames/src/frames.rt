@@ -58,7 +58,6 @@ impl Frames {
         self.line.end = end;
         clear(&mut self.line.registers, base, end, activation.receiver);
         hot.index = 0;
-        hot.waits = 0;
         hot.registers = registers;
         hot.base = base;
         hot.end = arguments.end;

@@ -123,13 +123,18 @@ impl Frames {
         }
     }
 
-    /// A frame waits. Where memory runs out all is as before.
+    /// A frame waits for the value of a call, which register `a` gets. Where memory runs out all is as before.
     #[inline(always)]
-    pub fn push_frame(&mut self, frame: &Frame) -> Result<(), AllocError> {
-        self.line.frames.push(frame)
+    pub fn push_caller(&mut self, frame: &Frame, a: u16) -> Result<(), AllocError> {
+        self.line.frames.push(frame)?;
+        if let Some(caller) = self.line.frames.last_mut() {
+            caller.waits = a;
+        }
+        Ok(())
     }
 
     /// An iteration waits. Where memory runs out all is as before.
+    #[inline(always)]
     pub fn push_iteration(&mut self, iterating: Iterating) -> Result<(), AllocError> {
         self.line.iterations.push(iterating)?;
         Ok(())
@@ -138,7 +143,7 @@ impl Frames {
     /// A level waits. Where memory runs out all is as before.
     pub fn push(&mut self, level: Level) -> Result<(), AllocError> {
         match level {
-            Level::Frame(frame) => self.push_frame(&frame),
+            Level::Frame(frame) => self.line.frames.push(&frame),
             Level::Iteration(iterating) => self.push_iteration(iterating),
         }
     }

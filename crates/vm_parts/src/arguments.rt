@@ -2,7 +2,7 @@
 
 use crate::parts::{Parts, behind};
 use fiber_switch::vm_frames::{Arguments, Frame};
-use rb_value::Value;
+use rb_value::{ObjId, Value};
 use std::alloc::AllocError;
 
 /// The count that stands for one Array of all arguments.
@@ -17,6 +17,15 @@ pub fn registers_of(count: u16) -> u16 {
     if count == IN_ARRAY { 1 } else { count }
 }
 
+/// The value of the parameter for the block.
+#[inline(always)]
+pub fn block_value(block: Option<ObjId>) -> Value {
+    match block {
+        Some(block) => Value::Obj(block),
+        None => Value::Nil,
+    }
+}
+
 /// The elements of an Array, or another value itself, as arguments.
 #[cold]
 fn keep_elements(parts: &mut Parts, value: Value) -> Result<Arguments, AllocError> {
@@ -29,8 +38,13 @@ fn keep_elements(parts: &mut Parts, value: Value) -> Result<Arguments, AllocErro
     }
 }
 
-/// The arguments of a call on register `a`.
+/// The arguments of a call on register `a` that are registers, so many.
 #[inline(always)]
+pub fn arguments_in_registers(hot: &Frame, parts: &Parts, a: u16, count: u16) -> Arguments {
+    parts.frames.registers_as_arguments(hot, behind(a), count)
+}
+
+/// The arguments of a call on register `a`.
 pub fn arguments_of(
     hot: &Frame,
     parts: &mut Parts,
@@ -41,6 +55,6 @@ pub fn arguments_of(
         let value = parts.get(hot, behind(a));
         keep_elements(parts, value)
     } else {
-        Ok(parts.frames.registers_as_arguments(hot, behind(a), count))
+        Ok(arguments_in_registers(hot, parts, a, count))
     }
 }

@@ -46,10 +46,10 @@ pub fn open_body(
     number: u64,
     activation: &Activation,
     entered: Entered,
-    arguments: Arguments,
+    arguments: &Arguments,
 ) -> Result<(), AllocError> {
     let registers = code.registers(entered.body);
-    parts.frames.open(hot, activation, registers, arguments)?;
+    parts.frames.open(hot, activation, registers, *arguments)?;
     hot.number = number;
     hot.body = entered.body;
     hot.outer = match entered.outer {
@@ -68,9 +68,9 @@ fn open_frame(
     hot: &mut Frame,
     parts: &mut Parts,
     opening: &Opening,
-    arguments: Arguments,
+    arguments: &Arguments,
 ) -> Result<(), AllocError> {
-    let arguments = after_name(parts, arguments, opening.name_first)?;
+    let arguments = after_name(parts, *arguments, opening.name_first)?;
     let number = parts.next_activation()?;
     let entered = Entered {
         body: opening.body,
@@ -85,7 +85,7 @@ fn open_frame(
         number,
         &opening.activation,
         entered,
-        arguments,
+        &arguments,
     )
 }
 
@@ -98,7 +98,7 @@ pub fn open_proc(
     number: u64,
     id: ObjId,
     block: Option<ObjId>,
-    arguments: Arguments,
+    arguments: &Arguments,
 ) -> Result<bool, AllocError> {
     let (activation, entered) = match parts.heap.proc_of(id) {
         Some(contents) => (
@@ -119,10 +119,10 @@ pub fn open_proc(
 /// Begins an iteration with arguments.
 fn begin_iteration(
     parts: &mut Parts,
-    beginning: Beginning,
-    arguments: Arguments,
+    beginning: &Beginning,
+    arguments: &Arguments,
 ) -> Result<Flow, AllocError> {
-    let arguments = after_name(parts, arguments, beginning.name_first)?;
+    let arguments = after_name(parts, *arguments, beginning.name_first)?;
     let number = parts.next_activation()?;
     parts.activations = number;
     parts.frames.begin(Begun {
@@ -142,11 +142,11 @@ fn too_deep(
     hot: &mut Frame,
     parts: &mut Parts,
     block: Option<ObjId>,
-    arguments: Arguments,
+    arguments: &Arguments,
     a: u16,
 ) -> Result<Flow, AllocError> {
     settle(&mut parts.heap, block, None);
-    parts.frames.drop_arguments(arguments);
+    parts.frames.drop_arguments(*arguments);
     let given = parts.heap.fail(Cause::StackTooDeep)?;
     after(code, hot, parts, given, a)
 }
@@ -173,16 +173,15 @@ pub fn enter_body(
     parts: &mut Parts,
     activation: &Activation,
     entered: Entered,
-    arguments: Arguments,
+    arguments: &Arguments,
     a: u16,
 ) -> Result<Flow, AllocError> {
-    hot.waits = a;
     if parts.frames.is_full() {
         return too_deep(code, hot, parts, entered.block, arguments, a);
     }
     let number = parts.next_activation()?;
     settle(&mut parts.heap, entered.block, Some(number));
-    parts.frames.push_frame(hot)?;
+    parts.frames.push_caller(hot, a)?;
     open_body(code, hot, parts, number, activation, entered, arguments)?;
     Ok(Flow::Stays)
 }
@@ -194,16 +193,15 @@ fn enter_opening(
     parts: &mut Parts,
     opening: &Opening,
     block: Option<ObjId>,
-    arguments: Arguments,
+    arguments: &Arguments,
     a: u16,
 ) -> Result<Flow, AllocError> {
-    hot.waits = a;
     if parts.frames.is_full() {
         return too_deep(code, hot, parts, block, arguments, a);
     }
     let number = parts.next_activation()?;
     settle(&mut parts.heap, block, Some(number));
-    parts.frames.push_frame(hot)?;
+    parts.frames.push_caller(hot, a)?;
     open_frame(code, hot, parts, opening, arguments)?;
     Ok(Flow::Stays)
 }
@@ -216,15 +214,14 @@ pub fn enter_yielded(
     hot: &mut Frame,
     parts: &mut Parts,
     id: ObjId,
-    arguments: Arguments,
+    arguments: &Arguments,
     a: u16,
 ) -> Result<bool, AllocError> {
     let number = parts.next_activation()?;
     if parts.frames.is_full() || parts.heap.proc_of(id).is_none() {
         return Ok(false);
     }
-    hot.waits = a;
-    parts.frames.push_frame(hot)?;
+    parts.frames.push_caller(hot, a)?;
     open_proc(code, hot, parts, number, id, None, arguments)
 }
 
@@ -233,18 +230,17 @@ pub fn enter_beginning(
     code: &Loaded,
     hot: &mut Frame,
     parts: &mut Parts,
-    beginning: Beginning,
+    beginning: &Beginning,
     block: Option<ObjId>,
-    arguments: Arguments,
+    arguments: &Arguments,
     a: u16,
 ) -> Result<Flow, AllocError> {
-    hot.waits = a;
     if parts.frames.is_full() {
         return too_deep(code, hot, parts, block, arguments, a);
     }
     let next = parts.next_activation()?;
     settle(&mut parts.heap, block, Some(next));
-    parts.frames.push_frame(hot)?;
+    parts.frames.push_caller(hot, a)?;
     begin_iteration(parts, beginning, arguments)
 }
 
@@ -255,17 +251,17 @@ pub fn enter(
     parts: &mut Parts,
     entry: Entry,
     block: Option<ObjId>,
-    arguments: Arguments,
+    arguments: &Arguments,
     a: u16,
 ) -> Result<Flow, AllocError> {
     match entry {
         Entry::Answers(given) => {
-            parts.frames.drop_arguments(arguments);
+            parts.frames.drop_arguments(*arguments);
             answer(code, hot, parts, given, block, a)
         }
         Entry::Enters(opening) => enter_opening(code, hot, parts, &opening, block, arguments, a),
         Entry::Begins(beginning) => enter_beginning(
-            code, hot, parts, beginning, block, arguments, a,
+            code, hot, parts, &beginning, block, arguments, a,
         ),
     }
 }
@@ -279,7 +275,7 @@ pub fn enter_block(
     beat: Beat,
 ) -> Result<Flow, AllocError> {
     let arguments = keep_passed(parts, beat.passed)?;
-    enter_called(code, hot, parts, beat.callee, None, arguments)
+    enter_called(code, hot, parts, beat.callee, None, &arguments)
 }
 
 /// Calls a Proc for the innermost level that waits; a body that it enters is the frame in hand then.
@@ -289,7 +285,7 @@ pub fn enter_called(
     parts: &mut Parts,
     callee: ObjId,
     block: Option<ObjId>,
-    arguments: Arguments,
+    arguments: &Arguments,
 ) -> Result<Flow, AllocError> {
     let number = parts.next_activation()?;
     if parts.frames.has_room() && open_proc(code, hot, parts, number, callee, block, arguments)? {
@@ -320,12 +316,12 @@ fn enter_other(
     parts: &mut Parts,
     callee: ObjId,
     block: Option<ObjId>,
-    arguments: Arguments,
+    arguments: &Arguments,
 ) -> Result<Flow, AllocError> {
     let next = parts.next_activation()?;
     let call = Call {
         receiver: Value::Nil,
-        args: parts.frames.given(arguments),
+        args: parts.frames.given(*arguments),
         block,
     };
     let entry = enter_proc(&mut parts.heap, callee, call, next)?;
@@ -339,7 +335,7 @@ pub fn enter_above(
     hot: &mut Frame,
     parts: &mut Parts,
     entry: Entry,
-    arguments: Arguments,
+    arguments: &Arguments,
 ) -> Result<Flow, AllocError> {
     match entry {
         Entry::Enters(_) | Entry::Begins(_) if !parts.frames.has_room() => {
@@ -354,9 +350,9 @@ pub fn enter_above(
 fn too_deep_from(
     code: &Loaded,
     parts: &mut Parts,
-    arguments: Arguments,
+    arguments: &Arguments,
 ) -> Result<Flow, AllocError> {
-    parts.frames.drop_arguments(arguments);
+    parts.frames.drop_arguments(*arguments);
     let given = parts.heap.fail(Cause::StackTooDeep)?;
     hand_out(code, parts, handed(given))
 }
@@ -368,17 +364,17 @@ pub fn enter_first(
     hot: &mut Frame,
     parts: &mut Parts,
     entry: Entry,
-    arguments: Arguments,
+    arguments: &Arguments,
 ) -> Result<Flow, AllocError> {
     match entry {
         Entry::Answers(given) => {
-            parts.frames.drop_arguments(arguments);
+            parts.frames.drop_arguments(*arguments);
             hand_out(code, parts, handed(given))
         }
         Entry::Enters(opening) => {
             open_frame(code, hot, parts, &opening, arguments)?;
             Ok(Flow::Stays)
         }
-        Entry::Begins(beginning) => begin_iteration(parts, beginning, arguments),
+        Entry::Begins(beginning) => begin_iteration(parts, &beginning, arguments),
     }
 }

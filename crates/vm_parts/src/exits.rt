@@ -14,7 +14,7 @@ fn end_fiber(parts: &mut Parts, value: Value) -> Flow {
     if parts.fibers.end(&mut parts.heap, &mut parts.frames) && parts.frames.hand(value) {
         Flow::Wakes
     } else {
-        Flow::Ends(End::Ended(0))
+        Flow::Ends
     }
 }
 
@@ -48,6 +48,13 @@ fn fallen(parts: &mut Parts) -> Option<Level> {
     }
 }
 
+/// The program ends by an exception that nothing rescued.
+#[cold]
+fn uncaught(parts: &mut Parts, exception: ObjId) -> Flow {
+    parts.end = End::Uncaught(exception);
+    Flow::Ends
+}
+
 /// Where an exit comes to from a level: it ends the program where it is an exception that nothing takes.
 pub fn throw(
     code: &Loaded,
@@ -69,12 +76,12 @@ pub fn throw(
                     at = next;
                     exit = Exit::Raise(exception);
                 }
-                None => return Ok(Flow::Ends(End::Uncaught(exception))),
+                None => return Ok(uncaught(parts, exception)),
             },
-            Landing::Falls(_) => return Ok(Flow::Ends(End::Ended(0))),
+            Landing::Falls(_) => return Ok(Flow::Ends),
         }
     }
-    Ok(Flow::Ends(End::Ended(0)))
+    Ok(Flow::Ends)
 }
 
 /// Where an exception comes to that is raised at the innermost level that waits, or past the last one.
@@ -85,7 +92,7 @@ pub fn raise_out(code: &Loaded, parts: &mut Parts, exception: ObjId) -> Result<F
     };
     match level {
         Some(level) => throw(code, parts, level, Exit::Raise(exception)),
-        None => Ok(Flow::Ends(End::Uncaught(exception))),
+        None => Ok(uncaught(parts, exception)),
     }
 }
 

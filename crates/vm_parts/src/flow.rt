@@ -8,12 +8,13 @@ pub enum End {
     Uncaught(ObjId),
 }
 
-/// What comes next: the frame in hand goes on, or the innermost level that waits, or the program has ended.
+/// What comes next: the frame in hand goes on, or the innermost level that waits, or the program has ended, as the parts
+/// of the machine tell. It has no fields, since every instruction gives one.
 #[derive(Clone, Copy, Debug, PartialEq, Eq)]
 pub enum Flow {
     Stays,
     Wakes,
-    Ends(End),
+    Ends,
 }
 
 /// What comes after a turn: a level runs or the program has ended; or the iteration that is the innermost level that

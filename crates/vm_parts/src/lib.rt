@@ -3,8 +3,9 @@
 //!
 //! All calls are total: code that isn't there ends the program, a register that isn't there reads as nil.
 //!
-//! Types: [`Parts`], [`Loaded`], [`Superinstruction`], [`Operators`], [`KnownCalls`]; [`Flow`], [`Step`], [`End`],
-//! [`Handed`]. Calls: modules [`exits`], [`entering`], [`arguments`].
+//! Types: [`Parts`], [`Loaded`], [`Superinstruction`], [`Operators`], [`Names`], [`KnownCalls`]; [`Flow`], [`Step`],
+//! [`End`], [`Handed`]. Calls: modules [`exits`], [`entering`],
+//! [`arguments`], [`numbers`].
 #![tactic(auto)]
 
 pub mod arguments;
@@ -13,6 +14,8 @@ pub mod exits;
 pub mod flow;
 pub mod known;
 pub mod loaded;
+pub mod names;
+pub mod numbers;
 pub mod operators;
 pub mod parts;
 pub mod superinstruction;
@@ -20,8 +23,9 @@ pub mod superinstruction;
 pub use fiber_switch;
 pub use fiber_switch::{core_calls, core_iter, heap, run_calls, run_rows, vm_frames, vm_unwind};
 pub use flow::{End, Flow, Handed, Step};
-pub use known::{KnownCalls, Usual};
+pub use known::{KnownCalls, MethodBody, Usual};
 pub use loaded::Loaded;
+pub use names::Names;
 pub use operators::{Operator, Operators};
 pub use parts::{Parts, behind, put, step};
 pub use superinstruction::Superinstruction;

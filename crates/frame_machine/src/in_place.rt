@@ -1,0 +1,371 @@
+//! First turns of iterations that need no plan.
+
+use crate::iterating::{fail_out, waiting};
+use def_core::{BindKind, Cause};
+use rb_value::{ObjId, Sort, SymId, Value};
+use std::alloc::AllocError;
+use vm_acts::core_calls::{Call, Passed};
+use vm_acts::core_iter::Iteration;
+use vm_acts::core_iter::making::blank_for;
+use vm_acts::fiber_switch::Resumed;
+use vm_acts::heap::Blank;
+use vm_acts::run_calls::method_running;
+use vm_acts::run_rows::iter_items::ItemsRow;
+use vm_acts::run_rows::iter_items::iter_comparing::ComparingRow;
+use vm_acts::run_rows::{KernelRow, PlainRow, Row, StarRow, call_plain};
+use vm_acts::vm_frames::{Arguments, Begun, Frame};
+use vm_acts::vm_parts::entering::{Entered, enter_called, keep_passed, open_body};
+use vm_acts::vm_parts::exits::{hand_out, handed, receive_here};
+use vm_acts::vm_parts::flow::Flow;
+use vm_acts::vm_parts::known::{MethodBody, Usual};
+use vm_acts::vm_parts::loaded::Loaded;
+use vm_acts::vm_parts::parts::Parts;
+
+/// The row of `new` of a class.
+const MAKES_OBJECT: Row = Row::Star(StarRow::Kernel(KernelRow::NewObject));
+
+/// What `initialize` of a class is: a body, or a core method that calls no other.
+#[derive(Clone, Copy)]
+enum Initialize {
+    Body(MethodBody),
+    Core(PlainRow),
+}
+
+/// What the first turn of an iteration does in place: it ends with a value, calls a Proc, resumes a fiber with at most one
+/// value, yields at most one, makes an object of a class, or has a class make one, which is raised.
+#[derive(Clone, Copy)]
+enum First {
+    Gives(Value),
+    Calls(ObjId),
+    Resumes {
+        fiber: ObjId,
+        passed: Passed,
+    },
+    Yields(Passed),
+    Makes {
+        class: ObjId,
+        blank: Blank,
+        initialize: Initialize,
+    },
+    Raises(Value),
+}
+
+/// Arguments that are at most one.
+fn passed_of(parts: &Parts, arguments: Arguments) -> Option<Passed> {
+    match parts.frames.given(arguments) {
+        [] => Some(Passed::Nothing),
+        [value] => Some(Passed::One(*value)),
+        _ => None,
+    }
+}
+
+/// The value under a key of a Hash, or what an absent key gives; nothing where a Proc is called for it, or the key is
+/// nested too deep.
+fn pair_value(parts: &Parts, hash: ObjId, key: Value) -> Result<Option<Value>, AllocError> {
+    let Some(key) = parts.heap.key_of(key)? else {
+        return Ok(None);
+    };
+    match parts.heap.pair(hash, &key) {
+        Some(pair) => Ok(Some(pair.value)),
+        None => match parts.heap.absent_of(hash) {
+            (default, None) => Ok(Some(default)),
+            _ => Ok(None),
+        },
+    }
+}
+
+/// The element of a Hash by a key, where it is there at once.
+fn first_of_element(parts: &Parts, begun: &Begun) -> Result<Option<First>, AllocError> {
+    match (
+        parts.heap.a_hash(begun.receiver),
+        parts.frames.given(begun.arguments),
+    ) {
+        (Some(hash), [key]) => match pair_value(parts, hash, *key)? {
+            Some(value) => Ok(Some(First::Gives(value))),
+            None => Ok(None),
+        },
+        _ => Ok(None),
+    }
+}
+
+/// What a class finds under a name, which is remembered where it is called straight on.
+fn found_in(parts: &mut Parts, class: ObjId, name: SymId) -> Result<Option<Usual>, AllocError> {
+    if parts.known.look_in(&parts.heap, class, name).is_none() {
+        if let Some(found) = parts.heap.find(class, name)? {
+            parts.known.note(&parts.heap, class, name, found);
+        }
+    }
+    Ok(parts.known.look_in(&parts.heap, class, name))
+}
+
+/// What `initialize` of a class is, where it is called straight on and there is room for it.
+fn initialize_of(parts: &mut Parts, class: ObjId) -> Result<Option<Initialize>, AllocError> {
+    match found_in(parts, class, parts.names.initialize)? {
+        Some(Usual::Body(method)) if !parts.frames.is_full() => Ok(Some(Initialize::Body(method))),
+        Some(
+            Usual::Core {
+                number: _,
+                row: Row::Plain(row),
+            },
+        ) => Ok(Some(Initialize::Core(row))),
+        _ => Ok(None),
+    }
+}
+
+/// A class that is raised makes an object, where its `new` is the core method and there is room for it.
+fn first_of_raise(parts: &mut Parts, begun: &Begun) -> Result<Option<First>, AllocError> {
+    let raised = match parts.frames.given(begun.arguments) {
+        [class] | [class, _] => *class,
+        _ => return Ok(None),
+    };
+    if parts.heap.sort(raised) != Some(Sort::Class) || parts.frames.is_full() {
+        return Ok(None);
+    }
+    let class = parts.heap.class_of(raised);
+    match found_in(parts, class, parts.names.new)? {
+        Some(Usual::Core { number: _, row }) if row == MAKES_OBJECT => {
+            Ok(Some(First::Raises(raised)))
+        }
+        _ => Ok(None),
+    }
+}
+
+/// A new object of a class.
+fn first_of_object(parts: &mut Parts, begun: &Begun) -> Result<Option<First>, AllocError> {
+    let (Some(Sort::Class), Value::Obj(class)) = (parts.heap.sort(begun.receiver), begun.receiver)
+    else {
+        return Ok(None);
+    };
+    let Some(blank) = blank_for(&parts.heap, class) else {
+        return Ok(None);
+    };
+    match initialize_of(parts, class)? {
+        Some(initialize) => Ok(Some(First::Makes {
+            class,
+            blank,
+            initialize,
+        })),
+        None => Ok(None),
+    }
+}
+
+/// What the first turn of an iteration that calls a Proc or moves between fibers does, where it is done in place.
+fn first_of_call(parts: &Parts, begun: &Begun, row: KernelRow) -> Option<First> {
+    match row {
+        KernelRow::CallProc => Some(First::Calls(parts.heap.a_proc(begun.receiver)?)),
+        KernelRow::Resume => Some(First::Resumes {
+            fiber: parts.heap.a_fiber(begun.receiver)?,
+            passed: passed_of(parts, begun.arguments)?,
+        }),
+        KernelRow::Yield => Some(First::Yields(passed_of(parts, begun.arguments)?)),
+        _ => None,
+    }
+}
+
+/// What the first turn of an iteration does, where it is done in place.
+fn first_of(parts: &mut Parts, begun: &Begun) -> Result<Option<First>, AllocError> {
+    match begun.row {
+        StarRow::Items(ItemsRow::Compares(ComparingRow::HashElement)) => {
+            first_of_element(parts, begun)
+        }
+        StarRow::Kernel(KernelRow::NewObject) => first_of_object(parts, begun),
+        StarRow::Kernel(KernelRow::Raise) => first_of_raise(parts, begun),
+        StarRow::Kernel(row) => Ok(first_of_call(parts, begun, row)),
+        _ => Ok(None),
+    }
+}
+
+/// The value that a resume or a yield hands over.
+fn value_of(passed: Passed) -> Value {
+    match passed {
+        Passed::Nothing => Value::Nil,
+        Passed::One(value) => value,
+        Passed::Two(value, _) => value,
+    }
+}
+
+/// Resumes a fiber with at most one value, for an iteration that waits.
+fn resume_in_place(
+    code: &Loaded,
+    hot: &mut Frame,
+    parts: &mut Parts,
+    fiber: ObjId,
+    passed: Passed,
+) -> Result<Flow, AllocError> {
+    match parts.fibers.resume(&parts.heap, &mut parts.frames, fiber)? {
+        Resumed::Refused(cause) => fail_out(code, parts, cause),
+        Resumed::Begins(block) => {
+            let arguments = keep_passed(parts, passed)?;
+            enter_called(code, hot, parts, block, None, &arguments)
+        }
+        Resumed::Continues => Ok(receive_here(hot, parts, value_of(passed))),
+    }
+}
+
+/// Yields at most one value, for an iteration that waits.
+fn yield_in_place(
+    code: &Loaded,
+    hot: &mut Frame,
+    parts: &mut Parts,
+    passed: Passed,
+) -> Result<Flow, AllocError> {
+    if parts.fibers.yield_back(&mut parts.frames) {
+        Ok(receive_here(hot, parts, value_of(passed)))
+    } else {
+        fail_out(code, parts, Cause::RootYield)
+    }
+}
+
+/// Calls the core method that is `initialize` of a new object, which is given then.
+fn initialize_by_core(
+    code: &Loaded,
+    parts: &mut Parts,
+    begun: &Begun,
+    object: Value,
+    row: PlainRow,
+) -> Result<Flow, AllocError> {
+    let call = Call {
+        receiver: object,
+        args: parts.frames.given(begun.arguments),
+        block: begun.block,
+    };
+    let given = call_plain(&mut parts.heap, row, call)?;
+    parts.frames.drop_arguments(begun.arguments);
+    hand_out(code, parts, handed(given))
+}
+
+/// Enters the body that is `initialize` of a new object, for which there is room.
+fn initialize_by_body(
+    code: &Loaded,
+    hot: &mut Frame,
+    parts: &mut Parts,
+    begun: &Begun,
+    object: Value,
+    initialize: &MethodBody,
+) -> Result<Flow, AllocError> {
+    let number = parts.next_activation()?;
+    let activation = method_running(
+        initialize.owner,
+        initialize.classes,
+        parts.names.initialize,
+        object,
+        begun.block,
+        number,
+    );
+    let entered = Entered {
+        body: initialize.body,
+        outer: None,
+        block: begun.block,
+        binds: BindKind::Method,
+    };
+    open_body(
+        code,
+        hot,
+        parts,
+        number,
+        &activation,
+        entered,
+        &begun.arguments,
+    )?;
+    Ok(Flow::Stays)
+}
+
+/// Makes an object of a class and calls its `initialize`.
+fn make_in_place(
+    code: &Loaded,
+    hot: &mut Frame,
+    parts: &mut Parts,
+    begun: &Begun,
+    class: ObjId,
+    blank: Blank,
+    initialize: Initialize,
+) -> Result<Flow, AllocError> {
+    let object = parts.heap.make_blank(class, blank)?;
+    let giving = waiting(begun.number, Iteration::Giving(object));
+    parts.frames.push_iteration(giving)?;
+    match initialize {
+        Initialize::Body(method) => initialize_by_body(code, hot, parts, begun, object, &method),
+        Initialize::Core(row) => initialize_by_core(code, parts, begun, object, row),
+    }
+}
+
+/// Begins the core `new` of a class with the arguments behind the class, for a `raise` that waits for the object.
+fn raise_in_place(parts: &mut Parts, begun: &Begun, class: Value) -> Result<Flow, AllocError> {
+    parts
+        .frames
+        .push_iteration(waiting(begun.number, Iteration::Raising))?;
+    let number = parts.next_activation()?;
+    parts.activations = number;
+    parts.frames.begin(Begun {
+        number,
+        row: StarRow::Kernel(KernelRow::NewObject),
+        receiver: class,
+        arguments: Arguments {
+            first: begun.arguments.first.wrapping_add(1),
+            count: begun.arguments.count.saturating_sub(1),
+            end: begun.arguments.end,
+        },
+        block: None,
+    });
+    Ok(Flow::Wakes)
+}
+
+/// An iteration that begins waits for the one value that it hands on.
+fn wait_handing(parts: &mut Parts, begun: &Begun) -> Result<(), AllocError> {
+    parts
+        .frames
+        .push_iteration(waiting(begun.number, Iteration::Handing))
+}
+
+/// Does the first turn of an iteration in place.
+fn begin_with(
+    code: &Loaded,
+    hot: &mut Frame,
+    parts: &mut Parts,
+    begun: &Begun,
+    first: First,
+) -> Result<Flow, AllocError> {
+    match first {
+        First::Gives(value) => {
+            parts.frames.drop_arguments(begun.arguments);
+            Ok(receive_here(hot, parts, value))
+        }
+        First::Calls(callee) => {
+            wait_handing(parts, begun)?;
+            enter_called(code, hot, parts, callee, begun.block, &begun.arguments)
+        }
+        First::Resumes { fiber, passed } => {
+            wait_handing(parts, begun)?;
+            parts.frames.drop_arguments(begun.arguments);
+            resume_in_place(code, hot, parts, fiber, passed)
+        }
+        First::Yields(passed) => {
+            wait_handing(parts, begun)?;
+            parts.frames.drop_arguments(begun.arguments);
+            yield_in_place(code, hot, parts, passed)
+        }
+        First::Makes {
+            class,
+            blank,
+            initialize,
+        } => make_in_place(code, hot, parts, begun, class, blank, initialize),
+        First::Raises(class) => raise_in_place(parts, begun, class),
+    }
+}
+
+/// The first turn of an iteration, made in place; nothing where it needs a plan. A body that it enters is the frame in
+/// hand then.
+pub fn begin_in_place(
+    code: &Loaded,
+    hot: &mut Frame,
+    parts: &mut Parts,
+    begun: Begun,
+) -> Result<Option<Flow>, AllocError> {
+    match first_of(parts, &begun)? {
+        Some(first) => {
+            let _begun = parts.frames.take_begun();
+            Ok(Some(begin_with(code, hot, parts, &begun, first)?))
+        }
+        None => Ok(None),
+    }
+}

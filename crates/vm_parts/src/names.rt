@@ -1,0 +1,24 @@
+//! Names of methods that the machine calls by itself.
+
+use fiber_switch::heap::Heap;
+use rb_value::SymId;
+use std::alloc::AllocError;
+
+/// The symbols of `new`, `initialize` and `method_missing`.
+#[derive(Clone, Copy, Debug)]
+pub struct Names {
+    pub new: SymId,
+    pub initialize: SymId,
+    pub method_missing: SymId,
+}
+
+impl Names {
+    /// The names, which every heap has from its start.
+    pub fn of(heap: &mut Heap) -> Result<Names, AllocError> {
+        Ok(Names {
+            new: heap.intern(b"new")?,
+            initialize: heap.intern(b"initialize")?,
+            method_missing: heap.intern(b"method_missing")?,
+        })
+    }
+}
