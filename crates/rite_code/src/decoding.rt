@@ -130,7 +130,32 @@ fn operands(wide: bool, shape: Shape, bytes: &[u8]) -> Operands
     found
 }
 
-/// The instruction with the operands at the front of the bytes, after a prefix of this size.
+/// The instruction with the operands at the front of the bytes, after a prefix of this size. The shape is that of the
+/// instruction.
+#[inline(always)]
+fn body_as(
+    wide: bool,
+    prefix: usize,
+    opcode: Opcode,
+    shape: Shape,
+    rest: &[u8],
+) -> Option<(Instr, usize)>
+    requires small { prefix ≤ 1 }
+    requires grows { IsTrue wide → IsTrue (shapes.grows (table.shape_of opcode)) }
+    requires shape { table.shape_of opcode ≡ shape }
+    ensures value { result ≡ spelling.body_of wide prefix opcode rest.now }
+    ensures within { IfSome result (λ found. (0 < found.1) × (found.1 ≤ prefix + 1 + length rest.now)) }
+{
+    let size = shape.operand_size(wide);
+    if rest.len() < size {
+        return None;
+    }
+    let operation = opcode.operation_of(shape, operands(wide, shape, rest));
+    Some((Instr::from_fitting(wide, operation), prefix + 1 + size))
+}
+
+/// The instruction with the operands at the front of the bytes, after a prefix of this size. Each shape has a call of its
+/// own, in which it is known.
 #[inline(always)]
 fn body_of(wide: bool, prefix: usize, opcode: Opcode, rest: &[u8]) -> Option<(Instr, usize)>
     requires small { prefix ≤ 1 }
@@ -138,13 +163,17 @@ fn body_of(wide: bool, prefix: usize, opcode: Opcode, rest: &[u8]) -> Option<(In
     ensures value { result ≡ spelling.body_of wide prefix opcode rest.now }
     ensures within { IfSome result (λ found. (0 < found.1) × (found.1 ≤ prefix + 1 + length rest.now)) }
 {
-    let shape = opcode.shape();
-    let size = shape.operand_size(wide);
-    if rest.len() < size {
-        return None;
+    match opcode.shape() {
+        Shape::Z => body_as(wide, prefix, opcode, Shape::Z, rest),
+        Shape::B => body_as(wide, prefix, opcode, Shape::B, rest),
+        Shape::BB => body_as(wide, prefix, opcode, Shape::BB, rest),
+        Shape::BBB => body_as(wide, prefix, opcode, Shape::BBB, rest),
+        Shape::BBI => body_as(wide, prefix, opcode, Shape::BBI, rest),
+        Shape::S => body_as(wide, prefix, opcode, Shape::S, rest),
+        Shape::BS => body_as(wide, prefix, opcode, Shape::BS, rest),
+        Shape::BSS => body_as(wide, prefix, opcode, Shape::BSS, rest),
+        Shape::W => body_as(wide, prefix, opcode, Shape::W, rest),
     }
-    let operation = opcode.operation(operands(wide, shape, rest));
-    Some((Instr::from_fitting(wide, operation), prefix + 1 + size))
 }
 
 /// The instruction without EXT at the front of the bytes, and how many bytes it takes.

@@ -1,8 +1,9 @@
 //! Instructions with their operands.
 ghost use Rattle.std.specs.Prelude.{◌≡◌};
 ghost use Rattle.rite_code.specs.Operation as operations;
+ghost use Rattle.rite_code.specs.Table as table;
 
-use crate::opcode::Opcode;
+use crate::opcode::{Opcode, Shape};
 
 /// What ENTER says of the parameters: how many are required, optional and after the rest parameter, whether
 /// there is a rest parameter and whether the block has a name. `spare` is the lowest bit, which has no meaning.
@@ -129,49 +130,55 @@ impl Opcode {
     pub fn operation(self, operands: Operands) -> Operation
         ensures { result ≡ operations.operation_of self operands }
     {
-        let Operands {
-            a,
-            b,
-            c,
-            by,
-            parameters,
-        } = operands;
+        self.operation_of(self.shape(), operands)
+    }
+
+    /// What it does, which has this shape, with these operands.
+    #[inline(always)]
+    pub(crate) fn operation_of(self, shape: Shape, operands: Operands) -> Operation
+        requires { table.shape_of self ≡ shape }
+        ensures { result ≡ operations.operation_of self operands }
+    {
+        match shape {
+            Shape::Z => self.bare(operands),
+            Shape::B => self.of_index(operands),
+            Shape::BB => self.of_two(operands),
+            Shape::BBB => self.of_three(operands),
+            Shape::BBI => self.of_element(operands),
+            Shape::S => self.of_jump(operands),
+            Shape::BS => self.of_distance(operands),
+            Shape::BSS => self.of_long(operands),
+            Shape::W => self.of_parameters(operands),
+        }
+    }
+
+    /// What an instruction without operands does.
+    #[inline(always)]
+    fn bare(self, operands: Operands) -> Operation
+        requires { table.shape_of self ≡ Shape.Z }
+        ensures { result ≡ operations.operation_of self operands }
+    {
         match self {
             Opcode::Nop => Operation::Nop,
-            Opcode::Move => Operation::Move { a, b },
-            Opcode::LoadL => Operation::LoadL { a, b },
-            Opcode::LoadI => Operation::LoadI { a, b },
-            Opcode::LoadI16 => Operation::LoadI16 { a, b: by },
-            Opcode::LoadI32 => Operation::LoadI32 { a, b: by },
-            Opcode::LoadSym => Operation::LoadSym { a, b },
+            Opcode::Stop => Operation::Stop,
+            _ => unreachable!(),
+        }
+    }
+
+    /// What an instruction with one operand does.
+    #[inline(always)]
+    fn of_index(self, operands: Operands) -> Operation
+        requires { table.shape_of self ≡ Shape.B }
+        ensures { result ≡ operations.operation_of self operands }
+    {
+        let Operands { a, .. } = operands;
+        match self {
             Opcode::LoadNil => Operation::LoadNil { a },
             Opcode::LoadSelf => Operation::LoadSelf { a },
             Opcode::LoadT => Operation::LoadT { a },
             Opcode::LoadF => Operation::LoadF { a },
-            Opcode::GetGv => Operation::GetGv { a, b },
-            Opcode::SetGv => Operation::SetGv { a, b },
-            Opcode::GetIv => Operation::GetIv { a, b },
-            Opcode::SetIv => Operation::SetIv { a, b },
-            Opcode::GetConst => Operation::GetConst { a, b },
-            Opcode::SetConst => Operation::SetConst { a, b },
-            Opcode::GetMCnst => Operation::GetMCnst { a, b },
-            Opcode::SetMCnst => Operation::SetMCnst { a, b },
-            Opcode::GetUpVar => Operation::GetUpVar { a, b, c },
-            Opcode::SetUpVar => Operation::SetUpVar { a, b, c },
-            Opcode::Jmp => Operation::Jmp { by },
-            Opcode::JmpIf => Operation::JmpIf { a, by },
-            Opcode::JmpNot => Operation::JmpNot { a, by },
-            Opcode::JmpUw => Operation::JmpUw { by },
             Opcode::Except => Operation::Except { a },
-            Opcode::Rescue => Operation::Rescue { a, b },
             Opcode::RaiseIf => Operation::RaiseIf { a },
-            Opcode::SSend => Operation::SSend { a, b, c },
-            Opcode::SSendB => Operation::SSendB { a, b, c },
-            Opcode::Send => Operation::Send { a, b, c },
-            Opcode::SendB => Operation::SendB { a, b, c },
-            Opcode::Call => Operation::Call { a, b },
-            Opcode::Super => Operation::Super { a, b },
-            Opcode::Enter => Operation::Enter { parameters },
             Opcode::BlkPush => Operation::BlkPush { a },
             Opcode::Return => Operation::Return { a },
             Opcode::ReturnBlk => Operation::ReturnBlk { a },
@@ -185,31 +192,143 @@ impl Opcode {
             Opcode::Le => Operation::Le { a },
             Opcode::Gt => Operation::Gt { a },
             Opcode::Ge => Operation::Ge { a },
+            Opcode::AryCat => Operation::AryCat { a },
+            Opcode::Intern => Operation::Intern { a },
+            Opcode::StrCat => Operation::StrCat { a },
+            Opcode::RangeInc => Operation::RangeInc { a },
+            Opcode::RangeExc => Operation::RangeExc { a },
+            Opcode::Undef => Operation::Undef { a },
+            Opcode::SClass => Operation::SClass { a },
+            Opcode::TClass => Operation::TClass { a },
+            _ => unreachable!(),
+        }
+    }
+
+    /// What an instruction with two operands does.
+    #[inline(always)]
+    fn of_two(self, operands: Operands) -> Operation
+        requires { table.shape_of self ≡ Shape.BB }
+        ensures { result ≡ operations.operation_of self operands }
+    {
+        let Operands { a, b, .. } = operands;
+        match self {
+            Opcode::Move => Operation::Move { a, b },
+            Opcode::LoadL => Operation::LoadL { a, b },
+            Opcode::LoadI => Operation::LoadI { a, b },
+            Opcode::LoadSym => Operation::LoadSym { a, b },
+            Opcode::GetGv => Operation::GetGv { a, b },
+            Opcode::SetGv => Operation::SetGv { a, b },
+            Opcode::GetIv => Operation::GetIv { a, b },
+            Opcode::SetIv => Operation::SetIv { a, b },
+            Opcode::GetConst => Operation::GetConst { a, b },
+            Opcode::SetConst => Operation::SetConst { a, b },
+            Opcode::GetMCnst => Operation::GetMCnst { a, b },
+            Opcode::SetMCnst => Operation::SetMCnst { a, b },
+            Opcode::Rescue => Operation::Rescue { a, b },
+            Opcode::Call => Operation::Call { a, b },
+            Opcode::Super => Operation::Super { a, b },
             Opcode::Array => Operation::Array { a, b },
             Opcode::AryPush => Operation::AryPush { a, b },
-            Opcode::AryCat => Operation::AryCat { a },
-            Opcode::ARef => Operation::ARef { a, b, c: by },
-            Opcode::APost => Operation::APost { a, b, c: by },
-            Opcode::Intern => Operation::Intern { a },
             Opcode::String => Operation::String { a, b },
-            Opcode::StrCat => Operation::StrCat { a },
             Opcode::Hash => Operation::Hash { a, b },
             Opcode::HashAdd => Operation::HashAdd { a, b },
             Opcode::Lambda => Operation::Lambda { a, b },
             Opcode::Block => Operation::Block { a, b },
-            Opcode::RangeInc => Operation::RangeInc { a },
-            Opcode::RangeExc => Operation::RangeExc { a },
             Opcode::OClass => Operation::OClass { a, b },
             Opcode::Class => Operation::Class { a, b },
             Opcode::Module => Operation::Module { a, b },
             Opcode::Exec => Operation::Exec { a, b },
-            Opcode::Def => Operation::Def { a, b, c },
             Opcode::Alias => Operation::Alias { a, b },
-            Opcode::Undef => Operation::Undef { a },
-            Opcode::SClass => Operation::SClass { a },
-            Opcode::TClass => Operation::TClass { a },
+            _ => unreachable!(),
+        }
+    }
+
+    /// What an instruction with three operands does.
+    #[inline(always)]
+    fn of_three(self, operands: Operands) -> Operation
+        requires { table.shape_of self ≡ Shape.BBB }
+        ensures { result ≡ operations.operation_of self operands }
+    {
+        let Operands { a, b, c, .. } = operands;
+        match self {
+            Opcode::GetUpVar => Operation::GetUpVar { a, b, c },
+            Opcode::SetUpVar => Operation::SetUpVar { a, b, c },
+            Opcode::SSend => Operation::SSend { a, b, c },
+            Opcode::SSendB => Operation::SSendB { a, b, c },
+            Opcode::Send => Operation::Send { a, b, c },
+            Opcode::SendB => Operation::SendB { a, b, c },
+            Opcode::Def => Operation::Def { a, b, c },
             Opcode::Defined => Operation::Defined { a, b, c },
-            Opcode::Stop => Operation::Stop,
+            _ => unreachable!(),
+        }
+    }
+
+    /// What an instruction with two operands and a place in a list does.
+    #[inline(always)]
+    fn of_element(self, operands: Operands) -> Operation
+        requires { table.shape_of self ≡ Shape.BBI }
+        ensures { result ≡ operations.operation_of self operands }
+    {
+        let Operands { a, b, by, .. } = operands;
+        match self {
+            Opcode::ARef => Operation::ARef { a, b, c: by },
+            Opcode::APost => Operation::APost { a, b, c: by },
+            _ => unreachable!(),
+        }
+    }
+
+    /// What an instruction with a distance does.
+    #[inline(always)]
+    fn of_jump(self, operands: Operands) -> Operation
+        requires { table.shape_of self ≡ Shape.S }
+        ensures { result ≡ operations.operation_of self operands }
+    {
+        let Operands { by, .. } = operands;
+        match self {
+            Opcode::Jmp => Operation::Jmp { by },
+            Opcode::JmpUw => Operation::JmpUw { by },
+            _ => unreachable!(),
+        }
+    }
+
+    /// What an instruction with an operand and a signed number of two bytes does.
+    #[inline(always)]
+    fn of_distance(self, operands: Operands) -> Operation
+        requires { table.shape_of self ≡ Shape.BS }
+        ensures { result ≡ operations.operation_of self operands }
+    {
+        let Operands { a, by, .. } = operands;
+        match self {
+            Opcode::LoadI16 => Operation::LoadI16 { a, b: by },
+            Opcode::JmpIf => Operation::JmpIf { a, by },
+            Opcode::JmpNot => Operation::JmpNot { a, by },
+            _ => unreachable!(),
+        }
+    }
+
+    /// What an instruction with an operand and a signed number of four bytes does.
+    #[inline(always)]
+    fn of_long(self, operands: Operands) -> Operation
+        requires { table.shape_of self ≡ Shape.BSS }
+        ensures { result ≡ operations.operation_of self operands }
+    {
+        let Operands { a, by, .. } = operands;
+        match self {
+            Opcode::LoadI32 => Operation::LoadI32 { a, b: by },
+            _ => unreachable!(),
+        }
+    }
+
+    /// What ENTER does.
+    #[inline(always)]
+    fn of_parameters(self, operands: Operands) -> Operation
+        requires { table.shape_of self ≡ Shape.W }
+        ensures { result ≡ operations.operation_of self operands }
+    {
+        let Operands { parameters, .. } = operands;
+        match self {
+            Opcode::Enter => Operation::Enter { parameters },
+            _ => unreachable!(),
         }
     }
 }

@@ -1,7 +1,7 @@
-use Rattle.std.proofs.Common.{arith}
+use Rattle.std.proofs.Common.{arith, sym}
 use Rattle.rite_code.proofs.Fitting.{decoded_fits}
-use Rattle.rite_code.proofs.decoding.body_of.Goals as goal
+use Rattle.rite_code.proofs.decoding.body_as.Goals as goal
 
 pub from_fitting-requires : goal.from_fitting-requires
-from_fitting-requires c = rw (c.operation-operation.ensures, c.operands.ensures, c.shape-shape.ensures)
+from_fitting-requires c = rw (c.operation_of-operation.ensures, c.operands.ensures, sym c.requires.shape)
     (decoded_fits c.args.wide c.args.opcode c.args.rest.now (λ i. omega (arith, c.type_inv.rest i)) c.requires.grows)
