@@ -1,3 +1,4 @@
 pub mod Whole
 pub mod Fresh
 pub mod Scanned
+pub mod Outside

@@ -1,9 +1,12 @@
 //! Classes of values, and what is above them.
 
-ghost use Rattle.std.specs.Prelude.{◌≡◌};
+ghost use Rattle.std.specs.Prelude.{◌≡◌, true};
 ghost use Rattle.def_core.specs.Classes.{empty_class};
 ghost use Rattle.def_core.specs.Sound.{Sound, census};
+ghost use Rattle.def_core.specs.Classes as classes;
+ghost use Rattle.def_calls.specs.Definitions as definitions;
 ghost use Rattle.rb_store.specs.Keeps.{Keeps};
+ghost use Rattle.heap.specs.Operands as operands;
 
 use crate::heap::Heap;
 use crate::making::add;
@@ -72,12 +75,16 @@ pub(crate) fn make_module(st: &mut Store) -> Result<ObjId, AllocError>
 impl Heap {
     /// The class of a value, by which its methods are found: its singleton class, where it has one.
     #[inline(always)]
-    pub fn class_of(&self, value: Value) -> ObjId {
+    pub fn class_of(&self, value: Value) -> ObjId
+        ensures { result ≡ classes.class_of self.now.store.objects (operands.own self.now.store value) }
+    {
         class_model::class_of(&self.st, own(&self.st, value))
     }
 
     /// The class of a value, and no singleton class.
-    pub fn plain_class_of(&self, value: Value) -> ObjId {
+    pub fn plain_class_of(&self, value: Value) -> ObjId
+        ensures { result ≡ classes.plain_class_of self.now.store.objects (operands.own self.now.store value) }
+    {
         class_model::plain_class_of(&self.st, own(&self.st, value))
     }
 
@@ -90,12 +97,17 @@ impl Heap {
     }
 
     /// The class or module that a value is.
-    pub fn space_in(&self, value: Value) -> Option<ObjId> {
+    pub fn space_in(&self, value: Value) -> Option<ObjId>
+        ensures { result ≡ definitions.space_in self.now.store.objects (operands.own self.now.store value) }
+    {
         run_definitions::space_in(&self.st, own(&self.st, value))
     }
 
     /// Whether a class or module is among the ancestors of a class.
-    pub fn is_in_chain(&self, class: ObjId, other: ObjId) -> bool {
+    pub fn is_in_chain(&self, class: ObjId, other: ObjId) -> bool
+        ensures { operands.has_space self.now.store class ≡ true →
+            result ≡ classes.is_member (classes.chain self.now.store.objects class) other }
+    {
         match space(&self.st, class) {
             Some(class) => class_model::is_in_chain(&self.st, class, other),
             None => false,
@@ -108,7 +120,10 @@ impl Heap {
     }
 
     /// The superclass of a class.
-    pub fn superclass_of(&self, class: ObjId) -> Option<ObjId> {
+    pub fn superclass_of(&self, class: ObjId) -> Option<ObjId>
+        ensures { operands.has_space self.now.store class ≡ true →
+            result ≡ (classes.class_at self.now.store.objects class).superclass }
+    {
         superclass_of(&self.st, space(&self.st, class)?)
     }
 

@@ -1,7 +1,12 @@
 //! Constants, and the lists of classes whose bodies enclose a text.
+ghost use Rattle.std.specs.Prelude.{◌≡◌, true};
 ghost use Rattle.def_core.specs.Sound.{Sound, census};
+ghost use Rattle.def_calls.specs.Constants as constants;
+ghost use Rattle.def_calls.specs.World.{World, with_store};
 ghost use Rattle.rb_store.specs.Keeps.{Keeps};
+ghost use Rattle.run_values.specs.Answers.{Answers};
 ghost use Rattle.run_definitions.specs.Enclosing.{AreEnclosing};
+ghost use Rattle.heap.specs.Operands as operands;
 
 use crate::heap::Heap;
 use crate::testing::{own, space, symbol};
@@ -22,6 +27,8 @@ pub(crate) fn set_constant_in(
 ) -> Result<Given, AllocError>
     requires sound { Sound st.old.store }
     ensures keeps { Keeps st.old st.new }
+    ensures answers { operands.has_space st.old.store class ≡ true → operands.has_symbol st.old.store name ≡ true → Answers st.old st.new result
+        (λ w. constants.set_constant_in w class name (operands.own st.old.store value)) }
 {
     let value = own(st, value);
     let Some(class) = space(st, class) else {
@@ -79,7 +86,10 @@ impl Heap {
     }
 
     /// The constant of a class or module or of an ancestor.
-    pub fn constant_within(&self, class: ObjId, name: SymId) -> Option<Value> {
+    pub fn constant_within(&self, class: ObjId, name: SymId) -> Option<Value>
+        ensures { operands.has_space self.now.store class ≡ true →
+            (w : World) → result ≡ constants.constant_within (with_store w self.now.store) class name }
+    {
         run_definitions::constant_within(&self.st, space(&self.st, class)?, name)
     }
 
@@ -94,7 +104,10 @@ impl Heap {
         class: ObjId,
         name: SymId,
         value: Value,
-    ) -> Result<Given, AllocError> {
+    ) -> Result<Given, AllocError>
+        ensures answers { operands.has_space self.old.store class ≡ true → operands.has_symbol self.old.store name ≡ true → Answers self.old self.new result
+            (λ w. constants.set_constant_in w class name (operands.own self.old.store value)) }
+    {
         set_constant_in(&mut self.st, class, name, value)
     }
 

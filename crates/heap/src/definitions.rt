@@ -1,6 +1,10 @@
 //! Definitions of methods, classes and modules.
+ghost use Rattle.std.specs.Prelude.{◌≡◌, true};
 ghost use Rattle.def_core.specs.Sound.{Sound, census};
+ghost use Rattle.def_calls.specs.Definitions as definitions;
 ghost use Rattle.rb_store.specs.Keeps.{Keeps};
+ghost use Rattle.run_values.specs.Answers.{Answers};
+ghost use Rattle.heap.specs.Operands as operands;
 
 use crate::heap::Heap;
 use crate::testing::{own, space, symbol};
@@ -30,6 +34,8 @@ pub(crate) fn define_method(
 ) -> Result<Given, AllocError>
     requires sound { Sound st.old.store }
     ensures keeps { Keeps st.old st.new }
+    ensures answers { operands.has_space st.old.store class ≡ true → operands.has_symbol st.old.store name ≡ true →
+        Answers st.old st.new result (λ w. definitions.define_method w class name body around) }
 {
     let Some(class) = space(st, class) else {
         return Ok(Given::Gives(Value::Nil));
@@ -45,6 +51,7 @@ pub(crate) fn define_method(
 pub(crate) fn singleton_class(st: &mut Store, value: Value) -> Result<Given, AllocError>
     requires sound { Sound st.old.store }
     ensures keeps { Keeps st.old st.new }
+    ensures answers { Answers st.old st.new result (λ w. definitions.singleton_class w (operands.own st.old.store value)) }
 {
     let value = own(st, value);
     run_definitions::singleton_class(st, value)
@@ -61,6 +68,8 @@ pub(crate) fn open_class(
 ) -> Result<Given, AllocError>
     requires sound { Sound st.old.store }
     ensures keeps { Keeps st.old st.new }
+    ensures answers { operands.has_symbol st.old.store name ≡ true → Answers st.old st.new result (λ w.
+        definitions.open_class w (operands.own st.old.store scope) name (operands.own st.old.store parent)) }
 {
     let scope = own(st, scope);
     let parent = own(st, parent);
@@ -75,6 +84,8 @@ pub(crate) fn open_class(
 pub(crate) fn open_module(st: &mut Store, scope: Value, name: SymId) -> Result<Given, AllocError>
     requires sound { Sound st.old.store }
     ensures keeps { Keeps st.old st.new }
+    ensures answers { operands.has_symbol st.old.store name ≡ true → Answers st.old st.new result (λ w.
+        definitions.open_module w (operands.own st.old.store scope) name) }
 {
     let scope = own(st, scope);
     match symbol(st, name) {
@@ -94,6 +105,8 @@ pub(crate) fn alias_method(
 ) -> Result<Given, AllocError>
     requires sound { Sound st.old.store }
     ensures keeps { Keeps st.old st.new }
+    ensures answers { operands.has_space st.old.store class ≡ true → operands.has_symbol st.old.store alias ≡ true → operands.has_symbol st.old.store name ≡ true →
+        Answers st.old st.new result (λ w. definitions.alias_method w class alias name) }
 {
     let Some(class) = space(st, class) else {
         return Ok(Given::Gives(Value::Nil));
@@ -116,6 +129,8 @@ pub(crate) fn undefine_method(
 ) -> Result<Given, AllocError>
     requires sound { Sound st.old.store }
     ensures keeps { Keeps st.old st.new }
+    ensures answers { operands.has_space st.old.store class ≡ true → operands.has_symbol st.old.store name ≡ true →
+        Answers st.old st.new result (λ w. definitions.undefine_method w class name) }
 {
     let Some(class) = space(st, class) else {
         return Ok(Given::Gives(Value::Nil));
@@ -152,12 +167,17 @@ impl Heap {
         name: SymId,
         body: u32,
         around: u64,
-    ) -> Result<Given, AllocError> {
+    ) -> Result<Given, AllocError>
+        ensures answers { operands.has_space self.old.store class ≡ true → operands.has_symbol self.old.store name ≡ true →
+            Answers self.old self.new result (λ w. definitions.define_method w class name body around) }
+    {
         define_method(&mut self.st, class, name, body, around)
     }
 
     /// Gives the singleton class of a value; a value that has none raises.
-    pub fn singleton_class(&mut self, value: Value) -> Result<Given, AllocError> {
+    pub fn singleton_class(&mut self, value: Value) -> Result<Given, AllocError>
+        ensures answers { Answers self.old self.new result (λ w. definitions.singleton_class w (operands.own self.old.store value)) }
+    {
         singleton_class(&mut self.st, value)
     }
 
@@ -168,12 +188,18 @@ impl Heap {
         scope: Value,
         name: SymId,
         parent: Value,
-    ) -> Result<Given, AllocError> {
+    ) -> Result<Given, AllocError>
+        ensures answers { operands.has_symbol self.old.store name ≡ true → Answers self.old self.new result (λ w.
+            definitions.open_class w (operands.own self.old.store scope) name (operands.own self.old.store parent)) }
+    {
         open_class(&mut self.st, scope, name, parent)
     }
 
     /// Gives the module of that name in a scope: the one that is there, or a new one. What can't be so raises.
-    pub fn open_module(&mut self, scope: Value, name: SymId) -> Result<Given, AllocError> {
+    pub fn open_module(&mut self, scope: Value, name: SymId) -> Result<Given, AllocError>
+        ensures answers { operands.has_symbol self.old.store name ≡ true → Answers self.old self.new result (λ w.
+            definitions.open_module w (operands.own self.old.store scope) name) }
+    {
         open_module(&mut self.st, scope, name)
     }
 
@@ -184,12 +210,18 @@ impl Heap {
         class: ObjId,
         alias: SymId,
         name: SymId,
-    ) -> Result<Given, AllocError> {
+    ) -> Result<Given, AllocError>
+        ensures answers { operands.has_space self.old.store class ≡ true → operands.has_symbol self.old.store alias ≡ true → operands.has_symbol self.old.store name ≡ true →
+            Answers self.old self.new result (λ w. definitions.alias_method w class alias name) }
+    {
         alias_method(&mut self.st, class, alias, name)
     }
 
     /// Ends the search for a method in a class or module with nothing. A name that isn't found raises.
-    pub fn undefine_method(&mut self, class: ObjId, name: SymId) -> Result<Given, AllocError> {
+    pub fn undefine_method(&mut self, class: ObjId, name: SymId) -> Result<Given, AllocError>
+        ensures answers { operands.has_space self.old.store class ≡ true → operands.has_symbol self.old.store name ≡ true →
+            Answers self.old self.new result (λ w. definitions.undefine_method w class name) }
+    {
         undefine_method(&mut self.st, class, name)
     }
 

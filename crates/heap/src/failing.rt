@@ -1,6 +1,8 @@
 //! Exceptions that the language raises.
 ghost use Rattle.def_core.specs.Sound.{Sound, census};
+ghost use Rattle.def_calls.specs.Values as values;
 ghost use Rattle.rb_store.specs.Keeps.{Keeps};
+ghost use Rattle.run_values.specs.Answers.{Answers};
 
 use crate::heap::Heap;
 use crate::making::make_exception;
@@ -26,6 +28,7 @@ pub(crate) fn fail(st: &mut Store, cause: Cause) -> Result<Given, AllocError>
 pub(crate) fn wrong_value(st: &mut Store, instruction: &[u8]) -> Result<Given, AllocError>
     requires sound { Sound st.old.store }
     ensures keeps { Keeps st.old st.new }
+    ensures answers { Answers st.old st.new result (λ w. values.wrong_value w instruction.now) }
 {
     run_values::wrong_value(st, instruction)
 }
@@ -54,7 +57,9 @@ impl Heap {
     }
 
     /// Raises since an instruction of that name meets a value that it isn't made for.
-    pub fn wrong_value(&mut self, instruction: &[u8]) -> Result<Given, AllocError> {
+    pub fn wrong_value(&mut self, instruction: &[u8]) -> Result<Given, AllocError>
+        ensures { Answers self.old self.new result (λ w. values.wrong_value w instruction.now) }
+    {
         wrong_value(&mut self.st, instruction)
     }
 

@@ -1,6 +1,11 @@
 //! Changes of Hashes.
+ghost use Rattle.std.specs.Prelude.{◌≡◌, IfOk};
 ghost use Rattle.def_core.specs.Sound.{Sound, census};
+ghost use Rattle.def_core.specs.Parts.{pair_of};
+ghost use Rattle.def_calls.specs.Values as values;
 ghost use Rattle.rb_store.specs.Keeps.{Keeps};
+ghost use Rattle.heap.specs.Changes as changes;
+ghost use Rattle.heap.specs.Operands as operands;
 
 use crate::heap::Heap;
 use crate::testing::{block, hash, object, own};
@@ -40,6 +45,8 @@ pub(crate) fn put_pair(
 pub(crate) fn remove_pair(st: &mut Store, id: ObjId, key: &Key) -> Option<HashItem>
     requires sound { Sound st.old.store }
     ensures keeps { Keeps st.old st.new }
+    ensures item { result ≡ pair_of st.old.store.objects id key.now }
+    ensures rest { st.new ≡ changes.without_key st.old id key.now }
 {
     match hash(st, id) {
         Some(id) => st.remove_pair(id, key),
@@ -52,6 +59,7 @@ pub(crate) fn remove_pair(st: &mut Store, id: ObjId, key: &Key) -> Option<HashIt
 pub(crate) fn set_absent(st: &mut Store, id: ObjId, default: Value, absent: Option<ObjId>)
     requires sound { Sound st.old.store }
     ensures keeps { Keeps st.old st.new }
+    ensures absent { st.new ≡ changes.with_absent st.old id default absent }
 {
     let default = own(st, default);
     let absent = block(st, absent);
@@ -99,7 +107,9 @@ impl Heap {
 
     /// The key that stands for a value. None where Arrays stand in one another more than 10,000 deep.
     #[tactic(auto, using(def_core::proofs::Roles::is_within))]
-    pub fn key_of(&self, value: Value) -> Result<Option<Key>, AllocError> {
+    pub fn key_of(&self, value: Value) -> Result<Option<Key>, AllocError>
+        ensures { IfOk result (λ key. key ≡ values.key_of self.now.store.objects (operands.own self.now.store value)) }
+    {
         run_values::key_of(&self.st, own(&self.st, value))
     }
 
@@ -110,12 +120,17 @@ impl Heap {
     }
 
     /// Takes a key and its value out of a Hash.
-    pub fn remove_pair(&mut self, id: ObjId, key: &Key) -> Option<HashItem> {
+    pub fn remove_pair(&mut self, id: ObjId, key: &Key) -> Option<HashItem>
+        ensures item { result ≡ pair_of self.old.store.objects id key.now }
+        ensures rest { self.new ≡ changes.without_key self.old id key.now }
+    {
         remove_pair(&mut self.st, id, key)
     }
 
     /// Sets what an absent key of a Hash gives, and the Proc that is called for it.
-    pub fn set_absent(&mut self, id: ObjId, default: Value, absent: Option<ObjId>) {
+    pub fn set_absent(&mut self, id: ObjId, default: Value, absent: Option<ObjId>)
+        ensures absent { self.new ≡ changes.with_absent self.old id default absent }
+    {
         set_absent(&mut self.st, id, default, absent);
     }
 }

@@ -4,6 +4,8 @@
 //! Its calls take any operands and test them where they come in: a value that names nothing of the heap counts as nil,
 //! an object of another sort than is wanted has no elements, no bytes and no pairs, and a change of it changes nothing.
 //! So a call can fail for memory alone, and what it makes of a program's fault is an exception, as [`Given`] says.
+//! What a call reads or leaves stands in its contract, by the words of specs/: Operands says what an operand counts as,
+//! Changes what is left of the store.
 //!
 //! Types: [`Heap`], [`Site`], [`Blank`], [`Cursor`]; [`Given`] of run_values. The calls are those of [`Heap`].
 #![tactic(auto)]

@@ -2,7 +2,9 @@
 ghost use Rattle.std.specs.Prelude.{◌≡◌, [], None, length, IfOk};
 ghost use Rattle.rb_value.specs.declared.value.Value.TheVariants.{Nil};
 ghost use Rattle.def_core.specs.Sound.{Sound, SoundKind, census, Is, Class};
+ghost use Rattle.def_calls.specs.Values as values;
 ghost use Rattle.rb_store.specs.Keeps.{Keeps};
+ghost use Rattle.run_values.specs.Answers.{Answers};
 
 use crate::heap::Heap;
 use crate::testing::{are_own, class_or_object, own, own_proc, proc};
@@ -104,6 +106,7 @@ pub(crate) fn make_range(
 ) -> Result<Given, AllocError>
     requires sound { Sound st.old.store }
     ensures keeps { Keeps st.old st.new }
+    ensures answers { Answers st.old st.new result (λ w. values.make_range w first last exclusive) }
 {
     run_values::make_range(st, first, last, exclusive)
 }
@@ -234,7 +237,9 @@ impl Heap {
         first: Value,
         last: Value,
         exclusive: bool,
-    ) -> Result<Given, AllocError> {
+    ) -> Result<Given, AllocError>
+        ensures answers { Answers self.old self.new result (λ w. values.make_range w first last exclusive) }
+    {
         make_range(&mut self.st, first, last, exclusive)
     }
 

@@ -1,6 +1,12 @@
 //! Changes of single facts of objects.
+ghost use Rattle.std.specs.Prelude.{◌≡◌, true};
 ghost use Rattle.def_core.specs.Sound.{Sound, census};
+ghost use Rattle.def_calls.specs.World.{World, with_store};
+ghost use Rattle.def_calls.specs.Values as values;
 ghost use Rattle.rb_store.specs.Keeps.{Keeps};
+ghost use Rattle.run_values.specs.Answers.{Answers};
+ghost use Rattle.heap.specs.Changes as changes;
+ghost use Rattle.heap.specs.Operands as operands;
 
 use crate::heap::Heap;
 use crate::testing::{exception, fiber, object, own, symbol};
@@ -31,6 +37,8 @@ pub(crate) fn set_instance_variable(
 ) -> Result<Given, AllocError>
     requires sound { Sound st.old.store }
     ensures keeps { Keeps st.old st.new }
+    ensures answers { operands.has_symbol st.old.store name ≡ true → Answers st.old st.new result (λ w.
+        values.set_instance_variable w (operands.own st.old.store receiver) name (operands.own st.old.store value)) }
 {
     let receiver = own(st, receiver);
     let value = own(st, value);
@@ -72,6 +80,7 @@ pub(crate) fn set_detail(st: &mut Store, id: ObjId, detail: Value)
 pub(crate) fn send_proc(st: &mut Store, id: ObjId, activation: Option<u64>)
     requires sound { Sound st.old.store }
     ensures keeps { Keeps st.old st.new }
+    ensures sent { st.new ≡ changes.with_sent st.old id activation }
 {
     if let Some(id) = object(st, id) {
         st.send_proc(id, activation);
@@ -83,6 +92,7 @@ pub(crate) fn send_proc(st: &mut Store, id: ObjId, activation: Option<u64>)
 pub(crate) fn end_fiber(st: &mut Store, id: ObjId)
     requires sound { Sound st.old.store }
     ensures keeps { Keeps st.old st.new }
+    ensures ended { st.new ≡ changes.with_ended st.old id }
 {
     if let Some(id) = fiber(st, id) {
         st.end_fiber(id);
@@ -92,7 +102,10 @@ pub(crate) fn end_fiber(st: &mut Store, id: ObjId)
 impl Heap {
     /// The value of an instance variable of a value; nil where it wasn't set.
     #[inline(always)]
-    pub fn instance_variable(&self, receiver: Value, name: SymId) -> Value {
+    pub fn instance_variable(&self, receiver: Value, name: SymId) -> Value
+        ensures { (w : World) →
+            values.instance_variable (with_store w self.now.store) (operands.own self.now.store receiver) name ≡ result }
+    {
         run_values::instance_variable(&self.st, own(&self.st, receiver), name)
     }
 
@@ -103,7 +116,10 @@ impl Heap {
         receiver: Value,
         name: SymId,
         value: Value,
-    ) -> Result<Given, AllocError> {
+    ) -> Result<Given, AllocError>
+        ensures answers { operands.has_symbol self.old.store name ≡ true → Answers self.old self.new result (λ w.
+            values.set_instance_variable w (operands.own self.old.store receiver) name (operands.own self.old.store value)) }
+    {
         set_instance_variable(&mut self.st, receiver, name, value)
     }
 
@@ -120,12 +136,16 @@ impl Heap {
 
     /// Notes that a Proc was the block of a call that opened that activation, or none. Only the first call counts.
     #[inline(always)]
-    pub fn send_proc(&mut self, id: ObjId, activation: Option<u64>) {
+    pub fn send_proc(&mut self, id: ObjId, activation: Option<u64>)
+        ensures sent { self.new ≡ changes.with_sent self.old id activation }
+    {
         send_proc(&mut self.st, id, activation);
     }
 
     /// Notes that a fiber has ended.
-    pub fn end_fiber(&mut self, id: ObjId) {
+    pub fn end_fiber(&mut self, id: ObjId)
+        ensures ended { self.new ≡ changes.with_ended self.old id }
+    {
         end_fiber(&mut self.st, id);
     }
 }

@@ -1,4 +1,8 @@
 //! What objects hold.
+ghost use Rattle.std.specs.Prelude.{◌≡◌, [], length, false, slice_get, option_map, MatchOption, if◌then◌else◌};
+ghost use Rattle.def_core.specs.Store.{object_at, name_at};
+ghost use Rattle.def_core.specs.Parts as parts;
+ghost use Rattle.heap.specs.Operands as operands;
 
 use crate::heap::Heap;
 use crate::testing::{object, own, symbol};
@@ -11,7 +15,10 @@ impl Heap {
     /// What an object holds.
     #[inline(always)]
     #[tactic(auto, using(def_core::proofs::Roles::is_within))]
-    pub fn kind(&self, id: ObjId) -> Option<&Kind> {
+    pub fn kind(&self, id: ObjId) -> Option<&Kind>
+        ensures { MatchOption result (operands.has_object self.now.store id ≡ false)
+            (λ kind. kind.now ≡ (object_at self.now.store.objects id).kind) }
+    {
         let id = object(&self.st, id)?;
         Some(self.st.get(id).kind())
     }
@@ -74,8 +81,10 @@ impl Heap {
 
     /// The elements of an Array; none of another object.
     #[inline(always)]
-    #[tactic(auto, using(def_core::proofs::Roles::is_within))]
-    pub fn elements(&self, id: ObjId) -> &[Value] {
+    #[tactic(auto, using(def_core::proofs::Roles::is_within, crate::proofs::Outside::object_outside))]
+    pub fn elements(&self, id: ObjId) -> &[Value]
+        ensures { result.now ≡ parts.elements_at self.now.store.objects id }
+    {
         match object(&self.st, id) {
             Some(id) => self.st.elements(id),
             None => &[],
@@ -89,8 +98,10 @@ impl Heap {
     }
 
     /// The bytes of a String; none of another object.
-    #[tactic(auto, using(def_core::proofs::Roles::is_within))]
-    pub fn text(&self, id: ObjId) -> &[u8] {
+    #[tactic(auto, using(def_core::proofs::Roles::is_within, crate::proofs::Outside::object_outside))]
+    pub fn text(&self, id: ObjId) -> &[u8]
+        ensures { result.now ≡ parts.text_at self.now.store.objects id }
+    {
         match object(&self.st, id) {
             Some(id) => self.st.text(id),
             None => &[],
@@ -104,13 +115,17 @@ impl Heap {
     }
 
     /// How many symbols there are.
-    pub fn symbol_count(&self) -> u64 {
+    pub fn symbol_count(&self) -> u64
+        ensures { result ≡ length self.now.store.symbols }
+    {
         self.st.symbol_count()
     }
 
     /// The name of a symbol.
     #[tactic(auto)]
-    pub fn symbol_name(&self, name: SymId) -> &[u8] {
+    pub fn symbol_name(&self, name: SymId) -> &[u8]
+        ensures { result.now ≡ (if operands.has_symbol self.now.store name then name_at self.now.store name else []) }
+    {
         match symbol(&self.st, name) {
             Some(name) => self.st.symbol_name(name),
             None => b"",
@@ -186,8 +201,10 @@ impl Heap {
     }
 
     /// How many pairs a Hash has; none of another object.
-    #[tactic(auto, using(def_core::proofs::Roles::is_within))]
-    pub fn pair_count(&self, id: ObjId) -> usize {
+    #[tactic(auto, using(def_core::proofs::Roles::is_within, crate::proofs::Outside::object_outside))]
+    pub fn pair_count(&self, id: ObjId) -> usize
+        ensures { result ≡ length (parts.hash_at self.now.store.objects id).pairs }
+    {
         match object(&self.st, id) {
             Some(id) => self.st.pair_count(id),
             None => 0,
@@ -195,21 +212,29 @@ impl Heap {
     }
 
     /// The pair at a place of a Hash.
-    #[tactic(auto, using(def_core::proofs::Roles::is_within))]
-    pub fn pair_at(&self, id: ObjId, place: usize) -> Option<HashItem> {
+    #[tactic(auto, using(def_core::proofs::Roles::is_within, crate::proofs::Outside::object_outside))]
+    pub fn pair_at(&self, id: ObjId, place: usize) -> Option<HashItem>
+        ensures { result ≡ option_map (λ p. p.1) (slice_get (parts.hash_at self.now.store.objects id).pairs place) }
+    {
         let id = object(&self.st, id)?;
         self.st.pair_at(id, place)
     }
 
     /// What stands under a key of a Hash.
-    #[tactic(auto, using(def_core::proofs::Roles::is_within))]
-    pub fn pair(&self, id: ObjId, key: &Key) -> Option<HashItem> {
+    #[tactic(auto, using(def_core::proofs::Roles::is_within, crate::proofs::Outside::object_outside))]
+    pub fn pair(&self, id: ObjId, key: &Key) -> Option<HashItem>
+        ensures { result ≡ parts.pair_of self.now.store.objects id key.now }
+    {
         let id = object(&self.st, id)?;
         self.st.pair(id, key)
     }
 
     /// What an absent key of a Hash gives, and the Proc that is called for it.
-    pub fn absent_of(&self, id: ObjId) -> (Value, Option<ObjId>) {
+    #[tactic(auto, using(crate::proofs::Outside::object_outside))]
+    pub fn absent_of(&self, id: ObjId) -> (Value, Option<ObjId>)
+        ensures default { result.0 ≡ (parts.hash_at self.now.store.objects id).default }
+        ensures block { result.1 ≡ (parts.hash_at self.now.store.objects id).block }
+    {
         match self.kind(id) {
             Some(Kind::Hash(contents)) => (contents.get().default, contents.get().block),
             _ => (Value::Nil, None),
@@ -217,8 +242,10 @@ impl Heap {
     }
 
     /// The instance variables of an object, in the order in which they were first set.
-    #[tactic(auto, using(def_core::proofs::Roles::is_within))]
-    pub fn variables(&self, id: ObjId) -> &[Variable] {
+    #[tactic(auto, using(def_core::proofs::Roles::is_within, crate::proofs::Outside::object_outside))]
+    pub fn variables(&self, id: ObjId) -> &[Variable]
+        ensures { result.now ≡ (object_at self.now.store.objects id).variables }
+    {
         match object(&self.st, id) {
             Some(id) => self.st.get(id).variables(),
             None => &[],
@@ -226,8 +253,10 @@ impl Heap {
     }
 
     /// The value of an instance variable of an object, where it was set.
-    #[tactic(auto, using(def_core::proofs::Roles::is_within))]
-    pub fn variable(&self, id: ObjId, name: SymId) -> Option<Value> {
+    #[tactic(auto, using(def_core::proofs::Roles::is_within, crate::proofs::Outside::object_outside))]
+    pub fn variable(&self, id: ObjId, name: SymId) -> Option<Value>
+        ensures { result ≡ parts.variable_of self.now.store.objects id name }
+    {
         let id = object(&self.st, id)?;
         self.st.variable(id, name)
     }

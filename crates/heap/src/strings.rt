@@ -1,6 +1,8 @@
 //! Changes of Strings.
+ghost use Rattle.std.specs.Prelude.{◌≡◌, OnOk, OnErr};
 ghost use Rattle.def_core.specs.Sound.{Sound, census};
 ghost use Rattle.rb_store.specs.Keeps.{Keeps};
+ghost use Rattle.heap.specs.Changes as changes;
 
 use crate::heap::Heap;
 use crate::testing::string;
@@ -14,6 +16,8 @@ use std::alloc::AllocError;
 pub(crate) fn append_bytes(st: &mut Store, id: ObjId, more: &[u8]) -> Result<(), AllocError>
     requires sound { Sound st.old.store }
     ensures keeps { Keeps st.old st.new }
+    ensures ok { OnOk result (st.new ≡ changes.with_more_bytes st.old id more.now) }
+    ensures err { OnErr result (st.new ≡ st.old) }
 {
     match string(st, id) {
         Some(id) => st.append_bytes(id, more),
@@ -26,6 +30,7 @@ pub(crate) fn append_bytes(st: &mut Store, id: ObjId, more: &[u8]) -> Result<(),
 pub(crate) fn replace_text(st: &mut Store, id: ObjId, bytes: Vec<u8>)
     requires sound { Sound st.old.store }
     ensures keeps { Keeps st.old st.new }
+    ensures replaced { st.new ≡ changes.with_bytes st.old id bytes.items }
 {
     if let Some(id) = string(st, id) {
         let _before = st.replace_text(id, Bytes::from_vec(bytes));
@@ -34,12 +39,17 @@ pub(crate) fn replace_text(st: &mut Store, id: ObjId, bytes: Vec<u8>)
 
 impl Heap {
     /// Puts bytes after those of a String. Where memory runs out the String is as before.
-    pub fn append_bytes(&mut self, id: ObjId, more: &[u8]) -> Result<(), AllocError> {
+    pub fn append_bytes(&mut self, id: ObjId, more: &[u8]) -> Result<(), AllocError>
+        ensures ok { OnOk result (self.new ≡ changes.with_more_bytes self.old id more.now) }
+        ensures err { OnErr result (self.new ≡ self.old) }
+    {
         append_bytes(&mut self.st, id, more)
     }
 
     /// Puts other bytes in the place of all bytes of a String.
-    pub fn replace_text(&mut self, id: ObjId, bytes: Vec<u8>) {
+    pub fn replace_text(&mut self, id: ObjId, bytes: Vec<u8>)
+        ensures replaced { self.new ≡ changes.with_bytes self.old id bytes.items }
+    {
         replace_text(&mut self.st, id, bytes);
     }
 }

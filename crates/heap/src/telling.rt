@@ -1,7 +1,11 @@
 //! What `defined?` tells: a text of what is there, or nil.
+ghost use Rattle.std.specs.Prelude.{◌≡◌};
 ghost use Rattle.def_core.specs.Sound.{Sound, census};
+ghost use Rattle.def_calls.specs.Definitions as definitions;
 ghost use Rattle.rb_store.specs.Keeps.{Keeps};
+ghost use Rattle.run_values.specs.Answers.{Answers};
 ghost use Rattle.run_definitions.specs.Enclosing.{AreEnclosing};
+ghost use Rattle.heap.specs.Operands as operands;
 
 use crate::heap::Heap;
 use crate::testing::{own, symbol};
@@ -20,6 +24,8 @@ pub(crate) fn tell_variable(
 ) -> Result<Given, AllocError>
     requires sound { Sound st.old.store }
     ensures keeps { Keeps st.old st.new }
+    ensures answers { Answers st.old st.new result
+        (λ w. definitions.instance_variable_told w (operands.own st.old.store receiver) name) }
 {
     let receiver = own(st, receiver);
     telling::instance_variable(st, receiver, name)
@@ -49,6 +55,8 @@ pub(crate) fn tell_constant_in(
 ) -> Result<Given, AllocError>
     requires sound { Sound st.old.store }
     ensures keeps { Keeps st.old st.new }
+    ensures answers { Answers st.old st.new result
+        (λ w. definitions.constant_in_told w (operands.own st.old.store value) name) }
 {
     let value = own(st, value);
     telling::constant_in(st, value, name)
@@ -64,6 +72,8 @@ pub(crate) fn tell_method(
 ) -> Result<Given, AllocError>
     requires sound { Sound st.old.store }
     ensures keeps { Keeps st.old st.new }
+    ensures answers { Answers st.old st.new result (λ w.
+        definitions.method_told w (operands.own st.old.store caller) (operands.own st.old.store receiver) name) }
 {
     let caller = own(st, caller);
     let receiver = own(st, receiver);
@@ -81,7 +91,10 @@ impl Heap {
     }
 
     /// Whether an instance variable of a value was set.
-    pub fn tell_variable(&mut self, receiver: Value, name: SymId) -> Result<Given, AllocError> {
+    pub fn tell_variable(&mut self, receiver: Value, name: SymId) -> Result<Given, AllocError>
+        ensures answers { Answers self.old self.new result
+            (λ w. definitions.instance_variable_told w (operands.own self.old.store receiver) name) }
+    {
         tell_variable(&mut self.st, receiver, name)
     }
 
@@ -91,7 +104,10 @@ impl Heap {
     }
 
     /// Whether a value is a class or module that has a constant, or whose ancestors have.
-    pub fn tell_constant_in(&mut self, value: Value, name: SymId) -> Result<Given, AllocError> {
+    pub fn tell_constant_in(&mut self, value: Value, name: SymId) -> Result<Given, AllocError>
+        ensures answers { Answers self.old self.new result
+            (λ w. definitions.constant_in_told w (operands.own self.old.store value) name) }
+    {
         tell_constant_in(&mut self.st, value, name)
     }
 
@@ -101,7 +117,10 @@ impl Heap {
         caller: Value,
         receiver: Value,
         name: SymId,
-    ) -> Result<Given, AllocError> {
+    ) -> Result<Given, AllocError>
+        ensures answers { Answers self.old self.new result (λ w.
+            definitions.method_told w (operands.own self.old.store caller) (operands.own self.old.store receiver) name) }
+    {
         tell_method(&mut self.st, caller, receiver, name)
     }
 

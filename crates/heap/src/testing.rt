@@ -1,9 +1,10 @@
 //! Tests of operands.
-ghost use Rattle.std.specs.Prelude.{◌≡◌, ◌<◌, true, length, IfSome};
+ghost use Rattle.std.specs.Prelude.{◌≡◌, ◌<◌, true, false, length, IfSome, MatchOption};
 ghost use Rattle.rb_value.specs.declared.kind.Sort.TheVariants as sorts;
 ghost use Rattle.def_core.specs.Store.{sort_at};
-ghost use Rattle.def_core.specs.Sound.{census, Is, Any, Class, ClassOrModule, Module, Proc, Array, String, Fiber, IsSymbol, IsValue, OptionIs, AllAre, Sound, SoundMethod, SoundProc};
+ghost use Rattle.def_core.specs.Sound.{census, plays, Is, Any, Class, ClassOrModule, Module, Proc, Array, String, Fiber, IsSymbol, IsValue, OptionIs, AllAre, Sound, SoundMethod, SoundProc};
 ghost use Rattle.rb_raise.specs.Causes.{SoundCause};
+ghost use Rattle.heap.specs.Operands as operands;
 
 use def_core::Cause;
 use rb_store::Store;
@@ -13,7 +14,8 @@ use rb_value::{CoreClass, Method, ObjId, ProcContents, Sort, SymId, Value};
 #[inline(always)]
 #[tactic(auto, using(def_core::proofs::Roles::is_by_sort))]
 pub(crate) fn own(st: &Store, value: Value) -> Value
-    ensures { IsValue (census st.now.store) result }
+    ensures belongs { IsValue (census st.now.store) result }
+    ensures own { result ≡ operands.own st.now.store value }
 {
     match value {
         Value::Obj(id) => match object(st, id) {
@@ -34,6 +36,8 @@ pub(crate) fn own(st: &Store, value: Value) -> Value
 pub(crate) fn object(st: &Store, id: ObjId) -> Option<ObjId>
     ensures there { OptionIs (Is (census st.now.store) Any) result }
     ensures within { IfSome result (λ id. id.0 < length st.now.store.objects) }
+    ensures found { MatchOption result (operands.has_object st.now.store id ≡ false)
+        (λ found. (found ≡ id) × (operands.has_object st.now.store id ≡ true)) }
 {
     if id.0 < st.len() { Some(id) } else { None }
 }
@@ -41,7 +45,9 @@ pub(crate) fn object(st: &Store, id: ObjId) -> Option<ObjId>
 /// The symbol, where the store has one of that number.
 #[inline(always)]
 pub(crate) fn symbol(st: &Store, name: SymId) -> Option<SymId>
-    ensures { OptionIs (IsSymbol (census st.now.store)) result }
+    ensures there { OptionIs (IsSymbol (census st.now.store)) result }
+    ensures found { MatchOption result (operands.has_symbol st.now.store name ≡ false)
+        (λ found. (found ≡ name) × (operands.has_symbol st.now.store name ≡ true)) }
 {
     if name.0 < st.symbol_count() {
         Some(name)
@@ -52,9 +58,11 @@ pub(crate) fn symbol(st: &Store, name: SymId) -> Option<SymId>
 
 /// The class or module of that number.
 #[inline(always)]
-#[tactic(auto, using(def_core::proofs::Roles::is_by_sort))]
+#[tactic(auto, using(def_core::proofs::Roles::is_by_sort, crate::proofs::Outside::sort_outside))]
 pub(crate) fn space(st: &Store, id: ObjId) -> Option<ObjId>
-    ensures { OptionIs (Is (census st.now.store) ClassOrModule) result }
+    ensures there { OptionIs (Is (census st.now.store) ClassOrModule) result }
+    ensures found { MatchOption result (operands.has_space st.now.store id ≡ false)
+        (λ found. (found ≡ id) × (operands.has_space st.now.store id ≡ true)) }
 {
     if id.0 >= st.len() {
         return None;
@@ -93,9 +101,11 @@ pub(crate) fn class_or_object(st: &Store, id: ObjId) -> ObjId
 
 /// The Proc of that number.
 #[inline(always)]
-#[tactic(auto, using(def_core::proofs::Roles::is_by_sort))]
+#[tactic(auto, using(def_core::proofs::Roles::is_by_sort, crate::proofs::Outside::sort_outside))]
 pub(crate) fn proc(st: &Store, id: ObjId) -> Option<ObjId>
-    ensures { OptionIs (Is (census st.now.store) Proc) result }
+    ensures there { OptionIs (Is (census st.now.store) Proc) result }
+    ensures found { MatchOption result (plays Proc (sort_at st.now.store.objects id) ≡ false)
+        (λ found. (found ≡ id) × (plays Proc (sort_at st.now.store.objects id) ≡ true)) }
 {
     if id.0 >= st.len() {
         return None;
@@ -109,7 +119,8 @@ pub(crate) fn proc(st: &Store, id: ObjId) -> Option<ObjId>
 /// The Proc, where there is one of that number.
 #[inline(always)]
 pub(crate) fn block(st: &Store, block: Option<ObjId>) -> Option<ObjId>
-    ensures { OptionIs (Is (census st.now.store) Proc) result }
+    ensures there { OptionIs (Is (census st.now.store) Proc) result }
+    ensures own { result ≡ operands.own_block st.now.store block }
 {
     match block {
         Some(id) => proc(st, id),
@@ -118,10 +129,12 @@ pub(crate) fn block(st: &Store, block: Option<ObjId>) -> Option<ObjId>
 }
 
 /// The Array of that number.
-#[tactic(auto, using(def_core::proofs::Roles::is_by_sort))]
+#[tactic(auto, using(def_core::proofs::Roles::is_by_sort, crate::proofs::Outside::sort_outside))]
 pub(crate) fn array(st: &Store, id: ObjId) -> Option<ObjId>
     ensures there { OptionIs (Is (census st.now.store) Array) result }
     ensures sort { IfSome result (λ id. sort_at st.now.store.objects id ≡ sorts.Array) }
+    ensures found { MatchOption result (operands.is_array (sort_at st.now.store.objects id) ≡ false)
+        (λ found. found ≡ id) }
 {
     if id.0 >= st.len() {
         return None;
@@ -133,10 +146,12 @@ pub(crate) fn array(st: &Store, id: ObjId) -> Option<ObjId>
 }
 
 /// The fiber of that number.
-#[tactic(auto, using(def_core::proofs::Roles::is_by_sort))]
+#[tactic(auto, using(def_core::proofs::Roles::is_by_sort, crate::proofs::Outside::sort_outside))]
 pub(crate) fn fiber(st: &Store, id: ObjId) -> Option<ObjId>
     ensures there { OptionIs (Is (census st.now.store) Fiber) result }
     ensures sort { IfSome result (λ id. sort_at st.now.store.objects id ≡ sorts.Fiber) }
+    ensures found { MatchOption result (operands.is_fiber (sort_at st.now.store.objects id) ≡ false)
+        (λ found. found ≡ id) }
 {
     if id.0 >= st.len() {
         return None;
@@ -148,10 +163,12 @@ pub(crate) fn fiber(st: &Store, id: ObjId) -> Option<ObjId>
 }
 
 /// The Hash of that number.
-#[tactic(auto, using(def_core::proofs::Roles::is_by_sort))]
+#[tactic(auto, using(def_core::proofs::Roles::is_by_sort, crate::proofs::Outside::sort_outside))]
 pub(crate) fn hash(st: &Store, id: ObjId) -> Option<ObjId>
     ensures there { IfSome result (λ id. id.0 < length st.now.store.objects) }
     ensures sort { IfSome result (λ id. sort_at st.now.store.objects id ≡ sorts.Hash) }
+    ensures found { MatchOption result (operands.is_hash (sort_at st.now.store.objects id) ≡ false)
+        (λ found. found ≡ id) }
 {
     if id.0 >= st.len() {
         return None;
@@ -163,9 +180,12 @@ pub(crate) fn hash(st: &Store, id: ObjId) -> Option<ObjId>
 }
 
 /// The exception of that number.
+#[tactic(auto, using(crate::proofs::Outside::sort_outside))]
 pub(crate) fn exception(st: &Store, id: ObjId) -> Option<ObjId>
     ensures there { IfSome result (λ id. id.0 < length st.now.store.objects) }
     ensures sort { IfSome result (λ id. sort_at st.now.store.objects id ≡ sorts.Exception) }
+    ensures found { MatchOption result (operands.is_exception (sort_at st.now.store.objects id) ≡ false)
+        (λ found. found ≡ id) }
 {
     if id.0 >= st.len() {
         return None;
@@ -191,9 +211,10 @@ pub(crate) fn enumerator(st: &Store, id: ObjId) -> Option<ObjId>
 }
 
 /// Whether the store has all of the values.
-#[tactic(auto, using(crate::proofs::Scanned::one_more))]
+#[tactic(auto, using(crate::proofs::Scanned::one_more, crate::proofs::Scanned::has_one_more, crate::proofs::Scanned::has_not_all))]
 pub(crate) fn are_own(st: &Store, values: &[Value]) -> bool
-    ensures { result ≡ true → AllAre (IsValue (census st.now.store)) values.now }
+    ensures belong { result ≡ true → AllAre (IsValue (census st.now.store)) values.now }
+    ensures all { result ≡ operands.has_all st.now.store values.now }
 {
     let mut at = 0;
     'values: while at < values.len() {
@@ -236,10 +257,12 @@ fn both(st: &Store, left: ObjId, right: ObjId) -> Option<(ObjId, ObjId)>
 }
 
 /// The String of that number.
-#[tactic(auto, using(def_core::proofs::Roles::is_by_sort))]
+#[tactic(auto, using(def_core::proofs::Roles::is_by_sort, crate::proofs::Outside::sort_outside))]
 pub(crate) fn string(st: &Store, id: ObjId) -> Option<ObjId>
     ensures there { OptionIs (Is (census st.now.store) String) result }
     ensures sort { IfSome result (λ id. sort_at st.now.store.objects id ≡ sorts.String) }
+    ensures found { MatchOption result (operands.is_string (sort_at st.now.store.objects id) ≡ false)
+        (λ found. found ≡ id) }
 {
     if id.0 >= st.len() {
         return None;

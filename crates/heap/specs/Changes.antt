@@ -1,0 +1,85 @@
+-- What the calls that change one object leave. An object of another sort than is wanted stays as it is.
+use Rattle.std.specs.Prelude.{ℕ, length, List, [], ◌∷◌, ◌++◌, Bool, nat_lt, if◌then◌else◌, Option}
+use Rattle.rb_value.specs.declared.value.Value.{Value}
+use Rattle.rb_value.specs.declared.value.ObjId.{ObjId}
+use Rattle.rb_value.specs.declared.key.Key.{Key}
+use Rattle.rb_value.specs.declared.kind.Kind.TheVariants as kind
+use Rattle.rb_value.specs.Object.{Object}
+use Rattle.def_core.specs.Store.{object_at, sort_at}
+use Rattle.def_core.specs.Parts as parts
+use Rattle.rb_store.specs.Held.{Held}
+use Rattle.heap.specs.Operands.{own, own_block, has_object, has_all, is_array, is_string, is_hash, is_fiber, is_exception}
+
+abbrev pub with_objects : Held → List Object → Held
+with_objects held objects = record held { store = parts.with_objects held.store objects }
+
+abbrev pub where_array : Held → ObjId → List Object → Held
+where_array held id objects =
+    if is_array (sort_at held.store.objects id) then with_objects held objects else held
+
+abbrev pub where_string : Held → ObjId → List Object → Held
+where_string held id objects =
+    if is_string (sort_at held.store.objects id) then with_objects held objects else held
+
+abbrev pub where_hash : Held → ObjId → List Object → Held
+where_hash held id objects =
+    if is_hash (sort_at held.store.objects id) then with_objects held objects else held
+
+abbrev pub where_exception : Held → ObjId → List Object → Held
+where_exception held id objects =
+    if is_exception (sort_at held.store.objects id) then with_objects held objects else held
+
+-- Arrays.
+
+abbrev pub pushed : Held → ObjId → Value → Held
+pushed held id v = where_array held id (parts.with_more held.store.objects id (own held.store v ∷ []))
+
+abbrev pub appended : Held → ObjId → List Value → Held
+appended held id vs = if has_all held.store vs then where_array held id (parts.with_more held.store.objects id vs) else held
+
+abbrev pub popped : Held → ObjId → Held
+popped held id = where_array held id (parts.without_last held.store.objects id)
+
+abbrev pub shifted : Held → ObjId → Held
+shifted held id = where_array held id (parts.without_first held.store.objects id)
+
+abbrev pub unshifted : Held → ObjId → Value → Held
+unshifted held id v = where_array held id (parts.with_elements held.store.objects id
+    (own held.store v ∷ parts.elements_at held.store.objects id))
+
+-- a place where there is no element stays without one
+abbrev pub with_element : Held → ObjId → ℕ → Value → Held
+with_element held id place v = if nat_lt place (length (parts.elements_at held.store.objects id))
+    then with_objects held (parts.with_element held.store.objects id place (own held.store v)) else held
+
+abbrev pub with_elements : Held → ObjId → List Value → Held
+with_elements held id vs = if has_all held.store vs then where_array held id (parts.with_elements held.store.objects id vs)
+    else held
+
+-- Strings.
+
+abbrev pub with_more_bytes : Held → ObjId → List ℕ → Held
+with_more_bytes held id bytes = where_string held id
+    (parts.with_text held.store.objects id (parts.text_at held.store.objects id ++ bytes))
+
+abbrev pub with_bytes : Held → ObjId → List ℕ → Held
+with_bytes held id bytes = where_string held id (parts.with_text held.store.objects id bytes)
+
+-- Hashes.
+
+abbrev pub without_key : Held → ObjId → Key → Held
+without_key held id key = where_hash held id (parts.without_key held.store.objects id key)
+
+abbrev pub with_absent : Held → ObjId → Value → Option ObjId → Held
+with_absent held id default block = where_hash held id
+    (parts.with_absent held.store.objects id (own held.store default) (own_block held.store block))
+
+-- Procs, fibers and exceptions.
+
+abbrev pub with_sent : Held → ObjId → Option ℕ → Held
+with_sent held id activation = if has_object held.store id
+    then with_objects held (parts.with_sent held.store.objects id activation) else held
+
+abbrev pub with_ended : Held → ObjId → Held
+with_ended held id = if is_fiber (sort_at held.store.objects id)
+    then with_objects held (parts.with_ended held.store.objects id) else held
