@@ -1,10 +1,11 @@
--- Values of a store, one more at a time.
-use Rattle.std.proofs.Common.{◌≡◌, ◌≢◌, ℕ, zero, suc, ◌+◌, ◌<◌, ◌≤◌, List, [], ◌∷◌, length, Bool, true, false, refl, arith, subst, sym}
+-- Values of a store, and parts of keys, one more at a time.
+use Rattle.std.proofs.Common.{◌≡◌, ◌≢◌, ℕ, zero, suc, ◌+◌, ◌<◌, ◌≤◌, List, [], ◌∷◌, ◌++◌, length, Bool, true, false, refl, arith, subst, sym}
 use Rattle.std.specs.Prelude.{take, slice_index_or, ◌&&◌, if◌then◌else◌}
 use Rattle.rb_value.specs.declared.value.Value.{Value}
 use Rattle.rb_value.specs.declared.value.Value.TheVariants.{Nil, True, False, Int, Sym, Obj}
+use Rattle.rb_value.specs.declared.key.KeyPart.{KeyPart}
 use Rattle.def_core.specs.Store.{Store}
-use Rattle.def_core.specs.Sound.{Census, IsValue, AllAre}
+use Rattle.def_core.specs.Sound.{Census, IsValue, SoundPart, AllAre}
 use Rattle.heap.specs.Operands.{own, has, has_all, has_object, has_symbol}
 
 pub one_more : (k : Census) (vs : List Value) (n : ℕ) (v : Value) → AllAre (IsValue k) (take n vs) → n < length vs
@@ -17,6 +18,11 @@ pub all_taken : (k : Census) (vs : List Value) (n : ℕ) → AllAre (IsValue k) 
 all_taken k [] n all le = tt
 all_taken k (x ∷ xs) zero all le = absurd (omega arith)
 all_taken k (x ∷ xs) (suc n) all le = (all.0, all_taken k xs n all.1 (omega (arith, le)))
+
+pub one_part_more : (k : Census) (ps : List KeyPart) (p : KeyPart) → AllAre (SoundPart k) ps → SoundPart k p
+    → AllAre (SoundPart k) (ps ++ p ∷ [])
+one_part_more k [] p all is = (is, tt)
+one_part_more k (q ∷ ps) p all is = (all.0, one_part_more k ps p all.1 is)
 
 -- Values that the store has, one more at a time.
 

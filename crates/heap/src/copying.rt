@@ -94,12 +94,10 @@ impl Heap {
         Ok(made)
     }
 
-    /// Puts the pairs of a Hash into another.
+    /// Puts the pairs of a Hash into another, under the keys that they have there.
     pub fn add_pairs(&mut self, to: ObjId, from: ObjId) -> Result<(), AllocError> {
         'pairs: for place in 0..self.pair_count(from) {
-            if let Some(item) = self.pair_at(from, place) {
-                self.put_pair(to, item.shown, item.value)?;
-            }
+            self.add_pair(to, from, place)?;
         }
         Ok(())
     }

@@ -21,6 +21,7 @@ mod failing;
 mod finding;
 mod hashes;
 pub mod heap;
+mod kept_keys;
 mod making;
 mod methods;
 mod objects;
