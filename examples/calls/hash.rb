@@ -275,3 +275,9 @@ row(249) { {1 => {2 => {3 => 4}}}[1][2][3] }
 row(250) { {1 => [2]}.tap { |h| h[1] << 3 } }
 row(251) { {1 => lambda { |x| x + 1 }}[1].call(2) }
 row(252) { {1 => 2}.nope } # not Ruby's: text of a missing method
+row(253) { changed({}) { |h| k = [1]; h[k] = 1; k << 2; h.clear } }
+row(254) { changed({}) { |h| k = [1]; h[k] = 1; k << 2; h.delete_if { true } } }
+row(255) { changed({}) { |h| k = [1]; h[k] = 1; k << 2; h[[1, 2]] = 3 }.dup }
+row(256) { changed({}) { |h| k = [1]; h[k] = 1; k << 2; h[[1, 2]] = 3 }.clone }
+row(257) { changed({}) { |h| k = [1]; h[k] = 1; k << 2; h[[1, 2]] = 3 }.merge({}) }
+row(258) { Class.new(Hash).new(3).merge({1 => 2}).then { |h| [h.instance_of?(Hash), h, h[0]] } }

@@ -2,17 +2,18 @@
 
 use crate::iteration::Iteration;
 use crate::sending::{call_beat, refuse};
-use rb_value::{CoreClass, HashItem, ObjId, Value};
+use rb_value::{CoreClass, HashItem, Key, ObjId, Value};
 use run_rows::VisitRow;
 use run_rows::core_calls::{Beat, Passed, Plan};
 use run_rows::heap::Heap;
 use std::alloc::AllocError;
 
-/// The pairs of a Hash from a place on, and what is done with each.
+/// The pairs of a Hash from a place on, how many of those before are deleted, and what is done with each.
 #[derive(Drop)]
 pub struct PairWalk {
     pub pairs: Vec<HashItem>,
     pub place: usize,
+    pub deleted: usize,
     pub hash: ObjId,
     pub row: VisitRow,
     pub block: ObjId,
@@ -61,11 +62,29 @@ fn pair_next(heap: &mut Heap, walk: PairWalk) -> Result<Plan<Iteration>, AllocEr
     }
 }
 
-/// Takes a pair out of a Hash.
-fn delete(heap: &mut Heap, hash: ObjId, item: Option<HashItem>) -> Result<(), AllocError> {
-    if let Some(item) = item {
-        if let Some(key) = heap.key_of(item.shown)? {
-            heap.remove_pair(hash, &key);
+/// The key of a pair of a Hash: of the one at a place, where that is it, as it was when it was put in.
+fn key_of_pair(
+    heap: &Heap,
+    hash: ObjId,
+    place: usize,
+    item: HashItem,
+) -> Result<Option<Key>, AllocError> {
+    if heap.pair_at(hash, place).map(|pair| pair.shown) == Some(item.shown) {
+        heap.key_at(hash, place)
+    } else {
+        heap.key_of(item.shown)
+    }
+}
+
+/// Takes the pair at the place out of the Hash.
+fn delete(heap: &mut Heap, walk: &mut PairWalk) -> Result<(), AllocError> {
+    let Some(item) = walk.pairs.get(walk.place).copied() else {
+        return Ok(());
+    };
+    let place = walk.place.saturating_sub(walk.deleted);
+    if let Some(key) = key_of_pair(heap, walk.hash, place, item)? {
+        if heap.remove_pair(walk.hash, &key).is_some() {
+            walk.deleted = walk.deleted.saturating_add(1);
         }
     }
     Ok(())
@@ -74,7 +93,7 @@ fn delete(heap: &mut Heap, hash: ObjId, item: Option<HashItem>) -> Result<(), Al
 /// Deletes the pair where the answer says so, and goes on behind it.
 fn pass(heap: &mut Heap, walk: &mut PairWalk, answer: Value) -> Result<(), AllocError> {
     if walk.row == VisitRow::DeletePairs && answer.is_true() {
-        delete(heap, walk.hash, walk.pairs.get(walk.place).copied())?;
+        delete(heap, walk)?;
     }
     walk.place = walk.place.saturating_add(1);
     Ok(())
@@ -117,6 +136,7 @@ pub(crate) fn begin_pairs(
             let walk = PairWalk {
                 pairs: pairs_of(heap, hash)?,
                 place: 0,
+                deleted: 0,
                 hash,
                 row,
                 block,

@@ -82,14 +82,11 @@ pub(crate) fn update(heap: &mut Heap, id: ObjId, other: Value) -> Result<Value, 
     Ok(Value::Obj(id))
 }
 
-/// A new Hash with the pairs of a Hash and of another, and with what the first gives for an absent key.
+/// A copy of a Hash with the pairs of another.
 pub(crate) fn merge(heap: &mut Heap, id: ObjId, other: Value) -> Result<Value, RowError> {
     a_hash(heap, other)?;
-    let merged = heap.make_hash()?;
-    if let Value::Obj(own) = merged {
-        let (default, block) = heap.absent_of(id);
-        heap.set_absent(own, default, block);
-        update(heap, own, Value::Obj(id))?;
+    let merged = heap.copy(Value::Obj(id))?;
+    if let Some(own) = heap.a_hash(merged) {
         update(heap, own, other)?;
     }
     Ok(merged)
@@ -110,10 +107,6 @@ pub(crate) fn invert(heap: &mut Heap, id: ObjId) -> Result<Value, RowError> {
 }
 
 /// Takes all pairs out of a Hash.
-pub(crate) fn clear(heap: &mut Heap, id: ObjId) -> Result<(), RowError> {
-    let keys = keys(heap, id)?;
-    'keys: for key in keys.iter().rev() {
-        delete(heap, id, *key)?;
-    }
-    Ok(())
+pub(crate) fn clear(heap: &mut Heap, id: ObjId) -> Result<(), AllocError> {
+    heap.clear_pairs(id)
 }

@@ -25,11 +25,11 @@ fn shown_key(heap: &mut Heap, key: Value) -> Result<Value, RowError> {
     }
 }
 
-/// What a Hash shows as a key that is a String: what it shows already, or a copy.
+/// What a String is put into a Hash as: itself, where it is there, and else a copy.
 fn shown_text(heap: &mut Heap, id: ObjId, key: Value) -> Result<Value, RowError> {
     let own = key_of(heap, key)?;
     match heap.pair(id, &own) {
-        Some(pair) => Ok(pair.shown),
+        Some(_) => Ok(key),
         None => shown_key(heap, key),
     }
 }
