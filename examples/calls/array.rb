@@ -12,6 +12,13 @@ def seen(list, name, *items)
   found
 end
 
+# Equal to itself without being asked.
+class Asked
+  def ==(other)
+    raise "own asked"
+  end
+end
+
 def row(number)
   value = yield
   puts "#{number} #{value.inspect}"
@@ -392,3 +399,8 @@ row(370) { [1, 2].freeze << 3 } # not Ruby's: freeze has no effect
 row(371) { [1, 2].nope } # not Ruby's: text of a missing method
 row(372) { [1, 2].length(1) }
 row(373) { [1, 2].index(1, 2) } # not Ruby's: one item
+row(374) { Asked.new.then { |x| [x].include?(x) } }
+row(375) { Asked.new.then { |x| [x].index(x) } }
+row(376) { Asked.new.then { |x| [x].count(x) } }
+row(377) { Asked.new.then { |x| [[x].delete(x).equal?(x), [x] == [x], {1 => x} == {1 => x}, {1 => x}.value?(x), {1 => x}.key(x)] } }
+row(378) { Asked.new.then { |x| [([x] - [x]).length, ([x] & [x]).length, ([x] | [x]).length] } }

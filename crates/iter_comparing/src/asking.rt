@@ -36,6 +36,16 @@ impl Work {
         }
     }
 
+    /// Whether values are asked whether they are equal.
+    fn asks_equality(&self) -> bool {
+        match self {
+            Work::Pairs(work) => !work.ordered,
+            Work::Searches(_) | Work::Sifts(_) | Work::Removes(_) => true,
+            Work::Equates(_) | Work::FindsKey(_) => true,
+            Work::Joins(_) | Work::Shows(_) => false,
+        }
+    }
+
     /// Takes an answer, and gives the value with which the work ends by it.
     fn hear(&mut self, heap: &mut Heap, answer: Value) -> Result<Option<Value>, AllocError> {
         match self {
@@ -85,13 +95,33 @@ pub fn outright(
 }
 
 impl Asking {
-    /// What a core method answers at once, where a value is asked for one.
+    /// Whether the answer is known without asking: that a value is equal to itself.
+    fn is_known(&self, receiver: Value, argument: Option<Value>) -> bool {
+        argument == Some(receiver) && self.work.asks_equality()
+    }
+
+    /// The turn that asks a value; where the answer is known nil is asked, whose answer is the same.
+    fn turn_that_asks(&self, receiver: Value, argument: Option<Value>) -> Turn {
+        if self.is_known(receiver, argument) {
+            Turn::Asks {
+                receiver: Value::Nil,
+                argument: Some(Value::Nil),
+            }
+        } else {
+            Turn::Asks { receiver, argument }
+        }
+    }
+
+    /// What is known or a core method answers at once, where a value is asked for one.
     fn answer_at_once(
         &mut self,
         heap: &mut Heap,
         receiver: Value,
         argument: Option<Value>,
     ) -> Result<Option<Given>, AllocError> {
+        if self.is_known(receiver, argument) {
+            return Ok(Some(Given::Gives(Value::True)));
+        }
         match argument {
             Some(value) => outright(heap, &mut self.site, receiver, self.name, &[value]),
             None => outright(heap, &mut self.site, receiver, self.name, &[]),
@@ -106,7 +136,7 @@ impl Asking {
                 return Ok(Turn::Ends(question));
             };
             if place + 1 == AT_ONCE {
-                return Ok(Turn::Asks { receiver, argument });
+                return Ok(self.turn_that_asks(receiver, argument));
             }
             match self.answer_at_once(heap, receiver, argument)? {
                 Some(Given::Gives(answer)) => {

@@ -33,13 +33,16 @@ fn hear_or_ask(heap: &mut Heap, visit: &mut Visit, answer: Value) -> Result<Wish
     }
 }
 
-/// What a core method answers at once, where the visit asks a value.
+/// What a core method answers at once, where the visit asks a value. A value that is counted is equal to itself.
 fn answer_at_once(
     heap: &mut Heap,
     visit: &mut Visit,
     receiver: Value,
     argument: Value,
 ) -> Result<Option<Given>, AllocError> {
+    if visit.task == Task::Count && receiver == argument {
+        return Ok(Some(Given::Gives(Value::True)));
+    }
     match visit.name {
         Some(name) => outright(heap, &mut visit.site, receiver, name, &[argument]),
         None => Ok(Some(Given::Gives(Value::Nil))),
