@@ -103,6 +103,12 @@ def dog
   Dog.new("rex")
 end
 
+class Told < StandardError
+  def to_s
+    "own told"
+  end
+end
+
 def row(number)
   value = yield
   puts "#{number} #{value.inspect}"
@@ -484,3 +490,9 @@ row(371) { Integer("1 2") } # not Ruby's: text of a value
 row(372) { Integer("9223372036854775808") } # not Ruby's: 64 bits
 row(373) { [defined?(puts), defined?(nothing), defined?(String), defined?(Nope), defined?(@a), defined?($a), defined?(self), defined?(a = 1), defined?(1)] }
 row(374) { (def self.deep(n); deep(n + 1); end; deep(0)) }
+row(375) { Told.new("own kept").message }
+row(376) { Told.new("own kept").to_s }
+row(377) { Told.new("own kept").inspect }
+row(378) { Told.new.message }
+row(379) { raise Told, "own kept" }
+row(380) { raise Told.new("own kept"), "own new" }

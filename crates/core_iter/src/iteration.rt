@@ -38,6 +38,11 @@ pub enum Iteration {
     Inspecting(Rest),
     InspectingText(Rest),
     Raising,
+    /// An exception waits for the message by which it is shown.
+    Telling(Value),
+    /// An exception that nothing rescued is asked for its message, or waits for it, and is raised again then.
+    Reporting(ObjId),
+    Reported(ObjId),
     Looping(ObjId),
     Counting(Count),
     Characters(TextWalk),

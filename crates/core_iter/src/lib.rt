@@ -16,6 +16,7 @@ pub mod planning;
 pub mod raising;
 pub mod sending;
 pub mod strings;
+pub mod telling;
 pub mod visiting;
 pub mod writing;
 

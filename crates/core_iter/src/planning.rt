@@ -11,6 +11,7 @@ use crate::sending::{
     begin_call, begin_kept, begin_resume, begin_send, begin_yield, blockless, call_with, loop_next,
 };
 use crate::strings::{begin_string, byte_next, character_next, line_next};
+use crate::telling::{ask_message, raise_reported, report, tell};
 use crate::visiting::{begin_visit, delete_then, index_next, replace_then, visit_beat, visit_next};
 use crate::writing::{
     all_of, inspect_next, inspect_text, print_next, print_text, put_all, put_next, put_text,
@@ -25,11 +26,12 @@ use std::alloc::AllocError;
 /// Why a row of Kernel, Class, Proc or Fiber can't take so many arguments.
 fn refused_by_kernel(row: KernelRow, given: usize) -> Option<Cause> {
     match row {
-        KernelRow::Gets | KernelRow::Loop | KernelRow::Tap | KernelRow::Then => miscounted(
-            given,
-            0,
-            Some(0),
-        ),
+        KernelRow::Gets
+        | KernelRow::Loop
+        | KernelRow::Tap
+        | KernelRow::Then
+        | KernelRow::Message
+        | KernelRow::InspectException => miscounted(given, 0, Some(0)),
         KernelRow::Raise => miscounted(given, 0, Some(2)),
         KernelRow::Send | KernelRow::PublicSend | KernelRow::SendKept => miscounted(given, 1, None),
         _ => None,
@@ -91,6 +93,10 @@ fn begin_kernel(
         KernelRow::CallProc => begin_call(heap, call),
         KernelRow::Resume => begin_resume(heap, call),
         KernelRow::Yield => begin_yield(heap, call.args),
+        KernelRow::Message => ask_message(heap, Iteration::Handing, call.receiver),
+        KernelRow::InspectException => {
+            ask_message(heap, Iteration::Telling(call.receiver), call.receiver)
+        }
     }
 }
 
@@ -178,6 +184,9 @@ pub fn next(
         Iteration::Inspecting(rest) => inspect_next(heap, rest),
         Iteration::InspectingText(rest) => inspect_text(heap, rest, answer),
         Iteration::Raising => Ok(raise_made(heap, answer)),
+        Iteration::Telling(exception) => tell(heap, exception, answer),
+        Iteration::Reporting(exception) => report(heap, exception),
+        Iteration::Reported(exception) => Ok(raise_reported(heap, exception, answer)),
         Iteration::Looping(block) => Ok(loop_next(heap, block)),
         Iteration::Counting(count) => count_next(heap, count),
         Iteration::Characters(walk) => character_next(heap, walk),

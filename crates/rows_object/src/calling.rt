@@ -47,8 +47,7 @@ fn counted(heap: &mut Heap, row: ObjectRow, call: Call<'_>) -> Result<Given, All
         ObjectRow::ToInteger => kernel::to_integer(heap, first),
         ObjectRow::InitializeString => texts::initialize(heap, call.receiver, call.args),
         ObjectRow::InitializeException
-        | ObjectRow::Message
-        | ObjectRow::InspectException
+        | ObjectRow::MessageText
         | ObjectRow::ErrorName
         | ObjectRow::ExitStatus
         | ObjectRow::StopResult => exceptions::call(heap, row, call),

@@ -16,8 +16,7 @@ pub(crate) fn call(heap: &mut Heap, row: ObjectRow, call: Call<'_>) -> Result<Gi
             heap.set_message(id, argument(call.args, 0));
             Ok(Given::Gives(Value::Nil))
         }
-        ObjectRow::Message => message(heap, id, call.receiver),
-        ObjectRow::InspectException => inspection(heap, id, call.receiver),
+        ObjectRow::MessageText => message(heap, id, call.receiver),
         ObjectRow::ExitStatus => match heap.detail_of(id) {
             Value::Nil => Ok(Given::Gives(Value::Int(0))),
             status => Ok(Given::Gives(status)),
@@ -32,7 +31,7 @@ fn class_name(heap: &Heap, value: Value) -> Result<Vec<u8>, AllocError> {
     Vec::from_slice(heap.alloc(), heap.class_name(class))
 }
 
-/// `message` and `to_s`: the message, and the name of the class where there is none.
+/// `to_s`: the message, and the name of the class where there is none.
 fn message(heap: &mut Heap, id: ObjId, receiver: Value) -> Result<Given, AllocError> {
     match heap.message_of(id) {
         Value::Nil => {
@@ -55,20 +54,18 @@ fn shown(heap: &Heap, message: Value) -> Result<Vec<u8>, AllocError> {
     }
 }
 
-/// `inspect`: the class and the message, and the name of the class alone where the message is empty.
-fn inspection(heap: &mut Heap, id: ObjId, receiver: Value) -> Result<Given, AllocError> {
-    let name = class_name(heap, receiver)?;
-    let message = match heap.message_of(id) {
-        Value::Nil => class_name(heap, receiver)?,
-        message => shown(heap, message)?,
-    };
+/// `inspect` of an exception whose `to_s` gives a message: the class and the message, and the name of the class alone
+/// where the message is empty.
+pub fn inspection(heap: &mut Heap, exception: Value, message: Value) -> Result<Value, AllocError> {
+    let name = class_name(heap, exception)?;
+    let message = shown(heap, message)?;
     if message.is_empty() {
-        return Ok(Given::Gives(heap.make_string(name)?));
+        return heap.make_string(name);
     }
     let mut text = Vec::from_slice(heap.alloc(), b"#<")?;
     text.extend_from_slice(&name)?;
     text.extend_from_slice(b": ")?;
     text.extend_from_slice(&message)?;
     text.extend_from_slice(b">")?;
-    Ok(Given::Gives(heap.make_string(text)?))
+    heap.make_string(text)
 }

@@ -31,8 +31,7 @@ pub enum ObjectRow {
     SymbolAsProc,
     InitializeString,
     InitializeException,
-    Message,
-    InspectException,
+    MessageText,
     ErrorName,
     ExitStatus,
     StopResult,
@@ -96,11 +95,9 @@ pub const FIBER_CLASS_ROWS: [Named; 1] = [(b"new", ObjectRow::NewFiber)];
 
 pub const ENUMERATOR_CLASS_ROWS: [Named; 1] = [(b"new", ObjectRow::NewEnumerator)];
 
-pub const EXCEPTION_ROWS: [Named; 4] = [
+pub const EXCEPTION_ROWS: [Named; 2] = [
     (b"initialize", ObjectRow::InitializeException),
-    (b"message", ObjectRow::Message),
-    (b"to_s", ObjectRow::Message),
-    (b"inspect", ObjectRow::InspectException),
+    (b"to_s", ObjectRow::MessageText),
 ];
 
 pub const SYSTEM_EXIT_ROWS: [Named; 1] = [(b"status", ObjectRow::ExitStatus)];

@@ -26,3 +26,4 @@ pub use iter_items;
 pub use iter_items::{core_calls, heap};
 pub use rows_array;
 pub use rows_class;
+pub use rows_object;

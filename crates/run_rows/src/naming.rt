@@ -29,6 +29,11 @@ const FIBER: [(&[u8], KernelRow); 1] = [(b"resume", KernelRow::Resume)];
 
 const FIBER_CLASS: [(&[u8], KernelRow); 1] = [(b"yield", KernelRow::Yield)];
 
+const EXCEPTION: [(&[u8], KernelRow); 2] = [
+    (b"message", KernelRow::Message),
+    (b"inspect", KernelRow::InspectException),
+];
+
 const INTEGER: [(&[u8], VisitRow); 4] = [
     (b"times", VisitRow::Times),
     (b"upto", VisitRow::Upto),
@@ -64,7 +69,7 @@ const RANGE: [(&[u8], VisitRow); 2] = [
     (b"step", VisitRow::StepOfRange),
 ];
 
-/// The methods of a segment that write, read, send, make objects, call Procs and move between fibers.
+/// The methods of a segment that write, read, send, make objects, call Procs, move between fibers and ask exceptions.
 pub fn kernel_rows(segment: u16) -> &'static [(&'static [u8], KernelRow)] {
     match segment {
         2 => &KERNEL,
@@ -72,6 +77,7 @@ pub fn kernel_rows(segment: u16) -> &'static [(&'static [u8], KernelRow)] {
         32 => &PROC,
         34 => &FIBER,
         35 => &FIBER_CLASS,
+        40 => &EXCEPTION,
         _ => &[],
     }
 }

@@ -40,6 +40,10 @@ pub enum KernelRow {
     CallProc,
     Resume,
     Yield,
+    /// What `to_s` of an exception gives is given.
+    Message,
+    /// An exception is shown by what its `to_s` gives.
+    InspectException,
 }
 
 /// A row that calls its block for each item of the receiver, or that fills a new receiver.
