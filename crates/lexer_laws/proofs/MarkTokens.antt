@@ -10,7 +10,8 @@ use Rattle.lexer_laws.specs.Operators.{is_operator, LongestOperator}
 use Rattle.lexer_laws.specs.Place.{after}
 use Rattle.lexer_laws.specs.Reads.{value_at, is_newline, bars_behind, bars_after}
 use Rattle.lexer_laws.specs.Taking.{took}
-use Rattle.lexer_laws.proofs.Operators.{mark_at, operator_sound, operator_complete}
+use Rattle.lexer_laws.proofs.Operators.{operator_sound, operator_complete}
+use Rattle.lexer_laws.proofs.FoundMarks.{mark_at}
 use Rattle.lexer_laws.proofs.Steps.{passed, both_are}
 
 bars_same : (q : Punctuator) (b : Bool) → is_operator q ≡ true → bars_behind b q ≡ b
