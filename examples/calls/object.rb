@@ -496,3 +496,5 @@ row(377) { Told.new("own kept").inspect }
 row(378) { Told.new.message }
 row(379) { raise Told, "own kept" }
 row(380) { raise Told.new("own kept"), "own new" }
+row(381) { nope? } # not Ruby's: text of a missing method
+row(382) { nope! } # not Ruby's: text of a missing method

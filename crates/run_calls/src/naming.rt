@@ -18,12 +18,17 @@ pub enum Naming {
     ByBareName,
 }
 
+/// Whether a name may be that of a variable: it ends with no mark.
+fn may_be_variable(heap: &Heap, name: SymId) -> bool {
+    !matches!(heap.symbol_name(name).last().copied(), Some(b'?' | b'!'))
+}
+
 /// Why a call fails that finds nothing.
 fn undefined(heap: &Heap, naming: Naming, name: SymId, receiver: Value) -> Cause {
     let class = heap.plain_class_of(receiver);
     match naming {
-        Naming::ByName => Cause::UndefinedMethod { name, class },
-        Naming::ByBareName => Cause::UndefinedName { name, class },
+        Naming::ByBareName if may_be_variable(heap, name) => Cause::UndefinedName { name, class },
+        _ => Cause::UndefinedMethod { name, class },
     }
 }
 
