@@ -9,6 +9,7 @@ mod in_place;
 mod iterating;
 pub mod machine;
 mod reading;
+mod reporting;
 mod running;
 mod starting;
 

@@ -2,6 +2,7 @@
 
 use crate::iterating::answer_read;
 use crate::reading::{Line, Lines};
+use crate::reporting::begin_report;
 use crate::running::{At, Pause, run_turns};
 use def_core::Cause;
 use rb_base::{Sink, Source, write_all};
@@ -71,7 +72,8 @@ enum Standing {
     Stopped,
 }
 
-/// A machine with its code and the frame in hand. It counts the turns that it makes.
+/// A machine with its code and the frame in hand. It counts the turns that it makes, and keeps whether an exception that
+/// nothing rescued was asked for its message.
 #[derive(Drop)]
 pub struct Machine {
     alloc: Global,
@@ -80,6 +82,7 @@ pub struct Machine {
     parts: Parts,
     lines: Lines,
     standing: Standing,
+    reported: bool,
     turns: u64,
 }
 
@@ -101,6 +104,7 @@ impl Machine {
             parts,
             lines: Lines::new(alloc),
             standing: Standing::At(At::Hand),
+            reported: false,
             turns: 0,
         }
     }
@@ -159,12 +163,22 @@ impl Machine {
         }
     }
 
+    /// How the machine stands where the program ends. An exception whose message the program says is asked for it before.
+    fn stands_at(&mut self, end: End) -> Result<Standing, AllocError> {
+        if !self.reported && begin_report(&mut self.parts, end)? {
+            self.reported = true;
+            Ok(Standing::At(At::Waiting))
+        } else {
+            Ok(Standing::Over(self.end_of(end)?))
+        }
+    }
+
     /// How the machine stands by what comes next.
-    fn stands(&self, flow: Flow) -> Result<Standing, AllocError> {
+    fn stands(&mut self, flow: Flow) -> Result<Standing, AllocError> {
         match flow {
             Flow::Stays => Ok(Standing::At(At::Hand)),
             Flow::Wakes => Ok(Standing::At(At::Waiting)),
-            Flow::Ends => Ok(Standing::Over(self.end_of(self.parts.end)?)),
+            Flow::Ends => self.stands_at(self.parts.end),
         }
     }
 
@@ -185,7 +199,7 @@ impl Machine {
     ) -> Result<(Standing, u64), StepFault> {
         match run_turns(&self.code, at, &mut self.hot, &mut self.parts, budget)? {
             Pause::Spent(at) => Ok((Standing::At(at), 0)),
-            Pause::Ends { end, left } => Ok((Standing::Over(self.end_of(end)?), left)),
+            Pause::Ends { end, left } => Ok((self.stands_at(end)?, left)),
             Pause::Writes { bytes, left } => {
                 if write_all(out, &bytes).is_err() {
                     return Err(StepFault::OutputFault);

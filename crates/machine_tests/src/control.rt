@@ -184,3 +184,35 @@ fn deep_calls_are_refused(rt: HostRuntime) -> Result<(), AllocError> {
     assert!(rt; is_uncaught);
     Ok(())
 }
+
+#[test]
+fn what_nothing_rescues_is_asked_for_its_message(rt: HostRuntime) -> Result<(), AllocError> {
+    let main_operations = [
+        Operation::GetConst { a: 1, b: 0 },
+        Operation::Def { a: 1, b: 1, c: 0 },
+        Operation::GetConst { a: 2, b: 0 },
+        Operation::SSend { a: 1, b: 2, c: 1 },
+        Operation::Stop,
+    ];
+    let main_symbols: [&[u8]; 3] = [b"StandardError", b"message", b"raise"];
+    let main_children: [u32; 1] = [1];
+    let main = Plan {
+        children: &main_children,
+        ..plain(1, 4, &main_operations, &main_symbols)
+    };
+    let method_operations = [
+        Operation::Enter {
+            parameters: required(0),
+        },
+        Operation::LoadI { a: 3, b: 7 },
+        Operation::SSend { a: 2, b: 0, c: 1 },
+        Operation::Return { a: 2 },
+    ];
+    let method_symbols: [&[u8]; 1] = [b"puts"];
+    let method = plain(2, 5, &method_operations, &method_symbols);
+    let seen = run(rt.alloc(), &[main, method], b"", 1000)?;
+    let is_uncaught = matches!(seen.ran, Some(Ran::Uncaught(_)));
+    assert!(rt; is_uncaught);
+    assert!(rt; seen.out.as_slice() == b"7\n".as_slice());
+    Ok(())
+}
