@@ -90,12 +90,13 @@ fn first_of_element(parts: &Parts, begun: &Begun) -> Result<Option<First>, Alloc
 
 /// What a class finds under a name, which is remembered where it is called straight on.
 fn found_in(parts: &mut Parts, class: ObjId, name: SymId) -> Result<Option<Usual>, AllocError> {
-    if parts.known.look_in(&parts.heap, class, name).is_none() {
-        if let Some(found) = parts.heap.find(class, name)? {
-            parts.known.note(&parts.heap, class, name, found);
-        }
+    if let Some(usual) = parts.known.look_in(&parts.heap, class, name) {
+        return Ok(Some(usual));
     }
-    Ok(parts.known.look_in(&parts.heap, class, name))
+    match parts.heap.find(class, name)? {
+        Some(found) => Ok(parts.known.note(&parts.heap, class, name, found)),
+        None => Ok(None),
+    }
 }
 
 /// What `initialize` of a class is, where it is called straight on and there is room for it.

@@ -186,6 +186,24 @@ pub fn enter_body(
     Ok(Flow::Stays)
 }
 
+/// Keeps the frame in hand, whose register `a` waits for the value of a call with that block, which opens the next
+/// activation; false where there is room for no frame more.
+#[inline(always)]
+fn keep_caller(
+    hot: &Frame,
+    parts: &mut Parts,
+    block: Option<ObjId>,
+    a: u16,
+) -> Result<bool, AllocError> {
+    if parts.frames.is_full() {
+        return Ok(false);
+    }
+    let number = parts.next_activation()?;
+    settle(&mut parts.heap, block, Some(number));
+    parts.frames.push_caller(hot, a)?;
+    Ok(true)
+}
+
 /// Enters a body as a call of the frame in hand with that block argument wants it; its value goes into register `a`.
 fn enter_opening(
     code: &Loaded,
@@ -196,12 +214,9 @@ fn enter_opening(
     arguments: &Arguments,
     a: u16,
 ) -> Result<Flow, AllocError> {
-    if parts.frames.is_full() {
+    if !keep_caller(hot, parts, block, a)? {
         return too_deep(code, hot, parts, block, arguments, a);
     }
-    let number = parts.next_activation()?;
-    settle(&mut parts.heap, block, Some(number));
-    parts.frames.push_caller(hot, a)?;
     open_frame(code, hot, parts, opening, arguments)?;
     Ok(Flow::Stays)
 }
@@ -235,12 +250,9 @@ pub fn enter_beginning(
     arguments: &Arguments,
     a: u16,
 ) -> Result<Flow, AllocError> {
-    if parts.frames.is_full() {
+    if !keep_caller(hot, parts, block, a)? {
         return too_deep(code, hot, parts, block, arguments, a);
     }
-    let next = parts.next_activation()?;
-    settle(&mut parts.heap, block, Some(next));
-    parts.frames.push_caller(hot, a)?;
     begin_iteration(parts, beginning, arguments)
 }
 
