@@ -193,6 +193,7 @@ fn narrow_front(bytes: &[u8]) -> Option<(Instr, usize)>
 }
 
 /// The instruction at the front of the bytes after EXT, and how many bytes both take.
+#[inline(always)]
 #[tactic(auto, unfolding(crate::specs::Spelling::wide_front))]
 fn wide_front(bytes: &[u8]) -> Option<(Instr, usize)>
     ensures value { result ≡ spelling.wide_front bytes.now }
