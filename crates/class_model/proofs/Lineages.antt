@@ -18,28 +18,14 @@ use Rattle.rb_value.specs.Sort.{sort_of, sort_of_form}
 use Rattle.def_core.specs.Store.{Store, object_at, sort_at, core}
 use Rattle.def_core.specs.Classes.{contents_of, class_at, lineage_within, lineage, nearest_singleton, singletons_from, class_of}
 use Rattle.def_core.specs.Sound.{census, Census, Role, Any, Class, SingletonClass, Superclass, ClassOrModule, plays, Is, OptionIs, IsSuperclass, SoundClass, SoundKind, Sound}
-use Rattle.def_core.proofs.Roles.{superclass_is_class, class_is_superclass, singleton_is_superclass, is_by_sort, is_within}
+use Rattle.def_core.proofs.Roles.{superclass_is_class, class_is_superclass, singleton_is_superclass}
+use Rattle.def_core.proofs.Good.{is_good, has_role, role_object}
 use Rattle.def_core.proofs.Grows as grows
 use Rattle.def_core.proofs.Chains.{lineage_is, lineage_above}
 
-any : (s : Sort) → plays Any s ≡ true
-any sort.Plain = refl
-any sort.Class = refl
-any sort.Singleton = refl
-any sort.Module = refl
-any sort.String = refl
-any sort.Array = refl
-any sort.Hash = refl
-any sort.Range = refl
-any sort.Proc = refl
-any sort.Fiber = refl
-any sort.Exception = refl
-any sort.Enumerator = refl
-any sort.Yielder = refl
-
 -- what has a role is an object
 pub any_of : (st : Store) (r : Role) (id : ObjId) → Is (census st) r id → Is (census st) Any id
-any_of st r id is = is_by_sort st Any id (is_within st r id is) (any (sort_at st.objects id))
+any_of st r id is = (is_good st r id is).there
 
 -- only a class has a superclass
 root_of_module : (k : Census) (n : ℕ) (c : ClassContents) → SoundClass k n c
@@ -83,7 +69,7 @@ above_sound k n (kind.Yielder b) s = tt
 pub above_is : (st : Store) → Sound st → (id : ObjId) → Is (census st) Any id
     → OptionIs (IsSuperclass (census st) id.0) (class_at st.objects id).superclass
 above_is st sound id is = above_sound (census st) id.0 (object_at st.objects id).kind
-    (sound.objects id.0 (is_within st Any id is)).kind
+    (role_object st sound Any id is).kind
 
 pub above_is_below : (st : Store) → Sound st → (id p : ObjId) → Is (census st) Any id
     → (class_at st.objects id).superclass ≡ Some p → Is (census st) Any p × (p.0 < id.0)
@@ -95,7 +81,7 @@ above_is_below st sound id p is h =
 pub no_superclass : (st : Store) → Sound st → (id : ObjId) → Is (census st) Any id
     → plays Superclass (sort_at st.objects id) ≡ false → (class_at st.objects id).superclass ≡ None
 no_superclass st sound id is h = root (census st) id.0 (object_at st.objects id).kind
-    (sound.objects id.0 (is_within st Any id is)).kind h
+    (role_object st sound Any id is).kind h
 
 -- an object without a superclass is alone
 lineage_root : (objects : List Object) (id : ObjId) → (class_at objects id).superclass ≡ None
@@ -128,7 +114,7 @@ lineage_of st sound id is = by (plays Superclass (sort_at st.objects id)) refl
   where
     by : (b : Bool) → plays Superclass (sort_at st.objects id) ≡ b
         → lineage st.objects id ≡ id ∷ lineage_above st.objects (class_at st.objects id).superclass
-    by true h = lineage_is st sound id (is_by_sort st ClassOrModule id (is_within st Any id is)
+    by true h = lineage_is st sound id (has_role st ClassOrModule id (is_good st Any id is)
         (superclass_sort (sort_at st.objects id) h))
     by false h =
         let top = no_superclass st sound id is h in
@@ -197,7 +183,7 @@ singleton_nowhere st sound id other is h g = rw (lineage_of st sound id is, h, g
 pub singleton_is : (st : Store) → Sound st → (id s : ObjId) → Is (census st) Any id
     → (object_at st.objects id).singleton ≡ Some s → Is (census st) Superclass s
 singleton_is st sound id s is h = singleton_is_superclass st s
-    (subst (OptionIs (Is (census st) SingletonClass)) h (sound.objects id.0 (is_within st Any id is)).singleton)
+    (subst (OptionIs (Is (census st) SingletonClass)) h (role_object st sound Any id is).singleton)
 
 pub singleton_is_class : (st : Store) → Sound st → (id s : ObjId) → Is (census st) Any id
     → (object_at st.objects id).singleton ≡ Some s → Is (census st) ClassOrModule s
@@ -205,7 +191,7 @@ singleton_is_class st sound id s is h = superclass_is_class st s (singleton_is s
 
 pub class_is : (st : Store) → Sound st → (id : ObjId) → Is (census st) Any id
     → Is (census st) Superclass (object_at st.objects id).class
-class_is st sound id is = class_is_superclass st _ (sound.objects id.0 (is_within st Any id is)).class
+class_is st sound id is = class_is_superclass st _ (role_object st sound Any id is).class
 
 pub class_is_class : (st : Store) → Sound st → (id : ObjId) → Is (census st) Any id
     → Is (census st) ClassOrModule (object_at st.objects id).class

@@ -8,12 +8,13 @@ use Rattle.rb_value.specs.Object.{Object}
 use Rattle.def_core.specs.Store.{Store, object_at, sort_at}
 use Rattle.def_core.specs.Classes.{class_at, lineage}
 use Rattle.def_core.specs.Changes.{above, make_all, missing}
-use Rattle.def_core.specs.Sound.{census, Any, ClassOrModule, Is, AllAre, Sound}
-use Rattle.def_core.proofs.Roles.{is_within}
+use Rattle.def_core.specs.Parts.{with_objects}
+use Rattle.def_core.specs.Sound.{census, Any, ClassOrModule, Is, IsGood, AllAre, Sound}
+use Rattle.def_core.proofs.Good.{is_good}
+use Rattle.def_core.proofs.Attaching.{good_attached, kept_attached, given_attached}
 use Rattle.def_core.proofs.Chains.{lineage_above}
 use Rattle.class_model.specs.Singletons.{is_missing, with_new_singleton, IsMadeInPart}
 use Rattle.class_model.proofs.Lineages.{lineage_of, singletons_from_lineage, singleton_is_class}
-use Rattle.class_model.proofs.Attaching.{more_attached, kept_attached, given_attached}
 
 pub make_none : (objects : List Object) (ids : List ObjId) → make_all objects (drop (length ids) ids) ≡ objects
 unfolding make_all
@@ -57,58 +58,57 @@ pub missing_is : (st : Store) → Sound st → (id : ObjId) → Is (census st) A
 unfolding missing
 missing_is st sound id is = ap (filter (is_missing st.objects)) (sym (singletons_from_lineage st sound id is))
 
-more_made : (objects : List Object) (ids : List ObjId) → length objects ≤ length (make_all objects ids)
+good_made : (st : Store) (ids : List ObjId) (k : ObjId) → IsGood st k
+    → IsGood (with_objects st (make_all st.objects ids)) k
 unfolding make_all
-more_made objects [] = omega arith
-more_made objects (id ∷ ids) = omega (
-  arith,
-  more_made objects ids,
-  more_attached (make_all objects ids) id (above (make_all objects ids) id (sort_at (make_all objects ids) id)),
-)
+good_made st [] k good = good
+good_made st (id ∷ ids) k good =
+    let made : Store = with_objects st (make_all st.objects ids) in
+    good_attached made id (above made.objects id (sort_at made.objects id)) k (good_made st ids k good)
 
-kept_made : (objects : List Object) (ids : List ObjId) (k : ObjId) → AllAre (λ id. id.0 < length objects) ids
-    → k.0 < length objects → is_some (object_at objects k).singleton ≡ true
-    → is_some (object_at (make_all objects ids) k).singleton ≡ true
+kept_made : (st : Store) (ids : List ObjId) (k : ObjId) → AllAre (IsGood st) ids → IsGood st k
+    → is_some (object_at st.objects k).singleton ≡ true
+    → is_some (object_at (make_all st.objects ids) k).singleton ≡ true
 unfolding make_all
-kept_made objects [] k all there h = h
-kept_made objects (id ∷ ids) k all there h =
-    kept_attached (make_all objects ids) id (above (make_all objects ids) id (sort_at (make_all objects ids) id)) k
-    (omega (arith, all.0, more_made objects ids)) (omega (arith, there, more_made objects ids))
-    (kept_made objects ids k all.1 there h)
+kept_made st [] k all there h = h
+kept_made st (id ∷ ids) k all there h =
+    let made : Store = with_objects st (make_all st.objects ids) in
+    kept_attached made id (above made.objects id (sort_at made.objects id)) k (good_made st ids id all.0)
+    (good_made st ids k there) (kept_made st ids k all.1 there h)
 
-given_made : (objects : List Object) (ids : List ObjId) (id : ObjId) → id.0 < length objects
-    → is_some (object_at (make_all objects (id ∷ ids)) id).singleton ≡ true
+given_made : (st : Store) (ids : List ObjId) (id : ObjId) → IsGood st id
+    → is_some (object_at (make_all st.objects (id ∷ ids)) id).singleton ≡ true
 unfolding make_all
-given_made objects ids id there = given_attached (make_all objects ids) id
-    (above (make_all objects ids) id (sort_at (make_all objects ids) id)) (omega (arith, there, more_made objects ids))
+given_made st ids id there =
+    let made : Store = with_objects st (make_all st.objects ids) in
+    given_attached made id (above made.objects id (sort_at made.objects id)) (good_made st ids id there)
 
 -- the object has a singleton class then
 pub has_singleton : (st : Store) → Sound st → (id : ObjId) → Is (census st) Any id
-    → AllAre (λ x. x.0 < length st.objects) (missing st.objects id)
+    → AllAre (IsGood st) (missing st.objects id)
     → is_some (object_at (make_all st.objects (missing st.objects id)) id).singleton ≡ true
 has_singleton st sound id is all =
     let rest = filter (is_missing st.objects) (lineage_above st.objects (class_at st.objects id).superclass) in
     let e : missing st.objects id ≡ cond (is_missing st.objects id) (id ∷ rest) rest =
     sym (missing_is st sound id is) ∙ ap (filter (is_missing st.objects)) (lineage_of st sound id is) in
     subst (λ (xs : List ObjId). is_some (object_at (make_all st.objects xs) id).singleton ≡ true) (sym e)
-    (by (is_some (object_at st.objects id).singleton) refl rest (subst (AllAre (λ x. x.0 < length st.objects)) e all))
+    (by (is_some (object_at st.objects id).singleton) refl rest (subst (AllAre (IsGood st)) e all))
   where
     by : (b : Bool) → is_some (object_at st.objects id).singleton ≡ b → (rest : List ObjId)
-        → AllAre (λ x. x.0 < length st.objects)
+        → AllAre (IsGood st)
         (cond (not (is_some (object_at st.objects id).singleton)) (id ∷ rest) rest)
         → is_some (object_at (make_all st.objects
         (cond (not (is_some (object_at st.objects id).singleton)) (id ∷ rest) rest)) id).singleton ≡ true
-    by true h rest = subst (λ (b : Bool). AllAre (λ x. x.0 < length st.objects) (cond (not b) (id ∷ rest) rest)
+    by true h rest = subst (λ (b : Bool). AllAre (IsGood st) (cond (not b) (id ∷ rest) rest)
         → is_some (object_at (make_all st.objects (cond (not b) (id ∷ rest) rest)) id).singleton ≡ true) (sym h)
-        (λ some. kept_made st.objects rest id some (is_within st Any id is) h)
-    by false h rest = subst (λ (b : Bool). AllAre (λ x. x.0 < length st.objects) (cond (not b) (id ∷ rest) rest)
+        (λ some. kept_made st rest id some (is_good st Any id is) h)
+    by false h rest = subst (λ (b : Bool). AllAre (IsGood st) (cond (not b) (id ∷ rest) rest)
         → is_some (object_at (make_all st.objects (cond (not b) (id ∷ rest) rest)) id).singleton ≡ true) (sym h)
-        (λ some. given_made st.objects rest id (is_within st Any id is))
+        (λ some. given_made st rest id (is_good st Any id is))
 
-all_within : (st : Store) (ids : List ObjId) → AllAre (Is (census st) Any) ids
-    → AllAre (λ x. x.0 < length st.objects) ids
-all_within st [] all = tt
-all_within st (id ∷ ids) all = (is_within st Any id all.0, all_within st ids all.1)
+all_good : (st : Store) (ids : List ObjId) → AllAre (Is (census st) Any) ids → AllAre (IsGood st) ids
+all_good st [] all = tt
+all_good st (id ∷ ids) all = (is_good st Any id all.0, all_good st ids all.1)
 
 pub given_is_class : (st : Store) → Sound st → (id : ObjId) → Is (census st) Any id
     → is_some (object_at st.objects id).singleton ≡ true
@@ -127,7 +127,7 @@ pub made_is_class : (st after : Store) → Sound st → Sound after → (id : Ob
     → Is (census after) ClassOrModule (unwrap_or (object_at after.objects id).singleton id)
 made_is_class st after sound later id ids is still e all s =
     let some = has_singleton st sound id is
-    (subst (AllAre (λ x. x.0 < length st.objects)) e (all_within st ids all)) in
+    (subst (AllAre (IsGood st)) e (all_good st ids all)) in
     let made : after.objects ≡ make_all st.objects (missing st.objects id) = ap (λ (x : Store). x.objects) s
     ∙ ap (make_all st.objects) e in
     given_is_class after later id still

@@ -16,7 +16,7 @@ use Rattle.rb_value.specs.Sort.{sort_of_form}
 use Rattle.def_core.specs.Store.{Store, with_object, next_number}
 use Rattle.def_core.specs.Changes.{intern, intern_at}
 use Rattle.def_core.specs.Sound.{census, Superclass, ClassOrModule, plays, Is, IsSymbol, IsValue, OptionIs, IsSuperclass, SoundObject, Sound}
-use Rattle.def_core.proofs.Roles.{is_within}
+use Rattle.def_core.proofs.Good.{before_next}
 use Rattle.def_core.proofs.Grows.{new_role, core_is_class}
 use Rattle.class_model.specs.Growth.{IsGrown, named_class}
 use Rattle.class_model.proofs.Lineages.{any_of}
@@ -56,7 +56,7 @@ grown_more st after o g = record {
 smaller : (st : Store) (p : Option ObjId) → OptionIs (Is (census st) Superclass) p
     → OptionIs (IsSuperclass (census st) (next_number st).0) p
 smaller st None h = tt
-smaller st (Some p) h = (h, is_within st Superclass p h)
+smaller st (Some p) h = (h, before_next st Superclass p h)
 
 pub named_is_sound : (st : Store) → Sound st → (class : CoreClass) (f : ClassForm) (p : Option ObjId) (name : SymId)
     (o : Object) → o ≡ named_class class f p name → is_module class ≡ false

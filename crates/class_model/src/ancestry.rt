@@ -17,7 +17,7 @@ pub struct Ancestors<'a> {
 }
 
 /// Whether it is a singleton class. It takes no memory.
-#[tactic(auto, using(def_core::proofs::Roles::is_within))]
+#[tactic(auto, using(def_core::proofs::Good::is_good))]
 fn is_singleton(st: &Store, class: ObjId) -> bool
     requires { Is (census st.now.store) ClassOrModule class }
     ensures { result ≡ classes.is_singleton (classes.class_at st.now.store.objects class).form }

@@ -19,7 +19,7 @@ pub struct Chain<'a> {
 }
 
 /// The modules that a class or module includes, in the order of look-up. It takes no memory.
-#[tactic(auto, using(def_core::proofs::Roles::is_within))]
+#[tactic(auto, using(def_core::proofs::Good::is_good))]
 pub fn included_in(st: &Store, class: ObjId) -> &[ObjId]
     requires { Is (census st.now.store) ClassOrModule class }
     ensures { result.now ≡ (classes.class_at st.now.store.objects class).included }
@@ -31,7 +31,7 @@ pub fn included_in(st: &Store, class: ObjId) -> &[ObjId]
 }
 
 /// The superclass of a class; none of any other object. It takes no memory.
-#[tactic(auto, using(def_core::proofs::Roles::is_within))]
+#[tactic(auto, using(def_core::proofs::Good::is_good))]
 pub(crate) fn above(st: &Store, id: ObjId) -> Option<ObjId>
     requires { Is (census st.now.store) Any id }
     ensures { result ≡ (classes.class_at st.now.store.objects id).superclass }

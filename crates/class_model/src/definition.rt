@@ -31,7 +31,7 @@ fn constant_in(constants: &PairTable<u64, Value>, name: SymId) -> Option<Value>
 }
 
 /// The value of the constant of that name in the own list of a class or module. It takes no memory.
-#[tactic(auto, using(def_core::proofs::Roles::is_within, crate::proofs::Constants::own_is_value))]
+#[tactic(auto, using(def_core::proofs::Good::is_good, crate::proofs::Constants::own_is_value))]
 pub fn own_constant(st: &Store, class: ObjId, name: SymId) -> Option<Value>
     requires sound { Sound st.now.store }
     requires class { Is (census st.now.store) ClassOrModule class }
@@ -120,7 +120,7 @@ fn add_class(
 }
 
 /// Defines a class or module as a new constant of the scope. Where memory runs out all that was there is as before.
-#[tactic(auto, using(def_core::proofs::Roles::is_within, def_core::proofs::Roles::is_plays, crate::proofs::Naming::grown_more, crate::proofs::Naming::class_is_value, crate::proofs::Kept::kept_sound, crate::proofs::Kept::kept_role, crate::proofs::Kept::kept_symbol, rb_store::proofs::Keeping::keeps_itself, rb_store::proofs::Keeping::keeps_then))]
+#[tactic(auto, using(def_core::proofs::Good::is_good, def_core::proofs::Roles::is_plays, crate::proofs::Naming::grown_more, crate::proofs::Naming::class_is_value, crate::proofs::Kept::kept_sound, crate::proofs::Kept::kept_role, crate::proofs::Kept::kept_symbol, rb_store::proofs::Keeping::keeps_itself, rb_store::proofs::Keeping::keeps_then))]
 fn make_named(
     st: &mut Store,
     scope: ObjId,
@@ -150,7 +150,7 @@ fn make_named(
 }
 
 /// The number of a value that is a class, but no singleton class.
-#[tactic(auto, using(def_core::proofs::Roles::is_within, def_core::proofs::Roles::is_by_sort))]
+#[tactic(auto, using(def_core::proofs::Good::is_good, def_core::proofs::Good::has_role))]
 fn class_in(st: &Store, v: Value) -> Option<ObjId>
     requires { IsValue (census st.now.store) v }
     ensures value { result ≡ defined.object_of_sort defined.is_class_sort st.now.store.objects v }

@@ -68,7 +68,7 @@ fn new_members(st: &Store, class: ObjId, mixin: ObjId) -> Result<Vec<ObjId>, All
 }
 
 /// Includes a module in a class or module. Where memory runs out all is as before.
-#[tactic(auto, unfolding(def_core::specs::Changes::with_included), using(def_core::proofs::Roles::is_within, def_core::proofs::Roles::is_plays, def_core::proofs::Roles::module_is_class, rb_store::proofs::Keeping::keeps_itself))]
+#[tactic(auto, unfolding(def_core::specs::Changes::with_included), using(def_core::proofs::Good::is_good, def_core::proofs::Roles::is_plays, def_core::proofs::Roles::module_is_class, rb_store::proofs::Keeping::keeps_itself))]
 fn include_module(st: &mut Store, class: ObjId, mixin: ObjId) -> Result<(), AllocError>
     requires sound { Sound st.old.store }
     requires class { Is (census st.old.store) ClassOrModule class }

@@ -18,7 +18,7 @@ use std::alloc::AllocError;
 
 /// Puts a method into the own list of a class or module (ISO/IEC 30170:2012, 13.3). `initialize` is private whatever
 /// the visibility. Where memory runs out the objects are as before.
-#[tactic(auto, using(def_core::proofs::Roles::is_within, def_core::proofs::Roles::is_plays))]
+#[tactic(auto, using(def_core::proofs::Good::is_good, def_core::proofs::Roles::is_plays))]
 pub fn set_method(
     st: &mut Store,
     class: ObjId,
@@ -39,7 +39,7 @@ pub fn set_method(
 }
 
 /// Sets the visibility of the next methods of a class or module. It takes no memory.
-#[tactic(auto, using(def_core::proofs::Roles::is_within, def_core::proofs::Roles::is_plays))]
+#[tactic(auto, using(def_core::proofs::Good::is_good, def_core::proofs::Roles::is_plays))]
 pub fn set_default(st: &mut Store, class: ObjId, visibility: Visibility)
     requires sound { Sound st.old.store }
     requires class { Is (census st.old.store) ClassOrModule class }
@@ -51,7 +51,7 @@ pub fn set_default(st: &mut Store, class: ObjId, visibility: Visibility)
 }
 
 /// The visibility of the next method of a class or module. It takes no memory.
-#[tactic(auto, using(def_core::proofs::Roles::is_within))]
+#[tactic(auto, using(def_core::proofs::Good::is_good))]
 pub fn default_visibility(st: &Store, class: ObjId) -> Visibility
     requires { Is (census st.now.store) ClassOrModule class }
     ensures { result ≡ (class_at st.now.store.objects class).visibility }
@@ -63,7 +63,7 @@ pub fn default_visibility(st: &Store, class: ObjId) -> Visibility
 }
 
 /// What the own list of a class or module has under the name. It takes no memory.
-#[tactic(auto, using(def_core::proofs::Roles::is_within))]
+#[tactic(auto, using(def_core::proofs::Good::is_good))]
 pub fn own_entry(st: &Store, class: ObjId, name: SymId) -> Option<MethodEntry>
     requires { Is (census st.now.store) ClassOrModule class }
     ensures { result ≡ entry_of st.now.store.objects class name }

@@ -10,7 +10,7 @@ use rb_store::Store;
 use rb_value::{CoreClass, ObjId, Value};
 
 /// The singleton class of the first of an object and its superclasses that has one, or else the other class.
-#[tactic(auto, using(def_core::proofs::Roles::is_within, crate::proofs::Lineages::singleton_here, crate::proofs::Lineages::singleton_above, crate::proofs::Lineages::singleton_nowhere, crate::proofs::Lineages::singleton_is_class, crate::proofs::Lineages::above_is_below))]
+#[tactic(auto, using(def_core::proofs::Good::is_good, crate::proofs::Lineages::singleton_here, crate::proofs::Lineages::singleton_above, crate::proofs::Lineages::singleton_nowhere, crate::proofs::Lineages::singleton_is_class, crate::proofs::Lineages::above_is_below))]
 fn nearest_singleton(st: &Store, id: ObjId, other: ObjId) -> ObjId
     requires sound { Sound st.now.store }
     requires there { Is (census st.now.store) Any id }
@@ -45,7 +45,7 @@ pub(crate) fn core_class(st: &Store, class: CoreClass) -> ObjId
 /// Where the look-up of a value's methods begins: in its singleton class, if it has one, and else in its class. A
 /// class object without a singleton class has that of its nearest superclass with one (ISO/IEC 30170:2012, 13.4).
 /// It takes no memory.
-#[tactic(auto, using(def_core::proofs::Roles::is_within, crate::proofs::Lineages::class_of_object, crate::proofs::Lineages::class_is_class), unfolding(def_core::specs::Classes::class_of))]
+#[tactic(auto, using(def_core::proofs::Good::is_good, crate::proofs::Lineages::class_of_object, crate::proofs::Lineages::class_is_class), unfolding(def_core::specs::Classes::class_of))]
 pub fn class_of(st: &Store, v: Value) -> ObjId
     requires sound { Sound st.now.store }
     requires value { IsValue (census st.now.store) v }
@@ -60,7 +60,7 @@ pub fn class_of(st: &Store, v: Value) -> ObjId
 }
 
 /// The class of a value without its singleton class. It takes no memory.
-#[tactic(auto, using(def_core::proofs::Roles::is_within, crate::proofs::Lineages::class_is_class))]
+#[tactic(auto, using(def_core::proofs::Good::is_good, crate::proofs::Lineages::class_is_class))]
 pub fn plain_class_of(st: &Store, v: Value) -> ObjId
     requires sound { Sound st.now.store }
     requires value { IsValue (census st.now.store) v }

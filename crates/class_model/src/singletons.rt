@@ -54,7 +54,7 @@ pub(crate) fn class_object(
 }
 
 /// The singleton class of a superclass; Class where there is none.
-#[tactic(auto, using(def_core::proofs::Roles::is_within, crate::proofs::Lineages::singleton_is, crate::proofs::Lineages::class_is_core))]
+#[tactic(auto, using(def_core::proofs::Good::is_good, crate::proofs::Lineages::singleton_is, crate::proofs::Lineages::class_is_core))]
 fn above_class(st: &Store, superclass: Option<ObjId>) -> ObjId
     requires sound { Sound st.now.store }
     requires there { OptionIs (Is (census st.now.store) Any) superclass }
@@ -72,7 +72,7 @@ fn above_class(st: &Store, superclass: Option<ObjId>) -> ObjId
 
 /// The superclass of the singleton class of an object: of a class the singleton class of its superclass, and of any
 /// other object its class.
-#[tactic(auto, using(def_core::proofs::Roles::is_within, crate::proofs::Lineages::above_there, crate::proofs::Lineages::class_is))]
+#[tactic(auto, using(def_core::proofs::Good::is_good, crate::proofs::Lineages::above_there, crate::proofs::Lineages::class_is))]
 fn superclass_for(st: &Store, id: ObjId) -> ObjId
     requires sound { Sound st.now.store }
     requires there { Is (census st.now.store) Any id }
@@ -88,7 +88,7 @@ fn superclass_for(st: &Store, id: ObjId) -> ObjId
 }
 
 /// Gives an object a new singleton class. Where memory runs out all is as before.
-#[tactic(auto, using(def_core::proofs::Roles::is_within, rb_store::proofs::Keeping::keeps_itself))]
+#[tactic(auto, using(def_core::proofs::Good::is_good, rb_store::proofs::Keeping::keeps_itself))]
 fn attach(st: &mut Store, id: ObjId) -> Result<(), AllocError>
     requires sound { Sound st.old.store }
     requires there { Is (census st.old.store) Any id }
@@ -125,7 +125,7 @@ fn make_all(st: &mut Store, ids: &[ObjId]) -> Result<(), AllocError>
 }
 
 /// Puts an object that has no singleton class after the others.
-#[tactic(auto, using(def_core::proofs::Roles::is_within))]
+#[tactic(auto, using(def_core::proofs::Good::is_good))]
 fn push_missing(st: &Store, list: &mut Vec<ObjId>, id: ObjId) -> Result<(), AllocError>
     requires { Is (census st.now.store) Any id }
     ensures { OnOk result (list.new.items ≡ list.old.items ++ filter (is_missing st.now.store.objects) (id ∷ [])) }
@@ -155,7 +155,7 @@ fn missing(st: &Store, id: ObjId) -> Result<Vec<ObjId>, AllocError>
 }
 
 /// The singleton class of an object, which is made where it isn't there, as are those of its superclasses.
-#[tactic(auto, unfolding(def_core::specs::Changes::singleton, def_core::specs::Changes::with_singleton), using(def_core::proofs::Roles::is_within, crate::proofs::Making::made_nothing, crate::proofs::Making::made_is_class, rb_store::proofs::Keeping::keeps_itself, crate::proofs::Kept::kept_sound, crate::proofs::Kept::kept_role))]
+#[tactic(auto, unfolding(def_core::specs::Changes::singleton, def_core::specs::Changes::with_singleton), using(def_core::proofs::Good::is_good, crate::proofs::Making::made_nothing, crate::proofs::Making::made_is_class, rb_store::proofs::Keeping::keeps_itself, crate::proofs::Kept::kept_sound, crate::proofs::Kept::kept_role))]
 fn singleton_of(st: &mut Store, id: ObjId) -> Result<Outcome, AllocError>
     requires sound { Sound st.old.store }
     requires object { Is (census st.old.store) Any id }

@@ -12,7 +12,7 @@ use Rattle.rb_value.specs.declared.core_class.CoreClass.TheVariants as class
 use Rattle.rb_value.specs.Value.{is_true}
 use Rattle.def_core.specs.Store.{Store, sort_at}
 use Rattle.def_core.specs.Sound.{Census, census, Sound, Class, Is, IsValue, AllAre, plays}
-use Rattle.def_core.proofs.Roles.{is_by_sort, is_within}
+use Rattle.def_core.proofs.Good.{is_good, has_role}
 use Rattle.row_table.specs.declared.line.CoreRow.{CoreRow}
 use Rattle.row_table.specs.declared.line.CoreRow.TheVariants.{Integer, Range, RangeClass, String, StringClass, Symbol, Nil, True, False}
 use Rattle.row_table.specs.declared.range.RangeClassMethod.TheVariants as range_class
@@ -40,7 +40,7 @@ new_belongs st sound recv args is = by_place st sort.Class recv
     (λ p. SoundAnswer (census st) (made_in st.objects recv args p)) is
     (core_is st sound class.Class, plain_is st sound recv is)
     (λ id e there test. made_belongs (census st) id
-    (is_by_sort st Class id (is_within st _ id there) (is_class (sort_at st.objects id) test))
+    (has_role st Class id (is_good st _ id there) (is_class (sort_at st.objects id) test))
     (is_true (argument args 2)) (kept_ends (item_of st.objects (argument args 0)) (item_of st.objects (argument args 1))))
 
 pub gives_belongs : (st : Store) (row : CoreRow) (recv : Value) (args : List Value) → Sound st

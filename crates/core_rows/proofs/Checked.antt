@@ -13,7 +13,8 @@ use Rattle.def_core.specs.declared.cause.Cause.TheVariants as cause
 use Rattle.def_core.specs.Store.{Store, core}
 use Rattle.def_core.specs.Classes.{plain_class_of}
 use Rattle.def_core.specs.Sound.{census, Sound, Any, ClassOrModule, Is, IsValue, AllAre, plays, plays_at, core_sort}
-use Rattle.def_core.proofs.Roles.{is_within, superclass_is_class, class_is_superclass}
+use Rattle.def_core.proofs.Roles.{superclass_is_class, class_is_superclass}
+use Rattle.def_core.proofs.Good.{role_object}
 use Rattle.rb_raise.specs.Causes.{SoundCause}
 use Rattle.row_table.specs.declared.signature.Signature.{Signature}
 use Rattle.row_table.specs.declared.signature.Wanted.{Wanted}
@@ -44,7 +45,7 @@ plain_is st sound False is = core_is st sound class.FalseClass
 plain_is st sound (Int z) is = core_is st sound class.Integer
 plain_is st sound (Sym s) is = core_is st sound class.Symbol
 plain_is st sound (Obj id) is =
-    superclass_is_class st _ (class_is_superclass st _ (sound.objects id.0 (is_within st Any id is)).class)
+    superclass_is_class st _ (class_is_superclass st _ (role_object st sound Any id is).class)
 
 module _ (st : Store) (sound : Sound st) where
   unless : (b : Bool) (o p : Option Cause) → IfSome o (SoundCause (census st)) → IfSome p (SoundCause (census st))

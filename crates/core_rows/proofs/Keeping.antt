@@ -21,7 +21,7 @@ use Rattle.def_core.proofs.Grows.{value_grows, one_more, new_role}
 use Rattle.rb_store.specs.Held.{Held}
 use Rattle.rb_store.specs.Keeps.{Keeps}
 use Rattle.rb_store.specs.Counted.{SameLooks}
-use Rattle.rb_store.proofs.Keeping.{keeps_itself}
+use Rattle.rb_store.proofs.Keeping.{keeps_itself, more_same}
 use Rattle.rb_raise.specs.Causes.{SoundCause}
 use Rattle.rb_raise.proofs.Strings.{sound_fails}
 use Rattle.rb_raise.proofs.Details.{detail_is}
@@ -35,7 +35,7 @@ use Rattle.def_rows.specs.Answers.{cause_of, appended, rewritten, appends, pushe
 use Rattle.core_rows.specs.Belonging.{SoundAnswer}
 use Rattle.core_rows.specs.Completes.{Does, Completes}
 use Rattle.core_rows.proofs.Places.{by_place, elements_are}
-use Rattle.core_rows.proofs.Leaving.{Leaves, given, more_same, changed, text_made, items_made, range_made, string_made, symbol_made, texts_made, numbers_made}
+use Rattle.core_rows.proofs.Leaving.{Leaves, given, changed, text_made, items_made, range_made, string_made, symbol_made, texts_made, numbers_made}
 
 -- A sort that passes the test is the one that is asked for; no class has the sort String or Array.
 

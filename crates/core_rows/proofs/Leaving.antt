@@ -1,7 +1,7 @@
 -- What an answer leaves of a store, whatever code makes it.
 use Rattle.std.proofs.Common.{◌≡◌, ℕ, ℤ, ◌<◌, List, [], ◌∷◌, ◌++◌, length, map, Bool, true, false, refl, ap, sym, ◌∙◌, arith, length-append, if◌then◌else◌}
 use Rattle.std.specs.Prelude.{Option, Some, None}
-use Rattle.std.proofs.lemmas.List.{get_or_append_left}
+use Rattle.std.proofs.lemmas.List.{length-map}
 use Rattle.rb_value.specs.declared.value.Value.{Value}
 use Rattle.rb_value.specs.declared.value.Value.TheVariants.{Nil, True, False, Int, Sym, Obj}
 use Rattle.rb_value.specs.declared.value.ObjId.{ObjId}
@@ -18,14 +18,15 @@ use Rattle.def_core.specs.Changes.{gives, intern}
 use Rattle.def_core.specs.Parts.{with_kind, with_objects}
 use Rattle.def_core.specs.Sound.{Census, census, Sound, SoundObject, SoundKind, Any, Class, ClassOrModule, Is, IsOutcome, IsValue, AllAre, plays, Extends}
 use Rattle.def_core.proofs.Sorts.{sorts-set}
-use Rattle.def_core.proofs.Roles.{is_within}
+use Rattle.def_core.proofs.Good.{is_good, good_added}
 use Rattle.def_core.proofs.PartsSound.{sound_with_kind}
 use Rattle.def_core.proofs.Grows.{more_objects, one_more, sound_with_object, sound_with_interned, interned as names_kept, core_is_class, extends_itself, extends_both, same_objects}
 use Rattle.rb_store.specs.Counted.{SameLooks, looks_of}
 use Rattle.rb_store.proofs.Counted.{same_looks, same_then, one_interned, other_changed}
+use Rattle.rb_store.proofs.Keeping.{more_same}
 use Rattle.rb_store.proofs.Start.{interned_symbol}
 use Rattle.def_rows.specs.Answers.{text_object, items_object, interned, makes, numbered, with_texts, makes_texts}
-use Rattle.core_rows.proofs.Texts.{object_is, texts_sound, numbered_are, length-with_texts}
+use Rattle.core_rows.proofs.Texts.{texts_sound, numbered_are}
 
 -- what a call gives and leaves, beside a sound store
 pub record Leaves (st : Store) (d : Done) : Type 0 where
@@ -44,22 +45,13 @@ given st sound v is = record {
 
 -- New objects.
 
-pub more_same : (st : Store) (more : List Object) → SameLooks st (record st { objects = st.objects ++ more })
-more_same st more = record {
-  roles = λ c is. (more_objects st more).roles ClassOrModule c is;
-  looks = λ c is. ap (λ (x : Object). looks_of (contents_of x.kind))
-      (get_or_append_left st.objects more absent c.0 (is_within st ClassOrModule c is));
-}
-
 pub made : (st : Store) → Sound st → (o : Object) → SoundObject (census st) (length st.objects) o → Leaves st (makes st o)
-made st sound o new =
-    let longer : length st.objects < length (st.objects ++ o ∷ []) = rw length-append (omega arith) in
-    record {
-      sound = sound_with_object st sound o new;
-      extends = one_more st o;
-      looks = more_same st (o ∷ []);
-      belongs = object_is (with_object st o) (object_number (length st.objects)) longer;
-    }
+made st sound o new = record {
+  sound = sound_with_object st sound o new;
+  extends = one_more st o;
+  looks = more_same st (o ∷ []);
+  belongs = (good_added st o).there;
+}
 
 pub text_made : (st : Store) → Sound st → (bytes : List ℕ) → Leaves st (makes st (text_object bytes))
 text_made st sound bytes = made st sound _
@@ -88,8 +80,7 @@ symbol_made st sound name = record {
 
 pub texts_made : (st : Store) → Sound st → (texts : List (List ℕ)) → Leaves st (makes_texts st texts)
 texts_made st sound texts =
-    let all = numbered_are (with_texts st texts) (length st.objects) (length texts)
-    (omega (arith, length-with_texts st texts)) in
+    let all = numbered_are st (map text_object texts) (length texts) (omega (arith, length-map texts text_object)) in
     let k = items_made (with_texts st texts) (texts_sound st sound texts) (numbered (length st.objects) (length texts)) all in
     record {
       sound = k.sound;
@@ -111,11 +102,10 @@ pub changed : (st : Store) → Sound st → (id : ObjId) → Is (census st) Any 
     → sort_of k ≡ sort_at st.objects id → plays ClassOrModule (sort_at st.objects id) ≡ false
     → SoundKind (census st) id.0 k → Leaves st (gives (Obj id) (with_objects st (with_kind st.objects id k)))
 changed st sound id is k same other new =
-    let within = is_within st Any id is in
     let o : Object = record (object_at st.objects id) { kind = k } in
     let e = same_objects st (set_object st.objects id o) (sorts-set st.objects id o same) in
     record {
-      sound = sound_with_kind st sound id k within same new;
+      sound = sound_with_kind st sound id k (is_good st Any id is) same new;
       extends = e;
       looks = other_changed st id o same other;
       belongs = e.roles Any id is;

@@ -3,16 +3,13 @@ use Rattle.std.proofs.Common.{◌≡◌, ℕ, zero, suc, ◌+◌, ◌<◌, ◌�
 use Rattle.std.proofs.lemmas.List.{length-map}
 use Rattle.rb_value.specs.declared.value.Value.{Value}
 use Rattle.rb_value.specs.declared.value.Value.TheVariants.{Obj}
-use Rattle.rb_value.specs.declared.value.ObjId.{ObjId}
-use Rattle.rb_value.specs.declared.kind.Sort.{Sort}
-use Rattle.rb_value.specs.declared.kind.Sort.TheVariants as sort
 use Rattle.rb_value.specs.Object.{Object}
 use Rattle.rb_value.specs.declared.core_class.CoreClass.TheVariants as class
 use Rattle.def_core.specs.Store.{Store, core, object_number, with_object}
 use Rattle.def_core.specs.Parts.{with_objects}
-use Rattle.def_core.specs.Sound.{Census, census, Sound, SoundObject, SoundFrom, Any, Class, Is, IsValue, AllAre, plays}
+use Rattle.def_core.specs.Sound.{Census, census, Sound, SoundObject, SoundFrom, Class, Is, IsValue, AllAre}
 use Rattle.def_core.proofs.Grows.{more_objects, core_is_class}
-use Rattle.def_core.proofs.Roles.{is_by_sort}
+use Rattle.def_core.proofs.Good.{good_among}
 use Rattle.def_core.proofs.PartsSound.{all_more}
 use Rattle.rb_raise.proofs.Strings.{sound_string}
 use Rattle.def_rows.specs.Answers.{text_object, items_object, numbered, with_texts}
@@ -20,25 +17,6 @@ use Rattle.def_rows.specs.Answers.{text_object, items_object, numbered, with_tex
 pub numbered_more : (first n : ℕ) → numbered first (n + 1) ≡ numbered first n ++ Obj (object_number (first + n)) ∷ []
 unfolding numbered
 numbered_more first n = rw add-one refl
-
-any_sort : (s : Sort) → plays Any s ≡ true
-any_sort sort.Plain = refl
-any_sort sort.Class = refl
-any_sort sort.Singleton = refl
-any_sort sort.Module = refl
-any_sort sort.String = refl
-any_sort sort.Array = refl
-any_sort sort.Hash = refl
-any_sort sort.Range = refl
-any_sort sort.Proc = refl
-any_sort sort.Fiber = refl
-any_sort sort.Exception = refl
-any_sort sort.Enumerator = refl
-any_sort sort.Yielder = refl
-
--- each object of the store is a value of it
-pub object_is : (st : Store) (id : ObjId) → id.0 < length st.objects → Is (census st) Any id
-object_is st id within = is_by_sort st Any id within (any_sort _)
 
 pub texts_sound : (st : Store) → Sound st → (texts : List (List ℕ)) → Sound (with_texts st texts)
 texts_sound st sound [] = subst (λ (os : List Object). let s : Store = record st { objects = os } in Sound s)
@@ -48,19 +26,15 @@ texts_sound st sound (t ∷ ts) =
     (append_assoc st.objects (text_object t ∷ []) (map text_object ts))
     (texts_sound (with_object st (text_object t)) (sound_string st sound t) ts)
 
--- objects with numbers in a row that are there
-pub numbered_are : (st : Store) (first n : ℕ) → first + n ≤ length st.objects
-    → AllAre (IsValue (census st)) (numbered first n)
+-- the first of the objects that come behind the others, by numbers in a row
+pub numbered_are : (st : Store) (more : List Object) (n : ℕ) → n ≤ length more
+    → AllAre (IsValue (census (with_objects st (st.objects ++ more)))) (numbered (length st.objects) n)
 unfolding numbered
-numbered_are st first zero within = tt
-numbered_are st first (suc n) within =
-    all_more (IsValue (census st)) (numbered first n) (Obj (object_number (first + n)) ∷ [])
-    (numbered_are st first n (omega arith)) (object_is st (object_number (first + n)) (omega arith), tt)
-
-pub length-with_texts : (st : Store) (texts : List (List ℕ))
-    → length (with_texts st texts).objects ≡ length st.objects + length texts
-length-with_texts st texts =
-    length-append st.objects (map text_object texts) ∙ ap (λ n. length st.objects + n) (length-map texts text_object)
+numbered_are st more zero within = tt
+numbered_are st more (suc n) within =
+    all_more (IsValue (census (with_objects st (st.objects ++ more)))) (numbered (length st.objects) n)
+    (Obj (object_number (length st.objects + n)) ∷ [])
+    (numbered_are st more n (omega (arith, within))) ((good_among st more n (omega (arith, within))).there, tt)
 
 text_is_sound : (k : Census) (n : ℕ) (bytes : List ℕ) → Is k Class (core class.String) → SoundObject k n (text_object bytes)
 text_is_sound k n bytes is = record { class = is; singleton = tt; variables = tt; kind = tt }
@@ -84,15 +58,13 @@ made_are_sound st sound texts =
     let grown = more_objects st (made_of st texts) in
     let count : length (made_of st texts) ≡ length texts + 1 =
     length-append (map text_object texts) _ ∙ ap (λ n. n + 1) (length-map texts text_object) in
-    let within : length st.objects + length texts ≤ length after.objects =
-    omega (arith, count, length-append st.objects (made_of st texts)) in
     texts_from (census after) (length st.objects) texts _
     (grown.roles Class (core class.String) (core_is_class st sound class.String refl)) (
       record {
         class = grown.roles Class (core class.Array) (core_is_class st sound class.Array refl);
         singleton = tt;
         variables = tt;
-        kind = numbered_are after (length st.objects) (length texts) within;
+        kind = numbered_are st (made_of st texts) (length texts) (omega (arith, count));
       },
       tt,
     )

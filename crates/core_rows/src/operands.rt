@@ -1,8 +1,8 @@
 //! Values as plain operands. A value that isn't of the kind reads as 0, or as empty.
-ghost use Rattle.std.specs.Prelude.{◌≡◌, ◌<◌, length, IfSome};
+ghost use Rattle.std.specs.Prelude.{◌≡◌, IfSome};
 ghost use Rattle.rb_value.specs.declared.kind.Sort.TheVariants as sorts;
 ghost use Rattle.def_core.specs.Store.{sort_at};
-ghost use Rattle.def_core.specs.Sound.{census, IsValue};
+ghost use Rattle.def_core.specs.Sound.{census, IsGood, IsValue};
 ghost use Rattle.def_rows.specs.Operands as operands;
 ghost use Rattle.def_rows.specs.SymbolRows as symbols;
 
@@ -27,10 +27,10 @@ pub fn integer(value: Value) -> i64
 }
 
 /// The number of a value that is an object of the sort.
-#[tactic(auto, using(crate::proofs::Objects::no_object))]
+#[tactic(auto, using(crate::proofs::Objects::no_object, def_core::proofs::Good::good_below))]
 pub fn place_of(st: &Store, sort: Sort, value: Value) -> Option<ObjId>
     ensures place { result ≡ operands.place_of st.now.store.objects sort value }
-    ensures there { IfSome result (λ id. id.0 < length st.now.store.objects) }
+    ensures there { IfSome result (IsGood st.now.store) }
     ensures sort { IfSome result (λ id. sort_at st.now.store.objects id ≡ sort) }
 {
     let Value::Obj(id) = value else {

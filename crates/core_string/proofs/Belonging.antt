@@ -13,7 +13,7 @@ use Rattle.def_core.specs.declared.cause.Cause.TheVariants as cause
 use Rattle.def_core.specs.Store.{Store, core, sort_at}
 use Rattle.def_core.specs.Classes.{plain_class_of}
 use Rattle.def_core.specs.Sound.{Census, census, Sound, Class, Is, IsValue, AllAre, plays}
-use Rattle.def_core.proofs.Roles.{is_by_sort, is_within}
+use Rattle.def_core.proofs.Good.{is_good, has_role}
 use Rattle.rb_integer.specs.declared.ends.Bounds.{Bounds}
 use Rattle.rb_integer.specs.declared.ends.Bounds.TheVariants.{Integers, Bytes as Letters}
 use Rattle.rb_integer.specs.declared.ends.Ends.{Ends}
@@ -176,4 +176,4 @@ module _ (st : Store) (sound : Sound st) where
   new_belongs recv args is = by_place st sort.Class recv
       (λ p. SoundAnswer (census st) (made_in st.objects recv args p)) is
       (core_is st sound class.Class, plain_is st sound recv is)
-      (λ id e there test. is_by_sort st Class id (is_within st _ id there) (is_class (sort_at st.objects id) test))
+      (λ id e there test. has_role st Class id (is_good st _ id there) (is_class (sort_at st.objects id) test))

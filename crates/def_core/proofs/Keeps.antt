@@ -19,9 +19,10 @@ use Rattle.indexmap.specs.IndexMap.{insert_entry}
 use Rattle.def_core.specs.Store.{Store, object_at, sort_at, set_object, absent}
 use Rattle.def_core.specs.Classes.{class_at, with_class}
 use Rattle.def_core.specs.Changes.{with_method, with_default, with_constant, visibility_for}
-use Rattle.def_core.specs.Sound.{sorts_of, census, Census, SingletonClass, ClassOrModule, Is, IsSymbol, IsValue, AllAre, SoundConstant, SoundMethod, SoundEntry, SoundClass, SoundObject, Sound}
+use Rattle.def_core.specs.Sound.{sorts_of, census, Census, SingletonClass, ClassOrModule, Is, IsGood, IsSymbol, IsValue, AllAre, SoundConstant, SoundMethod, SoundEntry, SoundClass, SoundObject, Sound}
 use Rattle.def_core.proofs.Sorts.{sorts-set, same_class_sort}
-use Rattle.def_core.proofs.Roles.{is_within, is_plays, sound_class}
+use Rattle.def_core.proofs.Roles.{is_plays, sound_class}
+use Rattle.def_core.proofs.Good.{good_within, is_good, good_object}
 
 -- what holds of each member still holds where one is replaced
 each_still : (P : ℕ → Object → Type 0) (xs : List Object) (i : ℕ) (o : Object) → i < length xs → P i o → (n : ℕ)
@@ -35,15 +36,15 @@ each_still P xs i o within new n old = elim (nat_eq n i) as (λ b. nat_eq n i �
 ] refl
 
 -- an object of the same sort that is sound in the place of another
-pub sound_with_set : (st : Store) → Sound st → (id : ObjId) (o : Object) → id.0 < length st.objects
+pub sound_with_set : (st : Store) → Sound st → (id : ObjId) (o : Object) → IsGood st id
     → sort_of o.kind ≡ sort_at st.objects id
     → SoundObject (census st) id.0 o → Sound (record st { objects = set_object st.objects id o })
-sound_with_set st sound id o within sort new =
+sound_with_set st sound id o good sort new =
     let same : sorts_of (set_object st.objects id o) ≡ sorts_of st.objects = sorts-set st.objects id o sort in
     record {
       objects = λ n h. subst (λ (ss : List Sort). SoundObject (record { sorts = ss; symbols = length st.symbols }) n
           (get_or (set_object st.objects id o) n absent)) (sym same)
-          (each_still (SoundObject (census st)) st.objects id.0 o within new n (sound.objects n (rw length-set at h)));
+          (each_still (SoundObject (census st)) st.objects id.0 o (good_within st id good) new n (sound.objects n (rw length-set at h)));
       core = λ q. ap (λ (ss : List Sort). slice_get ss (number_of q)) same ∙ sound.core q;
     }
 
@@ -51,19 +52,19 @@ pub sound_with_class : (st : Store) → Sound st → (c : ObjId) (k : ClassConte
     → k.form ≡ (class_at st.objects c).form
     → SoundClass (census st) c.0 k → Sound (record st { objects = with_class st.objects c k })
 sound_with_class st sound c k is form new =
-    let within = is_within st ClassOrModule c is in
-    let old = sound.objects c.0 within in
-    sound_with_set st sound c (record (object_at st.objects c) { kind = kind.Class k }) within
+    let good = is_good st ClassOrModule c is in
+    let old = good_object st sound c good in
+    sound_with_set st sound c (record (object_at st.objects c) { kind = kind.Class k }) good
     (same_class_sort st.objects c k (is_plays st ClassOrModule c is) form)
     (record { class = old.class; singleton = old.singleton; variables = old.variables; kind = new })
 
 -- an object gets a singleton class
-pub sound_with_singleton : (st : Store) → Sound st → (id s : ObjId) → id.0 < length st.objects
+pub sound_with_singleton : (st : Store) → Sound st → (id s : ObjId) → IsGood st id
     → Is (census st) SingletonClass s
     → Sound (record st { objects = set_object st.objects id (record (object_at st.objects id) { singleton = Some s }) })
-sound_with_singleton st sound id s within is =
-    let old = sound.objects id.0 within in
-    sound_with_set st sound id (record (object_at st.objects id) { singleton = Some s }) within refl
+sound_with_singleton st sound id s good is =
+    let old = good_object st sound id good in
+    sound_with_set st sound id (record (object_at st.objects id) { singleton = Some s }) good refl
     (record { class = old.class; singleton = is; variables = old.variables; kind = old.kind })
 
 -- what stands under the name of a symbol

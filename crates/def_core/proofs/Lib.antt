@@ -1,5 +1,7 @@
 pub mod Sorts
 pub mod Roles
+pub mod Good
+pub mod Attaching
 pub mod Chains
 pub mod Keeps
 pub mod PartsSound

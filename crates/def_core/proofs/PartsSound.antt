@@ -20,7 +20,8 @@ use Rattle.rb_value.specs.Variables as variables
 use Rattle.rb_value.specs.Sort.{sort_of}
 use Rattle.def_core.specs.Store.{Store, object_at, sort_at}
 use Rattle.def_core.specs.Parts.{with_objects, with_kind, with_elements, with_text, with_hash, with_variable}
-use Rattle.def_core.specs.Sound.{Census, census, Sound, AllAre, IsValue, IsSymbol, SoundVariable, SoundKey, SoundPair, SoundHash, SoundKind, SoundObject}
+use Rattle.def_core.specs.Sound.{Census, census, Sound, IsGood, AllAre, IsValue, IsSymbol, SoundVariable, SoundKey, SoundPair, SoundHash, SoundKind, SoundObject}
+use Rattle.def_core.proofs.Good.{good_object}
 use Rattle.def_core.proofs.Keeps.{sound_with_set}
 
 -- Lists of which each member is right.
@@ -47,22 +48,22 @@ module _ {A : Type 0} (P : A → Type 0) where
   all_rest (suc n) (x ∷ xs) h = all_rest n xs h.1
 
 -- an object of the same sort with other contents
-pub sound_with_kind : (st : Store) → Sound st → (id : ObjId) (k : Kind) → id.0 < length st.objects
+pub sound_with_kind : (st : Store) → Sound st → (id : ObjId) (k : Kind) → IsGood st id
     → sort_of k ≡ sort_at st.objects id → SoundKind (census st) id.0 k
     → Sound (with_objects st (with_kind st.objects id k))
-sound_with_kind st sound id k within same is =
-    let old = sound.objects id.0 within in
-    sound_with_set st sound id (record (object_at st.objects id) { kind = k }) within same
+sound_with_kind st sound id k good same is =
+    let old = good_object st sound id good in
+    sound_with_set st sound id (record (object_at st.objects id) { kind = k }) good same
     (record { class = old.class; singleton = old.singleton; variables = old.variables; kind = is })
 
-pub sound_with_elements : (st : Store) → Sound st → (id : ObjId) (xs : List Value) → id.0 < length st.objects
+pub sound_with_elements : (st : Store) → Sound st → (id : ObjId) (xs : List Value) → IsGood st id
     → sort_at st.objects id ≡ sort.Array → AllAre (IsValue (census st)) xs
     → Sound (with_objects st (with_elements st.objects id xs))
-sound_with_elements st sound id xs within is all = sound_with_kind st sound id (kind.Array xs) within (sym is) all
+sound_with_elements st sound id xs good is all = sound_with_kind st sound id (kind.Array xs) good (sym is) all
 
-pub sound_with_text : (st : Store) → Sound st → (id : ObjId) (bytes : List ℕ) → id.0 < length st.objects
+pub sound_with_text : (st : Store) → Sound st → (id : ObjId) (bytes : List ℕ) → IsGood st id
     → sort_at st.objects id ≡ sort.String → Sound (with_objects st (with_text st.objects id bytes))
-sound_with_text st sound id bytes within is = sound_with_kind st sound id (kind.String bytes) within (sym is) tt
+sound_with_text st sound id bytes good is = sound_with_kind st sound id (kind.String bytes) good (sym is) tt
 
 -- Instance variables.
 
@@ -71,14 +72,14 @@ put_kept : (k : Census) (vs : List Variable) (v : Variable) (place : Option ℕ)
 put_kept k vs v None h g = all_more (SoundVariable k) vs (v ∷ []) h (g, tt)
 put_kept k vs v (Some n) h g = all_set (SoundVariable k) vs n v h g
 
-pub sound_with_variable : (st : Store) → Sound st → (id : ObjId) (name : SymId) (v : Value) → id.0 < length st.objects
+pub sound_with_variable : (st : Store) → Sound st → (id : ObjId) (name : SymId) (v : Value) → IsGood st id
     → IsSymbol (census st) name → IsValue (census st) v
     → Sound (with_objects st (with_variable st.objects id name v))
-sound_with_variable st sound id name v within symbol value =
-    let old = sound.objects id.0 within in
+sound_with_variable st sound id name v good symbol value =
+    let old = good_object st sound id good in
     let o : Object = object_at st.objects id in
     sound_with_set st sound id
-    (record o { variables = variables.with_variable o.variables name v }) within refl
+    (record o { variables = variables.with_variable o.variables name v }) good refl
     (record {
       class = old.class;
       singleton = old.singleton;

@@ -199,6 +199,10 @@ plays_at r (Some s) = plays r s
 pub record Is (k : Census) (r : Role) (id : ObjId) : Type 0 where
   pub holds : plays_at r (slice_get k.sorts id.0) ≡ true
 
+-- a good number of the store: an object stands there. Above the store it is known by its laws alone (proofs/Good)
+pub record IsGood (st : Store) (id : ObjId) : Type 0 where
+  pub there : Is (census st) Any id
+
 pub record IsSymbol (k : Census) (s : SymId) : Type 0 where
   pub below : s.0 < k.symbols
 

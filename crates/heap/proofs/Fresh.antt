@@ -1,6 +1,5 @@
 -- New objects are sound where what they hold is.
 use Rattle.std.proofs.Common.{◌≡◌, ℕ, List, [], length, refl, ap, arith, length-append}
-use Rattle.std.proofs.Math.Seq.{get_or-append_seam}
 use Rattle.std.specs.Prelude.{Option, None, Some, ◌<◌}
 use Rattle.rb_value.specs.declared.value.ObjId.{ObjId}
 use Rattle.rb_value.specs.declared.value.Value.{Value}
@@ -14,7 +13,7 @@ use Rattle.rb_value.specs.declared.kind.ClassForm.{ClassForm}
 use Rattle.rb_value.specs.declared.kind.ClassForm.TheVariants as form
 use Rattle.def_core.specs.Store.{Store, absent, fresh, next_number, with_object}
 use Rattle.def_core.specs.Classes.{empty_class}
-use Rattle.def_core.proofs.Roles.{is_by_sort}
+use Rattle.def_core.proofs.Grows.{new_role}
 use Rattle.def_core.specs.Sound.{Array, Census, census, plays, Class, Is, IsValue, OptionIs, Proc, SoundClass, SoundHash, SoundKind, SoundObject, Superclass}
 
 pub fresh_is : (k : Census) (n : ℕ) (c : ObjId) (x : Kind) → Is k Class c → SoundKind k n x → SoundObject k n (fresh c x)
@@ -44,9 +43,7 @@ rootless_is k n f = record { name = tt; superclass = tt; module_root = λ _. ref
 -- the next object is an Array, where one is added
 pub next_is_array : (st : Store) (c : ObjId) (vs : List Value)
     → Is (census (with_object st (fresh c (kind.Array vs)))) Array (next_number st)
-next_is_array st c vs = is_by_sort (with_object st (fresh c (kind.Array vs))) Array (next_number st)
-    (rw length-append (omega arith))
-    (ap (λ (x : Object). plays Array (sort_of x.kind)) (get_or-append_seam st.objects (fresh c (kind.Array vs)) [] absent))
+next_is_array st c vs = new_role st (fresh c (kind.Array vs)) Array refl
 
 -- a Hash without pairs
 pub cleared_is : (k : Census) (v : Value) (b : Option ObjId) → IsValue k v → OptionIs (Is k Proc) b

@@ -13,7 +13,7 @@ use rb_value::{ObjId, Value};
 use std::alloc::AllocError;
 
 /// Puts a value after the elements of an Array. Where memory runs out the Array is as before.
-#[tactic(auto, using(rb_store::proofs::Keeping::keeps_itself, def_core::proofs::Roles::is_within))]
+#[tactic(auto, using(rb_store::proofs::Keeping::keeps_itself, def_core::proofs::Good::is_good))]
 pub(crate) fn push(st: &mut Store, id: ObjId, value: Value) -> Result<(), AllocError>
     requires sound { Sound st.old.store }
     ensures keeps { Keeps st.old st.new }
@@ -28,7 +28,7 @@ pub(crate) fn push(st: &mut Store, id: ObjId, value: Value) -> Result<(), AllocE
 }
 
 /// Puts values after the elements of an Array. Where memory runs out the Array is as before.
-#[tactic(auto, using(rb_store::proofs::Keeping::keeps_itself, def_core::proofs::Roles::is_within))]
+#[tactic(auto, using(rb_store::proofs::Keeping::keeps_itself, def_core::proofs::Good::is_good))]
 pub(crate) fn append(st: &mut Store, id: ObjId, values: &[Value]) -> Result<(), AllocError>
     requires sound { Sound st.old.store }
     ensures keeps { Keeps st.old st.new }
@@ -45,7 +45,7 @@ pub(crate) fn append(st: &mut Store, id: ObjId, values: &[Value]) -> Result<(), 
 }
 
 /// Takes the last element of an Array.
-#[tactic(auto, using(rb_store::proofs::Keeping::keeps_itself, def_core::proofs::Roles::is_within))]
+#[tactic(auto, using(rb_store::proofs::Keeping::keeps_itself, def_core::proofs::Good::is_good))]
 pub(crate) fn pop(st: &mut Store, id: ObjId) -> Option<Value>
     requires sound { Sound st.old.store }
     ensures keeps { Keeps st.old st.new }
@@ -60,7 +60,7 @@ pub(crate) fn pop(st: &mut Store, id: ObjId) -> Option<Value>
 }
 
 /// Takes the first element of an Array.
-#[tactic(auto, using(rb_store::proofs::Keeping::keeps_itself, def_core::proofs::Roles::is_within))]
+#[tactic(auto, using(rb_store::proofs::Keeping::keeps_itself, def_core::proofs::Good::is_good))]
 pub(crate) fn shift(st: &mut Store, id: ObjId) -> Option<Value>
     requires sound { Sound st.old.store }
     ensures keeps { Keeps st.old st.new }
@@ -74,7 +74,7 @@ pub(crate) fn shift(st: &mut Store, id: ObjId) -> Option<Value>
 }
 
 /// Puts a value before the elements of an Array. Where memory runs out the Array is as before.
-#[tactic(auto, using(rb_store::proofs::Keeping::keeps_itself, def_core::proofs::Roles::is_within))]
+#[tactic(auto, using(rb_store::proofs::Keeping::keeps_itself, def_core::proofs::Good::is_good))]
 pub(crate) fn unshift(st: &mut Store, id: ObjId, value: Value) -> Result<(), AllocError>
     requires sound { Sound st.old.store }
     ensures keeps { Keeps st.old st.new }
@@ -89,7 +89,7 @@ pub(crate) fn unshift(st: &mut Store, id: ObjId, value: Value) -> Result<(), All
 }
 
 /// Puts a value in the place of an element of an Array, where there is one at that place.
-#[tactic(auto, using(rb_store::proofs::Keeping::keeps_itself, def_core::proofs::Roles::is_within))]
+#[tactic(auto, using(rb_store::proofs::Keeping::keeps_itself, def_core::proofs::Good::is_good))]
 pub(crate) fn set_element(st: &mut Store, id: ObjId, place: usize, value: Value)
     requires sound { Sound st.old.store }
     ensures keeps { Keeps st.old st.new }
@@ -104,7 +104,7 @@ pub(crate) fn set_element(st: &mut Store, id: ObjId, place: usize, value: Value)
 }
 
 /// Puts other elements in the place of all elements of an Array.
-#[tactic(auto, using(rb_store::proofs::Keeping::keeps_itself, def_core::proofs::Roles::is_within))]
+#[tactic(auto, using(rb_store::proofs::Keeping::keeps_itself, def_core::proofs::Good::is_good))]
 pub(crate) fn replace_elements(st: &mut Store, id: ObjId, elements: Vec<Value>)
     requires sound { Sound st.old.store }
     ensures keeps { Keeps st.old st.new }

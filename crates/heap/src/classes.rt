@@ -36,7 +36,7 @@ fn empty(alloc: Global, form: ClassForm, superclass: Option<ObjId>) -> ClassCont
 }
 
 /// Makes a class without a name under a superclass, and Object where that is no class.
-#[tactic(auto, using(rb_store::proofs::Keeping::keeps_itself, crate::proofs::Fresh::class_under, def_core::proofs::Roles::class_is_superclass, def_core::proofs::Roles::is_within))]
+#[tactic(auto, using(rb_store::proofs::Keeping::keeps_itself, crate::proofs::Fresh::class_under, def_core::proofs::Roles::class_is_superclass, def_core::proofs::Good::before_next))]
 pub(crate) fn make_class(st: &mut Store, superclass: ObjId) -> Result<ObjId, AllocError>
     requires sound { Sound st.old.store }
     ensures keeps { Keeps st.old st.new }

@@ -141,7 +141,7 @@ pub(crate) fn set_cursor(st: &mut Store, id: ObjId, cursor: Cursor) -> Result<()
 }
 
 /// The source of an Enumerator, copied.
-#[tactic(auto, using(def_core::proofs::Roles::is_within))]
+#[tactic(auto, using(def_core::proofs::Good::is_good))]
 fn copied_source(st: &Store, id: ObjId) -> Result<Option<EnumeratorSource>, AllocError> {
     match object(st, id) {
         Some(id) => match st.get(id).kind() {

@@ -16,7 +16,7 @@ use std::alloc::AllocError;
 
 /// Gives a key of a Hash a value, and tells whether it could: false where the key is nested too deep. A key that is
 /// there keeps its place and what is shown as the key. Where memory runs out the Hash is as before.
-#[tactic(auto, using(rb_store::proofs::Keeping::keeps_itself, def_core::proofs::Roles::is_within))]
+#[tactic(auto, using(rb_store::proofs::Keeping::keeps_itself, def_core::proofs::Good::is_good))]
 pub(crate) fn put_pair(
     st: &mut Store,
     id: ObjId,
@@ -88,7 +88,7 @@ pub(crate) fn clear_pairs(st: &mut Store, id: ObjId) -> Result<(), AllocError>
 }
 
 /// What an absent key of a Hash gives, and the Proc that is called for it.
-#[tactic(auto, using(def_core::proofs::Roles::is_within))]
+#[tactic(auto, using(def_core::proofs::Good::is_good))]
 fn absent_of(st: &Store, id: ObjId) -> (Value, Option<ObjId>) {
     match object(st, id) {
         Some(id) => match st.get(id).kind() {
@@ -106,7 +106,7 @@ impl Heap {
     }
 
     /// The key that stands for a value. None where Arrays stand in one another more than 10,000 deep.
-    #[tactic(auto, using(def_core::proofs::Roles::is_within))]
+    #[tactic(auto, using(def_core::proofs::Good::is_good))]
     pub fn key_of(&self, value: Value) -> Result<Option<Key>, AllocError>
         ensures { IfOk result (λ key. key ≡ values.key_of self.now.store.objects (operands.own self.now.store value)) }
     {

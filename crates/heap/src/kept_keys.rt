@@ -51,7 +51,7 @@ fn key_copy(st: &Store, key: &Key) -> Result<Key, AllocError>
 }
 
 /// The key of the pair at a place of a Hash, as it was when it was put in.
-#[tactic(auto, using(def_core::proofs::Roles::is_within))]
+#[tactic(auto, using(def_core::proofs::Good::is_good))]
 pub(crate) fn key_at(st: &Store, id: ObjId, place: usize) -> Result<Option<Key>, AllocError>
     ensures { IfOk result (OptionIs (SoundKey (census st.now.store))) }
 {
@@ -83,7 +83,7 @@ fn put_kept(st: &mut Store, id: ObjId, key: Key, item: HashItem) -> Result<(), A
 }
 
 /// Puts the pair at a place of a Hash into another, under the key that it has there.
-#[tactic(auto, using(rb_store::proofs::Keeping::keeps_itself, def_core::proofs::Roles::is_within))]
+#[tactic(auto, using(rb_store::proofs::Keeping::keeps_itself, def_core::proofs::Good::is_good))]
 pub(crate) fn add_pair(
     st: &mut Store,
     to: ObjId,

@@ -16,7 +16,7 @@ use run_values::Given;
 use std::alloc::AllocError;
 
 /// The message and the detail of an exception; nil of another object.
-#[tactic(auto, using(def_core::proofs::Roles::is_within))]
+#[tactic(auto, using(def_core::proofs::Good::is_good))]
 fn held(st: &Store, id: ObjId) -> (Value, Value) {
     match object(st, id) {
         Some(id) => match st.get(id).kind() {
@@ -76,7 +76,7 @@ pub(crate) fn set_detail(st: &mut Store, id: ObjId, detail: Value)
 }
 
 /// Notes that a Proc was the block of a call that opened that activation, or none. Only the first call counts.
-#[tactic(auto, using(rb_store::proofs::Keeping::keeps_itself, def_core::proofs::Roles::is_within))]
+#[tactic(auto, using(rb_store::proofs::Keeping::keeps_itself, def_core::proofs::Good::is_good))]
 pub(crate) fn send_proc(st: &mut Store, id: ObjId, activation: Option<u64>)
     requires sound { Sound st.old.store }
     ensures keeps { Keeps st.old st.new }
@@ -88,7 +88,7 @@ pub(crate) fn send_proc(st: &mut Store, id: ObjId, activation: Option<u64>)
 }
 
 /// Notes that a fiber has ended.
-#[tactic(auto, using(rb_store::proofs::Keeping::keeps_itself, def_core::proofs::Roles::is_within))]
+#[tactic(auto, using(rb_store::proofs::Keeping::keeps_itself, def_core::proofs::Good::is_good))]
 pub(crate) fn end_fiber(st: &mut Store, id: ObjId)
     requires sound { Sound st.old.store }
     ensures keeps { Keeps st.old st.new }

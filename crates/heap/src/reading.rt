@@ -14,7 +14,7 @@ use rb_value::{
 impl Heap {
     /// What an object holds.
     #[inline(always)]
-    #[tactic(auto, using(def_core::proofs::Roles::is_within))]
+    #[tactic(auto, using(def_core::proofs::Good::is_good))]
     pub fn kind(&self, id: ObjId) -> Option<&Kind>
         ensures { MatchOption result (operands.has_object self.now.store id ≡ false)
             (λ kind. kind.now ≡ (object_at self.now.store.objects id).kind) }
@@ -81,7 +81,7 @@ impl Heap {
 
     /// The elements of an Array; none of another object.
     #[inline(always)]
-    #[tactic(auto, using(def_core::proofs::Roles::is_within, crate::proofs::Outside::object_outside))]
+    #[tactic(auto, using(def_core::proofs::Good::is_good, crate::proofs::Outside::absent_there))]
     pub fn elements(&self, id: ObjId) -> &[Value]
         ensures { result.now ≡ parts.elements_at self.now.store.objects id }
     {
@@ -98,7 +98,7 @@ impl Heap {
     }
 
     /// The bytes of a String; none of another object.
-    #[tactic(auto, using(def_core::proofs::Roles::is_within, crate::proofs::Outside::object_outside))]
+    #[tactic(auto, using(def_core::proofs::Good::is_good, crate::proofs::Outside::absent_there))]
     pub fn text(&self, id: ObjId) -> &[u8]
         ensures { result.now ≡ parts.text_at self.now.store.objects id }
     {
@@ -201,7 +201,7 @@ impl Heap {
     }
 
     /// How many pairs a Hash has; none of another object.
-    #[tactic(auto, using(def_core::proofs::Roles::is_within, crate::proofs::Outside::object_outside))]
+    #[tactic(auto, using(def_core::proofs::Good::is_good, crate::proofs::Outside::absent_there))]
     pub fn pair_count(&self, id: ObjId) -> usize
         ensures { result ≡ length (parts.hash_at self.now.store.objects id).pairs }
     {
@@ -212,7 +212,7 @@ impl Heap {
     }
 
     /// The pair at a place of a Hash.
-    #[tactic(auto, using(def_core::proofs::Roles::is_within, crate::proofs::Outside::object_outside))]
+    #[tactic(auto, using(def_core::proofs::Good::is_good, crate::proofs::Outside::absent_there))]
     pub fn pair_at(&self, id: ObjId, place: usize) -> Option<HashItem>
         ensures { result ≡ option_map (λ p. p.1) (slice_get (parts.hash_at self.now.store.objects id).pairs place) }
     {
@@ -221,7 +221,7 @@ impl Heap {
     }
 
     /// What stands under a key of a Hash.
-    #[tactic(auto, using(def_core::proofs::Roles::is_within, crate::proofs::Outside::object_outside))]
+    #[tactic(auto, using(def_core::proofs::Good::is_good, crate::proofs::Outside::absent_there))]
     pub fn pair(&self, id: ObjId, key: &Key) -> Option<HashItem>
         ensures { result ≡ parts.pair_of self.now.store.objects id key.now }
     {
@@ -230,7 +230,7 @@ impl Heap {
     }
 
     /// What an absent key of a Hash gives, and the Proc that is called for it.
-    #[tactic(auto, using(crate::proofs::Outside::object_outside))]
+    #[tactic(auto, using(crate::proofs::Outside::absent_there))]
     pub fn absent_of(&self, id: ObjId) -> (Value, Option<ObjId>)
         ensures default { result.0 ≡ (parts.hash_at self.now.store.objects id).default }
         ensures block { result.1 ≡ (parts.hash_at self.now.store.objects id).block }
@@ -242,7 +242,7 @@ impl Heap {
     }
 
     /// The instance variables of an object, in the order in which they were first set.
-    #[tactic(auto, using(def_core::proofs::Roles::is_within, crate::proofs::Outside::object_outside))]
+    #[tactic(auto, using(def_core::proofs::Good::is_good, crate::proofs::Outside::absent_there))]
     pub fn variables(&self, id: ObjId) -> &[Variable]
         ensures { result.now ≡ (object_at self.now.store.objects id).variables }
     {
@@ -253,7 +253,7 @@ impl Heap {
     }
 
     /// The value of an instance variable of an object, where it was set.
-    #[tactic(auto, using(def_core::proofs::Roles::is_within, crate::proofs::Outside::object_outside))]
+    #[tactic(auto, using(def_core::proofs::Good::is_good, crate::proofs::Outside::absent_there))]
     pub fn variable(&self, id: ObjId, name: SymId) -> Option<Value>
         ensures { result ≡ parts.variable_of self.now.store.objects id name }
     {

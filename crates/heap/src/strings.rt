@@ -12,7 +12,7 @@ use rb_value::ObjId;
 use std::alloc::AllocError;
 
 /// Puts bytes after those of a String. Where memory runs out the String is as before.
-#[tactic(auto, using(rb_store::proofs::Keeping::keeps_itself, def_core::proofs::Roles::is_within))]
+#[tactic(auto, using(rb_store::proofs::Keeping::keeps_itself, def_core::proofs::Good::is_good))]
 pub(crate) fn append_bytes(st: &mut Store, id: ObjId, more: &[u8]) -> Result<(), AllocError>
     requires sound { Sound st.old.store }
     ensures keeps { Keeps st.old st.new }
@@ -26,7 +26,7 @@ pub(crate) fn append_bytes(st: &mut Store, id: ObjId, more: &[u8]) -> Result<(),
 }
 
 /// Puts other bytes in the place of all bytes of a String.
-#[tactic(auto, using(rb_store::proofs::Keeping::keeps_itself, def_core::proofs::Roles::is_within))]
+#[tactic(auto, using(rb_store::proofs::Keeping::keeps_itself, def_core::proofs::Good::is_good))]
 pub(crate) fn replace_text(st: &mut Store, id: ObjId, bytes: Vec<u8>)
     requires sound { Sound st.old.store }
     ensures keeps { Keeps st.old st.new }

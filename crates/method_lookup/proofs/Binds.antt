@@ -14,7 +14,7 @@ use Rattle.def_core.specs.declared.bound.BindKind.TheVariants.{Method, Lambda, P
 use Rattle.def_core.specs.Store.{Store, core, fresh, object_at, next_number, with_object}
 use Rattle.def_core.specs.Bind.{least, most, elements_of, elements_in, elements_or, spreads, spread, fitted, arguments, fits, filled, front, remaining, last, values}
 use Rattle.def_core.specs.Sound.{census, Census, Any, IsValue, OptionIs, AllAre, SoundKind, Sound}
-use Rattle.def_core.proofs.Roles.{is_within}
+use Rattle.def_core.proofs.Good.{role_object}
 use Rattle.method_lookup.proofs.Lists.{all_append, all_take, all_drop, all_replicate, all_more}
 use Rattle.def_core.proofs.Grows.{core_is_class, value_grows, one_more, new_role}
 use Rattle.rb_store.specs.Held.{Held}
@@ -50,7 +50,7 @@ module _ (st : Store) (sound : Sound st) where
   in_value (Int n) h = tt
   in_value (Sym s) h = tt
   in_value (Obj id) h = elements_sound (census st) id.0 (object_at st.objects id).kind
-      (sound.objects id.0 (is_within st Any id h)).kind
+      (role_object st sound Any id h).kind
 
   or_others : (o : Option (List Value)) (args : List Value) → OptionIs (AllAre (IsValue (census st))) o
       → AllAre (IsValue (census st)) args → AllAre (IsValue (census st)) (elements_or o args)

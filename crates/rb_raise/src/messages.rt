@@ -22,7 +22,7 @@ fn anonymous(form: ClassForm) -> &'static [u8]
 }
 
 /// What texts show of a class or module: its name, or `#<Class>` or `#<Module>` where it has none. It takes no memory.
-#[tactic(auto, unfolding(def_core::specs::Texts::class_name), using(def_core::proofs::Roles::is_within, crate::proofs::Names::named_by_symbol))]
+#[tactic(auto, unfolding(def_core::specs::Texts::class_name), using(def_core::proofs::Good::is_good, crate::proofs::Names::named_by_symbol))]
 pub fn class_name(st: &Store, class: ObjId) -> &[u8]
     requires sound { Sound st.now.store }
     requires class { Is (census st.now.store) ClassOrModule class }
@@ -46,7 +46,7 @@ fn name(st: &Store, symbol: SymId) -> &[u8]
 }
 
 /// The bytes of a String.
-#[tactic(auto, using(def_core::proofs::Roles::is_within, def_core::proofs::Roles::is_plays))]
+#[tactic(auto, using(def_core::proofs::Good::is_good, def_core::proofs::Roles::is_plays))]
 fn bytes_of(st: &Store, string: ObjId) -> &[u8]
     requires { Is (census st.now.store) String string }
     ensures { result.now ≡ texts.bytes_at st.now.store.objects string }

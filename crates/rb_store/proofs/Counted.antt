@@ -3,7 +3,7 @@ use Rattle.std.proofs.Common.{◌≡◌, ◌≢◌, ℕ, ◌+◌, ◌-◌, ◌^�
 use Rattle.std.specs.Prelude.{Option, Some, None, nat_eq}
 use Rattle.std.specs.List.{position}
 use Rattle.std.specs.Str.{bytes_eq}
-use Rattle.std.proofs.lemmas.List.{get_or-set_same, get_or-set_other, get_or_append_left}
+use Rattle.std.proofs.lemmas.List.{get_or-set_same, get_or-set_other}
 use Rattle.std.proofs.lemmas.Bool.Decides.{nat_tests}
 use Rattle.rb_value.specs.declared.value.Value.{Value}
 use Rattle.rb_value.specs.declared.value.ObjId.{ObjId}
@@ -19,9 +19,10 @@ use Rattle.def_core.specs.Store.{Store, absent, object_at, sort_at, set_object, 
 use Rattle.def_core.specs.Classes.{contents_of, class_at, with_class}
 use Rattle.def_core.specs.Parts.{with_singleton_class}
 use Rattle.def_core.specs.Changes.{intern, intern_at, with_default, with_constant}
-use Rattle.def_core.specs.Sound.{ClassOrModule, plays}
+use Rattle.def_core.specs.Sound.{ClassOrModule, plays, IsGood}
 use Rattle.def_core.proofs.Sorts.{sorts-set, same_class_sort}
-use Rattle.def_core.proofs.Roles.{is_within, is_plays}
+use Rattle.def_core.proofs.Roles.{is_plays}
+use Rattle.def_core.proofs.Good.{good_within, is_good, good_same}
 use Rattle.def_core.proofs.Grows.{one_more}
 use Rattle.rb_store.specs.Held.{Held, changes_after}
 use Rattle.rb_store.specs.Counted.{looks_of, SameLooks, IsCounted}
@@ -140,42 +141,42 @@ looks_stay st id o within same looks = record {
       ] refl;
 }
 
-pub same_looks_counted : (h g : Held) (id : ObjId) (o : Object) → id.0 < length h.store.objects
+pub same_looks_counted : (h g : Held) (id : ObjId) (o : Object) → IsGood h.store id
     → sort_of o.kind ≡ sort_at h.store.objects id
     → looks_of (contents_of o.kind) ≡ looks_of (class_at h.store.objects id)
     → g.store ≡ record h.store { objects = set_object h.store.objects id o } → g.changes ≡ h.changes → IsCounted h g
-same_looks_counted h g id o within same looks s e = record {
+same_looks_counted h g id o good same looks s e = record {
   rises = omega arith;
   same =
-      λ _ _. subst (SameLooks h.store) (sym s) (looks_stay h.store id o within same looks);
+      λ _ _. subst (SameLooks h.store) (sym s) (looks_stay h.store id o (good_within h.store id good) same looks);
 }
 
 -- a class or module with other contents, by which methods are found as before
-class_looks_counted : (h g : Held) (c : ObjId) (k : ClassContents) → c.0 < length h.store.objects
+class_looks_counted : (h g : Held) (c : ObjId) (k : ClassContents) → IsGood h.store c
     → plays ClassOrModule (sort_at h.store.objects c) ≡ true → k.form ≡ (class_at h.store.objects c).form
     → looks_of k ≡ looks_of (class_at h.store.objects c)
     → g.store ≡ record h.store { objects = with_class h.store.objects c k } → g.changes ≡ h.changes → IsCounted h g
-class_looks_counted h g c k within is form looks s e =
-    same_looks_counted h g c (record (object_at h.store.objects c) { kind = kind.Class k }) within
+class_looks_counted h g c k good is form looks s e =
+    same_looks_counted h g c (record (object_at h.store.objects c) { kind = kind.Class k }) good
     (same_class_sort h.store.objects c k is form) looks s e
 
-pub default_counted : (h g : Held) (c : ObjId) (v : Visibility) → c.0 < length h.store.objects
+pub default_counted : (h g : Held) (c : ObjId) (v : Visibility) → IsGood h.store c
     → plays ClassOrModule (sort_at h.store.objects c) ≡ true
     → g.store ≡ record h.store { objects = with_default h.store.objects c v } → g.changes ≡ h.changes → IsCounted h g
 unfolding with_default
-default_counted h g c v within is s e = class_looks_counted h g c _ within is refl refl s e
+default_counted h g c v good is s e = class_looks_counted h g c _ good is refl refl s e
 
-pub constant_counted : (h g : Held) (c : ObjId) (name : SymId) (v : Value) → c.0 < length h.store.objects
+pub constant_counted : (h g : Held) (c : ObjId) (name : SymId) (v : Value) → IsGood h.store c
     → plays ClassOrModule (sort_at h.store.objects c) ≡ true
     → g.store ≡ record h.store { objects = with_constant h.store.objects c name v } → g.changes ≡ h.changes
     → IsCounted h g
-constant_counted h g c name v within is s e = class_looks_counted h g c _ within is refl refl s e
+constant_counted h g c name v good is s e = class_looks_counted h g c _ good is refl refl s e
 
 pub one_added : (st : Store) (o : Object) → SameLooks st (with_object st o)
 one_added st o = record {
   roles = λ c is. (one_more st o).roles ClassOrModule c is;
   looks = λ c is. ap (λ (x : Object). looks_of (contents_of x.kind))
-      (get_or_append_left st.objects (o ∷ []) absent c.0 (is_within st ClassOrModule c is));
+      (good_same st (o ∷ []) c (is_good st ClassOrModule c is));
 }
 
 pub added_counted : (h g : Held) (o : Object) → g.store ≡ with_object h.store o → g.changes ≡ h.changes → IsCounted h g
@@ -202,16 +203,16 @@ interned_counted h g name s e = record {
 }
 
 -- an object gets a singleton class, which stands after the others
-pub singleton_counted : (h g : Held) (id : ObjId) (class : Object) → id.0 < length h.store.objects
+pub singleton_counted : (h g : Held) (id : ObjId) (class : Object) → IsGood h.store id
     → g.store ≡ record h.store { objects = with_singleton_class h.store.objects id class } → g.changes ≡ h.changes
     → IsCounted h g
-singleton_counted h g id class within s e =
+singleton_counted h g id class good s e =
     let o : Object = record (object_at h.store.objects id) { singleton = Some (record { 0 = length h.store.objects }) }
     in
     let held : Store = record h.store { objects = set_object h.store.objects id o } in
     record {
       rises = omega arith;
       same = λ _ _. subst (SameLooks h.store) (sym s)
-          (same_then h.store held (with_object held class) (looks_stay h.store id o within refl refl)
+          (same_then h.store held (with_object held class) (looks_stay h.store id o (good_within h.store id good) refl refl)
           (one_added held class));
     }

@@ -1,12 +1,11 @@
 -- Calls that keep a store, one after another.
 use Rattle.std.proofs.Common.{◌≡◌, List, ◌++◌, length, refl, ap, subst, sym, arith}
-use Rattle.std.proofs.lemmas.List.{get_or_append_left}
 use Rattle.rb_value.specs.Object.{Object}
-use Rattle.def_core.specs.Store.{Store, absent, with_object}
+use Rattle.def_core.specs.Store.{Store, with_object}
 use Rattle.def_core.specs.Classes.{contents_of}
 use Rattle.def_core.specs.Parts.{with_objects}
 use Rattle.def_core.specs.Sound.{Sound, SoundObject, SoundFrom, Extends, ClassOrModule, census}
-use Rattle.def_core.proofs.Roles.{is_within}
+use Rattle.def_core.proofs.Good.{is_good, good_same}
 use Rattle.def_core.proofs.More.{sound_with_all}
 use Rattle.def_core.proofs.Grows.{extends_itself, extends_both, sound_with_object, one_more, more_objects}
 use Rattle.rb_store.specs.Held.{Held}
@@ -38,11 +37,12 @@ keeps_added h g o sound is s e = record {
   counted = added_counted h g o s e;
 }
 
-more_same : (st : Store) (more : List Object) → SameLooks st (with_objects st (st.objects ++ more))
+-- and a class or module finds methods as before
+pub more_same : (st : Store) (more : List Object) → SameLooks st (with_objects st (st.objects ++ more))
 more_same st more = record {
   roles = λ c is. (more_objects st more).roles ClassOrModule c is;
   looks = λ c is. ap (λ (x : Object). looks_of (contents_of x.kind))
-      (get_or_append_left st.objects more absent c.0 (is_within st ClassOrModule c is));
+      (good_same st more c (is_good st ClassOrModule c is));
 }
 
 -- several more objects

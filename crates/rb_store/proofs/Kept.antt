@@ -17,9 +17,10 @@ use Rattle.def_core.specs.Store.{Store, object_at, sort_at, set_object}
 use Rattle.def_core.specs.Classes.{contents_of, class_at, empty_class}
 use Rattle.def_core.specs.Parts as parts
 use Rattle.def_core.specs.Parts.{with_objects, with_kind}
-use Rattle.def_core.specs.Sound.{Census, census, Proc, ClassOrModule, plays, Is, IsSymbol, IsValue, OptionIs, AllAre, SoundVariable, SoundKey, SoundPair, SoundHash, SoundKind, SoundObject, Sound, Extends}
+use Rattle.def_core.specs.Sound.{Census, census, Proc, ClassOrModule, plays, Is, IsGood, IsSymbol, IsValue, OptionIs, AllAre, SoundVariable, SoundKey, SoundPair, SoundHash, SoundKind, SoundObject, Sound, Extends}
 use Rattle.def_core.proofs.Sorts.{sorts-set}
 use Rattle.def_core.proofs.Grows.{same_objects}
+use Rattle.def_core.proofs.Good.{good_object}
 use Rattle.def_core.proofs.Keeps.{sound_with_set}
 use Rattle.def_core.proofs.PartsSound.{all_more, all_set, all_first, all_rest, sound_with_variable, pair_kept, pair_removed}
 use Rattle.rb_store.specs.Held.{Held}
@@ -72,16 +73,16 @@ pairs_right k n (kind.Enumerator e) h = no_pairs_right k
 pairs_right k n (kind.Yielder b) h = no_pairs_right k
 
 -- the elements of an object
-pub elements_are : (st : Store) → Sound st → (id : ObjId) → id.0 < length st.objects
+pub elements_are : (st : Store) → Sound st → (id : ObjId) → IsGood st id
     → AllAre (IsValue (census st)) (parts.elements_at st.objects id)
-elements_are st sound id within =
-    elements_right (census st) id.0 (object_at st.objects id).kind (sound.objects id.0 within).kind
+elements_are st sound id good =
+    elements_right (census st) id.0 (object_at st.objects id).kind (good_object st sound id good).kind
 
 -- the pairs of an object
-pub hash_is : (st : Store) → Sound st → (id : ObjId) → id.0 < length st.objects
+pub hash_is : (st : Store) → Sound st → (id : ObjId) → IsGood st id
     → SoundHash (census st) (parts.hash_at st.objects id)
-hash_is st sound id within =
-    pairs_right (census st) id.0 (object_at st.objects id).kind (sound.objects id.0 within).kind
+hash_is st sound id good =
+    pairs_right (census st) id.0 (object_at st.objects id).kind (good_object st sound id good).kind
 
 -- What isn't a class or module has the contents of none.
 
@@ -106,7 +107,7 @@ no_contents (kind.Yielder b) h = refl
 
 -- Changes of the contents of an object.
 
-module _ (h g : Held) (sound : Sound h.store) (id : ObjId) (within : id.0 < length h.store.objects) where
+module _ (h g : Held) (sound : Sound h.store) (id : ObjId) (there : IsGood h.store id) where
   -- an object of the same sort, by which methods are found as before, in the place of another
   pub keeps_set : (o : Object) → sort_of o.kind ≡ sort_at h.store.objects id
       → looks_of (contents_of o.kind) ≡ looks_of (class_at h.store.objects id)
@@ -115,10 +116,10 @@ module _ (h g : Held) (sound : Sound h.store) (id : ObjId) (within : id.0 < leng
   keeps_set o same looks is e =
       let s : g.store ≡ with_objects h.store (set_object h.store.objects id o) = ap (λ (x : Held). x.store) e in
       record {
-        sound = subst Sound (sym s) (sound_with_set h.store sound id o within same is);
+        sound = subst Sound (sym s) (sound_with_set h.store sound id o there same is);
         extends = subst (λ (st : Store). Extends (census h.store) (census st)) (sym s)
             (same_objects h.store (set_object h.store.objects id o) (sorts-set h.store.objects id o same));
-        counted = same_looks_counted h g id o within same looks s (ap (λ (x : Held). x.changes) e);
+        counted = same_looks_counted h g id o there same looks s (ap (λ (x : Held). x.changes) e);
       }
 
   -- an object with other contents of the same sort, by which methods are found as before
@@ -126,7 +127,7 @@ module _ (h g : Held) (sound : Sound h.store) (id : ObjId) (within : id.0 < leng
       → looks_of (contents_of k) ≡ looks_of (class_at h.store.objects id) → SoundKind (census h.store) id.0 k
       → g ≡ becomes h (with_kind h.store.objects id k) → Keeps h g
   keeps_contents k same looks is e =
-      let old = sound.objects id.0 within in
+      let old = good_object h.store sound id there in
       keeps_set (record (object_at h.store.objects id) { kind = k }) same looks
       (record { class = old.class; singleton = old.singleton; variables = old.variables; kind = is }) e
 
@@ -148,29 +149,29 @@ module _ (h g : Held) (sound : Sound h.store) (id : ObjId) (within : id.0 < leng
       → g ≡ becomes h (parts.with_element h.store.objects id n v) → Keeps h g
   keeps_element n v is good e = keeps_elements _ is
       (all_set (IsValue (census h.store)) (parts.elements_at h.store.objects id) n v
-      (elements_are h.store sound id within) good) e
+      (elements_are h.store sound id there) good) e
 
   pub keeps_more : (xs : List Value) → sort_at h.store.objects id ≡ sort.Array → AllAre (IsValue (census h.store)) xs
       → g ≡ becomes h (parts.with_more h.store.objects id xs) → Keeps h g
   keeps_more xs is all e = keeps_elements _ is
       (all_more (IsValue (census h.store)) (parts.elements_at h.store.objects id) xs
-      (elements_are h.store sound id within) all) e
+      (elements_are h.store sound id there) all) e
 
   pub keeps_before : (v : Value) → sort_at h.store.objects id ≡ sort.Array → IsValue (census h.store) v
       → g ≡ becomes h (parts.with_elements h.store.objects id (v ∷ parts.elements_at h.store.objects id)) → Keeps h g
-  keeps_before v is good e = keeps_elements _ is (good, elements_are h.store sound id within) e
+  keeps_before v is good e = keeps_elements _ is (good, elements_are h.store sound id there) e
 
   pub keeps_but_last : sort_at h.store.objects id ≡ sort.Array
       → g ≡ becomes h (parts.without_last h.store.objects id) → Keeps h g
   keeps_but_last is e = keeps_elements _ is
       (all_first (IsValue (census h.store)) (length (parts.elements_at h.store.objects id) - 1)
-      (parts.elements_at h.store.objects id) (elements_are h.store sound id within)) e
+      (parts.elements_at h.store.objects id) (elements_are h.store sound id there)) e
 
   pub keeps_but_first : sort_at h.store.objects id ≡ sort.Array
       → g ≡ becomes h (parts.without_first h.store.objects id) → Keeps h g
   keeps_but_first is e = keeps_elements _ is
       (all_rest (IsValue (census h.store)) 1 (parts.elements_at h.store.objects id)
-      (elements_are h.store sound id within)) e
+      (elements_are h.store sound id there)) e
 
   pub keeps_text : (bytes : List ℕ) → sort_at h.store.objects id ≡ sort.String
       → g ≡ becomes h (parts.with_text h.store.objects id bytes) → Keeps h g
@@ -185,7 +186,7 @@ module _ (h g : Held) (sound : Sound h.store) (id : ObjId) (within : id.0 < leng
       → IsValue (census h.store) shown → IsValue (census h.store) v
       → g ≡ becomes h (parts.with_pair h.store.objects id key shown v) → Keeps h g
   keeps_pair key shown v is a b c e =
-      let old = hash_is h.store sound id within in
+      let old = hash_is h.store sound id there in
       keeps_hash _ is (record {
         pairs = pair_kept (census h.store) (parts.hash_at h.store.objects id).pairs key shown v old.pairs a b c;
         default = old.default;
@@ -195,7 +196,7 @@ module _ (h g : Held) (sound : Sound h.store) (id : ObjId) (within : id.0 < leng
   pub keeps_but_pair : (key : Key) → sort_at h.store.objects id ≡ sort.Hash
       → g ≡ becomes h (parts.without_key h.store.objects id key) → Keeps h g
   keeps_but_pair key is e =
-      let old = hash_is h.store sound id within in
+      let old = hash_is h.store sound id there in
       keeps_hash _ is (record {
         pairs = pair_removed (census h.store) (parts.hash_at h.store.objects id).pairs key old.pairs;
         default = old.default;
@@ -205,7 +206,7 @@ module _ (h g : Held) (sound : Sound h.store) (id : ObjId) (within : id.0 < leng
   pub keeps_but_first_pair : sort_at h.store.objects id ≡ sort.Hash
       → g ≡ becomes h (parts.without_first_pair h.store.objects id) → Keeps h g
   keeps_but_first_pair is e =
-      let old = hash_is h.store sound id within in
+      let old = hash_is h.store sound id there in
       keeps_hash _ is (record {
         pairs = all_rest (SoundPair (census h.store)) 1 (parts.hash_at h.store.objects id).pairs old.pairs;
         default = old.default;
@@ -216,7 +217,7 @@ module _ (h g : Held) (sound : Sound h.store) (id : ObjId) (within : id.0 < leng
       → IsValue (census h.store) v → OptionIs (Is (census h.store) Proc) block
       → g ≡ becomes h (parts.with_absent h.store.objects id v block) → Keeps h g
   keeps_absent v block is a b e =
-      let old = hash_is h.store sound id within in
+      let old = hash_is h.store sound id there in
       keeps_hash _ is (record { pairs = old.pairs; default = a; block = b }) e
 
   pub keeps_variable : (name : SymId) (v : Value) → IsSymbol (census h.store) name → IsValue (census h.store) v
@@ -226,10 +227,10 @@ module _ (h g : Held) (sound : Sound h.store) (id : ObjId) (within : id.0 < leng
       let o : Object = object_at h.store.objects id in
       let after : Store = with_objects h.store (parts.with_variable h.store.objects id name v) in
       record {
-        sound = subst Sound (sym s) (sound_with_variable h.store sound id name v within symbol good);
+        sound = subst Sound (sym s) (sound_with_variable h.store sound id name v there symbol good);
         extends = subst (λ (st : Store). Extends (census h.store) (census st)) (sym s)
             (same_objects h.store after.objects (sorts-set h.store.objects id _ refl));
-        counted = same_looks_counted h g id _ within refl refl s (ap (λ (x : Held). x.changes) e);
+        counted = same_looks_counted h g id _ there refl refl s (ap (λ (x : Held). x.changes) e);
       }
 
 -- A Proc that is sent, and a fiber that ends.
@@ -318,16 +319,16 @@ ended_right k n (kind.Exception m d) h = h
 ended_right k n (kind.Enumerator e) h = h
 ended_right k n (kind.Yielder b) h = h
 
-module _ (h g : Held) (sound : Sound h.store) (id : ObjId) (within : id.0 < length h.store.objects) where
+module _ (h g : Held) (sound : Sound h.store) (id : ObjId) (there : IsGood h.store id) where
   pub keeps_sent : (a : Option ℕ)
       → g ≡ becomes h (parts.with_sent h.store.objects id a) → Keeps h g
   keeps_sent a e =
       let k : Kind = (object_at h.store.objects id).kind in
-      keeps_contents h g sound id within (parts.sent k a) (sent_sort k a) (ap looks_of (sent_contents k a))
-      (sent_right (census h.store) id.0 k a (sound.objects id.0 within).kind) e
+      keeps_contents h g sound id there (parts.sent k a) (sent_sort k a) (ap looks_of (sent_contents k a))
+      (sent_right (census h.store) id.0 k a (good_object h.store sound id there).kind) e
 
   pub keeps_ended : g ≡ becomes h (parts.with_ended h.store.objects id) → Keeps h g
   keeps_ended e =
       let k : Kind = (object_at h.store.objects id).kind in
-      keeps_contents h g sound id within (parts.ended k) (ended_sort k) (ap looks_of (ended_contents k))
-      (ended_right (census h.store) id.0 k (sound.objects id.0 within).kind) e
+      keeps_contents h g sound id there (parts.ended k) (ended_sort k) (ap looks_of (ended_contents k))
+      (ended_right (census h.store) id.0 k (good_object h.store sound id there).kind) e

@@ -13,9 +13,10 @@ use Rattle.def_core.specs.Store.{Store, absent, object_at, sort_at, set_object, 
 use Rattle.def_core.specs.Classes.{class_at, with_class}
 use Rattle.def_core.specs.Changes.{with_method, with_default, with_constant, intern}
 use Rattle.def_core.specs.Parts.{with_objects, with_singleton_class}
-use Rattle.def_core.specs.Sound.{census, sorts_of, Module, SingletonClass, ClassOrModule, plays, Is, IsSymbol, IsValue, AllAre, SoundMethod, SoundObject, Sound, Extends}
+use Rattle.def_core.specs.Sound.{census, sorts_of, Module, SingletonClass, ClassOrModule, plays, Is, IsGood, IsSymbol, IsValue, AllAre, SoundMethod, SoundObject, Sound, Extends}
 use Rattle.def_core.proofs.Sorts.{sorts-set, sorts-with_class, sorts-with_method}
-use Rattle.def_core.proofs.Roles.{is_by_sort, sound_class}
+use Rattle.def_core.proofs.Roles.{sound_class}
+use Rattle.def_core.proofs.Good.{good_within, good_still, has_role}
 use Rattle.def_core.proofs.Grows.{same_objects, one_more, new_role, extends_both, sound_with_object, interned, sound_with_interned}
 use Rattle.def_core.proofs.Keeps.{sound_with_set, sound_with_class, sound_with_method, sound_with_default, sound_with_constant, sound_with_singleton}
 use Rattle.rb_store.specs.Held.{Held}
@@ -34,11 +35,11 @@ keeps_by h g st sound extends counted e = record {
 }
 
 -- an object of the same sort in the place of another
-pub keeps_other : (h g : Held) (id : ObjId) (o : Object) → Sound h.store → id.0 < length h.store.objects
+pub keeps_other : (h g : Held) (id : ObjId) (o : Object) → Sound h.store → IsGood h.store id
     → sort_of o.kind ≡ sort_at h.store.objects id → SoundObject (census h.store) id.0 o → IsCounted h g
     → g.store ≡ record h.store { objects = set_object h.store.objects id o } → Keeps h g
-keeps_other h g id o sound within same is counted e =
-    keeps_by h g _ (sound_with_set h.store sound id o within same is)
+keeps_other h g id o sound good same is counted e =
+    keeps_by h g _ (sound_with_set h.store sound id o good same is)
     (same_objects h.store _ (sorts-set h.store.objects id o same)) counted e
 
 pub keeps_interned : (h g : Held) (name : List ℕ) → Sound h.store → g.store ≡ (intern h.store name).store
@@ -46,14 +47,14 @@ pub keeps_interned : (h g : Held) (name : List ℕ) → Sound h.store → g.stor
 keeps_interned h g name sound s e =
     keeps_by h g _ (sound_with_interned h.store sound name) (interned h.store name) (interned_counted h g name s e) s
 
-module _ (h g : Held) (sound : Sound h.store) (c : ObjId) (within : c.0 < length h.store.objects)
+module _ (h g : Held) (sound : Sound h.store) (c : ObjId) (good : IsGood h.store c)
     (is : plays ClassOrModule (sort_at h.store.objects c) ≡ true) where
   pub keeps_method : (name : SymId) (m : Method) (v : Visibility) → name.0 < length h.store.symbols
       → SoundMethod (census h.store) m → IsCounted h g → g.store ≡ with_method h.store c name m v → Keeps h g
   unfolding with_method
   keeps_method name m v symbol right counted e =
       keeps_by h g _
-      (sound_with_method h.store sound c name m v (is_by_sort h.store ClassOrModule c within is)
+      (sound_with_method h.store sound c name m v (has_role h.store ClassOrModule c good is)
       (record { below = symbol }) right)
       (same_objects h.store _ (sorts-with_class h.store.objects c _ is refl)) counted e
 
@@ -62,14 +63,14 @@ module _ (h g : Held) (sound : Sound h.store) (c : ObjId) (within : c.0 < length
   unfolding with_default
   keeps_default v counted e =
       keeps_by h g _
-      (sound_with_default h.store sound c v (is_by_sort h.store ClassOrModule c within is))
+      (sound_with_default h.store sound c v (has_role h.store ClassOrModule c good is))
       (same_objects h.store _ (sorts-with_class h.store.objects c _ is refl)) counted e
 
   pub keeps_constant : (name : SymId) (v : Value) → IsSymbol (census h.store) name → IsValue (census h.store) v
       → IsCounted h g → g.store ≡ record h.store { objects = with_constant h.store.objects c name v } → Keeps h g
   keeps_constant name v symbol right counted e =
       keeps_by h g _
-      (sound_with_constant h.store sound c name v (is_by_sort h.store ClassOrModule c within is) symbol right)
+      (sound_with_constant h.store sound c name v (has_role h.store ClassOrModule c good is) symbol right)
       (same_objects h.store _ (sorts-with_class h.store.objects c _ is refl)) counted e
 
   pub keeps_included : (included : List ObjId) → AllAre (Is (census h.store) Module) included → IsCounted h g
@@ -78,7 +79,7 @@ module _ (h g : Held) (sound : Sound h.store) (c : ObjId) (within : c.0 < length
             (record (class_at h.store.objects c) { included = included });
       } → Keeps h g
   keeps_included included all counted e =
-      let there = is_by_sort h.store ClassOrModule c within is in
+      let there = has_role h.store ClassOrModule c good is in
       let old = sound_class h.store sound c there in
       keeps_by h g _
       (sound_with_class h.store sound c (record (class_at h.store.objects c) { included = included }) there refl
@@ -94,7 +95,7 @@ module _ (h g : Held) (sound : Sound h.store) (c : ObjId) (within : c.0 < length
 
 -- A singleton class after the other objects.
 
-module _ (st : Store) (id : ObjId) (class : Object) (within : id.0 < length st.objects) where
+module _ (st : Store) (id : ObjId) (class : Object) (good : IsGood st id) where
   abbrev longer : Store
   longer = with_object st class
 
@@ -105,10 +106,10 @@ module _ (st : Store) (id : ObjId) (class : Object) (within : id.0 < length st.o
   after = with_objects st (with_singleton_class st.objects id class)
 
   same_after : record longer { objects = set_object longer.objects id held } ≡ after
-  same_after = ap (with_objects st) (attached st.objects id class within)
+  same_after = ap (with_objects st) (attached st.objects id class (good_within st id good))
 
-  inside : id.0 < length longer.objects
-  inside = rw length-append (omega (arith, within))
+  inside : IsGood longer id
+  inside = good_still st longer (one_more st class) id good
 
   singleton_extends : Extends (census st) (census after)
   singleton_extends = subst (λ (s : Store). Extends (census st) (census s)) same_after
@@ -121,9 +122,9 @@ module _ (st : Store) (id : ObjId) (class : Object) (within : id.0 < length st.o
       (sound_with_singleton longer (sound_with_object st sound class right) id (next_number st) inside
       (new_role st class SingletonClass (ap (plays SingletonClass) is)))
 
-pub keeps_singleton : (h g : Held) (id : ObjId) (class : Object) → Sound h.store → id.0 < length h.store.objects
+pub keeps_singleton : (h g : Held) (id : ObjId) (class : Object) → Sound h.store → IsGood h.store id
     → sort_of class.kind ≡ sort.Singleton → SoundObject (census h.store) (length h.store.objects) class → IsCounted h g
     → g.store ≡ record h.store { objects = with_singleton_class h.store.objects id class } → Keeps h g
-keeps_singleton h g id class sound within is right counted e =
-    keeps_by h g _ (singleton_sound h.store id class within sound is right)
-    (singleton_extends h.store id class within) counted e
+keeps_singleton h g id class sound good is right counted e =
+    keeps_by h g _ (singleton_sound h.store id class good sound is right)
+    (singleton_extends h.store id class good) counted e

@@ -7,3 +7,4 @@ pub mod Kept
 pub mod KeptClasses
 pub mod Start
 pub mod OpeningRows
+pub mod Good

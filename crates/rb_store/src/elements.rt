@@ -3,7 +3,7 @@ ghost use Rattle.std.specs.Prelude.{◌≡◌, ◌<◌, ◌-◌, ◌∷◌, [], 
 ghost use Rattle.rb_value.specs.declared.kind.Sort.TheVariants as sorts;
 ghost use Rattle.def_core.specs.Store.{sort_at};
 ghost use Rattle.def_core.specs.Parts as parts;
-ghost use Rattle.def_core.specs.Sound.{Sound, census, IsValue, AllAre};
+ghost use Rattle.def_core.specs.Sound.{Sound, census, IsValue, AllAre, IsGood};
 ghost use Rattle.rb_store.specs.Keeps.{Keeps};
 
 use crate::store::Store;
@@ -15,7 +15,7 @@ use std::mem;
 impl Store {
     /// The elements of an Array; none of any other object. It takes no memory.
     pub fn elements(&self, id: ObjId) -> &[Value]
-        requires { id.0 < length self.now.store.objects }
+        requires { IsGood self.now.store id }
         ensures { result.now ≡ parts.elements_at self.now.store.objects id }
     {
         match self.get(id).kind() {
@@ -26,7 +26,7 @@ impl Store {
 
     /// Puts a value in the place of an element. It takes no memory.
     pub fn set_element(&mut self, id: ObjId, place: usize, value: Value)
-        requires there { id.0 < length self.old.store.objects }
+        requires there { IsGood self.old.store id }
         requires array { sort_at self.old.store.objects id ≡ sorts.Array }
         requires within { place < length (parts.elements_at self.old.store.objects id) }
         ensures element { self.new ≡ record self.old {
@@ -42,7 +42,7 @@ impl Store {
 
     /// Puts a value after the elements. Where memory runs out all is as before.
     pub fn push(&mut self, id: ObjId, value: Value) -> Result<(), AllocError>
-        requires there { id.0 < length self.old.store.objects }
+        requires there { IsGood self.old.store id }
         requires array { sort_at self.old.store.objects id ≡ sorts.Array }
         ensures ok { OnOk result (self.new ≡ record self.old {
           store = parts.with_objects self.old.store (parts.with_more self.old.store.objects id (value ∷ []));
@@ -58,7 +58,7 @@ impl Store {
 
     /// Puts values after the elements, in their order. Where memory runs out all is as before.
     pub fn append(&mut self, id: ObjId, values: &[Value]) -> Result<(), AllocError>
-        requires there { id.0 < length self.old.store.objects }
+        requires there { IsGood self.old.store id }
         requires array { sort_at self.old.store.objects id ≡ sorts.Array }
         ensures ok { OnOk result (self.new ≡ record self.old {
           store = parts.with_objects self.old.store (parts.with_more self.old.store.objects id values.now);
@@ -75,7 +75,7 @@ impl Store {
 
     /// Takes the last element off. It takes no memory.
     pub fn pop(&mut self, id: ObjId) -> Option<Value>
-        requires there { id.0 < length self.old.store.objects }
+        requires there { IsGood self.old.store id }
         requires array { sort_at self.old.store.objects id ≡ sorts.Array }
         ensures last { result ≡ slice_get (parts.elements_at self.old.store.objects id)
             (length (parts.elements_at self.old.store.objects id) - 1) }
@@ -92,7 +92,7 @@ impl Store {
 
     /// Takes the first element off. It moves none of the others and takes no memory.
     pub fn shift(&mut self, id: ObjId) -> Option<Value>
-        requires there { id.0 < length self.old.store.objects }
+        requires there { IsGood self.old.store id }
         requires array { sort_at self.old.store.objects id ≡ sorts.Array }
         ensures first { result ≡ slice_get (parts.elements_at self.old.store.objects id) 0 }
         ensures rest { self.new ≡ record self.old {
@@ -108,7 +108,7 @@ impl Store {
 
     /// Puts a value before the elements. Where memory runs out all is as before.
     pub fn unshift(&mut self, id: ObjId, value: Value) -> Result<(), AllocError>
-        requires there { id.0 < length self.old.store.objects }
+        requires there { IsGood self.old.store id }
         requires array { sort_at self.old.store.objects id ≡ sorts.Array }
         ensures ok { OnOk result (self.new ≡ record self.old {
           store = parts.with_objects self.old.store (parts.with_elements self.old.store.objects id
@@ -126,7 +126,7 @@ impl Store {
 
     /// Puts other elements into an Array, and hands the ones before back. It takes no memory.
     pub fn replace_elements(&mut self, id: ObjId, elements: Queue<Value>) -> Queue<Value>
-        requires there { id.0 < length self.old.store.objects }
+        requires there { IsGood self.old.store id }
         requires array { sort_at self.old.store.objects id ≡ sorts.Array }
         ensures before { result ≡ parts.elements_at self.old.store.objects id }
         ensures after { self.new ≡ record self.old {

@@ -7,7 +7,7 @@
 //! `push`, `append`, `pop`, `shift`, `unshift`, `replace_elements`; a String `text`, `append_bytes`, `replace_text`; a Hash
 //! `pair`, `pair_at`, `pair_count`, `put_pair`, `remove_pair`, `set_absent`; a Proc `send_proc`; a fiber `end_fiber`.
 //! Where memory runs out each call, but `new`, leaves the store as it was.
-#![tactic(auto)]
+#![tactic(auto, using(def_core::proofs::Good::good_within))]
 
 pub mod elements;
 pub mod laws;

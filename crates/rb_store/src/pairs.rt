@@ -3,7 +3,7 @@ ghost use Rattle.std.specs.Prelude.{◌≡◌, ◌<◌, length, map, slice_get, 
 ghost use Rattle.rb_value.specs.declared.kind.Sort.TheVariants as sorts;
 ghost use Rattle.def_core.specs.Store.{sort_at};
 ghost use Rattle.def_core.specs.Parts as parts;
-ghost use Rattle.def_core.specs.Sound.{Sound, census, Proc, Is, IsValue, OptionIs, SoundKey};
+ghost use Rattle.def_core.specs.Sound.{Sound, census, Proc, Is, IsValue, OptionIs, SoundKey, IsGood};
 ghost use Rattle.rb_store.specs.Keeps.{Keeps};
 
 use crate::store::Store;
@@ -13,7 +13,7 @@ use std::alloc::AllocError;
 impl Store {
     /// What stands under a key of a Hash. It takes no memory.
     pub fn pair(&self, id: ObjId, key: &Key) -> Option<HashItem>
-        requires { id.0 < length self.now.store.objects }
+        requires { IsGood self.now.store id }
         ensures { result ≡ parts.pair_of self.now.store.objects id key.now }
     {
         match self.get(id).kind() {
@@ -24,7 +24,7 @@ impl Store {
 
     /// What stands at a place among the pairs of a Hash. It takes no memory.
     pub fn pair_at(&self, id: ObjId, place: usize) -> Option<HashItem>
-        requires { id.0 < length self.now.store.objects }
+        requires { IsGood self.now.store id }
         ensures { result ≡ option_map (λ p. p.1) (slice_get (parts.hash_at self.now.store.objects id).pairs place) }
     {
         match self.get(id).kind() {
@@ -38,7 +38,7 @@ impl Store {
 
     /// How many pairs a Hash has; none has any other object. It takes no memory.
     pub fn pair_count(&self, id: ObjId) -> usize
-        requires { id.0 < length self.now.store.objects }
+        requires { IsGood self.now.store id }
         ensures { result ≡ length (parts.hash_at self.now.store.objects id).pairs }
     {
         match self.get(id).kind() {
@@ -56,7 +56,7 @@ impl Store {
         shown: Value,
         value: Value,
     ) -> Result<(), AllocError>
-        requires there { id.0 < length self.old.store.objects }
+        requires there { IsGood self.old.store id }
         requires hash { sort_at self.old.store.objects id ≡ sorts.Hash }
         ensures ok { OnOk result (self.new ≡ record self.old {
           store = parts.with_objects self.old.store (parts.with_pair self.old.store.objects id key shown value);
@@ -74,7 +74,7 @@ impl Store {
 
     /// Takes the pair of a key out of a Hash, and hands it back. The others keep their order. It takes no memory.
     pub fn remove_pair(&mut self, id: ObjId, key: &Key) -> Option<HashItem>
-        requires there { id.0 < length self.old.store.objects }
+        requires there { IsGood self.old.store id }
         requires hash { sort_at self.old.store.objects id ≡ sorts.Hash }
         ensures item { result ≡ parts.pair_of self.old.store.objects id key.now }
         ensures rest { self.new ≡ record self.old {
@@ -90,7 +90,7 @@ impl Store {
 
     /// Sets what an absent key of a Hash gives: a value, or what the block gives where there is one. It takes no memory.
     pub fn set_absent(&mut self, id: ObjId, default: Value, block: Option<ObjId>)
-        requires there { id.0 < length self.old.store.objects }
+        requires there { IsGood self.old.store id }
         requires hash { sort_at self.old.store.objects id ≡ sorts.Hash }
         ensures absent { self.new ≡ record self.old {
           store = parts.with_objects self.old.store (parts.with_absent self.old.store.objects id default block);

@@ -4,7 +4,7 @@ ghost use Rattle.def_core.specs.Store.{object_at, sort_at, set_object, next_numb
 ghost use Rattle.def_core.specs.Classes.{class_at, with_class};
 ghost use Rattle.def_core.specs.Changes as defined;
 ghost use Rattle.def_core.specs.Parts.{with_objects, with_singleton_class};
-ghost use Rattle.def_core.specs.Sound.{plays, ClassOrModule, Module, Sound, SoundMethod, SoundObject, census, Is, IsSymbol, IsValue, AllAre};
+ghost use Rattle.def_core.specs.Sound.{plays, ClassOrModule, Module, Sound, SoundMethod, SoundObject, census, Is, IsSymbol, IsValue, AllAre, IsGood};
 ghost use Rattle.rb_value.specs.Sort.{sort_of};
 ghost use Rattle.rb_value.specs.declared.kind.Sort.TheVariants as sorts;
 ghost use Rattle.rb_store.specs.Keeps.{Keeps};
@@ -30,7 +30,7 @@ impl Store {
     }
 
     /// Puts a method into the own list of a class or module. Where memory runs out all is as before.
-    #[tactic(auto, using(crate::proofs::Counted::counted_more), unfolding(def_core::specs::Changes::with_method))]
+    #[tactic(auto, using(def_core::proofs::Good::good_within, crate::proofs::Counted::counted_more), unfolding(def_core::specs::Changes::with_method))]
     pub fn put_method(
         &mut self,
         class: ObjId,
@@ -38,7 +38,7 @@ impl Store {
         method: Method,
         visibility: Visibility,
     ) -> Result<(), AllocError>
-        requires there { class.0 < length self.old.store.objects }
+        requires there { IsGood self.old.store class }
         requires is_class { plays ClassOrModule (sort_at self.old.store.objects class) ≡ true }
         requires name { name.0 < length self.old.store.symbols }
         ensures ok { OnOk result (self.new.store ≡ defined.with_method self.old.store class name method visibility) }
@@ -60,9 +60,9 @@ impl Store {
     }
 
     /// Sets the visibility of the next methods of a class or module. It takes no memory.
-    #[tactic(auto, unfolding(def_core::specs::Changes::with_default))]
+    #[tactic(auto, using(def_core::proofs::Good::good_within), unfolding(def_core::specs::Changes::with_default))]
     pub fn put_default(&mut self, class: ObjId, visibility: Visibility)
-        requires there { class.0 < length self.old.store.objects }
+        requires there { IsGood self.old.store class }
         requires is_class { plays ClassOrModule (sort_at self.old.store.objects class) ≡ true }
         ensures store { self.new.store ≡
             record self.old.store { objects = defined.with_default self.old.store.objects class visibility } }
@@ -84,7 +84,7 @@ impl Store {
         name: SymId,
         value: Value,
     ) -> Result<(), AllocError>
-        requires there { class.0 < length self.old.store.objects }
+        requires there { IsGood self.old.store class }
         requires is_class { plays ClassOrModule (sort_at self.old.store.objects class) ≡ true }
         ensures ok { OnOk result (self.new.store ≡ record self.old.store {
           objects = defined.with_constant self.old.store.objects class name value;
@@ -105,9 +105,9 @@ impl Store {
     }
 
     /// Puts another list of included modules into a class or module. It takes no memory.
-    #[tactic(auto, using(crate::proofs::Counted::counted_more))]
+    #[tactic(auto, using(def_core::proofs::Good::good_within, crate::proofs::Counted::counted_more))]
     pub fn put_included(&mut self, class: ObjId, included: List<ObjId>)
-        requires there { class.0 < length self.old.store.objects }
+        requires there { IsGood self.old.store class }
         requires is_class { plays ClassOrModule (sort_at self.old.store.objects class) ≡ true }
         ensures store { self.new.store ≡ record self.old.store {
           objects = with_class self.old.store.objects class
@@ -141,9 +141,9 @@ impl Store {
     }
 
     /// Puts a singleton class after the other objects and gives it to an object. Where memory runs out all is as before.
-    #[tactic(auto, using(crate::proofs::Attached::attached))]
+    #[tactic(auto, using(def_core::proofs::Good::good_within, crate::proofs::Attached::attached))]
     pub fn add_singleton(&mut self, id: ObjId, class: Object) -> Result<ObjId, AllocError>
-        requires { id.0 < length self.old.store.objects }
+        requires { IsGood self.old.store id }
         ensures number { IfOk result (λ singleton. singleton ≡ next_number self.old.store) }
         ensures ok { OnOk result (self.new.store ≡ record self.old.store {
           objects = with_singleton_class self.old.store.objects id class;

@@ -5,7 +5,7 @@ ghost use Rattle.rb_value.specs.Sort.{sort_of};
 ghost use Rattle.rb_value.specs.declared.kind.Sort.TheVariants as sorts;
 ghost use Rattle.def_core.specs.Store.{object_at, sort_at};
 ghost use Rattle.def_core.specs.Parts as parts;
-ghost use Rattle.def_core.specs.Sound.{plays, ClassOrModule, Sound, SoundKind, census, IsSymbol, IsValue};
+ghost use Rattle.def_core.specs.Sound.{plays, ClassOrModule, Sound, SoundKind, census, IsSymbol, IsValue, IsGood};
 ghost use Rattle.rb_store.specs.Keeps.{Keeps};
 
 use crate::store::Store;
@@ -16,7 +16,7 @@ use std::mem;
 impl Store {
     /// The value of an instance variable, where it was set. It takes no memory.
     pub fn variable(&self, id: ObjId, name: SymId) -> Option<Value>
-        requires { id.0 < length self.now.store.objects }
+        requires { IsGood self.now.store id }
         ensures { result ≡ parts.variable_of self.now.store.objects id name }
     {
         self.get(id).variable(name)
@@ -24,7 +24,7 @@ impl Store {
 
     /// Sets an instance variable: one that was set before keeps its place. Where memory runs out all is as before.
     pub fn set_variable(&mut self, id: ObjId, name: SymId, value: Value) -> Result<(), AllocError>
-        requires { id.0 < length self.old.store.objects }
+        requires { IsGood self.old.store id }
         ensures ok { OnOk result (self.new ≡ record self.old {
           store = parts.with_objects self.old.store (parts.with_variable self.old.store.objects id name value);
         }) }
@@ -41,7 +41,7 @@ impl Store {
     /// Notes that a Proc was the block of a call that opened that activation, or none. Only the first call counts; a
     /// Proc of a core method has no such fact. It takes no memory.
     pub fn send_proc(&mut self, id: ObjId, activation: Option<u64>)
-        requires { id.0 < length self.old.store.objects }
+        requires { IsGood self.old.store id }
         ensures sent { self.new ≡ record self.old {
           store = parts.with_objects self.old.store (parts.with_sent self.old.store.objects id activation);
         } }
@@ -55,7 +55,7 @@ impl Store {
 
     /// Notes that a fiber has ended. It takes no memory.
     pub fn end_fiber(&mut self, id: ObjId)
-        requires there { id.0 < length self.old.store.objects }
+        requires there { IsGood self.old.store id }
         requires fiber { sort_at self.old.store.objects id ≡ sorts.Fiber }
         ensures ended { self.new ≡ record self.old {
           store = parts.with_objects self.old.store (parts.with_ended self.old.store.objects id);
@@ -71,7 +71,7 @@ impl Store {
     /// Puts other contents of the same sort into an object that is no class or module, and gives those that were there.
     /// It takes no memory.
     pub fn put_kind(&mut self, id: ObjId, kind: Kind) -> Kind
-        requires there { id.0 < length self.old.store.objects }
+        requires there { IsGood self.old.store id }
         requires sort { sort_of kind ≡ sort_at self.old.store.objects id }
         requires other { plays ClassOrModule (sort_of kind) ≡ false }
         ensures before { result ≡ (object_at self.old.store.objects id).kind }

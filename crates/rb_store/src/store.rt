@@ -4,7 +4,7 @@ ghost use Rattle.rb_value.specs.Sort.{sort_of};
 ghost use Rattle.def_core.specs.Store.{object_at, sort_at, set_object, with_object, next_number, name_at, core};
 ghost use Rattle.def_core.specs.Changes as defined;
 ghost use Rattle.def_core.specs.Parts.{with_objects};
-ghost use Rattle.def_core.specs.Sound.{Sound, SoundObject, SoundFrom, census};
+ghost use Rattle.def_core.specs.Sound.{Sound, SoundObject, SoundFrom, census, IsGood};
 ghost use Rattle.rb_store.specs.Keeps.{Keeps};
 ghost use Rattle.rb_store.specs.Held.{changes_after};
 ghost use Rattle.rb_store.specs.Counted.{IsCounted};
@@ -72,7 +72,7 @@ impl Store {
 
     /// The object of that number.
     pub fn get(&self, id: ObjId) -> &Object
-        requires { id.0 < length self.now.store.objects }
+        requires { IsGood self.now.store id }
         ensures { result.now ≡ object_at self.now.store.objects id }
     {
         self.objects.get(id.0 as usize)
@@ -110,9 +110,9 @@ impl Store {
     }
 
     /// Puts an object of the same sort in the place of another, which it gives back. It takes no memory.
-    #[tactic(auto, using(crate::proofs::Counted::set_counted))]
+    #[tactic(auto, using(def_core::proofs::Good::good_within, crate::proofs::Counted::set_counted))]
     pub fn set(&mut self, id: ObjId, object: Object) -> Object
-        requires there { id.0 < length self.old.store.objects }
+        requires there { IsGood self.old.store id }
         requires sort { sort_of object.kind ≡ sort_at self.old.store.objects id }
         ensures old { result ≡ object_at self.old.store.objects id }
         ensures objects { self.new.store ≡ record self.old.store

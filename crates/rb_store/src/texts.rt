@@ -3,7 +3,7 @@ ghost use Rattle.std.specs.Prelude.{◌≡◌, ◌<◌, ◌++◌, length, OnOk, 
 ghost use Rattle.rb_value.specs.declared.kind.Sort.TheVariants as sorts;
 ghost use Rattle.def_core.specs.Store.{sort_at};
 ghost use Rattle.def_core.specs.Parts as parts;
-ghost use Rattle.def_core.specs.Sound.{Sound};
+ghost use Rattle.def_core.specs.Sound.{Sound, IsGood};
 ghost use Rattle.rb_store.specs.Keeps.{Keeps};
 
 use crate::store::Store;
@@ -26,7 +26,7 @@ fn extend(alloc: Global, bytes: &mut Bytes, more: &[u8]) -> Result<(), AllocErro
 impl Store {
     /// The bytes of a String; none of any other object. It takes no memory.
     pub fn text(&self, id: ObjId) -> &[u8]
-        requires { id.0 < length self.now.store.objects }
+        requires { IsGood self.now.store id }
         ensures { result.now ≡ parts.text_at self.now.store.objects id }
     {
         match self.get(id).kind() {
@@ -37,7 +37,7 @@ impl Store {
 
     /// Puts bytes at the end of a String. Where memory runs out all is as before.
     pub fn append_bytes(&mut self, id: ObjId, more: &[u8]) -> Result<(), AllocError>
-        requires there { id.0 < length self.old.store.objects }
+        requires there { IsGood self.old.store id }
         requires string { sort_at self.old.store.objects id ≡ sorts.String }
         ensures ok { OnOk result (self.new ≡ record self.old {
           store = parts.with_objects self.old.store (parts.with_text self.old.store.objects id
@@ -55,7 +55,7 @@ impl Store {
 
     /// Puts other bytes into a String, and hands the ones before back. It takes no memory.
     pub fn replace_text(&mut self, id: ObjId, bytes: Bytes) -> Bytes
-        requires there { id.0 < length self.old.store.objects }
+        requires there { IsGood self.old.store id }
         requires string { sort_at self.old.store.objects id ≡ sorts.String }
         ensures before { result ≡ parts.text_at self.old.store.objects id }
         ensures after { self.new ≡ record self.old {

@@ -12,7 +12,8 @@ use Rattle.rb_value.specs.Object.{Object}
 use Rattle.def_core.specs.Store.{Store, object_at, set_object}
 use Rattle.def_core.specs.Classes.{class_at, with_class}
 use Rattle.def_core.specs.Sound.{census, Census, AllAre, ClassOrModule, Is, SoundEntry, SoundObject, Sound}
-use Rattle.def_core.proofs.Roles.{is_within, sound_class}
+use Rattle.def_core.proofs.Roles.{sound_class}
+use Rattle.def_core.proofs.Good.{role_object}
 use Rattle.def_core.proofs.Grows.{object_grows}
 use Rattle.rb_store.specs.Held.{Held}
 use Rattle.rb_store.specs.Keeps.{Keeps}
@@ -37,7 +38,7 @@ entries_left k (e ∷ es) n h = elim (nat_eq n e.0) as
 robbed_sound : (st : Store) → Sound st → (c : ObjId) (name : SymId) → Is (census st) ClassOrModule c
     → SoundObject (census st) c.0 (robbed st.objects c name)
 robbed_sound st sound c name is =
-    let old = sound.objects c.0 (is_within st ClassOrModule c is) in
+    let old = role_object st sound ClassOrModule c is in
     let own = sound_class st sound c is in
     record {
       class = old.class;

@@ -11,7 +11,8 @@ use Rattle.rb_value.specs.Sort.{sort_of}
 use Rattle.def_core.specs.Store.{Store, fresh, object_at, set_object, sort_at}
 use Rattle.def_core.specs.Classes.{class_at, empty_class, with_class}
 use Rattle.def_core.specs.Sound.{census, ClassOrModule, Is, IsSymbol, SoundObject, Sound}
-use Rattle.def_core.proofs.Roles.{is_within, is_plays, sound_class}
+use Rattle.def_core.proofs.Roles.{is_plays, sound_class}
+use Rattle.def_core.proofs.Good.{role_object}
 use Rattle.def_core.proofs.Sorts.{same_class_sort}
 use Rattle.def_core.proofs.Grows.{object_grows}
 use Rattle.rb_store.specs.Held.{Held}
@@ -37,7 +38,7 @@ stands_in st c f is e = same_class_sort st.objects c (empty_class f None) (is_pl
 pub stand_in_sound : (st : Store) → Sound st → (c : ObjId) (f : ClassForm) → Is (census st) ClassOrModule c
     → SoundObject (census st) c.0 (stand_in (object_at st.objects c).class f)
 stand_in_sound st sound c f is = record {
-  class = (sound.objects c.0 (is_within st ClassOrModule c is)).class;
+  class = (role_object st sound ClassOrModule c is).class;
   singleton = tt;
   variables = tt;
   kind = record { name = tt; superclass = tt; module_root = λ _. refl; included = tt; constants = tt; methods = tt };
@@ -52,7 +53,7 @@ named_sort st c name is =
 pub named_sound : (st : Store) → Sound st → (c : ObjId) (name : SymId) → Is (census st) ClassOrModule c
     → IsSymbol (census st) name → SoundObject (census st) c.0 (named st.objects c name)
 named_sound st sound c name is symbol =
-    let old = sound.objects c.0 (is_within st ClassOrModule c is) in
+    let old = role_object st sound ClassOrModule c is in
     let own = sound_class st sound c is in
     record {
       class = old.class;

@@ -16,7 +16,7 @@ use run_values::{Given, answer, fail, wrong_value};
 use std::alloc::AllocError;
 
 /// The number of a value that is a class or module. It takes no memory.
-#[tactic(auto, using(def_core::proofs::Roles::is_within, def_core::proofs::Roles::is_by_sort))]
+#[tactic(auto, using(def_core::proofs::Good::is_good, def_core::proofs::Good::has_role))]
 pub fn space_in(st: &Store, value: Value) -> Option<ObjId>
     requires { IsValue (census st.now.store) value }
     ensures space { result ≡ definitions.space_in st.now.store.objects value }

@@ -13,7 +13,7 @@ use rb_value::{ClassForm, Kind, ObjId, Object, SymId};
 use std::alloc::AllocError;
 
 /// The form of a class or module.
-#[tactic(auto, using(def_core::proofs::Roles::is_within))]
+#[tactic(auto, using(def_core::proofs::Good::is_good))]
 fn form_of(st: &Store, class: ObjId) -> ClassForm
     requires { Is (census st.now.store) ClassOrModule class }
     ensures { result ≡ (classes.class_at st.now.store.objects class).form }
@@ -42,7 +42,7 @@ fn lose(object: &mut Object, name: SymId)
 
 /// Takes a method out of the own list of a class or module, so that what stands above is found. Where memory runs out
 /// all is as before.
-#[tactic(auto, using(def_core::proofs::Roles::is_within, def_core::proofs::Roles::is_plays, crate::proofs::Renamed::stands_in, rb_store::proofs::Keeping::keeps_itself))]
+#[tactic(auto, using(def_core::proofs::Good::is_good, def_core::proofs::Good::good_replaced, def_core::proofs::Roles::is_plays, crate::proofs::Renamed::stands_in, rb_store::proofs::Keeping::keeps_itself))]
 pub fn remove_method(st: &mut Store, class: ObjId, name: SymId) -> Result<(), AllocError>
     requires sound { Sound st.old.store }
     requires class { Is (census st.old.store) ClassOrModule class }

@@ -20,7 +20,7 @@ use rb_value::{
 use std::alloc::{AllocError, Global};
 
 /// The form of a class or module that has no name.
-#[tactic(auto, using(def_core::proofs::Roles::is_within))]
+#[tactic(auto, using(def_core::proofs::Good::is_good))]
 fn nameless_form(st: &Store, class: ObjId) -> Option<ClassForm>
     requires { Is (census st.now.store) ClassOrModule class }
     ensures form { IfSome result (λ f. f ≡ (classes.class_at st.now.store.objects class).form) }
@@ -64,7 +64,7 @@ fn rename(object: &mut Object, name: SymId)
 }
 
 /// Gives a class or module of that form a name. Where memory runs out all is as before.
-#[tactic(auto, using(def_core::proofs::Roles::is_within, def_core::proofs::Roles::is_plays, crate::proofs::Renamed::stands_in, rb_store::proofs::Keeping::keeps_itself))]
+#[tactic(auto, using(def_core::proofs::Good::is_good, def_core::proofs::Good::good_replaced, def_core::proofs::Roles::is_plays, crate::proofs::Renamed::stands_in, rb_store::proofs::Keeping::keeps_itself))]
 fn put_name(st: &mut Store, class: ObjId, form: ClassForm, name: SymId) -> Result<(), AllocError>
     requires sound { Sound st.old.store }
     requires class { Is (census st.old.store) ClassOrModule class }

@@ -38,7 +38,7 @@ fn text_if(st: &mut Store, text: &[u8], told: bool) -> Result<Given, AllocError>
 }
 
 /// Whether an instance variable was set.
-#[tactic(auto, using(def_core::proofs::Roles::is_within))]
+#[tactic(auto, using(def_core::proofs::Good::is_good))]
 fn has_variable(st: &Store, self_value: Value, name: SymId) -> bool
     requires { IsValue (census st.now.store) self_value }
     ensures { result ≡ is_some (variable_of (values.variables_of st.now.store.objects self_value) name) }

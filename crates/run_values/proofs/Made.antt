@@ -10,14 +10,12 @@ use Rattle.def_core.specs.Store.{Store, next_number, with_object}
 use Rattle.def_core.specs.Sound.{census, Sound, SoundObject, String, Is, IsValue, AllAre}
 use Rattle.def_core.proofs.Grows.{core_is_class}
 use Rattle.class_model.proofs.Lineages.{any_of}
-use Rattle.core_rows.proofs.Texts.{object_is}
+use Rattle.def_core.proofs.Good.{good_added}
 use Rattle.def_rows.specs.Answers.{items_object, text_object}
 use Rattle.def_calls.specs.World.{exception_object}
 
 pub new_is : (st : Store) (o : Object) → IsValue (census (with_object st o)) (Obj (next_number st))
-new_is st o =
-    let longer : length st.objects < length (st.objects ++ o ∷ []) = rw length-append (omega arith) in
-    object_is (with_object st o) (next_number st) longer
+new_is st o = (good_added st o).there
 
 pub items_sound : (st : Store) → Sound st → (vs : List Value) → AllAre (IsValue (census st)) vs
     → SoundObject (census st) (length st.objects) (items_object vs)

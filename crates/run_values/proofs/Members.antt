@@ -15,7 +15,8 @@ use Rattle.rb_value.specs.declared.kind.Sort.TheVariants as sort
 use Rattle.def_core.specs.Store.{Store, object_at, sort_at}
 use Rattle.def_core.specs.Bind.{elements_of, elements_in}
 use Rattle.def_core.specs.Sound.{Census, census, Sound, SoundKind, SoundVariable, Any, Array, Proc, plays, Is, IsValue, OptionIs, AllAre}
-use Rattle.def_core.proofs.Roles.{is_within, is_plays}
+use Rattle.def_core.proofs.Roles.{is_plays}
+use Rattle.def_core.proofs.Good.{role_object}
 use Rattle.def_calls.specs.Values as values
 use Rattle.def_calls.specs.Views.{message_of, detail_of, fiber_of}
 
@@ -57,7 +58,7 @@ elements_are st sound False is = tt
 elements_are st sound (Int n) is = tt
 elements_are st sound (Sym s) is = tt
 elements_are st sound (Obj id) is = elements_right (census st) id.0 (object_at st.objects id).kind
-    (sound.objects id.0 (is_within st Any id is)).kind
+    (role_object st sound Any id is).kind
 
 -- an instance variable, and nil where it was never set
 variable_at : (k : Census) (vs : List Variable) (n : ℕ) → AllAre (SoundVariable k) vs
@@ -75,7 +76,7 @@ pub variable_is : (st : Store) → Sound st → (id : ObjId) (name : SymId) → 
     → IsValue (census st) (unwrap_or (variables.variable_of (object_at st.objects id).variables name) Nil)
 variable_is st sound id name is = value_at (census st) (object_at st.objects id).variables
     (position (variables.is_named name) (object_at st.objects id).variables)
-    (sound.objects id.0 (is_within st Any id is)).variables
+    (role_object st sound Any id is).variables
 
 -- what an exception or a fiber has
 message_right : (k : Census) (n : ℕ) (x : Kind) → SoundKind k n x → IsValue k (message_of x)
@@ -125,7 +126,7 @@ module _ (st : Store) (sound : Sound st) (id : ObjId) (is : Is (census st) Any i
   held = (object_at st.objects id).kind
 
   holds : SoundKind (census st) id.0 held
-  holds = (sound.objects id.0 (is_within st Any id is)).kind
+  holds = (role_object st sound Any id is).kind
 
   pub message_is : IsValue (census st) (message_of (object_at st.objects id).kind)
   message_is = message_right (census st) id.0 held holds

@@ -15,8 +15,10 @@ use Rattle.def_core.specs.declared.cause.Cause.TheVariants as cause
 use Rattle.def_core.specs.Store.{Store, core, sort_at}
 use Rattle.def_core.specs.Sound.{census, Sound, Class, Is, plays}
 use Rattle.def_core.proofs.Grows.{core_is_class}
-use Rattle.def_core.proofs.Roles.{is_within, is_plays}
-use Rattle.def_rows.specs.Operands.{place_of, is_there}
+use Rattle.def_core.proofs.Roles.{is_plays}
+use Rattle.def_core.proofs.Good.{is_good}
+use Rattle.core_rows.proofs.Places.{place_there}
+use Rattle.def_rows.specs.Operands.{place_of}
 use Rattle.def_rows.specs.Answers.{finish}
 use Rattle.def_rows.specs.RangeRows.{new_range, made, made_in, kept_ends, item_of}
 use Rattle.core_rows.specs.Belonging.{SoundAnswer}
@@ -38,19 +40,11 @@ class_alone sort.Exception h = cc
 class_alone sort.Enumerator h = cc
 class_alone sort.Yielder h = cc
 
-both_true : (a b : Bool) → a ≡ true → b ≡ true → (a && b) ≡ true
-both_true true b h g = g
-both_true false b h g = cc
-
 -- the class Range is the receiver
 place_of_class : (st : Store) (id : ObjId) → Is (census st) Class id
     → place_of st.objects sort.Class (Obj id) ≡ Some id
 place_of_class st id is =
-    let within = is_within st Class id is in
-    let there : nat_lt id.0 (length st.objects) ≡ true = grind (arith, nat_tests, within) in
-    let e : is_there st.objects sort.Class id ≡ true =
-    both_true _ _ there (class_alone (sort_at st.objects id) (is_plays st Class id is)) in
-    ap (λ (b : Bool). if b then Some id else None) e
+    place_there st sort.Class id (is_good st Class id is) (class_alone (sort_at st.objects id) (is_plays st Class id is))
 
 same_truth : (b : Bool) → is_true (truth b) ≡ b
 same_truth true = refl

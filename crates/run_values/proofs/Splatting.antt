@@ -15,7 +15,7 @@ use Rattle.def_core.specs.Store.{Store, core, object_number, next_number, with_o
 use Rattle.def_core.specs.Parts.{with_objects, hash_at}
 use Rattle.def_core.specs.Sound.{Census, census, Sound, SoundFrom, SoundPair, Any, Class, Is, IsValue, AllAre, Extends}
 use Rattle.def_core.proofs.Grows.{more_objects, core_is_class, value_grows}
-use Rattle.def_core.proofs.Roles.{is_within}
+use Rattle.def_core.proofs.Good.{is_good}
 use Rattle.core_rows.proofs.Texts.{numbered_are}
 use Rattle.rb_store.proofs.Kept as kept
 use Rattle.def_rows.specs.Answers.{text_object, numbered}
@@ -78,7 +78,7 @@ pairs_sound st sound id is more e =
     let grown = more_objects st (map pair_object (hash_at st.objects id).pairs) in
     subst (λ (os : List Object). SoundFrom (census (with_objects st (st.objects ++ os))) (length st.objects) os) (sym e)
     (pairs_from _ _ grown (grown.roles Class (core class.Array) (core_is_class st sound class.Array refl))
-    (length st.objects) (hash_at st.objects id).pairs (kept.hash_is st sound id (is_within st Any id is)).pairs)
+    (length st.objects) (hash_at st.objects id).pairs (kept.hash_is st sound id (is_good st Any id is)).pairs)
 
 -- new Strings are sound in each store that has them
 pub texts_sound : (st : Store) → Sound st → (texts : List (List ℕ)) (more : List Object) → more ≡ map text_object texts
@@ -101,10 +101,8 @@ texts_sound st sound texts more e =
 pub added_are : (st after : Store) (more : List Object) → after ≡ with_objects st (st.objects ++ more)
     → AllAre (IsValue (census after)) (numbered (length st.objects) (length more))
 added_are st after more e =
-    let within : length st.objects + length more ≤ length (st.objects ++ more) =
-    omega (arith, length-append st.objects more) in
     subst (λ (s : Store). AllAre (IsValue (census s)) (numbered (length st.objects) (length more))) (sym e)
-    (numbered_are (with_objects st (st.objects ++ more)) (length st.objects) (length more) within)
+    (numbered_are st more (length more) (omega arith))
 
 pub itself_is : (k : Census) (v : Value) → IsValue k v → AllAre (IsValue k) (itself_or_none (present v))
 itself_is k Nil is = tt

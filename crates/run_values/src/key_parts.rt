@@ -40,7 +40,7 @@ pub enum Step {
 }
 
 /// The part of a value that is no Array.
-#[tactic(auto, using(def_core::proofs::Roles::is_within, crate::proofs::Strings::string_there, crate::proofs::Strings::no_string))]
+#[tactic(auto, using(def_core::proofs::Good::is_good, crate::proofs::Strings::string_there, crate::proofs::Strings::no_string))]
 fn plain_part(st: &Store, value: Value) -> Result<KeyPart, AllocError>
     requires sound { Sound st.now.store }
     requires value { IsValue (census st.now.store) value }
@@ -97,7 +97,7 @@ impl Walk {
     }
 
     /// Passes a value: the head of an Array, whose elements come next, and any other value whole.
-    #[tactic(auto, using(def_core::proofs::Roles::is_within))]
+    #[tactic(auto, using(def_core::proofs::Good::is_good))]
     fn pass(&mut self, st: &Store, value: Value) -> Result<(), AllocError>
         requires sound { Sound st.now.store }
         requires value { IsValue (census st.now.store) value }
@@ -127,7 +127,7 @@ impl Walk {
     }
 
     /// The next element.
-    #[tactic(auto, using(def_core::proofs::Roles::is_within))]
+    #[tactic(auto, using(def_core::proofs::Good::is_good))]
     fn next(&mut self, st: &Store) -> Value
         requires sound { Sound st.now.store }
         requires walk { nested.IsWalk (census st.now.store) self.old }
@@ -144,7 +144,7 @@ impl Walk {
     }
 
     /// Passes the next element.
-    #[tactic(auto, using(def_core::proofs::Roles::is_within))]
+    #[tactic(auto, using(def_core::proofs::Good::is_good))]
     fn step(&mut self, st: &Store) -> Result<Step, AllocError>
         requires sound { Sound st.now.store }
         requires walk { nested.IsWalk (census st.now.store) self.old }

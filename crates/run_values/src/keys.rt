@@ -36,7 +36,7 @@ fn array_key(st: &Store, id: ObjId) -> Result<Option<Key>, AllocError>
 }
 
 /// The key of a Hash that a value is; nothing where Arrays are nested too deep.
-#[tactic(auto, unfolding(def_calls::specs::Values::key_of), using(def_core::proofs::Roles::is_within, crate::proofs::Strings::array_there, crate::proofs::Strings::no_array, crate::proofs::Strings::string_there, crate::proofs::Strings::no_string))]
+#[tactic(auto, unfolding(def_calls::specs::Values::key_of), using(def_core::proofs::Good::is_good, crate::proofs::Strings::array_there, crate::proofs::Strings::no_array, crate::proofs::Strings::string_there, crate::proofs::Strings::no_string))]
 pub fn key_of(st: &Store, value: Value) -> Result<Option<Key>, AllocError>
     requires sound { Sound st.now.store }
     requires value { IsValue (census st.now.store) value }

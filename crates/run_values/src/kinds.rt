@@ -50,7 +50,7 @@ pub fn present(value: Value) -> Option<Value>
 }
 
 /// The number of an Array.
-#[tactic(auto, using(def_core::proofs::Roles::is_within, def_core::proofs::Roles::is_by_sort))]
+#[tactic(auto, using(def_core::proofs::Good::is_good, def_core::proofs::Good::has_role))]
 pub fn an_array(st: &Store, value: Value) -> Option<ObjId>
     requires { IsValue (census st.now.store) value }
     ensures object { result ≡ views.an_array st.now.store.objects value }
@@ -65,7 +65,7 @@ pub fn an_array(st: &Store, value: Value) -> Option<ObjId>
 }
 
 /// The number of a String.
-#[tactic(auto, using(def_core::proofs::Roles::is_within, def_core::proofs::Roles::is_by_sort))]
+#[tactic(auto, using(def_core::proofs::Good::is_good, def_core::proofs::Good::has_role))]
 pub fn a_string(st: &Store, value: Value) -> Option<ObjId>
     requires { IsValue (census st.now.store) value }
     ensures object { result ≡ views.a_string st.now.store.objects value }
@@ -80,7 +80,7 @@ pub fn a_string(st: &Store, value: Value) -> Option<ObjId>
 }
 
 /// The number of a Hash.
-#[tactic(auto, using(def_core::proofs::Roles::is_within, def_core::proofs::Roles::is_by_sort))]
+#[tactic(auto, using(def_core::proofs::Good::is_good, def_core::proofs::Good::has_role))]
 pub fn a_hash(st: &Store, value: Value) -> Option<ObjId>
     requires { IsValue (census st.now.store) value }
     ensures object { result ≡ views.a_hash st.now.store.objects value }
@@ -95,7 +95,7 @@ pub fn a_hash(st: &Store, value: Value) -> Option<ObjId>
 }
 
 /// The number of a Proc.
-#[tactic(auto, using(def_core::proofs::Roles::is_within, def_core::proofs::Roles::is_by_sort))]
+#[tactic(auto, using(def_core::proofs::Good::is_good, def_core::proofs::Good::has_role))]
 pub fn a_proc(st: &Store, value: Value) -> Option<ObjId>
     requires { IsValue (census st.now.store) value }
     ensures object { result ≡ views.a_proc st.now.store.objects value }
@@ -111,7 +111,7 @@ pub fn a_proc(st: &Store, value: Value) -> Option<ObjId>
 }
 
 /// The number of a fiber.
-#[tactic(auto, using(def_core::proofs::Roles::is_within, def_core::proofs::Roles::is_by_sort))]
+#[tactic(auto, using(def_core::proofs::Good::is_good, def_core::proofs::Good::has_role))]
 pub fn a_fiber(st: &Store, value: Value) -> Option<ObjId>
     requires { IsValue (census st.now.store) value }
     ensures object { result ≡ views.a_fiber st.now.store.objects value }
@@ -126,7 +126,7 @@ pub fn a_fiber(st: &Store, value: Value) -> Option<ObjId>
 }
 
 /// The number of an exception.
-#[tactic(auto, using(def_core::proofs::Roles::is_within, def_core::proofs::Roles::is_by_sort))]
+#[tactic(auto, using(def_core::proofs::Good::is_good, def_core::proofs::Good::has_role))]
 pub fn an_exception(st: &Store, value: Value) -> Option<ObjId>
     requires { IsValue (census st.now.store) value }
     ensures object { result ≡ views.an_exception st.now.store.objects value }
@@ -144,7 +144,7 @@ pub fn an_exception(st: &Store, value: Value) -> Option<ObjId>
 }
 
 /// The message of an exception; nil of any other object.
-#[tactic(auto, using(def_core::proofs::Roles::is_within, crate::proofs::Members::message_is))]
+#[tactic(auto, using(def_core::proofs::Good::is_good, crate::proofs::Members::message_is))]
 pub fn message_of(st: &Store, id: ObjId) -> Value
     requires sound { Sound st.now.store }
     requires there { Is (census st.now.store) Any id }
@@ -158,7 +158,7 @@ pub fn message_of(st: &Store, id: ObjId) -> Value
 }
 
 /// The status, name or result that an exception has; nil of any other object.
-#[tactic(auto, using(def_core::proofs::Roles::is_within, crate::proofs::Members::detail_is))]
+#[tactic(auto, using(def_core::proofs::Good::is_good, crate::proofs::Members::detail_is))]
 pub fn detail_of(st: &Store, id: ObjId) -> Value
     requires sound { Sound st.now.store }
     requires there { Is (census st.now.store) Any id }
@@ -172,7 +172,7 @@ pub fn detail_of(st: &Store, id: ObjId) -> Value
 }
 
 /// The Proc that a fiber runs, and whether the fiber has ended.
-#[tactic(auto, using(def_core::proofs::Roles::is_within, crate::proofs::Members::block_is))]
+#[tactic(auto, using(def_core::proofs::Good::is_good, crate::proofs::Members::block_is))]
 pub fn fiber_of(st: &Store, id: ObjId) -> Option<(ObjId, bool)>
     requires sound { Sound st.now.store }
     requires there { Is (census st.now.store) Any id }
@@ -186,7 +186,7 @@ pub fn fiber_of(st: &Store, id: ObjId) -> Option<(ObjId, bool)>
 }
 
 /// The elements of an Array; nothing of any other value.
-#[tactic(auto, using(def_core::proofs::Roles::is_within))]
+#[tactic(auto, using(def_core::proofs::Good::is_good))]
 pub fn elements_of(st: &Store, value: Value) -> Option<&[Value]>
     requires { IsValue (census st.now.store) value }
     ensures { MatchOption result (elements_in st.now.store.objects value ≡ None)

@@ -145,7 +145,7 @@ fn pair_object(st: &Store, item: HashItem) -> Result<Object, AllocError>
 }
 
 /// Puts the pair at a place of a Hash, if there is one, after the others, as an Array.
-#[tactic(auto, using(def_core::proofs::Roles::is_within, crate::proofs::Splatting::pair_there, crate::proofs::Splatting::no_pair))]
+#[tactic(auto, using(def_core::proofs::Good::is_good, crate::proofs::Splatting::pair_there, crate::proofs::Splatting::no_pair))]
 fn put_pair(
     st: &Store,
     objects: &mut Vec<Object>,
@@ -167,7 +167,7 @@ fn put_pair(
 }
 
 /// The pairs of a Hash as Arrays, which aren't in the store yet.
-#[tactic(auto, using(def_core::proofs::Roles::is_within, crate::proofs::Splatting::pairs_more))]
+#[tactic(auto, using(def_core::proofs::Good::is_good, crate::proofs::Splatting::pairs_more))]
 fn pair_objects(st: &Store, id: ObjId) -> Result<Vec<Object>, AllocError>
     requires { Is (census st.now.store) Any id }
     ensures { IfOk result (λ objects. objects.items ≡
@@ -246,7 +246,7 @@ pub fn splat(st: &mut Store, value: Value) -> Result<Vec<Value>, AllocError>
 }
 
 /// Puts the values that a splat stands for after the elements of an Array.
-#[tactic(auto, using(crate::proofs::Members::is_array, def_core::proofs::Roles::is_within, rb_store::proofs::Keeping::keeps_then, rb_store::proofs::Keeping::keeps_itself))]
+#[tactic(auto, using(crate::proofs::Members::is_array, def_core::proofs::Good::is_good, rb_store::proofs::Keeping::keeps_then, rb_store::proofs::Keeping::keeps_itself))]
 pub fn push_splat(st: &mut Store, id: ObjId, value: Value) -> Result<(), AllocError>
     requires sound { Sound st.old.store }
     requires array { Is (census st.old.store) Array id }

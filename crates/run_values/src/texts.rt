@@ -32,7 +32,7 @@ fn class_text(st: &Store, value: Value) -> Result<Vec<u8>, AllocError>
 }
 
 /// The bytes of a String, and the class in `#<` and `>` of any other value.
-#[tactic(auto, unfolding(def_calls::specs::Values::text_of_value), using(def_core::proofs::Roles::is_within, crate::proofs::Strings::string_there, crate::proofs::Strings::no_string))]
+#[tactic(auto, unfolding(def_calls::specs::Values::text_of_value), using(def_core::proofs::Good::is_good, crate::proofs::Strings::string_there, crate::proofs::Strings::no_string))]
 pub fn text_of_value(st: &Store, value: Value) -> Result<Vec<u8>, AllocError>
     requires sound { Sound st.now.store }
     requires value { IsValue (census st.now.store) value }
@@ -48,7 +48,7 @@ pub fn text_of_value(st: &Store, value: Value) -> Result<Vec<u8>, AllocError>
 }
 
 /// Puts a value, as it stands in a text, at the end of a String. Where memory runs out the store is as before.
-#[tactic(auto, using(def_core::proofs::Roles::is_within, rb_store::proofs::Keeping::keeps_itself))]
+#[tactic(auto, using(def_core::proofs::Good::is_good, rb_store::proofs::Keeping::keeps_itself))]
 pub fn append_text(st: &mut Store, id: ObjId, value: Value) -> Result<(), AllocError>
     requires sound { Sound st.old.store }
     requires there { Is (census st.old.store) Any id }
@@ -66,7 +66,7 @@ pub fn append_text(st: &mut Store, id: ObjId, value: Value) -> Result<(), AllocE
 }
 
 /// Gives the Symbol whose name a String is. What is no String raises.
-#[tactic(auto, using(def_core::proofs::Roles::is_within, crate::proofs::Strings::string_there, crate::proofs::Strings::no_string, rb_store::proofs::Keeping::keeps_itself))]
+#[tactic(auto, using(def_core::proofs::Good::is_good, crate::proofs::Strings::string_there, crate::proofs::Strings::no_string, rb_store::proofs::Keeping::keeps_itself))]
 pub fn make_symbol(st: &mut Store, value: Value) -> Result<Given, AllocError>
     requires sound { Sound st.old.store }
     requires value { IsValue (census st.old.store) value }

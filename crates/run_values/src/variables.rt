@@ -13,7 +13,7 @@ use rb_value::{SymId, Value};
 use std::alloc::AllocError;
 
 /// The value of an instance variable. It takes no memory.
-#[tactic(auto, unfolding(def_calls::specs::Values::instance_variable), using(def_core::proofs::Roles::is_within, crate::proofs::Members::variable_is))]
+#[tactic(auto, unfolding(def_calls::specs::Values::instance_variable), using(def_core::proofs::Good::is_good, crate::proofs::Members::variable_is))]
 pub fn instance_variable(st: &Store, self_value: Value, name: SymId) -> Value
     requires sound { Sound st.now.store }
     requires self_value { IsValue (census st.now.store) self_value }
@@ -27,7 +27,7 @@ pub fn instance_variable(st: &Store, self_value: Value, name: SymId) -> Value
 }
 
 /// Sets an instance variable, and gives its value. What is no object raises.
-#[tactic(auto, unfolding(def_calls::specs::Values::set_instance_variable), using(def_core::proofs::Roles::is_within, rb_store::proofs::Keeping::keeps_itself))]
+#[tactic(auto, unfolding(def_calls::specs::Values::set_instance_variable), using(def_core::proofs::Good::is_good, rb_store::proofs::Keeping::keeps_itself))]
 pub fn set_instance_variable(
     st: &mut Store,
     self_value: Value,

@@ -2,7 +2,8 @@ use Rattle.std.proofs.Common.{refl, ap, ◌∙◌}
 use Rattle.def_core.specs.Store.{Store}
 use Rattle.def_core.specs.Changes.{object_of_sort}
 use Rattle.def_core.specs.Sound.{census, ClassOrModule}
-use Rattle.def_core.proofs.Roles.{is_within, is_plays}
+use Rattle.def_core.proofs.Roles.{is_plays}
+use Rattle.def_core.proofs.Good.{is_good}
 use Rattle.def_core.proofs.Grows.{value_grows}
 use Rattle.rb_store.proofs.Keeping.{keeps_itself, keeps_then}
 use Rattle.class_model.proofs.Kept.{kept_symbol}
@@ -13,7 +14,7 @@ use Rattle.run_values.proofs.Answered.{answers_ok, answers_failed}
 use Rattle.run_definitions.proofs.naming.set_constant_in.Goals as goal
 
 pub put_constant-requires-clause-there : goal.put_constant-requires-clause-there
-put_constant-requires-clause-there c = is_within c.name_value.new.st.store ClassOrModule c.args.scope
+put_constant-requires-clause-there c = is_good c.name_value.new.st.store ClassOrModule c.args.scope
     (c.in_ok-name_value.ensures.keeps.extends.roles ClassOrModule c.args.scope c.requires.scope)
 
 pub put_constant-requires-clause-is_class : goal.put_constant-requires-clause-is_class

@@ -2,6 +2,7 @@ use Rattle.std.proofs.Common.{◌≡◌, ◌<◌, length, arith, sym, ◌∙◌,
 use Rattle.def_core.specs.Store.{Store, sort_at}
 use Rattle.def_core.specs.Sound.{sorts_of, plays, ClassOrModule}
 use Rattle.def_core.proofs.Sorts.{sorts-with_method}
+use Rattle.def_core.proofs.Good.{good_below}
 use Rattle.rb_store.proofs.Rows.{rows_step, rows_end, there_still, plays_still}
 use Rattle.rb_store.proofs.store.Store.add_rows.Goals as goal
 
@@ -12,7 +13,7 @@ pub put_method-requires-clause-there : goal.put_method-requires-clause-there
 put_method-requires-clause-there c =
     let e : sorts_of c.intern.new.self.store.objects ≡ sorts_of c.args.self.now.store.objects =
     ap sorts_of c.in_ok-symbol.ensures.objects ∙ c.rows.invariant.sorts in
-    there_still _ _ _ e c.requires.there
+    good_below _ _ (there_still _ _ _ e c.requires.there)
 
 pub put_method-requires-clause-is_class : goal.put_method-requires-clause-is_class
 put_method-requires-clause-is_class c =

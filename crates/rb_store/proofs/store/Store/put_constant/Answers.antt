@@ -1,6 +1,6 @@
 use Rattle.std.proofs.Common.{arith}
 use Rattle.std.proofs.lemmas.Grind.{common_steps}
-use Rattle.rb_store.proofs.Counted.{constant_counted}
+use Rattle.rb_store.proofs.Counted.{constant_counted, unchanged}
 use Rattle.rb_store.proofs.Keeping.{keeps_itself}
 use Rattle.rb_store.proofs.KeptClasses.{keeps_constant}
 use Rattle.rb_store.proofs.store.Store.put_constant.Goals as goal
@@ -12,6 +12,10 @@ returns-clause-counted c = constant_counted c.args.self.now _ c.args.class c.arg
 pub returns-clause-keeps : goal.returns-clause-keeps
 returns-clause-keeps c = λ sound name value. keeps_constant c.args.self.now _ sound c.args.class c.requires.there
     c.requires.is_class c.args.name c.args.value name value (returns-clause-counted c) (grind (arith, common_steps))
+
+pub returns-in_err-insert-in-Class-clause-counted : goal.returns-in_err-insert-in-Class-clause-counted
+returns-in_err-insert-in-Class-clause-counted c = unchanged c.args.self.now _ (grind (arith, common_steps))
+    (grind (arith, common_steps))
 
 pub returns-in_err-insert-in-Class-clause-keeps : goal.returns-in_err-insert-in-Class-clause-keeps
 returns-in_err-insert-in-Class-clause-keeps c =

@@ -1,0 +1,97 @@
+-- The laws of good numbers of a store, by which alone the crates above the store know them.
+use Rattle.std.proofs.Common.{◌≡◌, ℕ, ◌+◌, ◌<◌, List, [], ◌∷◌, ◌++◌, length, true, refl, sym, subst, arith, length-append, length-set}
+use Rattle.std.specs.Prelude.{nat_lt}
+use Rattle.std.proofs.lemmas.List.{get_or_append_left}
+use Rattle.std.proofs.lemmas.Bool.Decides.{nat_tests}
+use Rattle.rb_value.specs.declared.value.ObjId.{ObjId}
+use Rattle.rb_value.specs.declared.kind.Sort.{Sort}
+use Rattle.rb_value.specs.declared.kind.Sort.TheVariants as sort
+use Rattle.rb_value.specs.Object.{Object}
+use Rattle.def_core.specs.Store.{Store, absent, object_at, sort_at, set_object, object_number, next_number, with_object}
+use Rattle.def_core.specs.Parts.{with_objects}
+use Rattle.def_core.specs.Sound.{census, Role, Any, plays, Is, IsGood, SoundObject, Sound, Extends}
+use Rattle.def_core.proofs.Roles.{is_within, is_by_sort}
+
+any_sort : (s : Sort) → plays Any s ≡ true
+any_sort sort.Plain = refl
+any_sort sort.Class = refl
+any_sort sort.Singleton = refl
+any_sort sort.Module = refl
+any_sort sort.String = refl
+any_sort sort.Array = refl
+any_sort sort.Hash = refl
+any_sort sort.Range = refl
+any_sort sort.Proc = refl
+any_sort sort.Fiber = refl
+any_sort sort.Exception = refl
+any_sort sort.Enumerator = refl
+any_sort sort.Yielder = refl
+
+-- For the store, and for code that asks it how many objects there are: a number is good where it is below their count.
+
+pub good_within : (st : Store) (id : ObjId) → IsGood st id → id.0 < length st.objects
+good_within st id good = is_within st Any id good.there
+
+pub good_below : (st : Store) (id : ObjId) → id.0 < length st.objects → IsGood st id
+good_below st id within = record { there = is_by_sort st Any id within (any_sort _) }
+
+pub good_test : (st : Store) (id : ObjId) → IsGood st id → nat_lt id.0 (length st.objects) ≡ true
+good_test st id good = let within = good_within st id good in grind (arith, nat_tests, within)
+
+-- For all above it.
+
+-- what has a role is good
+pub is_good : (st : Store) (r : Role) (id : ObjId) → Is (census st) r id → IsGood st id
+is_good st r id is = good_below st id (is_within st r id is)
+
+-- a good number has each role that the sort of its object plays
+pub has_role : (st : Store) (r : Role) (id : ObjId) → IsGood st id → plays r (sort_at st.objects id) ≡ true
+    → Is (census st) r id
+has_role st r id good h = is_by_sort st r id (good_within st id good) h
+
+-- what a good object holds is good
+pub good_object : (st : Store) → Sound st → (id : ObjId) → IsGood st id
+    → SoundObject (census st) id.0 (object_at st.objects id)
+good_object st sound id good = sound.objects id.0 (good_within st id good)
+
+-- so is what an object with a role holds
+pub role_object : (st : Store) → Sound st → (r : Role) (id : ObjId) → Is (census st) r id
+    → SoundObject (census st) id.0 (object_at st.objects id)
+role_object st sound r id is = good_object st sound id (is_good st r id is)
+
+-- good stays good where all that was there is there
+pub good_still : (before after : Store) → Extends (census before) (census after) → (id : ObjId) → IsGood before id
+    → IsGood after id
+good_still before after e id good = record { there = e.roles Any id good.there }
+
+-- a new object behind the others is good
+pub good_added : (st : Store) (o : Object) → IsGood (with_object st o) (next_number st)
+good_added st o =
+    let longer : length st.objects < length (st.objects ++ o ∷ []) = rw length-append (omega arith) in
+    good_below (with_object st o) (next_number st) longer
+
+-- each of several is
+pub good_among : (st : Store) (more : List Object) (i : ℕ) → i < length more
+    → IsGood (with_objects st (st.objects ++ more)) (object_number (length st.objects + i))
+good_among st more i within =
+    let longer : length st.objects + i < length (st.objects ++ more) =
+    omega (arith, within, length-append st.objects more) in
+    good_below (with_objects st (st.objects ++ more)) (object_number (length st.objects + i)) longer
+
+-- a good object is what it was where others come behind it
+pub good_same : (st : Store) (more : List Object) (id : ObjId) → IsGood st id
+    → object_at (st.objects ++ more) id ≡ object_at st.objects id
+good_same st more id good = get_or_append_left st.objects more absent id.0 (good_within st id good)
+
+-- and stays good where another stands in the place of one
+pub good_replaced : (before after : Store) (id other : ObjId) (o : Object)
+    → after ≡ record before { objects = set_object before.objects id o } → IsGood before other → IsGood after other
+good_replaced before after id other o e good =
+    let within = good_within before other good in
+    let there : other.0 < length (set_object before.objects id o) = rw length-set within in
+    subst (λ (st : Store). IsGood st other) (sym e)
+    (good_below (record before { objects = set_object before.objects id o }) other there)
+
+-- a good number is one of those before the next
+pub before_next : (st : Store) (r : Role) (id : ObjId) → Is (census st) r id → id.0 < (next_number st).0
+before_next st r id is = is_within st r id is
