@@ -1,5 +1,7 @@
 //! What a core method checks before it does anything: the number of arguments, then the block, then the classes of
 //! values, left to right.
+ghost use Rattle.std.specs.Prelude.{◌≡◌, get_or, IfOk};
+ghost use Rattle.rb_value.specs.declared.value.Value.TheVariants.{Nil, Int};
 
 use def_core::Cause;
 use heap::Heap;
@@ -21,12 +23,16 @@ pub fn miscounted(given: usize, least: u64, most: Option<u64>) -> Option<Cause> 
 }
 
 /// The argument at a place; nil where there are fewer.
-pub fn argument(args: &[Value], place: usize) -> Value {
+pub fn argument(args: &[Value], place: usize) -> Value
+    ensures { result ≡ get_or args.now place Nil }
+{
     args.get(place).copied().unwrap_or(Value::Nil)
 }
 
 /// The number that a value is, or why it is none.
-pub fn integer(heap: &Heap, value: Value) -> Result<i64, Cause> {
+pub fn integer(heap: &Heap, value: Value) -> Result<i64, Cause>
+    ensures { IfOk result (λ number. value ≡ Int number) }
+{
     match value {
         Value::Int(number) => Ok(number),
         other => Err(heap.refusal(CoreClass::Integer, other)),

@@ -1,11 +1,17 @@
 //! Changes of all elements of Arrays.
+ghost use Rattle.std.specs.Prelude.{◌≡◌, [], OnOk};
+ghost use Rattle.heap.specs.Changes as changes;
+ghost use Rattle.rows_array.specs.Changed as changed;
+
 use rb_value::{ObjId, Value};
 use rows_items::heap::Heap;
 use rows_items::{RowError, an_array, sorted};
 use std::alloc::AllocError;
 
 /// Puts a value in the place of each element.
-pub(crate) fn fill(heap: &mut Heap, id: ObjId, value: Value) -> Result<(), AllocError> {
+pub(crate) fn fill(heap: &mut Heap, id: ObjId, value: Value) -> Result<(), AllocError>
+    ensures { OnOk result (heap.new ≡ changed.filled heap.old id value) }
+{
     let mut values = Vec::new(heap.alloc());
     values.resize(heap.elements(id).len(), value)?;
     heap.replace_elements(id, values);
@@ -13,7 +19,9 @@ pub(crate) fn fill(heap: &mut Heap, id: ObjId, value: Value) -> Result<(), Alloc
 }
 
 /// Takes out all elements.
-pub(crate) fn clear(heap: &mut Heap, id: ObjId) {
+pub(crate) fn clear(heap: &mut Heap, id: ObjId)
+    ensures { heap.new ≡ changes.with_elements heap.old id [] }
+{
     let none = Vec::new(heap.alloc());
     heap.replace_elements(id, none);
 }
@@ -27,7 +35,9 @@ pub(crate) fn replace(heap: &mut Heap, id: ObjId, other: Value) -> Result<(), Ro
 }
 
 /// Turns the order of the elements around.
-pub(crate) fn reverse_in_place(heap: &mut Heap, id: ObjId) -> Result<(), AllocError> {
+pub(crate) fn reverse_in_place(heap: &mut Heap, id: ObjId) -> Result<(), AllocError>
+    ensures { OnOk result (heap.new ≡ changed.turned heap.old id) }
+{
     let mut values = Vec::from_slice(heap.alloc(), heap.elements(id))?;
     values.reverse();
     heap.replace_elements(id, values);

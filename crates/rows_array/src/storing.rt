@@ -1,4 +1,10 @@
 //! Stores at places of Arrays.
+ghost use Rattle.std.specs.Prelude.{◌≡◌, ◌<◌, ◌^◌, ◌++◌, ℤ, replicate, drop, get_or, OnOk, IfOk, IfErr};
+ghost use Rattle.rb_value.specs.declared.value.Value.TheVariants.{Nil, Int};
+ghost use Rattle.def_calls.specs.Values.{element_at};
+ghost use Rattle.rows_array.specs.Lists as lists;
+ghost use Rattle.rows_array.specs.Changed as changed;
+
 use crate::places::{behind, front, place_in};
 use def_core::Cause;
 use rb_value::{ObjId, Value};
@@ -8,13 +14,17 @@ use rows_items::{RowError, an_array, an_integer, count};
 use std::alloc::{AllocError, Global};
 
 /// Puts nil so many times after values.
-fn put_nils(values: &mut Vec<Value>, count: usize) -> Result<(), AllocError> {
+fn put_nils(values: &mut Vec<Value>, count: usize) -> Result<(), AllocError>
+    ensures { OnOk result (values.new.items ≡ values.old.items ++ replicate count Nil) }
+{
     let len = values.len().saturating_add(count);
     values.resize(len, Value::Nil)
 }
 
 /// Puts nil after the elements of an Array until there are so many.
-fn pad(heap: &mut Heap, id: ObjId, len: usize) -> Result<(), AllocError> {
+fn pad(heap: &mut Heap, id: ObjId, len: usize) -> Result<(), AllocError>
+    ensures { OnOk result (heap.new ≡ changed.padded heap.old id len) }
+{
     let missing = len.saturating_sub(heap.elements(id).len());
     if missing == 0 {
         return Ok(());
@@ -25,7 +35,11 @@ fn pad(heap: &mut Heap, id: ObjId, len: usize) -> Result<(), AllocError> {
 }
 
 /// Puts a value in the place of an element, or after nils where there is none.
-fn store(heap: &mut Heap, id: ObjId, index: i64, value: Value) -> Result<Value, RowError> {
+fn store(heap: &mut Heap, id: ObjId, index: i64, value: Value) -> Result<Value, RowError>
+    ensures stored { OnOk result (heap.new ≡ changed.stored heap.old id index value) }
+    ensures value { IfOk result (λ given. given ≡ value) }
+    ensures refused { IfErr result (changed.Misses (changed.place_of heap.old id index) index) }
+{
     let len = heap.elements(id).len();
     let Some(place) = place_in(len, index) else {
         return Err(RowError::Fails(Cause::IndexOutOfRange(index)));
@@ -46,7 +60,9 @@ fn spliced(
     place: usize,
     count: usize,
     more: &[Value],
-) -> Result<Vec<Value>, AllocError> {
+) -> Result<Vec<Value>, AllocError>
+    ensures { IfOk result (λ list. list.items ≡ lists.spliced values.now place count more.now) }
+{
     let mut spliced = Vec::from_slice(alloc, front(values, place))?;
     put_nils(&mut spliced, place.saturating_sub(values.len()))?;
     spliced.extend_from_slice(more)?;
@@ -80,16 +96,22 @@ pub(crate) fn set_element(heap: &mut Heap, id: ObjId, args: &[Value]) -> Result<
 }
 
 /// The place before which an index inserts: a negative one counts from behind the last element.
-fn insertion(len: usize, index: i64) -> Option<usize> {
+fn insertion(len: usize, index: i64) -> Option<usize>
+    requires { len < 2 ^ 63 }
+    ensures { result ≡ changed.insertion len index }
+{
     if index < 0 {
-        place_in(len.saturating_add(1), index)
+        place_in(len + 1, index)
     } else {
         place_in(len, index)
     }
 }
 
 /// `array.insert(index, value, ..)`.
-pub(crate) fn insert(heap: &mut Heap, id: ObjId, args: &[Value]) -> Result<(), RowError> {
+pub(crate) fn insert(heap: &mut Heap, id: ObjId, args: &[Value]) -> Result<(), RowError>
+    ensures { (index : ℤ) → get_or args.now 0 Nil ≡ Int index →
+        OnOk result (heap.new ≡ changed.inserted heap.old id index (drop 1 args.now)) }
+{
     let index = an_integer(heap, argument(args, 0))?;
     let more = behind(args, 1);
     let elements = heap.elements(id);
@@ -102,7 +124,11 @@ pub(crate) fn insert(heap: &mut Heap, id: ObjId, args: &[Value]) -> Result<(), R
 }
 
 /// `array.delete_at(index)`: the element, which is taken out; nil outside.
-pub(crate) fn delete_at(heap: &mut Heap, id: ObjId, index: Value) -> Result<Value, RowError> {
+pub(crate) fn delete_at(heap: &mut Heap, id: ObjId, index: Value) -> Result<Value, RowError>
+    ensures left { (place : ℤ) → index ≡ Int place → OnOk result (heap.new ≡ changed.deleted heap.old id place) }
+    ensures element { (place : ℤ) → index ≡ Int place →
+        IfOk result (λ value. value ≡ element_at (changed.elements heap.old id) place) }
+{
     let index = an_integer(heap, index)?;
     let elements = heap.elements(id);
     let Some(place) = place_in(elements.len(), index) else {

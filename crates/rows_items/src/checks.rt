@@ -1,4 +1,7 @@
 //! What arguments are, or the cause by which they are refused.
+ghost use Rattle.std.specs.Prelude.{◌≡◌, pos, IfOk};
+ghost use Rattle.rb_value.specs.declared.value.Value.TheVariants.{Int};
+
 use core_calls::heap::Heap;
 use def_core::Cause;
 use rb_value::{CoreClass, ObjId, Value};
@@ -12,7 +15,9 @@ pub fn an_array(heap: &Heap, value: Value) -> Result<ObjId, Cause> {
 }
 
 /// The number that a value is.
-pub fn an_integer(heap: &Heap, value: Value) -> Result<i64, Cause> {
+pub fn an_integer(heap: &Heap, value: Value) -> Result<i64, Cause>
+    ensures { IfOk result (λ number. value ≡ Int number) }
+{
     match value {
         Value::Int(number) => Ok(number),
         other => Err(heap.refusal(CoreClass::Integer, other)),
@@ -20,7 +25,9 @@ pub fn an_integer(heap: &Heap, value: Value) -> Result<i64, Cause> {
 }
 
 /// The count that a value is: an Integer that isn't below 0.
-pub fn count(heap: &Heap, value: Value) -> Result<usize, Cause> {
+pub fn count(heap: &Heap, value: Value) -> Result<usize, Cause>
+    ensures { IfOk result (λ count. value ≡ Int (pos count)) }
+{
     let number = an_integer(heap, value)?;
     match usize::try_from(number) {
         Ok(count) => Ok(count),

@@ -1,4 +1,7 @@
 //! Why a core method gives no value.
+ghost use Rattle.std.specs.Prelude.{◌≡◌};
+ghost use Rattle.rows_items.specs.declared.error.RowError.TheVariants.{Fails, NoMemory};
+
 use core_calls::heap::{Given, Heap};
 use def_core::Cause;
 use rb_value::Value;
@@ -12,18 +15,27 @@ pub enum RowError {
 }
 
 impl From<Cause> for RowError {
+    ghost from_gives = { λ cause e. e ≡ Fails cause };
+
     fn from(cause: Cause) -> RowError {
         RowError::Fails(cause)
     }
 }
 
 impl From<AllocError> for RowError {
+    ghost from_gives = { λ _ e. e ≡ NoMemory };
+
     fn from(_error: AllocError) -> RowError {
         RowError::NoMemory
     }
 }
 
 impl<T: Drop> From<AllocFailed<T>> for RowError {
+    ghost use Rattle.std.specs.Prelude.{◌≡◌};
+    ghost use Rattle.rows_items.specs.declared.error.RowError.TheVariants.{NoMemory};
+
+    ghost from_gives = { λ _ e. e ≡ NoMemory };
+
     fn from(_error: AllocFailed<T>) -> RowError {
         RowError::NoMemory
     }
