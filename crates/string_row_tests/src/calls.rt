@@ -64,7 +64,7 @@ const RANGE: Value = Obj(ObjId(15));
 const NEW_RANGE: u16 = 31 * 256;
 
 /// Whether the value is one of the store; not told of a Symbol.
-#[tactic(auto, using(def_core::proofs::Good::good_below))]
+#[tactic(auto, using(def_core::proofs::Good::good_below, def_core::proofs::Good::has_role))]
 fn is_value(st: &Store, value: Value) -> bool
     ensures { result ≡ true → IsValue (census st.now.store) value }
 {
