@@ -1,6 +1,8 @@
 -- Of an instruction that asks for no more than registers, symbols and a count of arguments the other checks hold.
 use Rattle.std.proofs.Common.{◌≡◌, refl, sym, ap, ◌∙◌, ℕ, List, [], ◌∷◌, length, drop, Bool, true, false}
-use Rattle.std.specs.Prelude.{None, Some, Option, nat_eq, nat_lt, not, ◌&&◌, ◌||◌}
+use Rattle.std.specs.Prelude.{None, Some, Option, IsTrue, nat_eq, nat_lt, nat_le, not, ◌&&◌, ◌||◌}
+use Rattle.std.specs.List.{list_all}
+use Rattle.std.proofs.lemmas.Bool.{and_parts}
 use Rattle.rite_code.specs.declared.cause.Cause.{Cause}
 use Rattle.rite_code.specs.declared.cause.Cause.TheVariants as cause
 use Rattle.rite_code.specs.declared.code.Irep.{Irep}
@@ -10,9 +12,9 @@ use Rattle.rite_code.specs.Code.{Program}
 use Rattle.code_outline.specs.Layout.{Standing}
 use Rattle.code_outline.specs.Makers.{maker_of, use_in, made_by}
 use Rattle.code_outline.specs.declared.maker.Maker.{Maker}
-use Rattle.code_verifier.specs.Needs.{entry_of, distance_of, variable_of, leaves, parameters_of}
+use Rattle.code_verifier.specs.Needs.{registers_of, symbols_of, count_of, entry_of, distance_of, variable_of, leaves, parameters_of}
 use Rattle.code_verifier.specs.Checks.{first, unless, cause_of, entry_holds, child_holds, jump_holds, variable_holds, enter_holds, takes_arguments, place_holds, makes_once, is_used, has_maker}
-use Rattle.code_verifier.specs.Plain.{is_plain, plain_causes}
+use Rattle.code_verifier.specs.Plain.{is_plain, plain_causes, passes}
 
 -- it names nothing else, may stand anywhere, and doesn't leave
 record Plain (k : ℕ) (m : Option Maker) (o : Operation) : Type 0 where
@@ -76,7 +78,7 @@ second false false z e = absurd cc
 used : (p : Program) (k at : ℕ) → nat_eq at 0 ≡ false → is_used p k at ≡ true
 used p k at e = second (nat_eq k 0) (not (nat_eq at 0)) (has_maker (maker_of p k)) (rw e refl)
 
-pub plain_cause : (p : Program) (k : ℕ) (b : Irep) (ss : List Standing) (s : Standing)
+plain_cause : (p : Program) (k : ℕ) (b : Irep) (ss : List Standing) (s : Standing)
     → is_plain s.instruction.operation ≡ true → nat_eq s.at 0 ≡ false
     → first (plain_causes b s.next s.instruction) ≡ cause_of p k b ss s
 unfolding cause_of
@@ -97,3 +99,23 @@ plain_cause p k b ss s h away =
     ∙ kept _ _ _ (passed _ cause.Child _ child ∙ passed _ cause.Jump _ jump ∙ passed _ cause.Upvar _ variable
     ∙ passed _ cause.Enter _ enter ∙ passed _ cause.Place _ f.place ∙ passed _ cause.Use _ once
     ∙ ap (λ (t : Bool). first (unless t cause.Fall ∷ [])) falls))))
+
+all_pass : (w x y z : Bool) (c d e f : Cause) → w ≡ true → x ≡ true → y ≡ true → z ≡ true
+    → first (unless w c ∷ unless x d ∷ unless y e ∷ unless z f ∷ []) ≡ None
+unfolding first
+all_pass w x y z c d e f p q r s = rw (p, q, r, s) refl
+
+pub no_cause : (p : Program) (k : ℕ) (b : Irep) (ss : List Standing) (s : Standing)
+    → IsTrue (passes b s.instruction.operation) → nat_eq s.at 0 ≡ false → nat_lt s.next (length b.code) ≡ true
+    → cause_of p k b ss s ≡ None
+no_cause p k b ss s h away goes_on =
+    let o = s.instruction.operation in
+    let count = nat_le (count_of o) 255 in
+    let symbols = list_all (λ (n : ℕ). nat_lt n (length b.symbols)) (symbols_of o) in
+    let registers = nat_le (registers_of o) b.registers in
+    let asked = and_parts (is_plain o) (count && (symbols && registers)) h in
+    let counted = and_parts count (symbols && registers) asked.1 in
+    let named = and_parts symbols registers counted.1 in
+    sym (plain_cause p k b ss s asked.0 away)
+    ∙ all_pass count registers symbols (nat_lt s.next (length b.code)) cause.Extended cause.Register cause.Symbol
+    cause.Fall counted.0 named.1 named.0 goes_on

@@ -1,5 +1,5 @@
 -- Instructions that ask for no more than registers, symbols and a count of arguments.
-use Rattle.std.specs.Prelude.{ℕ, List, [], ◌∷◌, length, Option, Bool, true, false, nat_lt, nat_le}
+use Rattle.std.specs.Prelude.{ℕ, List, [], ◌∷◌, length, Option, Bool, true, false, ◌&&◌, nat_lt, nat_le}
 use Rattle.std.specs.List.{list_all}
 use Rattle.rite_code.specs.declared.cause.Cause.{Cause}
 use Rattle.rite_code.specs.declared.cause.Cause.TheVariants as cause
@@ -8,7 +8,7 @@ use Rattle.rite_code.specs.declared.operation.Operation.{Operation}
 use Rattle.rite_code.specs.declared.operation.Operation.TheVariants as operation
 use Rattle.rite_code.specs.Instruction.{Instruction}
 use Rattle.code_verifier.specs.Checks.{unless, count_holds}
-use Rattle.code_verifier.specs.Needs.{registers_of, symbols_of}
+use Rattle.code_verifier.specs.Needs.{registers_of, symbols_of, count_of}
 
 abbrev pub is_plain : Operation → Bool
 is_plain (operation.LoadL a b) = false
@@ -40,3 +40,8 @@ plain_causes b next i =
     ∷ unless (list_all (λ n. nat_lt n (length b.symbols)) (symbols_of i.operation)) cause.Symbol
     ∷ unless (nat_lt next (length b.code)) cause.Fall
     ∷ []
+
+-- whether all is there that one of them asks for
+abbrev pub passes : Irep → Operation → Bool
+passes b o = is_plain o && (nat_le (count_of o) 255 && (list_all (λ n. nat_lt n (length b.symbols)) (symbols_of o)
+    && nat_le (registers_of o) b.registers))

@@ -11,7 +11,7 @@ use crate::checks::{
     makes_once, place_holds, takes_arguments, variable_holds,
 };
 use crate::needs::{leaves, registers_of, symbols_hold};
-use crate::plain::{check_plain, is_plain};
+use crate::plain::passes;
 use code_outline::{Layout, Outline, Standing};
 use rite_code::{Cause, Code, Irep};
 
@@ -24,6 +24,9 @@ pub fn check(holds: bool, cause: Cause) -> Result<(), Cause>
 }
 
 /// The first check of an instruction of body `number` that fails, each being made.
+///
+/// It stands by itself, so that the loop of the instructions that need no more than a look stays short.
+#[inline(never)]
 #[tactic(auto, unfolding(crate::specs::Checks::cause_of, crate::specs::Checks::first))]
 fn check_all(
     code: &Code,
@@ -82,8 +85,8 @@ pub fn check_instruction(
         result ≡ outcome (checks.cause_of code.now number body.now list (seen standing.now)) }
 {
     let Standing { at, next, instr } = *standing;
-    if at != 0 && is_plain(instr.operation()) {
-        check_plain(body, next, &instr)
+    if at != 0 && (next as usize) < body.code.len() && passes(body, instr.operation()) {
+        Ok(())
     } else {
         check_all(code, outline, number, body, layout, standing)
     }

@@ -7,7 +7,7 @@ use rite_code::{Operation, Parameters};
 
 /// The registers that hold the arguments of a call.
 #[inline(always)]
-fn arguments(c: u16) -> u32
+pub fn arguments(c: u16) -> u32
     ensures value { result ≡ needs.arguments c }
     ensures small { result ≤ 65535 }
 {
@@ -16,7 +16,7 @@ fn arguments(c: u16) -> u32
 
 /// The registers that hold the arguments of a call on self.
 #[inline(always)]
-fn self_arguments(c: u16) -> u32
+pub fn self_arguments(c: u16) -> u32
     ensures value { result ≡ needs.self_arguments c }
     ensures small { result ≤ 65535 }
 {

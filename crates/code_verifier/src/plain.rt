@@ -1,54 +1,92 @@
-//! The checks of an instruction that asks for no more than registers, symbols and a count of arguments.
-ghost use Rattle.std.specs.Prelude.{◌≡◌};
-ghost use Rattle.code_verifier.specs.Answers.{outcome};
-ghost use Rattle.code_verifier.specs.Checks.{first};
+//! Instructions that ask for no more than registers, symbols and a count of arguments.
+ghost use Rattle.std.specs.Prelude.{◌≡◌, length, nat_lt, nat_le, IsTrue};
 ghost use Rattle.code_verifier.specs.Plain as plain;
 
-use crate::causes::check;
-use crate::checks::count_holds;
-use crate::needs::{registers_of, symbols_hold};
-use rite_code::{Cause, Instr, Irep, Operation};
+use crate::needs::{arguments, self_arguments};
+use rite_code::{Irep, Operation};
 
-/// Whether it asks for no more than registers, symbols and a count of arguments: for no entry of the pool, child, place or
-/// variable, and not for a body in which it may stand; and control goes on behind it.
+/// The body has so many registers.
 #[inline(always)]
-pub fn is_plain(operation: Operation) -> bool
-    ensures { result ≡ plain.is_plain operation }
+fn has_registers(body: &Irep, count: u32) -> bool
+    ensures { result ≡ nat_le count body.now.registers }
 {
-    match operation {
-        Operation::LoadL { .. }
-        | Operation::String { .. }
-        | Operation::Lambda { .. }
-        | Operation::Block { .. }
-        | Operation::OClass { .. }
-        | Operation::Exec { .. } => false,
-        Operation::GetUpVar { .. }
-        | Operation::SetUpVar { .. }
-        | Operation::Def { .. }
-        | Operation::Defined { .. } => false,
-        Operation::Jmp { .. } => false,
-        Operation::JmpIf { .. } => false,
-        Operation::JmpNot { .. } => false,
-        Operation::JmpUw { .. } => false,
-        Operation::Enter { .. } => false,
-        Operation::Return { .. } | Operation::ReturnBlk { .. } | Operation::Break { .. } => false,
-        Operation::Stop => false,
-        _ => true,
-    }
+    count <= u32::from(body.registers)
 }
 
-/// The first check of such an instruction that fails, where it doesn't stand at the start of its body.
+/// The body has the symbol.
 #[inline(always)]
-#[tactic(auto, unfolding(crate::specs::Checks::first))]
-pub fn check_plain(body: &Irep, next: u32, instr: &Instr) -> Result<(), Cause>
-    ensures { result ≡ outcome (first (plain.plain_causes body.now next instr.now)) }
+fn has_symbol(body: &Irep, symbol: u16) -> bool
+    ensures { result ≡ nat_lt symbol (length body.now.symbols) }
 {
-    let operation = instr.operation();
-    check(count_holds(instr), Cause::Extended)?;
-    check(
-        registers_of(operation) <= u32::from(body.registers),
-        Cause::Register,
-    )?;
-    check(symbols_hold(body.symbols.len(), operation), Cause::Symbol)?;
-    check((next as usize) < body.code.len(), Cause::Fall)
+    usize::from(symbol) < body.symbols.len()
+}
+
+/// Whether all is there that an instruction asks for, which asks for no more than registers, symbols and a count of
+/// arguments, behind which control goes on. One look at the instruction says all of it. It is false, too, of some of
+/// these that aren't frequent.
+#[inline(always)]
+pub fn passes(body: &Irep, operation: Operation) -> bool
+    ensures { IsTrue result → IsTrue (plain.passes body.now operation) }
+{
+    match operation {
+        Operation::LoadNil { a }
+        | Operation::LoadSelf { a }
+        | Operation::LoadT { a }
+        | Operation::LoadF { a }
+        | Operation::Except { a }
+        | Operation::RaiseIf { a }
+        | Operation::BlkPush { a }
+        | Operation::Intern { a }
+        | Operation::SClass { a }
+        | Operation::TClass { a } => has_registers(body, u32::from(a) + 1),
+        Operation::LoadI { a, .. }
+        | Operation::LoadI16 { a, .. }
+        | Operation::LoadI32 { a, .. }
+        | Operation::APost { a, .. } => has_registers(body, u32::from(a) + 1),
+        Operation::Add { a }
+        | Operation::Sub { a }
+        | Operation::Mul { a }
+        | Operation::Div { a }
+        | Operation::Eq { a }
+        | Operation::Lt { a }
+        | Operation::Le { a }
+        | Operation::Gt { a }
+        | Operation::Ge { a }
+        | Operation::AryCat { a }
+        | Operation::StrCat { a }
+        | Operation::RangeInc { a }
+        | Operation::RangeExc { a } => has_registers(body, u32::from(a) + 2),
+        Operation::Move { a, b } | Operation::Rescue { a, b } => {
+            has_registers(body, (u32::from(a) + 1).max(u32::from(b) + 1))
+        }
+        Operation::ARef { a, b, .. } => {
+            has_registers(body, (u32::from(a) + 1).max(u32::from(b) + 1))
+        }
+        Operation::LoadSym { a, b }
+        | Operation::GetGv { a, b }
+        | Operation::SetGv { a, b }
+        | Operation::GetIv { a, b }
+        | Operation::SetIv { a, b }
+        | Operation::GetConst { a, b }
+        | Operation::SetConst { a, b }
+        | Operation::GetMCnst { a, b }
+        | Operation::Module { a, b } => {
+            has_symbol(body, b) && has_registers(body, u32::from(a) + 1)
+        }
+        Operation::SetMCnst { a, b } | Operation::Class { a, b } => {
+            has_symbol(body, b) && has_registers(body, u32::from(a) + 2)
+        }
+        Operation::SSend { a, b, c } => {
+            c <= 255
+                && has_symbol(body, b)
+                && has_registers(body, u32::from(a) + 1 + self_arguments(c))
+        }
+        Operation::Send { a, b, c } => {
+            c <= 255 && has_symbol(body, b) && has_registers(body, u32::from(a) + 1 + arguments(c))
+        }
+        Operation::SSendB { a, b, c } | Operation::SendB { a, b, c } => {
+            c <= 255 && has_symbol(body, b) && has_registers(body, u32::from(a) + 2 + arguments(c))
+        }
+        _ => false,
+    }
 }
