@@ -1,12 +1,14 @@
 -- What the calls that change one object leave. An object of another sort than is wanted stays as it is.
-use Rattle.std.specs.Prelude.{ℕ, length, List, [], ◌∷◌, ◌++◌, Bool, nat_lt, if◌then◌else◌, Option}
+use Rattle.std.specs.Prelude.{ℕ, length, List, [], ◌∷◌, ◌++◌, Bool, true, nat_lt, if◌then◌else◌, Option, Some, None, is_some}
 use Rattle.rb_value.specs.declared.value.Value.{Value}
 use Rattle.rb_value.specs.declared.value.ObjId.{ObjId}
 use Rattle.rb_value.specs.declared.key.Key.{Key}
+use Rattle.rb_value.specs.declared.hash.HashContents.{HashContents}
 use Rattle.rb_value.specs.declared.kind.Kind.TheVariants as kind
 use Rattle.rb_value.specs.Object.{Object}
-use Rattle.def_core.specs.Store.{object_at, sort_at}
+use Rattle.def_core.specs.Store.{Store, object_at, sort_at}
 use Rattle.def_core.specs.Parts as parts
+use Rattle.def_calls.specs.Values.{key_of}
 use Rattle.rb_store.specs.Held.{Held}
 use Rattle.heap.specs.Operands.{own, own_block, has_object, has_all, is_array, is_string, is_hash, is_fiber, is_exception}
 
@@ -66,6 +68,28 @@ abbrev pub with_bytes : Held → ObjId → List ℕ → Held
 with_bytes held id bytes = where_string held id (parts.with_text held.store.objects id bytes)
 
 -- Hashes.
+
+abbrev pub put_under : Held → ObjId → Option Key → Value → Value → Held
+put_under held id None shown v = held
+put_under held id (Some key) shown v = with_objects held (parts.with_pair held.store.objects id key shown v)
+
+-- Arrays that are nested too deep are no key, and change nothing
+abbrev pub with_pair : Held → ObjId → Value → Value → Held
+with_pair held id shown v = if is_hash (sort_at held.store.objects id)
+    then put_under held id (key_of held.store.objects (own held.store shown)) (own held.store shown) (own held.store v)
+    else held
+
+abbrev pub can_put : Held → ObjId → Value → Bool
+can_put held id shown = if is_hash (sort_at held.store.objects id)
+    then is_some (key_of held.store.objects (own held.store shown)) else true
+
+-- without pairs, and with what it gives for an absent key
+abbrev pub emptied : Store → HashContents → HashContents
+emptied st h = record { pairs = []; default = own st h.default; block = own_block st h.block }
+
+abbrev pub without_pairs : Held → ObjId → Held
+without_pairs held id = where_hash held id
+    (parts.with_hash held.store.objects id (emptied held.store (parts.hash_at held.store.objects id)))
 
 abbrev pub without_key : Held → ObjId → Key → Held
 without_key held id key = where_hash held id (parts.without_key held.store.objects id key)

@@ -1,7 +1,7 @@
 //! Changes of Hashes.
-ghost use Rattle.std.specs.Prelude.{◌≡◌, IfOk};
+ghost use Rattle.std.specs.Prelude.{◌≡◌, IfOk, OnOk, OnErr};
 ghost use Rattle.def_core.specs.Sound.{Sound, census};
-ghost use Rattle.def_core.specs.Parts.{pair_of};
+ghost use Rattle.def_core.specs.Parts.{hash_at, pair_of};
 ghost use Rattle.def_calls.specs.Values as values;
 ghost use Rattle.rb_store.specs.Keeps.{Keeps};
 ghost use Rattle.heap.specs.Changes as changes;
@@ -25,6 +25,9 @@ pub(crate) fn put_pair(
 ) -> Result<bool, AllocError>
     requires sound { Sound st.old.store }
     ensures keeps { Keeps st.old st.new }
+    ensures put { OnOk result (st.new ≡ changes.with_pair st.old id shown value) }
+    ensures could { IfOk result (λ could. could ≡ changes.can_put st.old id shown) }
+    ensures err { OnErr result (st.new ≡ st.old) }
 {
     let shown = own(st, shown);
     let value = own(st, value);
@@ -73,6 +76,8 @@ pub(crate) fn set_absent(st: &mut Store, id: ObjId, default: Value, absent: Opti
 pub(crate) fn clear_pairs(st: &mut Store, id: ObjId) -> Result<(), AllocError>
     requires sound { Sound st.old.store }
     ensures keeps { Keeps st.old st.new }
+    ensures cleared { OnOk result (st.new ≡ changes.without_pairs st.old id) }
+    ensures err { OnErr result (st.new ≡ st.old) }
 {
     let (default, absent) = absent_of(st, id);
     let contents = HashContents {
@@ -88,8 +93,11 @@ pub(crate) fn clear_pairs(st: &mut Store, id: ObjId) -> Result<(), AllocError>
 }
 
 /// What an absent key of a Hash gives, and the Proc that is called for it.
-#[tactic(auto, using(def_core::proofs::Good::is_good))]
-fn absent_of(st: &Store, id: ObjId) -> (Value, Option<ObjId>) {
+#[tactic(auto, using(def_core::proofs::Good::is_good, crate::proofs::Outside::absent_there))]
+pub(crate) fn absent_of(st: &Store, id: ObjId) -> (Value, Option<ObjId>)
+    ensures default { result.0 ≡ (hash_at st.now.store.objects id).default }
+    ensures block { result.1 ≡ (hash_at st.now.store.objects id).block }
+{
     match object(st, id) {
         Some(id) => match st.get(id).kind() {
             Kind::Hash(contents) => (contents.get().default, contents.get().block),
@@ -101,7 +109,10 @@ fn absent_of(st: &Store, id: ObjId) -> (Value, Option<ObjId>) {
 
 impl Heap {
     /// Takes all pairs out of a Hash. Where memory runs out the Hash is as before.
-    pub fn clear_pairs(&mut self, id: ObjId) -> Result<(), AllocError> {
+    pub fn clear_pairs(&mut self, id: ObjId) -> Result<(), AllocError>
+        ensures cleared { OnOk result (self.new ≡ changes.without_pairs self.old id) }
+        ensures err { OnErr result (self.new ≡ self.old) }
+    {
         clear_pairs(&mut self.st, id)
     }
 
@@ -115,7 +126,11 @@ impl Heap {
 
     /// Gives a key of a Hash a value, and tells whether it could: false where the key is nested too deep. A key that is
     /// there keeps its place and what is shown as the key. Where memory runs out the Hash is as before.
-    pub fn put_pair(&mut self, id: ObjId, shown: Value, value: Value) -> Result<bool, AllocError> {
+    pub fn put_pair(&mut self, id: ObjId, shown: Value, value: Value) -> Result<bool, AllocError>
+        ensures put { OnOk result (self.new ≡ changes.with_pair self.old id shown value) }
+        ensures could { IfOk result (λ could. could ≡ changes.can_put self.old id shown) }
+        ensures err { OnErr result (self.new ≡ self.old) }
+    {
         put_pair(&mut self.st, id, shown, value)
     }
 

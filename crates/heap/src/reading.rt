@@ -4,6 +4,7 @@ ghost use Rattle.def_core.specs.Store.{object_at, name_at};
 ghost use Rattle.def_core.specs.Parts as parts;
 ghost use Rattle.heap.specs.Operands as operands;
 
+use crate::hashes::absent_of;
 use crate::heap::Heap;
 use crate::testing::{object, own, symbol};
 use rb_value::{
@@ -230,15 +231,11 @@ impl Heap {
     }
 
     /// What an absent key of a Hash gives, and the Proc that is called for it.
-    #[tactic(auto, using(crate::proofs::Outside::absent_there))]
     pub fn absent_of(&self, id: ObjId) -> (Value, Option<ObjId>)
         ensures default { result.0 ≡ (parts.hash_at self.now.store.objects id).default }
         ensures block { result.1 ≡ (parts.hash_at self.now.store.objects id).block }
     {
-        match self.kind(id) {
-            Some(Kind::Hash(contents)) => (contents.get().default, contents.get().block),
-            _ => (Value::Nil, None),
-        }
+        absent_of(&self.st, id)
     }
 
     /// The instance variables of an object, in the order in which they were first set.
