@@ -1,8 +1,16 @@
 //! Pairs of Hashes.
+ghost use Rattle.std.specs.Prelude.{◌≡◌, Some, None, is_some, option_map, unwrap_or, OnOk, IfOk};
+ghost use Rattle.rb_value.specs.declared.key.Key.{Key};
+ghost use Rattle.rb_value.specs.declared.value.Value.TheVariants.{Nil};
+ghost use Rattle.def_core.specs.Parts.{pair_of};
+ghost use Rattle.def_calls.specs.Values as values;
+ghost use Rattle.heap.specs.Operands.{own};
+ghost use Rattle.heap.specs.Changes as changes;
+
 use def_core::Cause;
-use rb_value::{CoreClass, Key, ObjId, Value};
+use rb_value::{CoreClass, ObjId, Value};
 use rows_items::heap::Heap;
-use rows_items::{RowError, put_pair};
+use rows_items::{RowError, key_of, put_pair};
 use std::alloc::AllocError;
 
 /// The Hash that a value is.
@@ -13,16 +21,11 @@ pub(crate) fn a_hash(heap: &Heap, value: Value) -> Result<ObjId, Cause> {
     }
 }
 
-/// The key that a value is; Arrays that are nested too deep are refused.
-fn key_of(heap: &Heap, value: Value) -> Result<Key, RowError> {
-    match heap.key_of(value)? {
-        Some(key) => Ok(key),
-        None => Err(RowError::Fails(Cause::StackTooDeep)),
-    }
-}
-
 /// Whether a Hash has a key.
-pub(crate) fn has_key(heap: &Heap, id: ObjId, key: Value) -> Result<bool, RowError> {
+pub(crate) fn has_key(heap: &Heap, id: ObjId, key: Value) -> Result<bool, RowError>
+    ensures { (own_key : Key) → values.key_of heap.now.store.objects (own heap.now.store key) ≡ Some own_key →
+        IfOk result (λ has. has ≡ is_some (pair_of heap.now.store.objects id own_key)) }
+{
     let key = key_of(heap, key)?;
     Ok(heap.pair(id, &key).is_some())
 }
@@ -39,7 +42,12 @@ pub(crate) fn store(
 }
 
 /// The value of a key, which is taken out; nil where it isn't there.
-pub(crate) fn delete(heap: &mut Heap, id: ObjId, key: Value) -> Result<Value, RowError> {
+pub(crate) fn delete(heap: &mut Heap, id: ObjId, key: Value) -> Result<Value, RowError>
+    ensures left { (own_key : Key) → values.key_of heap.old.store.objects (own heap.old.store key) ≡ Some own_key →
+        OnOk result (heap.new ≡ changes.without_key heap.old id own_key) }
+    ensures value { (own_key : Key) → values.key_of heap.old.store.objects (own heap.old.store key) ≡ Some own_key →
+        IfOk result (λ value. value ≡ unwrap_or (option_map (λ p. p.value) (pair_of heap.old.store.objects id own_key)) Nil) }
+{
     let key = key_of(heap, key)?;
     match heap.remove_pair(id, &key) {
         Some(pair) => Ok(pair.value),

@@ -1,4 +1,9 @@
 //! Items as keys of Hashes.
+ghost use Rattle.std.specs.Prelude.{◌≡◌, Some, IfOk, IfErr};
+ghost use Rattle.def_calls.specs.Values as values;
+ghost use Rattle.heap.specs.Operands.{own};
+ghost use Rattle.rows_items.specs.Keyed as keyed;
+
 use crate::error::RowError;
 use core_calls::heap::Heap;
 use def_core::Cause;
@@ -6,7 +11,11 @@ use pair_table::PairTable;
 use rb_value::{CoreClass, Key, ObjId, Value};
 
 /// The key of a Hash that a value is; Arrays that are nested too deep are refused.
-fn key_of(heap: &Heap, value: Value) -> Result<Key, RowError> {
+pub fn key_of(heap: &Heap, value: Value) -> Result<Key, RowError>
+    ensures key { IfOk result (λ key.
+        values.key_of heap.now.store.objects (own heap.now.store value) ≡ Some key) }
+    ensures refused { IfErr result (keyed.Refuses (values.key_of heap.now.store.objects (own heap.now.store value))) }
+{
     match heap.key_of(value)? {
         Some(key) => Ok(key),
         None => Err(RowError::Fails(Cause::StackTooDeep)),

@@ -21,7 +21,7 @@ pub use core_calls;
 pub use core_calls::heap;
 pub use error::{RowError, settle};
 pub use items::{first_items, items_of, put_values};
-pub use keyed::put_pair;
+pub use keyed::{key_of, put_pair};
 pub use order::order_of;
 pub use rows::{ItemRow, call, rows_of};
 pub use sorting::{Extreme, extreme_place, sorted};
