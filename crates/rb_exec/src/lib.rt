@@ -5,7 +5,6 @@
 //! Types: [`Played`], [`Counts`]. Calls: [`build`], [`exec`], [`run`].
 #![tactic(auto)]
 
-mod making;
 mod playing;
 mod running;
 

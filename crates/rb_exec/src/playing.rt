@@ -1,8 +1,8 @@
 //! The file of a source, a run of a source over its file, and a run of a file.
 
-use crate::making::{Made, check_file, make_file};
 use crate::running::{Counts, Played, run_code};
 use code_verifier::Verified;
+use file_maker::{Made, check_file, make_file};
 use rb_base::{Buffered, FileError, Files, Sink, Source};
 use std::alloc::{AllocError, Global};
 

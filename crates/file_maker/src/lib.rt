@@ -1,0 +1,15 @@
+//! From a source to its file, through the generator of all forms; and from the bytes of a file to verified code.
+//!
+//! What becomes of a text, and why bytes are refused, stands in specs/Making.antt. That the code means what the source
+//! means isn't said here.
+//!
+//! Type: [`Made`]. Calls: [`make_file`], [`check_file`].
+#![tactic(auto)]
+
+mod checking;
+mod made;
+mod making;
+
+pub use checking::check_file;
+pub use made::Made;
+pub use making::make_file;
