@@ -48,12 +48,16 @@ refusal_past None c = refusal_of_file (loaded (file_of c))
 abbrev pub refusal_of_core : Body → Option Refusal
 refusal_of_core c = refusal_past (first_excess (need c)) c
 
+-- the bytes are the file of the core, and spell that verified code
+abbrev pub IsFileOf : Body → List ℕ → Program → Type 0
+IsFileOf c bytes code = (code_built c ≡ None) × (first_excess (need c) ≡ None) × (bytes ≡ file_of c)
+    × (loaded (file_of c) ≡ Ok code) × IsVerified code
+
 -- what becomes of a core: it has no form beyond those of the first path; it is refused; or it has its file
 abbrev pub IsMadeOf : Body → Made → Type 0
 IsMadeOf c FirstPath = is_some (code_built c) ≡ true
 IsMadeOf c (Refused cause) = (code_built c ≡ None) × (refusal_of_core c ≡ Some cause)
-IsMadeOf c (File bytes code) = (code_built c ≡ None) × (first_excess (need c) ≡ None) × (bytes.items ≡ file_of c)
-    × (loaded (file_of c) ≡ Ok code) × IsVerified code
+IsMadeOf c (File bytes code) = IsFileOf c bytes.items code
 
 abbrev pub HasCore : List ℕ → Made → Type 0
 HasCore text made = (c : Body) × (core_of text ≡ Some c) × IsMadeOf c made

@@ -1,15 +1,17 @@
 //! From a source to its file, through the generator of all forms; and from the bytes of a file to verified code.
 //!
 //! What becomes of a text, and why bytes are refused, stands in specs/Making.antt. That the code means what the source
-//! means isn't said here.
+//! means isn't said here. What is stored and loaded stands in specs/Storing.antt.
 //!
-//! Type: [`Made`]. Calls: [`make_file`], [`check_file`].
+//! Types: [`Made`], [`NotMade`]. Calls: [`make_file`], [`check_file`]; [`store_file`], [`load_file`].
 #![tactic(auto)]
 
 mod checking;
 mod made;
 mod making;
+mod storing;
 
 pub use checking::check_file;
 pub use made::Made;
 pub use making::make_file;
+pub use storing::{NotMade, load_file, store_file};

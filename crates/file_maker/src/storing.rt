@@ -1,0 +1,69 @@
+//! Files of code that are stored and loaded.
+ghost use Rattle.std.specs.Prelude.{◌≡◌, ◌≢◌, ℕ, List};
+ghost use Rattle.file_maker.specs.Storing.{Stores, Loads};
+
+use crate::checking::check_file;
+use crate::made::Made;
+use crate::making::make_file;
+use code_verifier::Verified;
+use rb_base::{FileError, Files};
+use rb_refusal::Refusal;
+use std::alloc::{AllocError, Global};
+
+// One byte more than the longest source has.
+const SOURCE_LIMIT: usize = 16_777_217;
+
+// One byte more than the longest file has.
+const FILE_LIMIT: usize = 4_294_967_296;
+
+/// Why there is no code: the source or the file is refused, a file can't be read or written, or memory ran out.
+#[derive(Clone, Copy, Debug, PartialEq, Eq)]
+pub enum NotMade {
+    Refused(Refusal),
+    FileFault,
+    NoMemory,
+}
+
+/// Stores the file of the source in the file `source` in the file `file`, and gives its code. Nothing where the source
+/// goes the first path, or can't be read. Every other file is as before.
+pub fn store_file<F: Files>(
+    alloc: Global,
+    files: &mut F,
+    source: &str,
+    file: &str,
+) -> Option<Result<Verified, NotMade>>
+    ensures made { Stores (⟦<F as Files>⟧.tells files.old) (⟦<F as Files>⟧.file files.old source.now)
+        (⟦<F as Files>⟧.file files.new file.now) result }
+    ensures others { (other : List ℕ) → other ≢ file.now →
+        ⟦<F as Files>⟧.file files.new other ≡ ⟦<F as Files>⟧.file files.old other }
+{
+    let Ok(text) = files.load(alloc, source, SOURCE_LIMIT) else {
+        return None;
+    };
+    match make_file(alloc, &text) {
+        Ok(Made::FirstPath) => None,
+        Ok(Made::Refused(refusal)) => Some(Err(NotMade::Refused(refusal))),
+        Ok(Made::File(bytes, code)) => Some(match files.store(file, &bytes) {
+            Ok(()) => Ok(code),
+            Err(_) => Err(NotMade::FileFault),
+        }),
+        Err(AllocError) => Some(Err(NotMade::NoMemory)),
+    }
+}
+
+/// The code of the file `file`. Every file is as before.
+pub fn load_file<F: Files>(alloc: Global, files: &mut F, file: &str) -> Result<Verified, NotMade>
+    ensures loaded { Loads (⟦<F as Files>⟧.tells files.old) (⟦<F as Files>⟧.file files.old file.now) result }
+    ensures others { (other : List ℕ) → ⟦<F as Files>⟧.file files.new other ≡ ⟦<F as Files>⟧.file files.old other }
+{
+    let bytes = match files.load(alloc, file, FILE_LIMIT) {
+        Ok(bytes) => bytes,
+        Err(FileError::Failed) => return Err(NotMade::FileFault),
+        Err(FileError::NoMemory) => return Err(NotMade::NoMemory),
+    };
+    match check_file(alloc, &bytes) {
+        Ok(Ok(code)) => Ok(code),
+        Ok(Err(refusal)) => Err(NotMade::Refused(refusal)),
+        Err(AllocError) => Err(NotMade::NoMemory),
+    }
+}
