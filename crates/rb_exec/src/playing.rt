@@ -1,12 +1,18 @@
 //! The file of a source, a run of a source over its file, and a run of a file.
 
+ghost use Rattle.std.specs.Prelude.{◌≡◌, ◌≢◌, ℕ, List};
+ghost use Rattle.rb_exec.specs.Built.{Builds};
+ghost use Rattle.rb_exec.specs.Without.{without_code};
+
 use crate::running::{Counts, Played, run_code};
 use file_maker::{NotMade, load_file, store_file};
 use rb_base::{Buffered, Files, Sink, Source};
 use std::alloc::Global;
 
 /// How a program comes out of which there is no code.
-fn without_code(cause: NotMade) -> Played {
+fn without_code(cause: NotMade) -> Played
+    ensures { result ≡ without_code cause }
+{
     match cause {
         NotMade::Refused(refusal) => Played::Refused(refusal),
         NotMade::FileFault => Played::FileFault,
@@ -15,8 +21,14 @@ fn without_code(cause: NotMade) -> Played {
 }
 
 /// Compiles the source in the file `source` and puts its code into the file `file`. Nothing is done where the source
-/// goes the first path: it can't be read, the front refuses it, or it has no form beyond those of that path.
-pub fn build<F: Files>(alloc: Global, files: &mut F, source: &str, file: &str) -> Option<Played> {
+/// goes the first path: it can't be read, the front refuses it, or it has no form beyond those of that path. Every
+/// other file is as before.
+pub fn build<F: Files>(alloc: Global, files: &mut F, source: &str, file: &str) -> Option<Played>
+    ensures built { Builds (⟦<F as Files>⟧.tells files.old) (⟦<F as Files>⟧.file files.old source.now)
+        (⟦<F as Files>⟧.file files.new file.now) result }
+    ensures others { (other : List ℕ) → other ≢ file.now →
+        ⟦<F as Files>⟧.file files.new other ≡ ⟦<F as Files>⟧.file files.old other }
+{
     match store_file(alloc, files, source, file)? {
         Ok(_code) => Some(Played::Ended(0)),
         Err(cause) => Some(without_code(cause)),
@@ -33,7 +45,10 @@ pub fn exec<F: Files, S: Source, O: Sink + Drop>(
     steps: u64,
     source: &str,
     file: &str,
-) -> Option<Played> {
+) -> Option<Played>
+    ensures others { (other : List ℕ) → other ≢ file.now →
+        ⟦<F as Files>⟧.file files.new other ≡ ⟦<F as Files>⟧.file files.old other }
+{
     match store_file(alloc, files, source, file)? {
         Ok(code) => Some(run_code(alloc, code, steps, input, out).0),
         Err(cause) => Some(without_code(cause)),
@@ -48,7 +63,9 @@ pub fn run<F: Files, S: Source, O: Sink + Drop>(
     out: &mut Buffered<O>,
     steps: u64,
     file: &str,
-) -> (Played, Counts) {
+) -> (Played, Counts)
+    ensures { (other : List ℕ) → ⟦<F as Files>⟧.file files.new other ≡ ⟦<F as Files>⟧.file files.old other }
+{
     match load_file(alloc, files, file) {
         Ok(code) => run_code(alloc, code, steps, input, out),
         Err(cause) => (without_code(cause), Counts::default()),
