@@ -10,3 +10,4 @@ pub mod Showing
 pub mod Reporting
 pub mod Answer
 pub mod Status
+pub mod General

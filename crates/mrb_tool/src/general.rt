@@ -1,5 +1,10 @@
 //! The general path: `build` and `exec` of sources that have a form beyond those of the first path, and `run`.
 
+ghost use Rattle.std.specs.Prelude.{◌≡◌, ◌≢◌, ℕ, List, Some, map, string_bytes, IfOk, IfSome};
+ghost use Rattle.mrb_tool.specs.General.{end_of, IsSent, IsBuilt};
+ghost use Rattle.mrb_tool.specs.Words as meant;
+ghost use Rattle.mrb_tool.specs.Words.{command_of};
+
 use crate::end::End;
 use crate::texts::{tell_file_fault, tell_no_memory, tell_refused, tell_spent};
 use crate::words::{Command, read_words};
@@ -87,7 +92,9 @@ fn digits_value(digits: &[u8]) -> Option<u64> {
 }
 
 /// Tells how a program came out, and gives the answer.
-fn tell<E: Sink>(played: Played, steps: u64, err: &mut E) -> Result<End, Failed> {
+fn tell<E: Sink>(played: Played, steps: u64, err: &mut E) -> Result<End, Failed>
+    ensures { IfOk result (λ end. end ≡ end_of played) }
+{
     match played {
         Played::Ended(status) => Ok(End::Ended(status)),
         Played::Uncaught(line) => {
@@ -127,7 +134,9 @@ fn tell_counts<E: Sink>(counts: Counts, err: &mut E) -> Result<(), Failed> {
 }
 
 /// The answer, once all that was told is sent on.
-fn sent<E: Sink>(end: Result<End, Failed>, err: &mut E) -> End {
+fn sent<E: Sink>(end: Result<End, Failed>, err: &mut E) -> End
+    ensures { IsSent end result }
+{
     match end {
         Ok(end) => match err.flush() {
             Ok(()) => end,
@@ -154,8 +163,27 @@ fn run_file<F: Files, S: Source, O: Sink + Drop, E: Sink>(
     Ok(end)
 }
 
+/// Builds a source, and tells of it. Nothing is done where the source goes the first path.
+fn build_file<F: Files, E: Sink>(
+    alloc: Global,
+    files: &mut F,
+    source: &str,
+    file: &str,
+    err: &mut E,
+) -> Option<End>
+    ensures built { IfSome result (IsBuilt (⟦<F as Files>⟧.tells files.old)
+        (⟦<F as Files>⟧.file files.old source.now) (⟦<F as Files>⟧.file files.new file.now)) }
+    ensures others { (other : List ℕ) → other ≢ file.now →
+        ⟦<F as Files>⟧.file files.new other ≡ ⟦<F as Files>⟧.file files.old other }
+{
+    let played = build(alloc, files, source, file)?;
+    let end = tell(played, u64::MAX, err);
+    Some(sent(end, err))
+}
+
 /// Does what the words ask, and tells of it, where it is for the general path. Nothing is done for other words and other
-/// sources.
+/// sources. `build` ends with 0 only where the file holds the file of the source, whose code is verified; every other file
+/// is as before.
 pub fn play<F: Files, S: Source, O: Sink + Drop, E: Sink>(
     alloc: Global,
     words: &[String],
@@ -163,10 +191,17 @@ pub fn play<F: Files, S: Source, O: Sink + Drop, E: Sink>(
     input: &mut S,
     out: &mut Buffered<O>,
     err: &mut E,
-) -> Option<End> {
+) -> Option<End>
+    ensures built { (source file : List ℕ) → command_of (map string_bytes words.now) ≡ Some (meant.build source file) →
+        IfSome result (IsBuilt (⟦<F as Files>⟧.tells files.old)
+        (⟦<F as Files>⟧.file files.old source) (⟦<F as Files>⟧.file files.new file)) }
+    ensures others { (source file other : List ℕ) →
+        command_of (map string_bytes words.now) ≡ Some (meant.build source file) → other ≢ file →
+        ⟦<F as Files>⟧.file files.new other ≡ ⟦<F as Files>⟧.file files.old other }
+{
     let end = match read_words(words) {
         Some(Command::Build { source, file }) => {
-            tell(build(alloc, files, source, file)?, u64::MAX, err)
+            return build_file(alloc, files, source, file, err);
         }
         Some(
             Command::Exec {
