@@ -1,10 +1,7 @@
--- What building a source of the second path answers.
+-- What building and executing a source of the second path answer.
 use Rattle.std.specs.Prelude.{◌≡◌, ◌⊎◌, ℕ, List, Bool, Option, Result, Ok, Err}
 use Rattle.rb_base.specs.declared.outside.Failed.{Failed}
-use Rattle.rite_code.specs.Code.{Program}
-use Rattle.file_maker.specs.Making.{IsMade}
-use Rattle.file_maker.specs.Storing.{IsText, IsStored}
-use Rattle.file_maker.specs.declared.made.Made.TheVariants as made
+use Rattle.rb_exec.specs.Built.{HasFile, IsRefused}
 use Rattle.rb_exec.specs.declared.running.Played.{Played}
 use Rattle.rb_exec.specs.declared.running.Played.TheVariants as played
 use Rattle.mrb_tool.specs.declared.end.End.{End}
@@ -28,9 +25,8 @@ IsSent (Err fault) end = end ≡ OutputFault
 -- It ends with 0 only where the file holds the bytes of the file of the source's text, which spell verified code; a
 -- refusal is one of that text; else memory ran out, or a file or a stream failed.
 abbrev pub IsBuilt : Bool → Option (List ℕ) → Option (List ℕ) → End → Type 0
-IsBuilt tells held after (Ended status) =
-    (status ≡ 0) × (text : List ℕ) × (code : Program) × IsText tells held text × IsStored tells text after code
-IsBuilt tells held after (Refused cause) = (text : List ℕ) × IsText tells held text × IsMade text (made.Refused cause)
+IsBuilt tells held after (Ended status) = (status ≡ 0) × HasFile tells held after
+IsBuilt tells held after (Refused cause) = IsRefused tells held cause
 IsBuilt tells held after NoMemory = Unit {0}
 IsBuilt tells held after FileFault = Unit {0}
 IsBuilt tells held after OutputFault = Unit {0}
@@ -38,3 +34,15 @@ IsBuilt tells held after Uncaught = ⊥
 IsBuilt tells held after Usage = ⊥
 IsBuilt tells held after Spent = ⊥
 IsBuilt tells held after InputFault = ⊥
+
+-- The same; and what came out is of the code that the file holds.
+abbrev pub IsExecuted : Bool → Option (List ℕ) → Option (List ℕ) → End → Type 0
+IsExecuted tells held after (Ended status) = HasFile tells held after
+IsExecuted tells held after Uncaught = HasFile tells held after
+IsExecuted tells held after Spent = HasFile tells held after
+IsExecuted tells held after InputFault = HasFile tells held after
+IsExecuted tells held after (Refused cause) = IsRefused tells held cause
+IsExecuted tells held after NoMemory = Unit {0}
+IsExecuted tells held after FileFault = Unit {0}
+IsExecuted tells held after OutputFault = Unit {0}
+IsExecuted tells held after Usage = ⊥

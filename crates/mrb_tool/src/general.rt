@@ -1,7 +1,7 @@
 //! The general path: `build` and `exec` of sources that have a form beyond those of the first path, and `run`.
 
 ghost use Rattle.std.specs.Prelude.{◌≡◌, ◌≢◌, ℕ, List, Some, map, string_bytes, IfOk, IfSome};
-ghost use Rattle.mrb_tool.specs.General.{end_of, IsSent, IsBuilt};
+ghost use Rattle.mrb_tool.specs.General.{end_of, IsSent, IsBuilt, IsExecuted};
 ghost use Rattle.mrb_tool.specs.Words as meant;
 ghost use Rattle.mrb_tool.specs.Words.{command_of};
 
@@ -181,9 +181,30 @@ fn build_file<F: Files, E: Sink>(
     Some(sent(end, err))
 }
 
+/// Executes a source for at most `steps` turns, and tells of it. Nothing is done where the source goes the first path.
+fn execute<F: Files, S: Source, O: Sink + Drop, E: Sink>(
+    alloc: Global,
+    files: &mut F,
+    input: &mut S,
+    out: &mut Buffered<O>,
+    steps: u64,
+    source: &str,
+    file: &str,
+    err: &mut E,
+) -> Option<End>
+    ensures executed { IfSome result (IsExecuted (⟦<F as Files>⟧.tells files.old)
+        (⟦<F as Files>⟧.file files.old source.now) (⟦<F as Files>⟧.file files.new file.now)) }
+    ensures others { (other : List ℕ) → other ≢ file.now →
+        ⟦<F as Files>⟧.file files.new other ≡ ⟦<F as Files>⟧.file files.old other }
+{
+    let played = exec(alloc, files, input, out, steps, source, file)?;
+    let end = tell(played, steps, err);
+    Some(sent(end, err))
+}
+
 /// Does what the words ask, and tells of it, where it is for the general path. Nothing is done for other words and other
-/// sources. `build` ends with 0 only where the file holds the file of the source, whose code is verified; every other file
-/// is as before.
+/// sources. `build` ends with 0, and `exec` runs, only where the file holds the file of the source, whose code is
+/// verified; every other file is as before.
 pub fn play<F: Files, S: Source, O: Sink + Drop, E: Sink>(
     alloc: Global,
     words: &[String],
@@ -195,8 +216,15 @@ pub fn play<F: Files, S: Source, O: Sink + Drop, E: Sink>(
     ensures built { (source file : List ℕ) → command_of (map string_bytes words.now) ≡ Some (meant.build source file) →
         IfSome result (IsBuilt (⟦<F as Files>⟧.tells files.old)
         (⟦<F as Files>⟧.file files.old source) (⟦<F as Files>⟧.file files.new file)) }
-    ensures others { (source file other : List ℕ) →
+    ensures built_alone { (source file other : List ℕ) →
         command_of (map string_bytes words.now) ≡ Some (meant.build source file) → other ≢ file →
+        ⟦<F as Files>⟧.file files.new other ≡ ⟦<F as Files>⟧.file files.old other }
+    ensures executed { (steps : ℕ) (source file : List ℕ) →
+        command_of (map string_bytes words.now) ≡ Some (meant.exec steps source file) →
+        IfSome result (IsExecuted (⟦<F as Files>⟧.tells files.old)
+        (⟦<F as Files>⟧.file files.old source) (⟦<F as Files>⟧.file files.new file)) }
+    ensures executed_alone { (steps : ℕ) (source file other : List ℕ) →
+        command_of (map string_bytes words.now) ≡ Some (meant.exec steps source file) → other ≢ file →
         ⟦<F as Files>⟧.file files.new other ≡ ⟦<F as Files>⟧.file files.old other }
 {
     let end = match read_words(words) {
@@ -209,11 +237,7 @@ pub fn play<F: Files, S: Source, O: Sink + Drop, E: Sink>(
                 source,
                 file,
             },
-        ) => tell(
-            exec(alloc, files, input, out, steps, source, file)?,
-            steps,
-            err,
-        ),
+        ) => return execute(alloc, files, input, out, steps, source, file, err),
         Some(_) => return None,
         None => run_file(alloc, wished(words)?, files, input, out, err),
     };

@@ -1,7 +1,7 @@
 //! The file of a source, a run of a source over its file, and a run of a file.
 
 ghost use Rattle.std.specs.Prelude.{◌≡◌, ◌≢◌, ℕ, List};
-ghost use Rattle.rb_exec.specs.Built.{Builds};
+ghost use Rattle.rb_exec.specs.Built.{Builds, Executes, Runs};
 ghost use Rattle.rb_exec.specs.Without.{without_code};
 
 use crate::running::{Counts, Played, run_code};
@@ -46,6 +46,8 @@ pub fn exec<F: Files, S: Source, O: Sink + Drop>(
     source: &str,
     file: &str,
 ) -> Option<Played>
+    ensures executed { Executes (⟦<F as Files>⟧.tells files.old) (⟦<F as Files>⟧.file files.old source.now)
+        (⟦<F as Files>⟧.file files.new file.now) result }
     ensures others { (other : List ℕ) → other ≢ file.now →
         ⟦<F as Files>⟧.file files.new other ≡ ⟦<F as Files>⟧.file files.old other }
 {
@@ -64,7 +66,8 @@ pub fn run<F: Files, S: Source, O: Sink + Drop>(
     steps: u64,
     file: &str,
 ) -> (Played, Counts)
-    ensures { (other : List ℕ) → ⟦<F as Files>⟧.file files.new other ≡ ⟦<F as Files>⟧.file files.old other }
+    ensures ran { Runs (⟦<F as Files>⟧.tells files.old) (⟦<F as Files>⟧.file files.old file.now) result.0 }
+    ensures others { (other : List ℕ) → ⟦<F as Files>⟧.file files.new other ≡ ⟦<F as Files>⟧.file files.old other }
 {
     match load_file(alloc, files, file) {
         Ok(code) => run_code(alloc, code, steps, input, out),

@@ -1,5 +1,7 @@
 //! A run, and how it comes out.
 
+ghost use Rattle.rb_exec.specs.Built.{IsRun};
+
 use code_verifier::Verified;
 use frame_machine::{Machine, Ran, StepFault, start};
 use rb_base::{Buffered, Sink, Source};
@@ -39,7 +41,9 @@ fn uncaught(machine: &Machine, exception: ObjId) -> Result<Vec<u8>, AllocError> 
 }
 
 /// How a run comes out.
-fn come_out(machine: &Machine, ran: Result<Ran, StepFault>) -> Played {
+fn come_out(machine: &Machine, ran: Result<Ran, StepFault>) -> Played
+    ensures { IsRun result }
+{
     match ran {
         Ok(Ran::Ended(status)) => Played::Ended(status),
         Ok(Ran::Uncaught(exception)) => match uncaught(machine, exception) {
@@ -60,7 +64,9 @@ pub(crate) fn run_code<S: Source, O: Sink + Drop>(
     steps: u64,
     input: &mut S,
     out: &mut Buffered<O>,
-) -> (Played, Counts) {
+) -> (Played, Counts)
+    ensures { IsRun result.0 }
+{
     let mut machine = match start(alloc, code) {
         Ok(machine) => machine,
         Err(AllocError) => return (Played::NoMemory, Counts::default()),
