@@ -15,8 +15,8 @@ from program import built, seconds
 ROUNDS = 200_000_000
 
 # The crates below the program, lowest first.
-BELOW = ("rb_base", "chunk_list", "key_list", "list_queue", "pair_table", "rb_value", "def_core", "rb_store", "rb_raise", "class_model",
-         "method_lookup")
+BELOW = ("rb_base", "chunk_list", "key_list", "list_queue", "pair_table", "rb_value", "row_table", "def_core",
+         "rb_store", "rb_raise", "class_model", "method_lookup")
 
 PROGRAM = """//! Looks kept methods up, or gets objects.
 #![tactic(auto)]
@@ -53,6 +53,7 @@ fn look_up(cache: &mut Cache, st: &Store, class: ObjId, rounds: u64) -> Result<u
     Ok(sum.wrapping_add(steps.count()))
 }
 
+#[tactic(auto, using(def_core::proofs::Good::good_below))]
 fn get(st: &Store, rounds: u64) -> u64
     requires { 16 ≤ length st.now.store.objects }
 {
