@@ -18,10 +18,11 @@ count past its limit, what is timed is the front end and the counts.
 import argparse
 import glob
 import os
-import resource
 import subprocess
 import sys
 import tempfile
+
+from program import measured
 
 PROGRAMS = os.path.join(os.path.dirname(os.path.abspath(__file__)), "..", "examples", "programs", "*.rb")
 LOCALS = 10_000
@@ -70,24 +71,6 @@ def methods(size):
     """Classes of 100 methods, at most so many bytes."""
     body = "".join(METHOD.format(one) for one in range(100))
     return "".join(f"class Part{one}\n{body}end\n" for one in range(size // (len(body) + 20)))
-
-
-def measured(command, times):
-    """The least processor time of some runs in seconds, the greatest memory in bytes, the status, and what was said.
-
-    A child of this script begins with its memory, one of `time` doesn't: so `time` is asked for the memory.
-    """
-    seconds, peak = [], 0
-    for _ in range(times):
-        with tempfile.NamedTemporaryFile() as told:
-            before = resource.getrusage(resource.RUSAGE_CHILDREN)
-            run = subprocess.run(["time", "-q", "-f", "%M", "-o", told.name, *command], stdin=subprocess.DEVNULL,
-                                 capture_output=True)
-            after = resource.getrusage(resource.RUSAGE_CHILDREN)
-            peak = max(peak, int(told.read()) * 1024)
-        seconds.append(after.ru_utime + after.ru_stime - before.ru_utime - before.ru_stime)
-    said = (run.stdout + run.stderr).decode(errors="replace").strip().split("\n")[0]
-    return min(seconds), peak, run.returncode, said
 
 
 def compare(name, text, rite, times, folder):

@@ -1,226 +1,100 @@
 #!/usr/bin/env python3
-"""Measures changes of objects in place, and the memory that objects take. Not part of the tests.
+"""Measures changes of objects in place, and the memory that objects take, beside mruby. Not part of the tests.
 
-    bench/objects.py [TIMES]
+    bench/objects.py RITE [--times N]
 
-Proves and builds a program over rb_store in a folder of its own. It prints, in nanoseconds of processor time, a round of
-each change of an Array, a Hash or a String of 1,000,000 (the best of three runs without a number), less a round that only
-asks whether the object is one; and the resident memory of 1,000,000 Strings of 10 bytes with 1,000,000 Arrays of two
-elements, for each such pair.
+RITE is the built program (build/rite), `mrbc`, `mruby` and GNU `time` stand on the path. What makes an object grow is
+done 1,000,000 times by a loop, what reads or sets an element five times with each of an Array or a Hash of 1,000,000,
+and of a Hash of 1,000 as often in all. The nanoseconds are processor time of the program's file with the loop, less
+that of the same file whose loop only counts; each is the least of N runs (3 without a number). The bytes are the
+greatest memory that a run held which keeps 1,000,000 objects in one Array, less that of an empty program, for each
+object; its place in the Array is among them.
 """
-import resource
+import argparse
+import os
 import subprocess
-import sys
 import tempfile
 
-from program import built, seconds
+from program import measured
 
 ROUNDS = 1_000_000
 
-# The crates below the program, lowest first.
-BELOW = ("rb_base", "chunk_list", "key_list", "list_queue", "pair_table", "rb_value", "def_core", "rb_store")
+# How many elements a short Hash has.
+FEW = 1_000
 
-WORK = ("ask", "push", "read", "set", "ends", "put", "get", "bytes", "variable")
-
-PROGRAM = """//! Changes objects in place.
-#![tactic(auto)]
-
-ghost use Rattle.std.specs.Prelude.{◌≡◌, ◌<◌, true, length, IsTrue};
-ghost use Rattle.rb_value.specs.declared.kind.Sort.TheVariants as sorts;
-ghost use Rattle.def_core.specs.Store.{sort_at};
-
-use list_queue::Queue;
-use pair_table::PairTable;
-use rb_base::Bytes;
-use rb_store::Store;
-use rb_value::{Boxed, CoreClass, HashContents, Key, Kind, ObjId, Object, Sort, Value};
-use std::alloc::AllocError;
-use std::env;
-use std::process::ExitCode;
-
-const ROUNDS: i64 = 1_000_000;
-
-/// Whether the number is that of an object of the sort.
-fn is_a(st: &Store, id: ObjId, sort: Sort) -> bool
-    ensures there { result ≡ true → id.0 < length st.now.store.objects }
-    ensures sort { result ≡ true → sort_at st.now.store.objects id ≡ sort }
-{
-    id.0 < st.len() && st.get(id).kind().sort() == sort
-}
-
-fn ask(st: &mut Store, id: ObjId) -> Result<(), AllocError> {
-    let mut count = 0u64;
-    for _round in 0..ROUNDS {
-        if is_a(st, id, Sort::Array) {
-            count = count.wrapping_add(1);
-        }
-    }
-    Ok(())
-}
-
-fn push(st: &mut Store, id: ObjId) -> Result<(), AllocError> {
-    for round in 0..ROUNDS {
-        if is_a(st, id, Sort::Array) {
-            st.push(id, Value::Int(round))?;
-        }
-    }
-    Ok(())
-}
-
-fn read(st: &mut Store, id: ObjId) -> Result<(), AllocError> {
-    let mut sum = 0i64;
-    for round in 0..ROUNDS {
-        if is_a(st, id, Sort::Array) {
-            if let Some(Value::Int(number)) = st.elements(id).get(round as usize) {
-                sum = sum.wrapping_add(*number);
-            }
-        }
-    }
-    Ok(())
-}
-
-fn set(st: &mut Store, id: ObjId) -> Result<(), AllocError> {
-    for round in 0..ROUNDS {
-        if is_a(st, id, Sort::Array) && (round as usize) < st.elements(id).len() {
-            st.set_element(id, round as usize, Value::Nil);
-        }
-    }
-    Ok(())
-}
-
-fn ends(st: &mut Store, id: ObjId) -> Result<(), AllocError> {
-    for round in 0..ROUNDS {
-        if is_a(st, id, Sort::Array) {
-            st.push(id, Value::Int(round))?;
-        }
-        if is_a(st, id, Sort::Array) {
-            st.shift(id);
-        }
-    }
-    Ok(())
-}
-
-fn put(st: &mut Store, id: ObjId) -> Result<(), AllocError> {
-    for round in 0..ROUNDS {
-        if is_a(st, id, Sort::Hash) {
-            st.put_pair(id, Key::Plain(Value::Int(round)), Value::Int(round), Value::Nil)?;
-        }
-    }
-    Ok(())
-}
-
-fn get(st: &mut Store, id: ObjId) -> Result<(), AllocError> {
-    let mut count = 0u64;
-    for round in 0..ROUNDS {
-        if id.0 < st.len() && st.pair(id, &Key::Plain(Value::Int(round))).is_some() {
-            count = count.wrapping_add(1);
-        }
-    }
-    Ok(())
-}
-
-fn append(st: &mut Store, id: ObjId) -> Result<(), AllocError> {
-    for _round in 0..ROUNDS {
-        if is_a(st, id, Sort::String) {
-            st.append_bytes(id, b"text")?;
-        }
-    }
-    Ok(())
-}
-
-fn variable(st: &mut Store, id: ObjId) -> Result<(), AllocError> {
-    let name = st.intern(b"@count")?;
-    for round in 0..ROUNDS {
-        if id.0 < st.len() {
-            st.set_variable(id, name, Value::Int(round))?;
-        }
-    }
-    Ok(())
-}
-
-/// Strings of ten bytes and Arrays of two elements, in one Array.
-fn keep(rt: &HostRuntime, st: &mut Store, array: ObjId) -> Result<(), AllocError> {
-    for _round in 0..ROUNDS {
-        let text = Kind::String(Bytes::from_slice(rt.alloc(), b"ten bytes!")?);
-        let first = st.add(Object::new(st.class_object(CoreClass::String), text))?;
-        let items = Vec::from_slice(rt.alloc(), &[Value::Nil, Value::True])?;
-        let pair = Kind::Array(Queue::from_vec(items));
-        let second = st.add(Object::new(st.class_object(CoreClass::Array), pair))?;
-        if is_a(st, array, Sort::Array) {
-            st.append(array, &[Value::Obj(first), Value::Obj(second)])?;
-        }
-    }
-    Ok(())
-}
-
-fn run(rt: &HostRuntime, words: usize) -> Result<(), AllocError> {
-    let mut st = Store::new(rt.alloc())?;
-    let array = st.add(Object::new(st.class_object(CoreClass::Array), Kind::Array(Queue::new(rt.alloc()))))?;
-    let contents = HashContents {
-        pairs: PairTable::new(rt.alloc()),
-        default: Value::Nil,
-        block: None,
-    };
-    let kind = Kind::Hash(Boxed::new(rt.alloc(), contents)?);
-    let hash = st.add(Object::new(st.class_object(CoreClass::Hash), kind))?;
-    let text = st.add(Object::new(st.class_object(CoreClass::String), Kind::String(Bytes::new(rt.alloc()))))?;
-    match words {
-        1 => ask(&mut st, array),
-        2 => push(&mut st, array),
-        3 => {
-            push(&mut st, array)?;
-            read(&mut st, array)
-        }
-        4 => {
-            push(&mut st, array)?;
-            set(&mut st, array)
-        }
-        5 => ends(&mut st, array),
-        6 => put(&mut st, hash),
-        7 => {
-            put(&mut st, hash)?;
-            get(&mut st, hash)
-        }
-        8 => append(&mut st, text),
-        9 => variable(&mut st, text),
-        _ => keep(rt, &mut st, array),
-    }
-}
-
-fn main(rt: HostRuntime) -> ExitCode {
-    let count = match env::args(&rt) {
-        Ok(args) => args.count(),
-        Err(_) => 0,
-    };
-    // As many words as the place of the work in its list.
-    match run(&rt, count.saturating_sub(1)) {
-        Ok(()) => ExitCode::SUCCESS,
-        Err(_) => ExitCode::FAILURE,
-    }
-}
-"""
-
-# What is done before the work itself, by its place in the list.
-BEFORE = {"read": "push", "set": "push", "get": "put"}
+LOOP = "w = 0\nwhile w < %d\n  i = 0\n  while i < %d\n%s    i += 1\n  end\n  w += 1\nend\n"
 
 
-def memory(program):
-    """The resident memory of a run with the Strings and Arrays, in bytes for each pair."""
-    subprocess.run([program, *["word"] * (len(WORK) + 1)], check=True)
-    return resource.getrusage(resource.RUSAGE_CHILDREN).ru_maxrss * 1024 / ROUNDS
+def loop(line, times=1, count=ROUNDS):
+    """A loop over so many numbers from 0 on, so many times, with that line in it, or none."""
+    return LOOP % (times, count, f"    {line}\n" if line else "")
 
 
-def main(times):
+ARRAY = "a = []\n" + loop("a << i")
+
+HASH = "h = {}\n" + loop("h[i] = i")
+
+SHORT_HASH = "h = {}\n" + loop("h[i] = i", 1, FEW)
+
+# What is measured, what stands before the loop, the line within it, and how often it goes over how many numbers.
+CHANGES = [
+    ("a << x", "a = []\n", "a << i", (1, ROUNDS)),
+    ("a[i]", ARRAY, "x = a[i]", (5, ROUNDS)),
+    ("a[i] = v", ARRAY, "a[i] = nil", (5, ROUNDS)),
+    ("h[k], of 1,000", SHORT_HASH, "x = h[i]", (5_000, FEW)),
+    ("h[k]", HASH, "x = h[i]", (5, ROUNDS)),
+    ("h[k] = v", HASH, "h[i] = nil", (5, ROUNDS)),
+    ("h[k] = v, a new key", "h = {}\n", "h[i] = i", (1, ROUNDS)),
+    ("s << t", "s = ''\nt = 'text'\n", "s << t", (1, ROUNDS)),
+    ("@x = v", "", "@x = i", (5, ROUNDS)),
+]
+
+OBJECTS = [
+    ("a String of 10 bytes", "a << 'ten bytes!'"),
+    ("an Array of two", "a << [i, i]"),
+]
+
+
+def commands(rite, source, folder):
+    """The commands that run a source's file, RITE's and mruby's."""
+    path, ours, theirs = [os.path.join(folder, name) for name in ("source.rb", "ours.mrb", "theirs.mrb")]
+    with open(path, "w") as file:
+        file.write(source)
+    subprocess.run([rite, "build", path, ours], check=True)
+    subprocess.run(["mrbc", "-o", theirs, path], check=True)
+    return [[rite, "run", ours], ["mruby", "-b", theirs]]
+
+
+def costs(rite, source, times):
+    """The seconds and the greatest memory of a source, with RITE and with mruby."""
     with tempfile.TemporaryDirectory() as folder:
-        program = built(folder, "objects", BELOW, {"src/main.rt": PROGRAM})
-        best = {
-            work: min(seconds([program, *["word"] * (place + 1)]) for _ in range(times))
-            for place, work in enumerate(WORK)
-        }
-        for work in WORK[1:]:
-            time = best[work] - best[BEFORE.get(work, "ask")]
-            print(f"{work}: {time / ROUNDS * 1e9:.1f} ns")
-        print(f"memory of a String and an Array: {memory(program):.0f} bytes")
+        found = [measured(command, times) for command in commands(rite, source, folder)]
+    for _, _, status, said in found:
+        if status != 0:
+            raise SystemExit(f"status {status}: {said}\n{source}")
+    return [(seconds, peak) for seconds, peak, _, _ in found]
 
 
-main(int(sys.argv[1]) if len(sys.argv) > 1 else 3)
+def row(name, ours, theirs, unit):
+    print(f"{name:22}{ours:10.1f}{theirs:10.1f}{ours / theirs:8.2f}  {unit}", flush=True)
+
+
+def main():
+    words = argparse.ArgumentParser(description=__doc__, formatter_class=argparse.RawDescriptionHelpFormatter)
+    words.add_argument("rite")
+    words.add_argument("--times", type=int, default=3)
+    asked = words.parse_args()
+    rite = os.path.abspath(asked.rite)
+    print(f"{'':22}{'rite':>10}{'mruby':>10}{'ratio':>8}")
+    for name, before, line, (times, count) in CHANGES:
+        with_it = costs(rite, before + loop(line, times, count), asked.times)
+        without = costs(rite, before + loop("", times, count), asked.times)
+        row(name, *[(one[0] - other[0]) / (times * count) * 1e9 for one, other in zip(with_it, without)], "ns")
+    empty = costs(rite, "", 1)
+    for name, line in OBJECTS:
+        full = costs(rite, "a = []\n" + loop(line), 1)
+        row(name, *[(one[1] - other[1]) / ROUNDS for one, other in zip(full, empty)], "bytes")
+
+
+if __name__ == "__main__":
+    main()

@@ -1,8 +1,9 @@
-"""A program of its own over some of the crates, built in a folder, and the processor time of its runs."""
+"""A program of its own over some of the crates, built in a folder; the processor time and the memory of runs."""
 import os
 import resource
 import shutil
 import subprocess
+import tempfile
 
 TOP = os.path.join(os.path.dirname(os.path.abspath(__file__)), "..")
 
@@ -39,3 +40,21 @@ def seconds(command):
     before = resource.getrusage(resource.RUSAGE_CHILDREN).ru_utime
     subprocess.run(command, check=True)
     return resource.getrusage(resource.RUSAGE_CHILDREN).ru_utime - before
+
+
+def measured(command, times):
+    """The least processor time of some runs in seconds, the greatest memory in bytes, the status, and what was said.
+
+    A child of this script begins with its memory, one of `time` doesn't: so `time` is asked for the memory.
+    """
+    seconds, peak = [], 0
+    for _ in range(times):
+        with tempfile.NamedTemporaryFile() as told:
+            before = resource.getrusage(resource.RUSAGE_CHILDREN)
+            run = subprocess.run(["time", "-q", "-f", "%M", "-o", told.name, *command], stdin=subprocess.DEVNULL,
+                                 capture_output=True)
+            after = resource.getrusage(resource.RUSAGE_CHILDREN)
+            peak = max(peak, int(told.read()) * 1024)
+        seconds.append(after.ru_utime + after.ru_stime - before.ru_utime - before.ru_stime)
+    said = (run.stdout + run.stderr).decode(errors="replace").strip().split("\n")[0]
+    return min(seconds), peak, run.returncode, said
