@@ -21,29 +21,26 @@ fn symbol(st: &mut Store, name: &[u8]) -> Result<SymId, AllocError>
 }
 
 /// The class or module that a value is.
-#[tactic(auto, using(def_core::proofs::Good::good_below, def_core::proofs::Good::has_role))]
+#[tactic(auto, using(def_core::proofs::Good::has_role))]
 fn class(st: &Store, v: Value) -> Option<ObjId>
     ensures { OptionIs (Is (census st.now.store) ClassOrModule) result }
 {
     let Value::Obj(id) = v else {
         return None;
     };
-    if id.0 >= st.len() {
-        return None;
-    }
-    match st.get(id).kind().sort() {
+    match st.sort(id)? {
         Sort::Class | Sort::Singleton | Sort::Module => Some(id),
         _ => None,
     }
 }
 
 /// The value, where it is one of the store; not told of a Symbol.
-#[tactic(auto, using(def_core::proofs::Good::good_below, def_core::proofs::Good::has_role))]
+#[tactic(auto, using(def_core::proofs::Good::has_role))]
 fn there(st: &Store, v: Value) -> Option<Value>
     ensures { OptionIs (IsValue (census st.now.store)) result }
 {
     match v {
-        Value::Obj(id) if id.0 >= st.len() => None,
+        Value::Obj(id) if !st.has(id) => None,
         Value::Sym(_) => None,
         _ => Some(v),
     }

@@ -78,9 +78,8 @@ fn value_at(values: &[Value], number: usize) -> Value {
 }
 
 /// Whether a value is a String of those bytes.
-#[tactic(auto, using(def_core::proofs::Good::good_below))]
 fn has_text(st: &Store, id: ObjId, text: &[u8]) -> bool {
-    id.0 < st.len() && st.text(id) == text
+    st.has(id) && st.text(id) == text
 }
 
 /// Whether a call gave what it is to. A new value goes behind the others.

@@ -1,4 +1,3 @@
-pub mod Objects
 pub mod Checked
 pub mod Texts
 pub mod Leaving

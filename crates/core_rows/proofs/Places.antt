@@ -1,6 +1,6 @@
 -- The number of a value that is an object of a sort.
 use Rattle.std.proofs.Common.{◌≡◌, ℕ, Bool, true, false, List, refl, ap, if◌then◌else◌}
-use Rattle.std.specs.Prelude.{Option, Some, None, nat_lt, length, ◌&&◌}
+use Rattle.std.specs.Prelude.{Option, Some, None, ◌&&◌}
 use Rattle.std.specs.Cmp.{second_so}
 use Rattle.rb_value.specs.declared.value.Value.{Value}
 use Rattle.rb_value.specs.declared.value.Value.TheVariants.{Nil, True, False, Int, Sym, Obj}
@@ -9,8 +9,8 @@ use Rattle.rb_value.specs.declared.kind.Sort.{Sort}
 use Rattle.rb_value.specs.contracts.kind.SortPartialEq.TheImpl as sorts
 use Rattle.def_core.specs.Store.{Store, sort_at}
 use Rattle.def_core.specs.Parts.{elements_at}
-use Rattle.def_core.specs.Sound.{census, Sound, Any, Is, IsGood, IsValue, AllAre}
-use Rattle.def_core.proofs.Good.{is_good, good_test}
+use Rattle.def_core.specs.Sound.{census, Sound, Any, Is, IsGood, IsValue, AllAre, has_object}
+use Rattle.def_core.proofs.Good.{is_good, good_has}
 use Rattle.rb_store.proofs.Kept as kept
 use Rattle.def_rows.specs.Operands.{is_there, place_of}
 
@@ -30,14 +30,14 @@ by_place st s (Sym n) P is none some = none
 by_place st s (Obj id) P is none some = by (is_there st.objects s id) refl
   where
     by : (b : Bool) → is_there st.objects s id ≡ b → P (if b then Some id else None)
-    by true e = some id refl is (second_so (nat_lt id.0 (length st.objects)) _ e)
+    by true e = some id refl is (second_so (has_object st.objects id) _ e)
     by false e = none
 
 -- an object of the sort has its place
 pub place_there : (st : Store) (s : Sort) (id : ObjId) → IsGood st id → sorts.ghosts.eq (sort_at st.objects id) s ≡ true
     → place_of st.objects s (Obj id) ≡ Some id
 place_there st s id good test =
-    ap (λ (b : Bool). if b then Some id else None) (both_true _ _ (good_test st id good) test)
+    ap (λ (b : Bool). if b then Some id else None) (both_true _ _ (good_has st id good) test)
 
 -- the elements of an Array of a sound store are values of it
 pub elements_are : (st : Store) → Sound st → (id : ObjId) → Is (census st) Any id

@@ -32,7 +32,6 @@ fn class_of_sort(sort: Sort) -> CoreClass
 }
 
 /// The core class whose instances have the contents of the value.
-#[tactic(auto, using(crate::proofs::Objects::no_object))]
 fn kind_class(st: &Store, value: Value) -> CoreClass
     ensures { result ≡ checking.kind_class st.now.store.objects value }
 {
@@ -42,18 +41,14 @@ fn kind_class(st: &Store, value: Value) -> CoreClass
         Value::False => CoreClass::FalseClass,
         Value::Int(_) => CoreClass::Integer,
         Value::Sym(_) => CoreClass::Symbol,
-        Value::Obj(id) => {
-            if id.0 < st.len() {
-                class_of_sort(st.get(id).kind().sort())
-            } else {
-                CoreClass::Object
-            }
-        }
+        Value::Obj(id) => match st.sort(id) {
+            Some(sort) => class_of_sort(sort),
+            None => CoreClass::Object,
+        },
     }
 }
 
 /// The class of a value without its singleton class.
-#[tactic(auto, using(crate::proofs::Objects::no_object))]
 pub fn plain_class(st: &Store, value: Value) -> ObjId
     ensures { result ≡ plain_class_of st.now.store.objects value }
 {
@@ -64,7 +59,7 @@ pub fn plain_class(st: &Store, value: Value) -> ObjId
         Value::Int(_) => st.class_object(CoreClass::Integer),
         Value::Sym(_) => st.class_object(CoreClass::Symbol),
         Value::Obj(id) => {
-            if id.0 < st.len() {
+            if st.has(id) {
                 st.get(id).class()
             } else {
                 ObjId(0)

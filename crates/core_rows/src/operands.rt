@@ -27,7 +27,7 @@ pub fn integer(value: Value) -> i64
 }
 
 /// The number of a value that is an object of the sort.
-#[tactic(auto, using(crate::proofs::Objects::no_object, def_core::proofs::Good::good_below))]
+#[tactic(auto, using(def_core::proofs::Good::good_has))]
 pub fn place_of(st: &Store, sort: Sort, value: Value) -> Option<ObjId>
     ensures place { result ≡ operands.place_of st.now.store.objects sort value }
     ensures there { IfSome result (IsGood st.now.store) }
@@ -36,7 +36,7 @@ pub fn place_of(st: &Store, sort: Sort, value: Value) -> Option<ObjId>
     let Value::Obj(id) = value else {
         return None;
     };
-    if id.0 < st.len() && st.get(id).kind().sort() == sort {
+    if st.has(id) && st.get(id).kind().sort() == sort {
         Some(id)
     } else {
         None

@@ -1,7 +1,8 @@
 -- The laws of good numbers of a store, by which alone the crates above the store know them.
-use Rattle.std.proofs.Common.{◌≡◌, ℕ, ◌+◌, ◌<◌, List, [], ◌∷◌, ◌++◌, length, true, refl, sym, subst, arith, length-append, length-set}
-use Rattle.std.specs.Prelude.{nat_lt}
-use Rattle.std.proofs.lemmas.List.{get_or_append_left}
+use Rattle.std.proofs.Common.{◌≡◌, ℕ, ◌+◌, ◌<◌, ◌≤◌, List, [], ◌∷◌, ◌++◌, length, true, false, refl, ap, sym, ◌∙◌, subst, arith, length-append, length-set, true≢false}
+use Rattle.std.specs.Prelude.{Some, None, slice_get, nat_lt}
+use Rattle.std.proofs.lemmas.List.{get_or_append_left, get_or_past}
+use Rattle.std.proofs.lemmas.Option.{slice_get_past, slice_get-get_or}
 use Rattle.std.proofs.lemmas.Bool.Decides.{nat_tests}
 use Rattle.rb_value.specs.declared.value.ObjId.{ObjId}
 use Rattle.rb_value.specs.declared.kind.Sort.{Sort}
@@ -9,7 +10,8 @@ use Rattle.rb_value.specs.declared.kind.Sort.TheVariants as sort
 use Rattle.rb_value.specs.Object.{Object}
 use Rattle.def_core.specs.Store.{Store, absent, object_at, sort_at, set_object, object_number, next_number, with_object}
 use Rattle.def_core.specs.Parts.{with_objects}
-use Rattle.def_core.specs.Sound.{census, Role, Any, plays, Is, IsGood, SoundObject, Sound, Extends}
+use Rattle.def_core.specs.Sound.{sorts_of, census, Role, Any, plays, has_object, Is, IsGood, SoundObject, Sound, Extends}
+use Rattle.def_core.proofs.Sorts.{sort_at-sorts, length-sorts}
 use Rattle.def_core.proofs.Roles.{is_within, is_by_sort}
 
 any_sort : (s : Sort) → plays Any s ≡ true
@@ -35,10 +37,30 @@ good_within st id good = is_within st Any id good.there
 pub good_below : (st : Store) (id : ObjId) → id.0 < length st.objects → IsGood st id
 good_below st id within = record { there = is_by_sort st Any id within (any_sort _) }
 
-pub good_test : (st : Store) (id : ObjId) → IsGood st id → nat_lt id.0 (length st.objects) ≡ true
-good_test st id good = let within = good_within st id good in grind (arith, nat_tests, within)
+pub sort_found : (st : Store) (id : ObjId) → IsGood st id
+    → slice_get (sorts_of st.objects) id.0 ≡ Some (sort_at st.objects id)
+sort_found st id good =
+    slice_get-get_or (sorts_of st.objects) id.0 sort.Plain (rw length-sorts (good_within st id good))
+    ∙ ap Some (sort_at-sorts st.objects id)
+
+pub none_there : (st : Store) (id : ObjId) → length st.objects ≤ id.0 → slice_get (sorts_of st.objects) id.0 ≡ None
+none_there st id past = slice_get_past (sorts_of st.objects) id.0 (rw length-sorts past)
+
+pub absent_past : (st : Store) (id : ObjId) → length st.objects ≤ id.0 → object_at st.objects id ≡ absent
+absent_past st id past = get_or_past st.objects id.0 absent past
 
 -- For all above it.
+
+-- the store has what is good; what it hasn't reads as nothing
+pub good_has : (st : Store) (id : ObjId) → IsGood st id → has_object st.objects id ≡ true
+good_has st id good = good.there.holds
+
+pub absent_where_none : (st : Store) (id : ObjId) → has_object st.objects id ≡ false → object_at st.objects id ≡ absent
+absent_where_none st id none = elim (nat_lt id.0 (length st.objects)) as
+    (λ b. nat_lt id.0 (length st.objects) ≡ b → object_at st.objects id ≡ absent) [
+      | true ↦ λ within. absurd (true≢false (sym (good_has st id (good_below st id (grind (arith, nat_tests, within)))) ∙ none))
+      | false ↦ λ outside. absent_past st id (grind (arith, nat_tests, outside))
+    ] refl
 
 -- what has a role is good
 pub is_good : (st : Store) (r : Role) (id : ObjId) → Is (census st) r id → IsGood st id

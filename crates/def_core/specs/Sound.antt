@@ -195,6 +195,10 @@ abbrev pub plays_at : Role → Option Sort → Bool
 plays_at r None = false
 plays_at r (Some s) = plays r s
 
+-- whether an object of that number stands in the list
+abbrev pub has_object : List Object → ObjId → Bool
+has_object objects id = plays_at Any (slice_get (sorts_of objects) id.0)
+
 -- the object is there and has the role
 pub record Is (k : Census) (r : Role) (id : ObjId) : Type 0 where
   pub holds : plays_at r (slice_get k.sorts id.0) ≡ true

@@ -8,6 +8,7 @@ use Rattle.rb_value.specs.declared.kind.Sort.TheVariants as sort
 use Rattle.rb_value.specs.contracts.kind.SortPartialEq.TheImpl as sorts
 use Rattle.rb_value.specs.Object.{Object}
 use Rattle.def_core.specs.Store.{sort_at}
+use Rattle.def_core.specs.Sound.{has_object}
 use Rattle.def_core.specs.Parts.{elements_at, text_at}
 
 abbrev pub argument : List Value → ℕ → Value
@@ -23,7 +24,7 @@ integer (Obj id) = pos 0
 
 -- whether there is an object of that number and sort
 abbrev pub is_there : List Object → Sort → ObjId → Bool
-is_there objects s id = nat_lt id.0 (length objects) && sorts.ghosts.eq (sort_at objects id) s
+is_there objects s id = has_object objects id && sorts.ghosts.eq (sort_at objects id) s
 
 -- the number of a value that is an object of the sort
 abbrev pub place_of : List Object → Sort → Value → Option ObjId

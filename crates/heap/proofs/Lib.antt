@@ -1,4 +1,3 @@
 pub mod Whole
 pub mod Fresh
 pub mod Scanned
-pub mod Outside

@@ -5,8 +5,8 @@ use Rattle.rb_value.specs.declared.value.Value.{Value}
 use Rattle.rb_value.specs.declared.value.Value.TheVariants.{Nil, True, False, Int, Sym, Obj}
 use Rattle.rb_value.specs.declared.key.KeyPart.{KeyPart}
 use Rattle.def_core.specs.Store.{Store}
-use Rattle.def_core.specs.Sound.{Census, IsValue, SoundPart, AllAre}
-use Rattle.heap.specs.Operands.{own, has, has_all, has_object, has_symbol}
+use Rattle.def_core.specs.Sound.{Census, IsValue, SoundPart, AllAre, has_object}
+use Rattle.heap.specs.Operands.{own, has, has_all, has_symbol}
 
 pub one_more : (k : Census) (vs : List Value) (n : ℕ) (v : Value) → AllAre (IsValue k) (take n vs) → n < length vs
     → slice_index_or vs n Nil ≡ v → IsValue k v → AllAre (IsValue k) (take (suc n) vs)
@@ -36,7 +36,7 @@ has_own st v = elim v as (λ (x : Value). own st x ≡ x → has st x ≡ true) 
     | true ↦ λ _. refl
     | false ↦ λ e. cc
   ]
-  | Obj id ↦ elim (has_object st id) as (λ (b : Bool). (if b then Obj id else Nil) ≡ Obj id → b ≡ true) [
+  | Obj id ↦ elim (has_object st.objects id) as (λ (b : Bool). (if b then Obj id else Nil) ≡ Obj id → b ≡ true) [
     | true ↦ λ _. refl
     | false ↦ λ e. cc
   ]

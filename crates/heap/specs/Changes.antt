@@ -7,10 +7,11 @@ use Rattle.rb_value.specs.declared.hash.HashContents.{HashContents}
 use Rattle.rb_value.specs.declared.kind.Kind.TheVariants as kind
 use Rattle.rb_value.specs.Object.{Object}
 use Rattle.def_core.specs.Store.{Store, object_at, sort_at}
+use Rattle.def_core.specs.Sound.{has_object}
 use Rattle.def_core.specs.Parts as parts
 use Rattle.def_calls.specs.Values.{key_of}
 use Rattle.rb_store.specs.Held.{Held}
-use Rattle.heap.specs.Operands.{own, own_block, has_object, has_all, is_array, is_string, is_hash, is_fiber, is_exception}
+use Rattle.heap.specs.Operands.{own, own_block, has_all, is_array, is_string, is_hash, is_fiber, is_exception}
 
 abbrev pub with_objects : Held → List Object → Held
 with_objects held objects = record held { store = parts.with_objects held.store objects }
@@ -101,7 +102,7 @@ with_absent held id default block = where_hash held id
 -- Procs, fibers and exceptions.
 
 abbrev pub with_sent : Held → ObjId → Option ℕ → Held
-with_sent held id activation = if has_object held.store id
+with_sent held id activation = if has_object held.store.objects id
     then with_objects held (parts.with_sent held.store.objects id activation) else held
 
 abbrev pub with_ended : Held → ObjId → Held

@@ -1,5 +1,5 @@
 -- What the operands of a call count as.
-use Rattle.std.specs.Prelude.{length, List, [], ◌∷◌, Bool, true, false, nat_lt, slice_get, ◌&&◌, if◌then◌else◌, Option, Some, None}
+use Rattle.std.specs.Prelude.{length, List, [], ◌∷◌, Bool, true, false, nat_lt, ◌&&◌, if◌then◌else◌, Option, Some, None}
 use Rattle.rb_value.specs.declared.value.Value.{Value}
 use Rattle.rb_value.specs.declared.value.Value.TheVariants.{Nil, True, False, Int, Sym, Obj}
 use Rattle.rb_value.specs.declared.value.ObjId.{ObjId}
@@ -7,12 +7,9 @@ use Rattle.rb_value.specs.declared.value.SymId.{SymId}
 use Rattle.rb_value.specs.declared.kind.Sort.{Sort}
 use Rattle.rb_value.specs.declared.kind.Sort.TheVariants as sort
 use Rattle.def_core.specs.Store.{Store, sort_at}
-use Rattle.def_core.specs.Sound.{census, Any, Proc, ClassOrModule, plays, plays_at}
+use Rattle.def_core.specs.Sound.{Proc, ClassOrModule, plays, has_object}
 
--- whether the store has an object, a symbol of that number, what a value names
-abbrev pub has_object : Store → ObjId → Bool
-has_object st id = plays_at Any (slice_get (census st).sorts id.0)
-
+-- whether the store has a symbol of that number, what a value names
 abbrev pub has_symbol : Store → SymId → Bool
 has_symbol st name = nat_lt name.0 (length st.symbols)
 
@@ -26,7 +23,7 @@ has st True = true
 has st False = true
 has st (Int n) = true
 has st (Sym name) = has_symbol st name
-has st (Obj id) = has_object st id
+has st (Obj id) = has_object st.objects id
 
 abbrev pub has_all : Store → List Value → Bool
 has_all st [] = true

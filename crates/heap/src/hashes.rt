@@ -93,7 +93,7 @@ pub(crate) fn clear_pairs(st: &mut Store, id: ObjId) -> Result<(), AllocError>
 }
 
 /// What an absent key of a Hash gives, and the Proc that is called for it.
-#[tactic(auto, using(def_core::proofs::Good::is_good, crate::proofs::Outside::absent_there))]
+#[tactic(auto, using(def_core::proofs::Good::is_good, def_core::proofs::Good::absent_where_none))]
 pub(crate) fn absent_of(st: &Store, id: ObjId) -> (Value, Option<ObjId>)
     ensures default { result.0 ≡ (hash_at st.now.store.objects id).default }
     ensures block { result.1 ≡ (hash_at st.now.store.objects id).block }

@@ -1,6 +1,7 @@
 //! What objects hold.
 ghost use Rattle.std.specs.Prelude.{◌≡◌, [], length, false, slice_get, option_map, MatchOption, if◌then◌else◌};
 ghost use Rattle.def_core.specs.Store.{object_at, name_at};
+ghost use Rattle.def_core.specs.Sound.{has_object};
 ghost use Rattle.def_core.specs.Parts as parts;
 ghost use Rattle.heap.specs.Operands as operands;
 
@@ -17,7 +18,7 @@ impl Heap {
     #[inline(always)]
     #[tactic(auto, using(def_core::proofs::Good::is_good))]
     pub fn kind(&self, id: ObjId) -> Option<&Kind>
-        ensures { MatchOption result (operands.has_object self.now.store id ≡ false)
+        ensures { MatchOption result (has_object self.now.store.objects id ≡ false)
             (λ kind. kind.now ≡ (object_at self.now.store.objects id).kind) }
     {
         let id = object(&self.st, id)?;
@@ -82,7 +83,7 @@ impl Heap {
 
     /// The elements of an Array; none of another object.
     #[inline(always)]
-    #[tactic(auto, using(def_core::proofs::Good::is_good, crate::proofs::Outside::absent_there))]
+    #[tactic(auto, using(def_core::proofs::Good::is_good, def_core::proofs::Good::absent_where_none))]
     pub fn elements(&self, id: ObjId) -> &[Value]
         ensures { result.now ≡ parts.elements_at self.now.store.objects id }
     {
@@ -99,7 +100,7 @@ impl Heap {
     }
 
     /// The bytes of a String; none of another object.
-    #[tactic(auto, using(def_core::proofs::Good::is_good, crate::proofs::Outside::absent_there))]
+    #[tactic(auto, using(def_core::proofs::Good::is_good, def_core::proofs::Good::absent_where_none))]
     pub fn text(&self, id: ObjId) -> &[u8]
         ensures { result.now ≡ parts.text_at self.now.store.objects id }
     {
@@ -202,7 +203,7 @@ impl Heap {
     }
 
     /// How many pairs a Hash has; none of another object.
-    #[tactic(auto, using(def_core::proofs::Good::is_good, crate::proofs::Outside::absent_there))]
+    #[tactic(auto, using(def_core::proofs::Good::is_good, def_core::proofs::Good::absent_where_none))]
     pub fn pair_count(&self, id: ObjId) -> usize
         ensures { result ≡ length (parts.hash_at self.now.store.objects id).pairs }
     {
@@ -213,7 +214,7 @@ impl Heap {
     }
 
     /// The pair at a place of a Hash.
-    #[tactic(auto, using(def_core::proofs::Good::is_good, crate::proofs::Outside::absent_there))]
+    #[tactic(auto, using(def_core::proofs::Good::is_good, def_core::proofs::Good::absent_where_none))]
     pub fn pair_at(&self, id: ObjId, place: usize) -> Option<HashItem>
         ensures { result ≡ option_map (λ p. p.1) (slice_get (parts.hash_at self.now.store.objects id).pairs place) }
     {
@@ -222,7 +223,7 @@ impl Heap {
     }
 
     /// What stands under a key of a Hash.
-    #[tactic(auto, using(def_core::proofs::Good::is_good, crate::proofs::Outside::absent_there))]
+    #[tactic(auto, using(def_core::proofs::Good::is_good, def_core::proofs::Good::absent_where_none))]
     pub fn pair(&self, id: ObjId, key: &Key) -> Option<HashItem>
         ensures { result ≡ parts.pair_of self.now.store.objects id key.now }
     {
@@ -239,7 +240,7 @@ impl Heap {
     }
 
     /// The instance variables of an object, in the order in which they were first set.
-    #[tactic(auto, using(def_core::proofs::Good::is_good, crate::proofs::Outside::absent_there))]
+    #[tactic(auto, using(def_core::proofs::Good::is_good, def_core::proofs::Good::absent_where_none))]
     pub fn variables(&self, id: ObjId) -> &[Variable]
         ensures { result.now ≡ (object_at self.now.store.objects id).variables }
     {
@@ -250,7 +251,7 @@ impl Heap {
     }
 
     /// The value of an instance variable of an object, where it was set.
-    #[tactic(auto, using(def_core::proofs::Good::is_good, crate::proofs::Outside::absent_there))]
+    #[tactic(auto, using(def_core::proofs::Good::is_good, def_core::proofs::Good::absent_where_none))]
     pub fn variable(&self, id: ObjId, name: SymId) -> Option<Value>
         ensures { result ≡ parts.variable_of self.now.store.objects id name }
     {

@@ -2,7 +2,7 @@
 ghost use Rattle.std.specs.Prelude.{◌≡◌, true, false, IfSome, MatchOption};
 ghost use Rattle.rb_value.specs.declared.kind.Sort.TheVariants as sorts;
 ghost use Rattle.def_core.specs.Store.{sort_at};
-ghost use Rattle.def_core.specs.Sound.{census, plays, Is, IsGood, Any, Class, ClassOrModule, Module, Proc, Array, String, Fiber, IsSymbol, IsValue, OptionIs, AllAre, Sound, SoundMethod, SoundProc};
+ghost use Rattle.def_core.specs.Sound.{census, has_object, plays, Is, IsGood, Any, Class, ClassOrModule, Module, Proc, Array, String, Fiber, IsSymbol, IsValue, OptionIs, AllAre, Sound, SoundMethod, SoundProc};
 ghost use Rattle.rb_raise.specs.Causes.{SoundCause};
 ghost use Rattle.heap.specs.Operands as operands;
 
@@ -12,7 +12,7 @@ use rb_value::{CoreClass, Method, ObjId, ProcContents, Sort, SymId, Value};
 
 /// The value, or nil where it names nothing of the store.
 #[inline(always)]
-#[tactic(auto, using(def_core::proofs::Good::good_below, def_core::proofs::Good::has_role))]
+#[tactic(auto, using(def_core::proofs::Good::has_role))]
 pub(crate) fn own(st: &Store, value: Value) -> Value
     ensures belongs { IsValue (census st.now.store) result }
     ensures own { result ≡ operands.own st.now.store value }
@@ -32,14 +32,14 @@ pub(crate) fn own(st: &Store, value: Value) -> Value
 
 /// The object, where the store has one of that number.
 #[inline(always)]
-#[tactic(auto, using(def_core::proofs::Good::good_below, def_core::proofs::Good::has_role, crate::proofs::Outside::none_outside, crate::proofs::Outside::one_there))]
+#[tactic(auto, using(def_core::proofs::Good::has_role))]
 pub(crate) fn object(st: &Store, id: ObjId) -> Option<ObjId>
     ensures there { OptionIs (Is (census st.now.store) Any) result }
     ensures within { IfSome result (IsGood st.now.store) }
-    ensures found { MatchOption result (operands.has_object st.now.store id ≡ false)
-        (λ found. (found ≡ id) × (operands.has_object st.now.store id ≡ true)) }
+    ensures found { MatchOption result (has_object st.now.store.objects id ≡ false)
+        (λ found. (found ≡ id) × (has_object st.now.store.objects id ≡ true)) }
 {
-    if id.0 < st.len() { Some(id) } else { None }
+    if st.has(id) { Some(id) } else { None }
 }
 
 /// The symbol, where the store has one of that number.
@@ -58,30 +58,24 @@ pub(crate) fn symbol(st: &Store, name: SymId) -> Option<SymId>
 
 /// The class or module of that number.
 #[inline(always)]
-#[tactic(auto, using(def_core::proofs::Good::good_below, def_core::proofs::Good::has_role, crate::proofs::Outside::sort_outside))]
+#[tactic(auto, using(def_core::proofs::Good::has_role))]
 pub(crate) fn space(st: &Store, id: ObjId) -> Option<ObjId>
     ensures there { OptionIs (Is (census st.now.store) ClassOrModule) result }
     ensures found { MatchOption result (operands.has_space st.now.store id ≡ false)
         (λ found. (found ≡ id) × (operands.has_space st.now.store id ≡ true)) }
 {
-    if id.0 >= st.len() {
-        return None;
-    }
-    match st.get(id).kind().sort() {
+    match st.sort(id)? {
         Sort::Class | Sort::Singleton | Sort::Module => Some(id),
         _ => None,
     }
 }
 
 /// The class of that number, which is no singleton class.
-#[tactic(auto, using(def_core::proofs::Good::good_below, def_core::proofs::Good::has_role))]
+#[tactic(auto, using(def_core::proofs::Good::has_role))]
 pub(crate) fn class(st: &Store, id: ObjId) -> Option<ObjId>
     ensures { OptionIs (Is (census st.now.store) Class) result }
 {
-    if id.0 >= st.len() {
-        return None;
-    }
-    match st.get(id).kind().sort() {
+    match st.sort(id)? {
         Sort::Class => Some(id),
         _ => None,
     }
@@ -101,16 +95,13 @@ pub(crate) fn class_or_object(st: &Store, id: ObjId) -> ObjId
 
 /// The Proc of that number.
 #[inline(always)]
-#[tactic(auto, using(def_core::proofs::Good::good_below, def_core::proofs::Good::has_role, crate::proofs::Outside::sort_outside))]
+#[tactic(auto, using(def_core::proofs::Good::has_role))]
 pub(crate) fn proc(st: &Store, id: ObjId) -> Option<ObjId>
     ensures there { OptionIs (Is (census st.now.store) Proc) result }
     ensures found { MatchOption result (plays Proc (sort_at st.now.store.objects id) ≡ false)
         (λ found. (found ≡ id) × (plays Proc (sort_at st.now.store.objects id) ≡ true)) }
 {
-    if id.0 >= st.len() {
-        return None;
-    }
-    match st.get(id).kind().sort() {
+    match st.sort(id)? {
         Sort::Proc => Some(id),
         _ => None,
     }
@@ -129,83 +120,66 @@ pub(crate) fn block(st: &Store, block: Option<ObjId>) -> Option<ObjId>
 }
 
 /// The Array of that number.
-#[tactic(auto, using(def_core::proofs::Good::good_below, def_core::proofs::Good::has_role, crate::proofs::Outside::sort_outside))]
+#[tactic(auto, using(def_core::proofs::Good::has_role))]
 pub(crate) fn array(st: &Store, id: ObjId) -> Option<ObjId>
     ensures there { OptionIs (Is (census st.now.store) Array) result }
     ensures sort { IfSome result (λ id. sort_at st.now.store.objects id ≡ sorts.Array) }
     ensures found { MatchOption result (operands.is_array (sort_at st.now.store.objects id) ≡ false)
         (λ found. found ≡ id) }
 {
-    if id.0 >= st.len() {
-        return None;
-    }
-    match st.get(id).kind().sort() {
+    match st.sort(id)? {
         Sort::Array => Some(id),
         _ => None,
     }
 }
 
 /// The fiber of that number.
-#[tactic(auto, using(def_core::proofs::Good::good_below, def_core::proofs::Good::has_role, crate::proofs::Outside::sort_outside))]
+#[tactic(auto, using(def_core::proofs::Good::has_role))]
 pub(crate) fn fiber(st: &Store, id: ObjId) -> Option<ObjId>
     ensures there { OptionIs (Is (census st.now.store) Fiber) result }
     ensures sort { IfSome result (λ id. sort_at st.now.store.objects id ≡ sorts.Fiber) }
     ensures found { MatchOption result (operands.is_fiber (sort_at st.now.store.objects id) ≡ false)
         (λ found. found ≡ id) }
 {
-    if id.0 >= st.len() {
-        return None;
-    }
-    match st.get(id).kind().sort() {
+    match st.sort(id)? {
         Sort::Fiber => Some(id),
         _ => None,
     }
 }
 
 /// The Hash of that number.
-#[tactic(auto, using(def_core::proofs::Good::good_below, def_core::proofs::Good::has_role, crate::proofs::Outside::sort_outside))]
+#[tactic(auto, using(def_core::proofs::Good::has_role))]
 pub(crate) fn hash(st: &Store, id: ObjId) -> Option<ObjId>
     ensures there { IfSome result (IsGood st.now.store) }
     ensures sort { IfSome result (λ id. sort_at st.now.store.objects id ≡ sorts.Hash) }
     ensures found { MatchOption result (operands.is_hash (sort_at st.now.store.objects id) ≡ false)
         (λ found. found ≡ id) }
 {
-    if id.0 >= st.len() {
-        return None;
-    }
-    match st.get(id).kind().sort() {
+    match st.sort(id)? {
         Sort::Hash => Some(id),
         _ => None,
     }
 }
 
 /// The exception of that number.
-#[tactic(auto, using(def_core::proofs::Good::good_below, crate::proofs::Outside::sort_outside))]
 pub(crate) fn exception(st: &Store, id: ObjId) -> Option<ObjId>
     ensures there { IfSome result (IsGood st.now.store) }
     ensures sort { IfSome result (λ id. sort_at st.now.store.objects id ≡ sorts.Exception) }
     ensures found { MatchOption result (operands.is_exception (sort_at st.now.store.objects id) ≡ false)
         (λ found. found ≡ id) }
 {
-    if id.0 >= st.len() {
-        return None;
-    }
-    match st.get(id).kind().sort() {
+    match st.sort(id)? {
         Sort::Exception => Some(id),
         _ => None,
     }
 }
 
 /// The Enumerator of that number.
-#[tactic(auto, using(def_core::proofs::Good::good_below))]
 pub(crate) fn enumerator(st: &Store, id: ObjId) -> Option<ObjId>
     ensures there { IfSome result (IsGood st.now.store) }
     ensures sort { IfSome result (λ id. sort_at st.now.store.objects id ≡ sorts.Enumerator) }
 {
-    if id.0 >= st.len() {
-        return None;
-    }
-    match st.get(id).kind().sort() {
+    match st.sort(id)? {
         Sort::Enumerator => Some(id),
         _ => None,
     }
@@ -258,17 +232,14 @@ fn both(st: &Store, left: ObjId, right: ObjId) -> Option<(ObjId, ObjId)>
 }
 
 /// The String of that number.
-#[tactic(auto, using(def_core::proofs::Good::good_below, def_core::proofs::Good::has_role, crate::proofs::Outside::sort_outside))]
+#[tactic(auto, using(def_core::proofs::Good::has_role))]
 pub(crate) fn string(st: &Store, id: ObjId) -> Option<ObjId>
     ensures there { OptionIs (Is (census st.now.store) String) result }
     ensures sort { IfSome result (λ id. sort_at st.now.store.objects id ≡ sorts.String) }
     ensures found { MatchOption result (operands.is_string (sort_at st.now.store.objects id) ≡ false)
         (λ found. found ≡ id) }
 {
-    if id.0 >= st.len() {
-        return None;
-    }
-    match st.get(id).kind().sort() {
+    match st.sort(id)? {
         Sort::String => Some(id),
         _ => None,
     }

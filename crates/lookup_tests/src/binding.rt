@@ -159,10 +159,9 @@ fn numbers(count: usize) -> &'static [Value]
 }
 
 /// Whether a value is an Array of these elements.
-#[tactic(auto, using(def_core::proofs::Good::good_below))]
 fn is_array(st: &Store, value: Value, elements: &[Value]) -> bool {
     match value {
-        Value::Obj(id) => id.0 < st.len() && st.elements(id) == elements,
+        Value::Obj(id) => st.has(id) && st.elements(id) == elements,
         _ => false,
     }
 }

@@ -1,10 +1,10 @@
-ghost use Rattle.std.specs.Prelude.{◌≡◌, ◌<◌, ◌^◌, ◌++◌, length, IfOk, OnOk, OnErr};
+ghost use Rattle.std.specs.Prelude.{◌≡◌, ◌<◌, ◌^◌, ◌++◌, length, true, false, slice_get, IfOk, OnOk, OnErr, IfSome, MatchOption};
 ghost use Rattle.rb_value.specs.CoreClass.{number_of};
 ghost use Rattle.rb_value.specs.Sort.{sort_of};
-ghost use Rattle.def_core.specs.Store.{object_at, sort_at, set_object, with_object, next_number, name_at, core};
+ghost use Rattle.def_core.specs.Store.{absent, object_at, sort_at, set_object, with_object, next_number, name_at, core};
 ghost use Rattle.def_core.specs.Changes as defined;
 ghost use Rattle.def_core.specs.Parts.{with_objects};
-ghost use Rattle.def_core.specs.Sound.{Sound, SoundObject, SoundFrom, census, IsGood};
+ghost use Rattle.def_core.specs.Sound.{Sound, SoundObject, SoundFrom, census, has_object, IsGood};
 ghost use Rattle.rb_store.specs.Keeps.{Keeps};
 ghost use Rattle.rb_store.specs.Held.{changes_after};
 ghost use Rattle.rb_store.specs.Counted.{IsCounted};
@@ -68,6 +68,33 @@ impl Store {
         ensures { result ≡ self.now.changes }
     {
         self.changes
+    }
+
+    /// The sort of the object of that number. None where none stands there.
+    #[inline(always)]
+    #[tactic(auto, using(def_core::proofs::Good::good_below, def_core::proofs::Good::sort_found, def_core::proofs::Good::none_there, def_core::proofs::Good::absent_past))]
+    pub fn sort(&self, id: ObjId) -> Option<Sort>
+        ensures sort { result ≡ slice_get (census self.now.store).sorts id.0 }
+        ensures good { IfSome result (λ sort. IsGood self.now.store id) }
+        ensures read { MatchOption result (object_at self.now.store.objects id ≡ absent)
+            (λ sort. sort_at self.now.store.objects id ≡ sort) }
+    {
+        if id.0 < self.len() {
+            Some(self.get(id).kind().sort())
+        } else {
+            None
+        }
+    }
+
+    /// Whether an object of that number stands there.
+    #[inline(always)]
+    #[tactic(auto, using(def_core::proofs::Good::good_has))]
+    pub fn has(&self, id: ObjId) -> bool
+        ensures there { result ≡ has_object self.now.store.objects id }
+        ensures good { result ≡ true → IsGood self.now.store id }
+        ensures none { result ≡ false → object_at self.now.store.objects id ≡ absent }
+    {
+        self.sort(id).is_some()
     }
 
     /// The object of that number.

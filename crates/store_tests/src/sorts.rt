@@ -7,11 +7,10 @@ use rb_store::Store;
 use rb_value::{ObjId, Sort};
 
 /// Whether the number is that of an object.
-#[tactic(auto, using(def_core::proofs::Good::good_below))]
 pub(crate) fn is_there(st: &Store, id: ObjId) -> bool
     ensures { result ≡ true → IsGood st.now.store id }
 {
-    id.0 < st.len()
+    st.has(id)
 }
 
 /// Whether the number is that of an object of the sort.

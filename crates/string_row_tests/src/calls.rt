@@ -64,14 +64,14 @@ const RANGE: Value = Obj(ObjId(15));
 const NEW_RANGE: u16 = 31 * 256;
 
 /// Whether the value is one of the store; not told of a Symbol.
-#[tactic(auto, using(def_core::proofs::Good::good_below, def_core::proofs::Good::has_role))]
+#[tactic(auto, using(def_core::proofs::Good::has_role))]
 fn is_value(st: &Store, value: Value) -> bool
     ensures { result ≡ true → IsValue (census st.now.store) value }
 {
     match value {
         Nil | True | False | Int(_) => true,
         Sym(_) => false,
-        Obj(id) => id.0 < st.len(),
+        Obj(id) => st.has(id),
     }
 }
 
