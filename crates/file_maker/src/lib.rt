@@ -3,15 +3,17 @@
 //! What becomes of a text, and why bytes are refused, stands in specs/Making.antt. That the code means what the source
 //! means isn't said here. What is stored and loaded stands in specs/Storing.antt.
 //!
-//! Types: [`Made`], [`NotMade`]. Calls: [`make_file`], [`check_file`]; [`store_file`], [`load_file`].
+//! Types: [`Made`], [`NotMade`]; trait [`OfFiles`]. Calls: [`make_file`], [`check_file`]; [`store_file`], [`load_file`].
 #![tactic(auto)]
 
 mod checking;
+pub mod disk;
 mod made;
 mod making;
 mod storing;
 
 pub use checking::check_file;
+pub use disk::OfFiles;
 pub use made::Made;
 pub use making::make_file;
-pub use storing::{NotMade, load_file, store_file};
+pub use storing::{FILE_LIMIT, NotMade, SOURCE_LIMIT, load_file, store_file};

@@ -1,8 +1,8 @@
 //! Files of code that are stored and loaded.
-ghost use Rattle.std.specs.Prelude.{◌≡◌, ◌≢◌, ℕ, List};
 ghost use Rattle.file_maker.specs.Storing.{Stores, Loads};
 
 use crate::checking::check_file;
+use crate::disk::OfFiles;
 use crate::made::Made;
 use crate::making::make_file;
 use code_verifier::Verified;
@@ -10,11 +10,11 @@ use rb_base::{FileError, Files};
 use rb_refusal::Refusal;
 use std::alloc::{AllocError, Global};
 
-// One byte more than the longest source has.
-const SOURCE_LIMIT: usize = 16_777_217;
+/// One byte more than the longest source has.
+pub const SOURCE_LIMIT: usize = 16_777_217;
 
-// One byte more than the longest file has.
-const FILE_LIMIT: usize = 4_294_967_296;
+/// One byte more than the longest file has.
+pub const FILE_LIMIT: usize = 4_294_967_296;
 
 /// Why there is no code: the source or the file is refused, a file can't be read or written, or memory ran out.
 #[derive(Clone, Copy, Debug, PartialEq, Eq)]
@@ -24,18 +24,16 @@ pub enum NotMade {
     NoMemory,
 }
 
-/// Stores the file of the source in the file `source` in the file `file`, and gives its code. Nothing where the source
-/// goes the first path, or can't be read. Every other file is as before.
+/// Stores the file of the source in the file `source` in the file `file`, and gives its code. None where the source goes
+/// the first path, or can't be read. Every other file is as before, and `file` too where nothing is stored; only where the
+/// store fails is it unknown.
 pub fn store_file<F: Files>(
     alloc: Global,
     files: &mut F,
     source: &str,
     file: &str,
 ) -> Option<Result<Verified, NotMade>>
-    ensures made { Stores (⟦<F as Files>⟧.tells files.old) (⟦<F as Files>⟧.file files.old source.now)
-        (⟦<F as Files>⟧.file files.new file.now) result }
-    ensures others { (other : List ℕ) → other ≢ file.now →
-        ⟦<F as Files>⟧.file files.new other ≡ ⟦<F as Files>⟧.file files.old other }
+    ensures { Stores (⟦<F as OfFiles>⟧.told files.old) (⟦<F as OfFiles>⟧.told files.new) source.now file.now result }
 {
     let Ok(text) = files.load(alloc, source, SOURCE_LIMIT) else {
         return None;
@@ -53,8 +51,7 @@ pub fn store_file<F: Files>(
 
 /// The code of the file `file`. Every file is as before.
 pub fn load_file<F: Files>(alloc: Global, files: &mut F, file: &str) -> Result<Verified, NotMade>
-    ensures loaded { Loads (⟦<F as Files>⟧.tells files.old) (⟦<F as Files>⟧.file files.old file.now) result }
-    ensures others { (other : List ℕ) → ⟦<F as Files>⟧.file files.new other ≡ ⟦<F as Files>⟧.file files.old other }
+    ensures { Loads (⟦<F as OfFiles>⟧.told files.old) (⟦<F as OfFiles>⟧.told files.new) file.now result }
 {
     let bytes = match files.load(alloc, file, FILE_LIMIT) {
         Ok(bytes) => bytes,

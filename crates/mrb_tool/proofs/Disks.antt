@@ -1,7 +1,7 @@
 -- What files and streams tell, from the members of their bounds.
 use Rattle.std.proofs.Common.{ℕ, List, Option, Bool}
 use Rattle.rb_refusal.specs.Writing.{Stream}
-use Rattle.mrb_tool.specs.Told.{Disk}
+use Rattle.file_maker.specs.Disk.{Disk}
 
 abbrev pub disk : {F : Type 0} → (F → Bool) → (F → List ℕ → Option (List ℕ)) → (F → List ℕ → ℕ) → (F → List ℕ → ℕ) → F
     → Disk

@@ -8,7 +8,7 @@ use Rattle.rite_file.specs.Loaded.{loaded}
 use Rattle.code_listing.specs.Listing.{listing_of}
 use Rattle.rb_base.specs.declared.outside.Failed.{Failed}
 use Rattle.rb_refusal.specs.Writing.{Stream, Says}
-use Rattle.mrb_tool.specs.Told.{Disk}
+use Rattle.file_maker.specs.Disk.{Disk}
 use Rattle.mrb_tool.specs.Showing.{NotRead, Loads, Shows, listed}
 use Rattle.mrb_tool.specs.declared.stop.Stop.{Stop}
 use Rattle.mrb_tool.specs.declared.stop.Stop.TheVariants.{Refused, FileFault, NoMemory}

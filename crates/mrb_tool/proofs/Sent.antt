@@ -12,7 +12,7 @@ use Rattle.path_machine.specs.declared.ran.RunFault.TheVariants.{OutputFault, No
 use Rattle.rb_refusal.specs.Writing.{Stream, Says}
 use Rattle.mrb_tool.specs.Answer.{Reports}
 use Rattle.mrb_tool.specs.Running.{Runs}
-use Rattle.mrb_tool.specs.Told.{Disk}
+use Rattle.file_maker.specs.Disk.{Disk}
 use Rattle.mrb_tool.specs.Words.{Command, build, exec, list, info}
 use Rattle.mrb_tool.specs.declared.report.Report.TheVariants.{Ran as Run, Shown}
 

@@ -2,8 +2,9 @@
 use Rattle.std.proofs.Common.{◌≡◌, ℕ, List, sym, ◌∙◌, subst, inr, Result, Ok, Err}
 use Rattle.rb_base.specs.Outside.{Rose}
 use Rattle.rite_code.specs.Code.{Program}
-use Rattle.mrb_tool.specs.Told.{Disk, Untouched}
-use Rattle.mrb_tool.specs.Making.{IsSource, Encodes, Built, NotMade, Stores, Builds}
+use Rattle.file_maker.specs.Disk.{Disk, Untouched}
+use Rattle.file_maker.specs.Storing.{IsSource}
+use Rattle.mrb_tool.specs.Making.{Encodes, Built, NotMade, Stores, Builds}
 use Rattle.mrb_tool.specs.declared.stop.Stop.{Stop}
 
 -- what was prepared and then stored was built

@@ -6,7 +6,8 @@ use Rattle.path_machine.specs.declared.ran.RunFault.{RunFault}
 use Rattle.code_listing.specs.Info.{info_of}
 use Rattle.rb_refusal.specs.Writing.{Stream}
 use Rattle.mrb_tool.specs.Words.{Command, build, exec, list, info}
-use Rattle.mrb_tool.specs.Told.{Disk, Told, Untouched, Silent}
+use Rattle.file_maker.specs.Disk.{Disk, Untouched}
+use Rattle.mrb_tool.specs.Told.{Told, Silent}
 use Rattle.mrb_tool.specs.Making.{Builds}
 use Rattle.mrb_tool.specs.Running.{Execs}
 use Rattle.mrb_tool.specs.Showing.{Shows, listed}

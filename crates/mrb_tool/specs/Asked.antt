@@ -1,6 +1,7 @@
 -- The command that a value of the program stands for.
 use Rattle.std.specs.Prelude.{Option, Some, None}
 use Rattle.mrb_tool.specs.declared.words.Command.{Command}
+use Rattle.mrb_tool.specs.declared.words.Run.{Run}
 use Rattle.mrb_tool.specs.declared.words.Command.TheVariants as commands
 use Rattle.mrb_tool.specs.Words as words
 
@@ -13,3 +14,10 @@ command_meant (commands.Info file) = words.info file.now
 abbrev pub asked : Option Command → Option words.Command
 asked None = None
 asked (Some c) = Some (command_meant c)
+
+abbrev pub run_meant : Run → words.Run
+run_meant r = record { steps = r.steps; counts = r.counts; file = r.file.now }
+
+abbrev pub run_asked : Option Run → Option words.Run
+run_asked None = None
+run_asked (Some r) = Some (run_meant r)

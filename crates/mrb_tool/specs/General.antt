@@ -1,12 +1,19 @@
--- What building and executing a source of the second path answer.
-use Rattle.std.specs.Prelude.{◌≡◌, ◌⊎◌, ℕ, List, Bool, Option, Result, Ok, Err}
-use Rattle.rb_base.specs.declared.outside.Failed.{Failed}
-use Rattle.rb_exec.specs.Built.{HasFile, IsRefused}
+-- What building, executing and running on the general path do, and what is told of it.
+use Rattle.std.specs.Prelude.{◌≡◌, ℕ, List, [], ◌++◌, codes, decimal, Bool, true, false, if◌then◌else◌, Option, Some, None}
+use Rattle.rb_refusal.specs.Writing.{Stream}
+use Rattle.file_maker.specs.Disk.{Disk}
+use Rattle.file_maker.specs.Storing.{IsLeft}
+use Rattle.rb_exec.specs.Built as exec
 use Rattle.rb_exec.specs.declared.running.Played.{Played}
 use Rattle.rb_exec.specs.declared.running.Played.TheVariants as played
+use Rattle.mrb_tool.specs.Told.{Silent}
+use Rattle.mrb_tool.specs.Texts as texts
+use Rattle.mrb_tool.specs.Words.{Run, most_turns}
+use Rattle.mrb_tool.specs.Writing.{IsAnswer}
 use Rattle.mrb_tool.specs.declared.end.End.{End}
-use Rattle.mrb_tool.specs.declared.end.End.TheVariants.{Ended, Uncaught, Usage, Refused, Spent, NoMemory, InputFault, OutputFault, FileFault}
+use Rattle.mrb_tool.specs.declared.end.End.TheVariants.{Ended, Uncaught, Refused, Spent, NoMemory, InputFault, OutputFault, FileFault}
 
+-- how a program that came out so ends `rite`, and the line for it, where it was to make at most n turns
 abbrev pub end_of : Played → End
 end_of (played.Ended status) = Ended status
 end_of (played.Uncaught line) = Uncaught
@@ -17,32 +24,40 @@ end_of played.NoMemory = NoMemory
 end_of played.InputFault = InputFault
 end_of played.OutputFault = OutputFault
 
--- what was told, where it could be sent on
-abbrev pub IsSent : Result End Failed → End → Type 0
-IsSent (Ok told) end = (end ≡ told) ⊎ (end ≡ OutputFault)
-IsSent (Err fault) end = end ≡ OutputFault
+abbrev pub text_of : ℕ → Played → List ℕ
+text_of n (played.Ended status) = []
+text_of n (played.Uncaught line) = line.items
+text_of n played.Spent = texts.spent n
+text_of n (played.Refused cause) = texts.refused cause
+text_of n played.FileFault = texts.file_fault
+text_of n played.NoMemory = texts.no_memory
+text_of n played.InputFault = []
+text_of n played.OutputFault = []
 
--- It ends with 0 only where the file holds the bytes of the file of the source's text, which spell verified code; a
--- refusal is one of that text; else memory ran out, or a file or a stream failed.
-abbrev pub IsBuilt : Bool → Option (List ℕ) → Option (List ℕ) → End → Type 0
-IsBuilt tells held after (Ended status) = (status ≡ 0) × HasFile tells held after
-IsBuilt tells held after (Refused cause) = IsRefused tells held cause
-IsBuilt tells held after NoMemory = Unit {0}
-IsBuilt tells held after FileFault = Unit {0}
-IsBuilt tells held after OutputFault = Unit {0}
-IsBuilt tells held after Uncaught = ⊥
-IsBuilt tells held after Usage = ⊥
-IsBuilt tells held after Spent = ⊥
-IsBuilt tells held after InputFault = ⊥
+-- the counts of a run, where they are wanted
+abbrev pub counted : Bool → ℕ → ℕ → List ℕ
+counted wanted turns probes = if wanted then texts.counts turns probes else []
 
--- The same; and what came out is of the code that the file holds.
-abbrev pub IsExecuted : Bool → Option (List ℕ) → Option (List ℕ) → End → Type 0
-IsExecuted tells held after (Ended status) = HasFile tells held after
-IsExecuted tells held after Uncaught = HasFile tells held after
-IsExecuted tells held after Spent = HasFile tells held after
-IsExecuted tells held after InputFault = HasFile tells held after
-IsExecuted tells held after (Refused cause) = IsRefused tells held cause
-IsExecuted tells held after NoMemory = Unit {0}
-IsExecuted tells held after FileFault = Unit {0}
-IsExecuted tells held after OutputFault = Unit {0}
-IsExecuted tells held after Usage = ⊥
+-- A source was built or executed so, and so it was told.
+abbrev pub IsBuilt : Disk → Disk → Stream → Stream → List ℕ → List ℕ → End → Type 0
+IsBuilt before after given told source file end =
+    (p : Played) × exec.IsBuilt before after source file p × IsAnswer (text_of most_turns p) (end_of p) given told end
+
+abbrev pub IsExecuted : Disk → Disk → Stream → Stream → ℕ → List ℕ → List ℕ → End → Type 0
+IsExecuted before after given told n source file end =
+    (p : Played) × exec.IsExecuted before after source file p × IsAnswer (text_of n p) (end_of p) given told end
+
+-- Or it goes the first path, or can't be read, and nothing is told.
+abbrev pub Builds : Disk → Disk → Stream → Stream → List ℕ → List ℕ → Option End → Type 0
+Builds before after given told source file None = IsLeft before after source × Silent given told
+Builds before after given told source file (Some end) = IsBuilt before after given told source file end
+
+abbrev pub Executes : Disk → Disk → Stream → Stream → ℕ → List ℕ → List ℕ → Option End → Type 0
+Executes before after given told n source file None = IsLeft before after source × Silent given told
+Executes before after given told n source file (Some end) = IsExecuted before after given told n source file end
+
+-- a file was run so, and so it was told, with its counts where they were wanted
+abbrev pub IsRun : Disk → Disk → Stream → Stream → Run → End → Type 0
+IsRun before after given told run end =
+    (p : Played) × (turns : ℕ) × (probes : ℕ) × exec.Runs before after run.file p
+    × IsAnswer (text_of run.steps p ++ counted run.counts turns probes) (end_of p) given told end

@@ -1,7 +1,6 @@
 -- From a source to its file.
 use Rattle.std.specs.Prelude.{◌≡◌, ◌⊎◌, ℕ, List, Some, IsTrue, Result, Ok, Err, Vec}
 use Rattle.std.specs.declared.alloc.Global.{Global}
-use Rattle.rb_base.specs.Outside.{IsLoaded}
 use Rattle.path_core.specs.Form.{Form}
 use Rattle.rite_code.specs.Code.{Program, IsWhole}
 use Rattle.rb_compile.specs.Language.{program_of}
@@ -12,13 +11,10 @@ use Rattle.rite_file.specs.File.{Spells}
 use Rattle.code_verifier.specs.Verified.{IsVerified}
 use Rattle.code_generator.specs.Implements.{Implements}
 use Rattle.rb_refusal.specs.declared.refusal.Refusal.{Refusal}
-use Rattle.mrb_tool.specs.Told.{Disk, SameFilesBut, NoFileFault, Untouched, LoadFailed, StoreFailed}
+use Rattle.file_maker.specs.Disk.{Disk, SameFilesBut, NoFileFault, Untouched, LoadFailed, StoreFailed}
+use Rattle.file_maker.specs.Storing.{IsSource}
 use Rattle.mrb_tool.specs.declared.stop.Stop.{Stop}
 use Rattle.mrb_tool.specs.declared.stop.Stop.TheVariants as stops
-
--- the text of a source: what the file holds, up to 16777217 bytes, where the files tell
-abbrev pub IsSource : Disk → List ℕ → List ℕ → Type 0
-IsSource before source text = IsTrue before.tells → IsLoaded (before.file source) 16777217 text
 
 -- Bytes that are a file of code. It is whole and of version 2, passes the verifier and implements the text. Whole
 -- programs with the same file are equal, so it is the code that the bytes give back.

@@ -8,7 +8,8 @@ use Rattle.path_machine.specs.declared.ran.Ran.{Ran}
 use Rattle.path_machine.specs.declared.ran.RunFault.{RunFault}
 use Rattle.path_machine.specs.declared.ran.RunFault.TheVariants.{OutputFault, NoMemory}
 use Rattle.rb_refusal.specs.Writing.{Stream}
-use Rattle.mrb_tool.specs.Told.{Disk, Silent}
+use Rattle.file_maker.specs.Disk.{Disk}
+use Rattle.mrb_tool.specs.Told.{Silent}
 use Rattle.mrb_tool.specs.Making.{Built, NotMade}
 use Rattle.mrb_tool.specs.declared.stop.Stop.{Stop}
 

@@ -1,6 +1,5 @@
 -- What the commands that show a file do.
-use Rattle.std.specs.Prelude.{◌≡◌, ℕ, List, Some, IsTrue, Result, Ok, Err}
-use Rattle.rb_base.specs.Outside.{IsLoaded}
+use Rattle.std.specs.Prelude.{◌≡◌, ℕ, List, Some, Result, Ok, Err}
 use Rattle.rb_base.specs.declared.outside.Failed.{Failed}
 use Rattle.rb_base.specs.Result.{◌>>=◌}
 use Rattle.rite_code.specs.Code.{Program}
@@ -10,7 +9,9 @@ use Rattle.rite_file.specs.Refusal.{refusal_of}
 use Rattle.code_listing.specs.Listing.{listing_of}
 use Rattle.rb_refusal.specs.Writing.{Stream, Says}
 use Rattle.rb_refusal.specs.declared.refusal.Refusal.{Refusal}
-use Rattle.mrb_tool.specs.Told.{Disk, Untouched, LoadFailed, Silent}
+use Rattle.file_maker.specs.Disk.{Disk, Untouched, LoadFailed}
+use Rattle.file_maker.specs.Storing.{IsBytes}
+use Rattle.mrb_tool.specs.Told.{Silent}
 use Rattle.mrb_tool.specs.declared.stop.Stop.{Stop}
 use Rattle.mrb_tool.specs.declared.stop.Stop.TheVariants as stops
 
@@ -18,19 +19,15 @@ use Rattle.mrb_tool.specs.declared.stop.Stop.TheVariants as stops
 abbrev pub listed : List ℕ → Result (List ℕ) LoadError
 listed bytes = loaded bytes >>= λ p. Ok (listing_of p)
 
--- the bytes of a file: what it holds, up to 2 ^ 32 bytes, where the files tell
-abbrev pub IsFile : Disk → List ℕ → List ℕ → Type 0
-IsFile before file bytes = IsTrue before.tells → IsLoaded (before.file file) 4294967296 bytes
-
 -- what the bytes of the file are to give
 abbrev pub Gives : {A : Type 0} → (List ℕ → Result A LoadError) → Disk → List ℕ → A → Type 0
-Gives read before file x = (bytes : List ℕ) × IsFile before file bytes × (read bytes ≡ Ok x)
+Gives read before file x = (bytes : List ℕ) × IsBytes before file bytes × (read bytes ≡ Ok x)
 
 -- the refusal that they are to give
 abbrev pub IsRefusedFor : {A : Type 0} → (List ℕ → Result A LoadError) → Disk → List ℕ → Refusal → Type 0
 IsRefusedFor read before file r =
     (bytes : List ℕ) × (e : LoadError)
-    × IsFile before file bytes × (read bytes ≡ Err e) × (refusal_of e ≡ Some r)
+    × IsBytes before file bytes × (read bytes ≡ Err e) × (refusal_of e ≡ Some r)
 
 -- why a file gives nothing
 abbrev pub NotRead : {A : Type 0} → (List ℕ → Result A LoadError) → Disk → Disk → List ℕ → Stop → Type 0

@@ -21,6 +21,10 @@ refused r = line (codes "refused: " ++ refusal_text r)
 abbrev pub spent : ℕ → List ℕ
 spent n = line (codes "spent: " ++ decimal n ++ codes " turns")
 
+-- how many turns a run made, and how many classes and modules its searches for methods asked
+abbrev pub counts : ℕ → ℕ → List ℕ
+counts turns probes = line (codes "turns: " ++ decimal turns) ++ line (codes "probes: " ++ decimal probes)
+
 abbrev pub no_memory : List ℕ
 no_memory = line (codes "no memory")
 

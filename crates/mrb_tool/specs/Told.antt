@@ -1,14 +1,7 @@
 -- What files and streams tell at one moment, and what of it stays.
-use Rattle.std.specs.Prelude.{◌≡◌, ◌≢◌, ℕ, List, Option, Bool}
-use Rattle.rb_base.specs.Outside.{Rose, SameCounts}
+use Rattle.std.specs.Prelude.{◌≡◌, ℕ, List, Option}
 use Rattle.rb_refusal.specs.Writing.{Stream}
-
-pub record Disk : Type 0 where
-  -- whether the files tell what they hold, and what the file of a name holds
-  pub tells : Bool
-  pub file : List ℕ → Option (List ℕ)
-  pub load_faults : List ℕ → ℕ
-  pub store_faults : List ℕ → ℕ
+use Rattle.file_maker.specs.Disk.{Disk}
 
 pub record Input : Type 0 where
   -- what is left to read, where the input tells
@@ -20,29 +13,6 @@ pub record Told : Type 0 where
   pub input : Input
   pub out : Stream
   pub err : Stream
-
-abbrev pub SameFiles : Disk → Disk → Type 0
-SameFiles before after = (name : List ℕ) → after.file name ≡ before.file name
-
-abbrev pub SameFilesBut : List ℕ → Disk → Disk → Type 0
-SameFilesBut but before after = (name : List ℕ) → name ≢ but → after.file name ≡ before.file name
-
--- no load and no store of a file failed
-abbrev pub NoFileFault : Disk → Disk → Type 0
-NoFileFault before after =
-    SameCounts before.load_faults after.load_faults × SameCounts before.store_faults after.store_faults
-
-abbrev pub Untouched : Disk → Disk → Type 0
-Untouched before after = SameFiles before after × NoFileFault before after
-
--- a load of the file failed
-abbrev pub LoadFailed : Disk → Disk → List ℕ → Type 0
-LoadFailed before after file = Rose (before.load_faults file) (after.load_faults file) × SameFiles before after
-
--- a store of the file failed, after which only that file may differ
-abbrev pub StoreFailed : Disk → Disk → List ℕ → Type 0
-StoreFailed before after file =
-    Rose (before.store_faults file) (after.store_faults file) × SameFilesBut file before after
 
 -- nothing was written, and no call failed
 abbrev pub Silent : Stream → Stream → Type 0

@@ -12,6 +12,12 @@ pub data Command : Type 0 where
   -- the header and the sections of the file
   info : List ℕ → Command
 
+-- The run of the code in a file, of at most so many turns, whose counts are told where they are wanted.
+pub record Run : Type 0 where
+  pub steps : ℕ
+  pub counts : Bool
+  pub file : List ℕ
+
 -- the greatest number of turns that can be asked for, which is meant where none is named
 abbrev pub most_turns : ℕ
 most_turns = 18446744073709551615
@@ -86,3 +92,21 @@ command_of (word ∷ words) =
     else if bytes_eq word (codes "list") then of_one list (one_file words)
     else if bytes_eq word (codes "info") then of_one info (one_file words)
     else None
+
+-- whether the counts of a run are wanted, and the words after that option
+abbrev pub stats_of : List (List ℕ) → Bool × List (List ℕ)
+stats_of [] = (false, [])
+stats_of (word ∷ words) = if bytes_eq word (codes "--stats") then (true, words) else (false, word ∷ words)
+
+abbrev pub of_file : ℕ → Bool → Option (List ℕ) → Option Run
+of_file n wanted None = None
+of_file n wanted (Some name) = Some (record { steps = n; counts = wanted; file = name })
+
+-- what stands after the word run
+abbrev pub run_after : List (List ℕ) → Option Run
+run_after words = options_of words >>= λ o. of_file o.0 (stats_of o.1).0 (one_file (stats_of o.1).1)
+
+-- the run that the words ask for, which are none of the commands
+abbrev pub run_of : List (List ℕ) → Option Run
+run_of [] = None
+run_of (word ∷ words) = if bytes_eq word (codes "run") then run_after words else None

@@ -6,14 +6,11 @@ ghost use Rattle.code_verifier.specs.Verified.{IsVerified};
 ghost use Rattle.mrb_tool.specs.Making.{Builds, Makes, Prepares, Stores, EncodesAs, Checks};
 
 use crate::stop::Stop;
-use crate::told::OfFiles;
 use code_verifier::Verified;
+use file_maker::{OfFiles, SOURCE_LIMIT};
 use rb_base::Files;
 use rb_compile::CompileError;
 use std::alloc::Global;
-
-// One byte more than the longest source has.
-const SOURCE_LIMIT: usize = 16_777_217;
 
 /// Compiles the source in the file `source` and puts its code into the file `file`.
 pub fn build<F: Files>(alloc: Global, files: &mut F, source: &str, file: &str) -> Result<(), Stop>

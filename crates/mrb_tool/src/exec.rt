@@ -4,7 +4,8 @@ ghost use Rattle.mrb_tool.specs.Running.{Execs};
 
 use crate::building::make;
 use crate::stop::Stop;
-use crate::told::{OfFiles, OfSink};
+use crate::told::OfSink;
+use file_maker::OfFiles;
 use path_machine::{Ran, RunFault};
 use rb_base::{Files, Sink};
 use std::alloc::Global;

@@ -1,188 +1,108 @@
 //! The general path: `build` and `exec` of sources that have a form beyond those of the first path, and `run`.
 
-ghost use Rattle.std.specs.Prelude.{◌≡◌, ◌≢◌, ℕ, List, Some, map, string_bytes, IfOk, IfSome};
-ghost use Rattle.mrb_tool.specs.General.{end_of, IsSent, IsBuilt, IsExecuted};
+ghost use Rattle.std.specs.Prelude.{◌≡◌, ◌++◌, ℕ, List, Some, map, string_bytes, MatchOption};
+ghost use Rattle.rb_refusal.specs.Writing.{Says};
+ghost use Rattle.mrb_tool.specs.Asked.{run_meant};
+ghost use Rattle.mrb_tool.specs.General as general;
 ghost use Rattle.mrb_tool.specs.Words as meant;
-ghost use Rattle.mrb_tool.specs.Words.{command_of};
+ghost use Rattle.mrb_tool.specs.Words.{command_of, run_of};
 
 use crate::end::End;
-use crate::texts::{tell_file_fault, tell_no_memory, tell_refused, tell_spent};
-use crate::words::{Command, read_words};
-use itoa::Buffer;
+use crate::sending::send_answer;
+use crate::texts::{tell_counts, tell_file_fault, tell_no_memory, tell_refused, tell_spent};
+use crate::told::OfSink;
+use crate::words::{Command, Run, read_run, read_words};
+use file_maker::OfFiles;
 use rb_base::{Buffered, Failed, Files, Sink, Source, write_all};
 use rb_exec::{Counts, Played, build, exec, run};
 use std::alloc::Global;
 
-/// A run of a file that is asked for: at most `steps` turns, whose counts are told where they are wanted.
-#[derive(Clone, Copy, Debug)]
-struct Wish<'a> {
-    steps: u64,
-    counts: bool,
-    file: &'a str,
-}
-
-/// `run [--steps N] [--stats] FILE`.
-fn wished(words: &[String]) -> Option<Wish<'_>> {
-    let [word, rest @ ..] = words else {
-        return None;
-    };
-    if word.as_bytes() != b"run".as_slice() {
-        return None;
-    }
-    let (steps, rest) = steps_of(rest)?;
-    let (counts, rest) = stats_of(rest);
-    match rest {
-        [file] if is_file(file.as_bytes()) => Some(Wish {
-            steps,
-            counts,
-            file: file.as_str(),
-        }),
-        _ => None,
-    }
-}
-
-/// The number of turns that is asked for, and the words after it; as many as can be counted where none is asked for.
-fn steps_of(words: &[String]) -> Option<(u64, &[String])> {
-    match words {
-        [word, next, rest @ ..] if word.as_bytes() == b"--steps".as_slice() => {
-            Some((numeral(next.as_bytes())?, rest))
-        }
-        _ => Some((u64::MAX, words)),
-    }
-}
-
-/// Whether the counts are wanted, and the words after that.
-fn stats_of(words: &[String]) -> (bool, &[String]) {
-    match words {
-        [word, rest @ ..] if word.as_bytes() == b"--stats".as_slice() => (true, rest),
-        _ => (false, words),
-    }
-}
-
-/// Whether the word may name a file.
-fn is_file(word: &[u8]) -> bool {
-    match word {
-        [] => false,
-        [b'-', b'-', ..] => false,
-        _ => true,
-    }
-}
-
-/// The number of 64 bits that digits without a zero before them spell.
-fn numeral(digits: &[u8]) -> Option<u64> {
-    match digits {
-        [] => None,
-        [b'0'] => Some(0),
-        [b'0', ..] => None,
-        _ => digits_value(digits),
-    }
-}
-
-/// The value of digits.
-fn digits_value(digits: &[u8]) -> Option<u64> {
-    let mut value: u64 = 0;
-    'digits: for digit in digits {
-        if !digit.is_ascii_digit() {
-            return None;
-        }
-        value = value.checked_mul(10)?;
-        value = value.checked_add(u64::from(digit.wrapping_sub(b'0')))?;
-    }
-    Some(value)
-}
-
-/// Tells how a program came out, and gives the answer.
-fn tell<E: Sink>(played: Played, steps: u64, err: &mut E) -> Result<End, Failed>
-    ensures { IfOk result (λ end. end ≡ end_of played) }
+/// The answer that is given for a program that came out so.
+fn end_of(played: &Played) -> End
+    ensures { result ≡ general.end_of played.now }
 {
     match played {
-        Played::Ended(status) => Ok(End::Ended(status)),
-        Played::Uncaught(line) => {
-            write_all(err, &line)?;
-            Ok(End::Uncaught)
-        }
-        Played::Spent => {
-            tell_spent(err, steps)?;
-            Ok(End::Spent)
-        }
-        Played::Refused(refusal) => {
-            tell_refused(err, refusal)?;
-            Ok(End::Refused(refusal))
-        }
-        Played::FileFault => {
-            tell_file_fault(err)?;
-            Ok(End::FileFault)
-        }
-        Played::NoMemory => {
-            tell_no_memory(err)?;
-            Ok(End::NoMemory)
-        }
-        Played::InputFault => Ok(End::InputFault),
-        Played::OutputFault => Ok(End::OutputFault),
+        Played::Ended(status) => End::Ended(*status),
+        Played::Uncaught(_) => End::Uncaught,
+        Played::Spent => End::Spent,
+        Played::Refused(refusal) => End::Refused(*refusal),
+        Played::FileFault => End::FileFault,
+        Played::NoMemory => End::NoMemory,
+        Played::InputFault => End::InputFault,
+        Played::OutputFault => End::OutputFault,
     }
 }
 
-/// Tells how many turns were made, and how many classes and modules the searches for methods asked.
-fn tell_counts<E: Sink>(counts: Counts, err: &mut E) -> Result<(), Failed> {
-    let mut turns = Buffer::new();
-    let mut probes = Buffer::new();
-    write_all(err, b"turns: ")?;
-    write_all(err, turns.format(counts.turns).as_bytes())?;
-    write_all(err, b"\nprobes: ")?;
-    write_all(err, probes.format(counts.probes).as_bytes())?;
-    write_all(err, b"\n")
+/// Writes the line for a program of at most `steps` turns that came out so, if there is one.
+fn tell<E: Sink>(played: &Played, steps: u64, err: &mut E) -> Result<(), Failed>
+    ensures { Says (general.text_of steps played.now)
+        (⟦<E as OfSink>⟧.told err.old) (⟦<E as OfSink>⟧.told err.new) result }
+{
+    match played {
+        Played::Ended(_) | Played::InputFault | Played::OutputFault => Ok(()),
+        Played::Uncaught(line) => write_all(err, line),
+        Played::Spent => tell_spent(err, steps),
+        Played::Refused(refusal) => tell_refused(err, *refusal),
+        Played::FileFault => tell_file_fault(err),
+        Played::NoMemory => tell_no_memory(err),
+    }
 }
 
-/// The answer, once all that was told is sent on.
-fn sent<E: Sink>(end: Result<End, Failed>, err: &mut E) -> End
-    ensures { IsSent end result }
+/// Writes that line, and the counts of the run where they are wanted.
+fn tell_run<E: Sink>(
+    played: &Played,
+    asked: Run<'_>,
+    counts: Counts,
+    err: &mut E,
+) -> Result<(), Failed>
+    ensures { Says (general.text_of asked.steps played.now
+        ++ general.counted asked.counts counts.turns counts.probes)
+        (⟦<E as OfSink>⟧.told err.old) (⟦<E as OfSink>⟧.told err.new) result }
 {
-    match end {
-        Ok(end) => match err.flush() {
-            Ok(()) => end,
-            Err(_) => End::OutputFault,
-        },
-        Err(_) => End::OutputFault,
+    tell(played, asked.steps, err)?;
+    if asked.counts {
+        tell_counts(err, counts)
+    } else {
+        Ok(())
     }
 }
 
 /// Runs a file, and tells of it.
-fn run_file<F: Files, S: Source, O: Sink + Drop, E: Sink>(
+fn run_file<F: Files, S: Source, O: Sink + Drop, E: Sink + Drop>(
     alloc: Global,
-    wish: Wish<'_>,
+    asked: Run<'_>,
     files: &mut F,
     input: &mut S,
     out: &mut Buffered<O>,
-    err: &mut E,
-) -> Result<End, Failed> {
-    let (played, counts) = run(alloc, files, input, out, wish.steps, wish.file);
-    let end = tell(played, wish.steps, err)?;
-    if wish.counts {
-        tell_counts(counts, err)?;
-    }
-    Ok(end)
+    err: &mut Buffered<E>,
+) -> End
+    ensures { general.IsRun (⟦<F as OfFiles>⟧.told files.old) (⟦<F as OfFiles>⟧.told files.new)
+        (⟦<Buffered<E> as OfSink>⟧.told err.old) (⟦<Buffered<E> as OfSink>⟧.told err.new) (run_meant asked) result }
+{
+    let (played, counts) = run(alloc, files, input, out, asked.steps, asked.file);
+    let said = tell_run(&played, asked, counts, err);
+    send_answer(said, end_of(&played), err)
 }
 
 /// Builds a source, and tells of it. Nothing is done where the source goes the first path.
-fn build_file<F: Files, E: Sink>(
+fn build_file<F: Files, E: Sink + Drop>(
     alloc: Global,
     files: &mut F,
     source: &str,
     file: &str,
-    err: &mut E,
+    err: &mut Buffered<E>,
 ) -> Option<End>
-    ensures built { IfSome result (IsBuilt (⟦<F as Files>⟧.tells files.old)
-        (⟦<F as Files>⟧.file files.old source.now) (⟦<F as Files>⟧.file files.new file.now)) }
-    ensures others { (other : List ℕ) → other ≢ file.now →
-        ⟦<F as Files>⟧.file files.new other ≡ ⟦<F as Files>⟧.file files.old other }
+    ensures { general.Builds (⟦<F as OfFiles>⟧.told files.old) (⟦<F as OfFiles>⟧.told files.new)
+        (⟦<Buffered<E> as OfSink>⟧.told err.old) (⟦<Buffered<E> as OfSink>⟧.told err.new)
+        source.now file.now result }
 {
     let played = build(alloc, files, source, file)?;
-    let end = tell(played, u64::MAX, err);
-    Some(sent(end, err))
+    let said = tell(&played, u64::MAX, err);
+    Some(send_answer(said, end_of(&played), err))
 }
 
 /// Executes a source for at most `steps` turns, and tells of it. Nothing is done where the source goes the first path.
-fn execute<F: Files, S: Source, O: Sink + Drop, E: Sink>(
+fn execute<F: Files, S: Source, O: Sink + Drop, E: Sink + Drop>(
     alloc: Global,
     files: &mut F,
     input: &mut S,
@@ -190,56 +110,49 @@ fn execute<F: Files, S: Source, O: Sink + Drop, E: Sink>(
     steps: u64,
     source: &str,
     file: &str,
-    err: &mut E,
+    err: &mut Buffered<E>,
 ) -> Option<End>
-    ensures executed { IfSome result (IsExecuted (⟦<F as Files>⟧.tells files.old)
-        (⟦<F as Files>⟧.file files.old source.now) (⟦<F as Files>⟧.file files.new file.now)) }
-    ensures others { (other : List ℕ) → other ≢ file.now →
-        ⟦<F as Files>⟧.file files.new other ≡ ⟦<F as Files>⟧.file files.old other }
+    ensures { general.Executes (⟦<F as OfFiles>⟧.told files.old) (⟦<F as OfFiles>⟧.told files.new)
+        (⟦<Buffered<E> as OfSink>⟧.told err.old) (⟦<Buffered<E> as OfSink>⟧.told err.new)
+        steps source.now file.now result }
 {
     let played = exec(alloc, files, input, out, steps, source, file)?;
-    let end = tell(played, steps, err);
-    Some(sent(end, err))
+    let said = tell(&played, steps, err);
+    Some(send_answer(said, end_of(&played), err))
 }
 
 /// Does what the words ask, and tells of it, where it is for the general path. Nothing is done for other words and other
 /// sources. `build` ends with 0, and `exec` runs, only where the file holds the file of the source, whose code is
-/// verified; every other file is as before.
-pub fn play<F: Files, S: Source, O: Sink + Drop, E: Sink>(
+/// verified; every other file is as before, and that file too where the source is refused. `run` changes no file.
+pub fn play<F: Files, S: Source, O: Sink + Drop, E: Sink + Drop>(
     alloc: Global,
     words: &[String],
     files: &mut F,
     input: &mut S,
     out: &mut Buffered<O>,
-    err: &mut E,
+    err: &mut Buffered<E>,
 ) -> Option<End>
     ensures built { (source file : List ℕ) → command_of (map string_bytes words.now) ≡ Some (meant.build source file) →
-        IfSome result (IsBuilt (⟦<F as Files>⟧.tells files.old)
-        (⟦<F as Files>⟧.file files.old source) (⟦<F as Files>⟧.file files.new file)) }
-    ensures built_alone { (source file other : List ℕ) →
-        command_of (map string_bytes words.now) ≡ Some (meant.build source file) → other ≢ file →
-        ⟦<F as Files>⟧.file files.new other ≡ ⟦<F as Files>⟧.file files.old other }
+        general.Builds (⟦<F as OfFiles>⟧.told files.old) (⟦<F as OfFiles>⟧.told files.new)
+        (⟦<Buffered<E> as OfSink>⟧.told err.old) (⟦<Buffered<E> as OfSink>⟧.told err.new) source file result }
     ensures executed { (steps : ℕ) (source file : List ℕ) →
         command_of (map string_bytes words.now) ≡ Some (meant.exec steps source file) →
-        IfSome result (IsExecuted (⟦<F as Files>⟧.tells files.old)
-        (⟦<F as Files>⟧.file files.old source) (⟦<F as Files>⟧.file files.new file)) }
-    ensures executed_alone { (steps : ℕ) (source file other : List ℕ) →
-        command_of (map string_bytes words.now) ≡ Some (meant.exec steps source file) → other ≢ file →
-        ⟦<F as Files>⟧.file files.new other ≡ ⟦<F as Files>⟧.file files.old other }
+        general.Executes (⟦<F as OfFiles>⟧.told files.old) (⟦<F as OfFiles>⟧.told files.new)
+        (⟦<Buffered<E> as OfSink>⟧.told err.old) (⟦<Buffered<E> as OfSink>⟧.told err.new) steps source file result }
+    ensures ran { (run : meant.Run) → run_of (map string_bytes words.now) ≡ Some run →
+        MatchOption result ⊥ (general.IsRun (⟦<F as OfFiles>⟧.told files.old) (⟦<F as OfFiles>⟧.told files.new)
+        (⟦<Buffered<E> as OfSink>⟧.told err.old) (⟦<Buffered<E> as OfSink>⟧.told err.new) run) }
 {
-    let end = match read_words(words) {
-        Some(Command::Build { source, file }) => {
-            return build_file(alloc, files, source, file, err);
-        }
-        Some(
-            Command::Exec {
-                steps,
-                source,
-                file,
-            },
-        ) => return execute(alloc, files, input, out, steps, source, file, err),
-        Some(_) => return None,
-        None => run_file(alloc, wished(words)?, files, input, out, err),
-    };
-    Some(sent(end, err))
+    if let Some(asked) = read_run(words) {
+        return Some(run_file(alloc, asked, files, input, out, err));
+    }
+    match read_words(words)? {
+        Command::Build { source, file } => build_file(alloc, files, source, file, err),
+        Command::Exec {
+            steps,
+            source,
+            file,
+        } => execute(alloc, files, input, out, steps, source, file, err),
+        Command::List { .. } | Command::Info { .. } => None,
+    }
 }

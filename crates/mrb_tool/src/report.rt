@@ -3,12 +3,12 @@ ghost use Rattle.std.specs.Prelude.{◌≡◌, ◌≢◌, [], Option};
 ghost use Rattle.rb_refusal.specs.Writing.{Stream, Says};
 ghost use Rattle.mrb_tool.specs.Answer.{Reports};
 ghost use Rattle.mrb_tool.specs.Reporting as reporting;
-ghost use Rattle.mrb_tool.specs.Told.{Disk};
+ghost use Rattle.file_maker.specs.Disk.{Disk};
 ghost use Rattle.mrb_tool.specs.Words as words;
 ghost use Rattle.mrb_tool.specs.Writing.{IsAnswer};
 
 use crate::end::End;
-use crate::sending::{send_run, send_text};
+use crate::sending::{send_answer, send_run, send_text};
 use crate::stop::Stop;
 use crate::texts;
 use crate::told::OfSink;
@@ -84,10 +84,7 @@ impl Report {
         ensures sent { result ≢ End.OutputFault → err.new.pending ≡ [] }
     {
         let said = self.tell(err);
-        match send_text(said, err) {
-            Ok(()) => self.end(),
-            Err(Failed) => End::OutputFault,
-        }
+        send_answer(said, self.end(), err)
     }
 
     /// The answer that is given for it.

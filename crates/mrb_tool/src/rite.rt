@@ -11,8 +11,9 @@ use crate::end::End;
 use crate::exec::exec;
 use crate::report::Report;
 use crate::showing::{info, list};
-use crate::told::{OfFiles, OfSink, OfSource};
+use crate::told::{OfSink, OfSource};
 use crate::words::{Command, read_words};
+use file_maker::OfFiles;
 use rb_base::{Buffered, Files, Sink, Source};
 use std::alloc::Global;
 

@@ -3,7 +3,9 @@ ghost use Rattle.std.specs.Prelude.{◌≡◌, ◌≢◌, ℕ, List, [], OnOk};
 ghost use Rattle.rite_code.specs.Code.{Program};
 ghost use Rattle.rb_refusal.specs.Writing.{Stream, Says};
 ghost use Rattle.mrb_tool.specs.Running.{Runs};
+ghost use Rattle.mrb_tool.specs.Writing.{IsAnswer};
 
+use crate::end::End;
 use crate::told::OfSink;
 use path_machine::{Ran, RunFault};
 use rb_base::{Buffered, Failed, Sink};
@@ -38,5 +40,23 @@ pub fn send_run<O: Sink + Drop>(
     match out.flush() {
         Ok(()) => ran,
         Err(Failed) => Err(RunFault::OutputFault),
+    }
+}
+
+/// Sends on a text that was to be written, and gives the answer that is meant: `OutputFault` where it wasn't written whole,
+/// or isn't sent on whole.
+pub fn send_answer<E: Sink + Drop>(
+    said: Result<(), Failed>,
+    meant: End,
+    err: &mut Buffered<E>,
+) -> End
+    ensures answer { (text : List ℕ) (given : Stream)
+        → Says text given (⟦<Buffered<E> as OfSink>⟧.told err.old) said
+        → IsAnswer text meant given (⟦<Buffered<E> as OfSink>⟧.told err.new) result }
+    ensures sent { result ≢ End.OutputFault → err.new.pending ≡ [] }
+{
+    match send_text(said, err) {
+        Ok(()) => meant,
+        Err(Failed) => End::OutputFault,
     }
 }

@@ -4,14 +4,12 @@ ghost use Rattle.mrb_tool.specs.Showing.{Loads, Shows, listed};
 ghost use Rattle.code_listing.specs.Info.{info_of};
 
 use crate::stop::Stop;
-use crate::told::{OfFiles, OfSink};
+use crate::told::OfSink;
 use code_listing::InfoFault;
+use file_maker::{FILE_LIMIT, OfFiles};
 use rb_base::{Failed, Files, Sink};
 use rite_code::Code;
 use std::alloc::Global;
-
-// One byte more than the longest file has.
-const FILE_LIMIT: usize = 4_294_967_296;
 
 /// Writes the bodies of the file, instruction by instruction. The code isn't verified.
 pub fn list<F: Files, O: Sink>(

@@ -7,6 +7,7 @@ use crate::told::OfSink;
 use itoa::Buffer;
 use path_value::Failure;
 use rb_base::{Failed, Sink, write_all};
+use rb_exec::Counts;
 use rb_refusal::{Refusal, refusal_text, write_pieces, write_text};
 
 /// Writes how the program is called.
@@ -27,6 +28,25 @@ pub fn tell_spent<E: Sink>(err: &mut E, steps: u64) -> Result<(), Failed>
     write_pieces(
         err,
         &[b"spent: ", digits.format(steps).as_bytes(), b" turns\n"],
+    )
+}
+
+/// Writes how many turns a run made, and how many classes and modules its searches for methods asked.
+pub fn tell_counts<E: Sink>(err: &mut E, counts: Counts) -> Result<(), Failed>
+    ensures { Says (texts.counts counts.turns counts.probes)
+        (⟦<E as OfSink>⟧.told err.old) (⟦<E as OfSink>⟧.told err.new) result }
+{
+    let mut turns = Buffer::new();
+    let mut probes = Buffer::new();
+    write_pieces(
+        err,
+        &[
+            b"turns: ",
+            turns.format(counts.turns).as_bytes(),
+            b"\nprobes: ",
+            probes.format(counts.probes).as_bytes(),
+            b"\n",
+        ],
     )
 }
 

@@ -1,22 +1,8 @@
 //! What files and streams tell at one moment, as the clauses of this program name it.
 ghost use Rattle.rb_refusal.specs.Writing.{Stream};
-ghost use Rattle.mrb_tool.specs.Told.{Disk, Input};
+ghost use Rattle.mrb_tool.specs.Told.{Input};
 
-use rb_base::{Files, Sink, Source};
-
-/// Files that tell.
-pub trait OfFiles {
-    ghost told: { Self → Disk };
-}
-
-impl<F: Files> OfFiles for F {
-    ghost told = { λ f. record {
-      tells = F.tells f;
-      file = F.file f;
-      load_faults = F.load_faults f;
-      store_faults = F.store_faults f;
-    } };
-}
+use rb_base::{Sink, Source};
 
 /// A source of input that tells.
 pub trait OfSource {

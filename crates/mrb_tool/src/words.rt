@@ -1,7 +1,7 @@
 //! What the words after the program's name mean.
-ghost use Rattle.std.specs.Prelude.{◌≡◌, true, nat_le, if◌then◌else◌, map, string_bytes};
-ghost use Rattle.mrb_tool.specs.Words.{is_digit, are_digits, is_numeral, value_after, most_turns, number_of, is_name, two_files, one_file, options_of, exec_of, command_of};
-ghost use Rattle.mrb_tool.specs.Asked.{asked};
+ghost use Rattle.std.specs.Prelude.{◌≡◌, ◌≢◌, None, true, nat_le, if◌then◌else◌, map, string_bytes};
+ghost use Rattle.mrb_tool.specs.Words.{is_digit, are_digits, is_numeral, value_after, most_turns, number_of, is_name, two_files, one_file, options_of, exec_of, command_of, stats_of, run_after, run_of};
+ghost use Rattle.mrb_tool.specs.Asked.{asked, run_asked};
 ghost use Rattle.std.specs.Option.{option_map};
 
 /// What the words ask for.
@@ -26,6 +26,14 @@ pub enum Command<'a> {
     Info {
         file: &'a str,
     },
+}
+
+/// A run of the code in a file: at most `steps` turns, whose counts are told where they are wanted.
+#[derive(Clone, Copy, Debug)]
+pub struct Run<'a> {
+    pub steps: u64,
+    pub counts: bool,
+    pub file: &'a str,
 }
 
 /// The command that the words are, if they are one.
@@ -63,6 +71,44 @@ fn exec(words: &[String]) -> Option<Command<'_>>
         source,
         file,
     })
+}
+
+/// The run that the words ask for, if they do. No such words are a command.
+pub fn read_run(words: &[String]) -> Option<Run<'_>>
+    ensures run { run_asked result ≡ run_of (map string_bytes words.now) }
+    ensures alone { result ≢ None → command_of (map string_bytes words.now) ≡ None }
+{
+    let [word, rest @ ..] = words else {
+        return None;
+    };
+    if word.as_bytes() != b"run".as_slice() {
+        return None;
+    }
+    run(rest)
+}
+
+// The run after the word run.
+fn run(words: &[String]) -> Option<Run<'_>>
+    ensures { run_asked result ≡ run_after (map string_bytes words.now) }
+{
+    let (steps, words) = options(words)?;
+    let (counts, words) = stats(words);
+    let file = one_file(words)?;
+    Some(Run {
+        steps,
+        counts,
+        file,
+    })
+}
+
+// Whether the counts of a run are wanted, and the words after that option.
+fn stats(words: &[String]) -> (bool, &[String])
+    ensures { (result.0, map string_bytes result.1.now) ≡ stats_of (map string_bytes words.now) }
+{
+    match words {
+        [word, rest @ ..] if word.as_bytes() == b"--stats".as_slice() => (true, rest),
+        _ => (false, words),
+    }
 }
 
 // The number of turns that is asked for, and the words after the options.

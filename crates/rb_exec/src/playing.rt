@@ -1,11 +1,11 @@
 //! The file of a source, a run of a source over its file, and a run of a file.
 
-ghost use Rattle.std.specs.Prelude.{◌≡◌, ◌≢◌, ℕ, List};
+ghost use Rattle.std.specs.Prelude.{◌≡◌};
 ghost use Rattle.rb_exec.specs.Built.{Builds, Executes, Runs};
 ghost use Rattle.rb_exec.specs.Without.{without_code};
 
 use crate::running::{Counts, Played, run_code};
-use file_maker::{NotMade, load_file, store_file};
+use file_maker::{NotMade, OfFiles, load_file, store_file};
 use rb_base::{Buffered, Files, Sink, Source};
 use std::alloc::Global;
 
@@ -22,12 +22,9 @@ fn without_code(cause: NotMade) -> Played
 
 /// Compiles the source in the file `source` and puts its code into the file `file`. Nothing is done where the source
 /// goes the first path: it can't be read, the front refuses it, or it has no form beyond those of that path. Every
-/// other file is as before.
+/// other file is as before, and `file` too where nothing is stored.
 pub fn build<F: Files>(alloc: Global, files: &mut F, source: &str, file: &str) -> Option<Played>
-    ensures built { Builds (⟦<F as Files>⟧.tells files.old) (⟦<F as Files>⟧.file files.old source.now)
-        (⟦<F as Files>⟧.file files.new file.now) result }
-    ensures others { (other : List ℕ) → other ≢ file.now →
-        ⟦<F as Files>⟧.file files.new other ≡ ⟦<F as Files>⟧.file files.old other }
+    ensures { Builds (⟦<F as OfFiles>⟧.told files.old) (⟦<F as OfFiles>⟧.told files.new) source.now file.now result }
 {
     match store_file(alloc, files, source, file)? {
         Ok(_code) => Some(Played::Ended(0)),
@@ -46,10 +43,7 @@ pub fn exec<F: Files, S: Source, O: Sink + Drop>(
     source: &str,
     file: &str,
 ) -> Option<Played>
-    ensures executed { Executes (⟦<F as Files>⟧.tells files.old) (⟦<F as Files>⟧.file files.old source.now)
-        (⟦<F as Files>⟧.file files.new file.now) result }
-    ensures others { (other : List ℕ) → other ≢ file.now →
-        ⟦<F as Files>⟧.file files.new other ≡ ⟦<F as Files>⟧.file files.old other }
+    ensures { Executes (⟦<F as OfFiles>⟧.told files.old) (⟦<F as OfFiles>⟧.told files.new) source.now file.now result }
 {
     match store_file(alloc, files, source, file)? {
         Ok(code) => Some(run_code(alloc, code, steps, input, out).0),
@@ -66,8 +60,7 @@ pub fn run<F: Files, S: Source, O: Sink + Drop>(
     steps: u64,
     file: &str,
 ) -> (Played, Counts)
-    ensures ran { Runs (⟦<F as Files>⟧.tells files.old) (⟦<F as Files>⟧.file files.old file.now) result.0 }
-    ensures others { (other : List ℕ) → ⟦<F as Files>⟧.file files.new other ≡ ⟦<F as Files>⟧.file files.old other }
+    ensures { Runs (⟦<F as OfFiles>⟧.told files.old) (⟦<F as OfFiles>⟧.told files.new) file.now result.0 }
 {
     match load_file(alloc, files, file) {
         Ok(code) => run_code(alloc, code, steps, input, out),

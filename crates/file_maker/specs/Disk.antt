@@ -1,0 +1,33 @@
+-- What files tell at one moment, and what of it stays.
+use Rattle.std.specs.Prelude.{◌≡◌, ◌≢◌, ℕ, List, Option, Bool}
+use Rattle.rb_base.specs.Outside.{Rose, SameCounts}
+
+pub record Disk : Type 0 where
+  -- whether the files tell what they hold, and what the file of a name holds
+  pub tells : Bool
+  pub file : List ℕ → Option (List ℕ)
+  pub load_faults : List ℕ → ℕ
+  pub store_faults : List ℕ → ℕ
+
+abbrev pub SameFiles : Disk → Disk → Type 0
+SameFiles before after = (name : List ℕ) → after.file name ≡ before.file name
+
+abbrev pub SameFilesBut : List ℕ → Disk → Disk → Type 0
+SameFilesBut but before after = (name : List ℕ) → name ≢ but → after.file name ≡ before.file name
+
+-- no load and no store of a file failed
+abbrev pub NoFileFault : Disk → Disk → Type 0
+NoFileFault before after =
+    SameCounts before.load_faults after.load_faults × SameCounts before.store_faults after.store_faults
+
+abbrev pub Untouched : Disk → Disk → Type 0
+Untouched before after = SameFiles before after × NoFileFault before after
+
+-- a load of the file failed
+abbrev pub LoadFailed : Disk → Disk → List ℕ → Type 0
+LoadFailed before after file = Rose (before.load_faults file) (after.load_faults file) × SameFiles before after
+
+-- a store of the file failed, after which only that file may differ
+abbrev pub StoreFailed : Disk → Disk → List ℕ → Type 0
+StoreFailed before after file =
+    Rose (before.store_faults file) (after.store_faults file) × SameFilesBut file before after
