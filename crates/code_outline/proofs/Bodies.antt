@@ -1,4 +1,4 @@
--- The layout of each body, and the bounds of its children.
+-- The bounds of the children of each body.
 use Rattle.std.proofs.Common.{◌≡◌, refl, sym, ap, ℕ, zero, suc, ◌+◌, ◌<◌, List, [], ◌∷◌, ◌++◌, length, get_or, take, drop, arith}
 use Rattle.std.specs.Prelude.{Some, All, slice_get}
 use Rattle.std.proofs.lemmas.List.Elements.{All-nil, All-cons, All-same, All-take, All-drop, All-weaker}
@@ -6,26 +6,7 @@ use Rattle.std.proofs.lemmas.List.{take_at, drop_at}
 use Rattle.std.proofs.lemmas.Option.{none-some, same_Some}
 use Rattle.rite_code.specs.declared.code.Irep.{Irep}
 use Rattle.rite_code.specs.Code.{IsForest, none, node}
-use Rattle.code_outline.specs.declared.layout.Layout.{Layout}
 use Rattle.code_outline.specs.Laws.{IsWithin}
-use Rattle.code_outline.specs.Outlined.{LaysOut, AreLaidOut}
-
--- there is a layout for each body
-pub laid_out-length : (version : ℕ) (bs : List Irep) (ls : List Layout) → AreLaidOut version bs ls
-    → length ls ≡ length bs
-unfolding AreLaidOut
-laid_out-length version [] [] h = refl
-laid_out-length version [] (l ∷ ls) h = absurd h
-laid_out-length version (b ∷ bs) [] h = absurd h
-laid_out-length version (b ∷ bs) (l ∷ ls) h = ap suc (laid_out-length version bs ls h.1)
-
-pub laid_out-at : (version : ℕ) (bs : List Irep) (ls : List Layout) (k : ℕ) (b : Irep) (l : Layout)
-    → AreLaidOut version bs ls → k < length bs → LaysOut version (get_or bs k b).code (get_or ls k l)
-unfolding AreLaidOut
-laid_out-at version [] ls k b l h lt = absurd (omega arith)
-laid_out-at version (a ∷ bs) [] k b l h lt = absurd h
-laid_out-at version (a ∷ bs) (m ∷ ls) zero b l h lt = h.0
-laid_out-at version (a ∷ bs) (m ∷ ls) (suc k) b l h lt = laid_out-at version bs ls k b l h.1 (omega arith)
 
 -- the roots of a forest are among its bodies, and so are the children of each, after it
 all_left : (P : ℕ → Type 0) (xs ys : List ℕ) → All P (xs ++ ys) → All P xs

@@ -8,5 +8,6 @@ pub mod Marked
 pub mod Marks
 pub mod Outers
 pub mod Places
+pub mod Reading
 pub mod Rows
 pub mod Scopes

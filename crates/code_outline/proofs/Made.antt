@@ -1,17 +1,17 @@
--- What one instruction or one body more makes, and how it is laid out.
+-- What some instructions make, one instruction or one body more, and a body without children.
 use Rattle.std.proofs.Common.{◌≡◌, refl, sym, ap, subst, ◌∙◌, ℕ, ◌+◌, ◌<◌, ◌≤◌, List, [], ◌∷◌, ◌++◌, length, get_or, take, map, append_assoc, arith, replicate}
-use Rattle.std.specs.Prelude.{Option, None}
+use Rattle.std.specs.Prelude.{Option, None, Some, slice_get}
 use Rattle.std.specs.Option.{option_or}
 use Rattle.std.proofs.lemmas.List.{append-nil, map-append, take_more, take_all, get_or-replicate, length-replicate, length-take-le}
 use Rattle.rite_code.specs.declared.code.Irep.{Irep}
 use Rattle.rite_code.specs.Code.{Program, IsWhole}
 use Rattle.code_outline.specs.declared.layout.Standing.{Standing as StandingValue}
-use Rattle.code_outline.specs.declared.layout.Layout.{Layout}
 use Rattle.code_outline.specs.declared.maker.Maker.{Maker}
+use Rattle.code_outline.specs.declared.maker.Purpose.{Purpose}
 use Rattle.code_outline.specs.Layout.{Standing, layout}
-use Rattle.code_outline.specs.Makers.{made_by, made_in, made_from, first_maker, maker_of}
+use Rattle.code_outline.specs.Makers.{made_by, made_in, made_from, first_maker, maker_of, child_made, numbered, use_in}
 use Rattle.code_outline.specs.Making.{AreMarked}
-use Rattle.code_outline.specs.Outlined.{seen, LaysOut, AreLaidOut, AreParts}
+use Rattle.code_outline.specs.Outlined.{seen, AreMakers}
 use Rattle.code_outline.proofs.Marks.{marks-append}
 
 made_in-append : (k : ℕ) (b : Irep) (ss ts : List Standing) → made_in k b (ss ++ ts) ≡ made_in k b ss ++ made_in k b ts
@@ -24,15 +24,31 @@ made_in-alone : (k : ℕ) (b : Irep) (s : Standing) → made_in k b (s ∷ []) �
 unfolding made_in
 made_in-alone k b s = append-nil (made_by k b s)
 
-pub made_in-more : (k : ℕ) (b : Irep) (ss : List StandingValue) (i : ℕ) (s : StandingValue) → i < length ss
-    → s ≡ get_or ss i s → made_in k b (map seen (take (i + 1) ss)) ≡ made_in k b (map seen (take i ss)) ++ made_by k b
-    (seen s)
-made_in-more k b ss i s h r =
-    ap (λ xs. made_in k b (map seen xs)) (take_more ss i s h)
-    ∙ ap (λ x. made_in k b (map seen (take i ss ++ x ∷ []))) (sym r)
-    ∙ ap (made_in k b) (map-append seen (take i ss) (s ∷ []))
-    ∙ made_in-append k b (map seen (take i ss)) (seen s ∷ [])
-    ∙ ap (λ x. made_in k b (map seen (take i ss)) ++ x) (made_in-alone k b (seen s))
+pub made_in-more : (k : ℕ) (b : Irep) (ss : List StandingValue) (s : StandingValue)
+    → made_in k b (map seen (ss ++ s ∷ [])) ≡ made_in k b (map seen ss) ++ made_by k b (seen s)
+made_in-more k b ss s =
+    ap (made_in k b) (map-append seen ss (s ∷ []))
+    ∙ made_in-append k b (map seen ss) (seen s ∷ [])
+    ∙ ap (λ x. made_in k b (map seen ss) ++ x) (made_in-alone k b (seen s))
+
+-- a body without children makes nothing
+none-made : (k at : ℕ) (b : Irep) (used : Option (ℕ × Purpose)) → b.children ≡ [] → child_made k b at used ≡ []
+none-made k at b None e = refl
+none-made k at b (Some u) e = ap (λ (xs : List ℕ). numbered k at u.1 (slice_get xs u.0)) e
+
+without-children : (k : ℕ) (b : Irep) (ss : List Standing) → b.children ≡ [] → made_in k b ss ≡ []
+unfolding made_in
+without-children k b [] e = refl
+without-children k b (s ∷ ss) e =
+    ap (λ xs. xs ++ made_in k b ss) (none-made k s.at b (use_in s.instruction.operation) e)
+    ∙ without-children k b ss e
+
+no-items : (xs : List ℕ) → length xs ≡ 0 → xs ≡ []
+no-items [] e = refl
+no-items (x ∷ xs) e = absurd (omega (arith, e))
+
+pub childless : (k : ℕ) (b : Irep) (ss : List Standing) → length b.children ≡ 0 → made_in k b ss ≡ []
+childless k b ss e = without-children k b ss (no-items b.children e)
 
 made_from-append : (version k : ℕ) (bs cs : List Irep)
     → made_from version k (bs ++ cs) ≡ made_from version k bs ++ made_from version (k + length bs) cs
@@ -58,27 +74,14 @@ made_from-more version bs i b h r =
     ∙ ap (λ x. made_from version 0 (take i bs) ++ x) (made_from-alone version (0 + length (take i bs)) b)
     ∙ ap (λ x. made_from version 0 (take i bs) ++ made_in x b (layout version b.code)) n
 
-laid_out-push : (version : ℕ) (bs : List Irep) (ls : List Layout) (b : Irep) (l : Layout) → AreLaidOut version bs ls
-    → LaysOut version b.code l → AreLaidOut version (bs ++ b ∷ []) (ls ++ l ∷ [])
-unfolding AreLaidOut
-laid_out-push version [] [] b l h k = (k, tt)
-laid_out-push version [] (m ∷ ls) b l h k = absurd h
-laid_out-push version (a ∷ bs) [] b l h k = absurd h
-laid_out-push version (a ∷ bs) (m ∷ ls) b l h k = (h.0, laid_out-push version bs ls b l h.1 k)
-
-pub laid_out-more : (version : ℕ) (bs : List Irep) (ls : List Layout) (i : ℕ) (b : Irep) (l : Layout) → i < length bs
-    → b ≡ get_or bs i b → AreLaidOut version (take i bs) ls → LaysOut version b.code l
-    → AreLaidOut version (take (i + 1) bs) (ls ++ l ∷ [])
-laid_out-more version bs ls i b l h r a k = rw (take_more bs i b h, ← r) (laid_out-push version (take i bs) ls b l a k)
-
 -- the makers of one body more, and of all
-pub marked-more : (version : ℕ) (bs : List Irep) (i : ℕ) (b : Irep) (ss : List StandingValue)
-    (old mid new : List (Option Maker)) → i < length bs → b ≡ get_or bs i b → map seen ss ≡ layout version b.code
-    → length mid ≡ length old → AreMarked (made_from version 0 (take i bs)) old mid
-    → AreMarked (made_in i b (map seen ss)) mid new → AreMarked (made_from version 0 (take (i + 1) bs)) old new
-marked-more version bs i b ss old mid new h r e n f g =
-    rw (made_from-more version bs i b h r, ← e)
-    (marks-append (made_from version 0 (take i bs)) (made_in i b (map seen ss)) old mid new n f g)
+pub marked-more : (version : ℕ) (bs : List Irep) (i : ℕ) (b : Irep) (old mid new : List (Option Maker))
+    → i < length bs → b ≡ get_or bs i b → length mid ≡ length old
+    → AreMarked (made_from version 0 (take i bs)) old mid → AreMarked (made_in i b (layout version b.code)) mid new
+    → AreMarked (made_from version 0 (take (i + 1) bs)) old new
+marked-more version bs i b old mid new h r n f g =
+    rw (made_from-more version bs i b h r)
+    (marks-append (made_from version 0 (take i bs)) (made_in i b (layout version b.code)) old mid new n f g)
 
 pub marked-all : (p : Program) (n : ℕ) (xs : List (Option Maker)) → length p.bodies ≤ n
     → AreMarked (made_from p.version 0 (take n p.bodies)) (replicate (length p.bodies) None) xs → (j : ℕ)
@@ -92,21 +95,14 @@ marked-all p n xs h m j l =
     ∙ ap (λ o. option_or o (first_maker j (made_from p.version 0 (take n p.bodies)))) e
     ∙ ap (λ bs. first_maker j (made_from p.version 0 bs)) (take_all n p.bodies h)
 
--- what is read up to body n, where there are no more
-abbrev pub Reaches : Program → List Irep → ℕ → List Layout → List (Option Maker) → Type 0
-Reaches p bs n ls ms = IsWhole p × (length bs ≤ n) × AreLaidOut p.version (take n bs) ls × (length ms ≡ length bs)
+-- what is found up to body n, where there are no more
+abbrev pub Reaches : Program → List Irep → ℕ → List (Option Maker) → Type 0
+Reaches p bs n ms = IsWhole p × (length bs ≤ n) × (length ms ≡ length bs)
     × AreMarked (made_from p.version 0 (take n bs)) (replicate (length bs) None) ms
 
-parts-whole : (p : Program) (n : ℕ) (ls : List Layout) (ms : List (Option Maker)) → Reaches p p.bodies n ls ms
-    → AreParts p ls ms
-parts-whole p n ls ms h = record {
-  whole = h.0;
-  layouts = rw (← take_all n p.bodies h.1) h.2;
-  count = h.3;
-  makers = marked-all p n ms h.1 h.4;
-}
+makers-whole : (p : Program) (n : ℕ) (ms : List (Option Maker)) → Reaches p p.bodies n ms → AreMakers p ms
+makers-whole p n ms h = record { whole = h.0; count = h.2; makers = marked-all p n ms h.1 h.3 }
 
-pub parts : (p : Program) (bs : List Irep) (n : ℕ) (ls : List Layout) (ms : List (Option Maker)) → bs ≡ p.bodies
-    → Reaches p bs n ls ms → AreParts p ls ms
-parts p bs n ls ms e = subst (λ (x : List Irep). Reaches p x n ls ms → AreParts p ls ms) (sym e)
-    (parts-whole p n ls ms)
+pub makers : (p : Program) (bs : List Irep) (n : ℕ) (ms : List (Option Maker)) → bs ≡ p.bodies → Reaches p bs n ms
+    → AreMakers p ms
+makers p bs n ms e = subst (λ (x : List Irep). Reaches p x n ms → AreMakers p ms) (sym e) (makers-whole p n ms)

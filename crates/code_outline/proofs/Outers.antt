@@ -8,11 +8,10 @@ use Rattle.rite_code.specs.Code.{Program, IsWhole}
 use Rattle.scope_leaps.specs.Leaps.{outer_in, levels_out, scope_in, ComeBefore}
 use Rattle.scope_leaps.specs.Leaps as leaps
 use Rattle.scope_leaps.proofs.Levels.{one_level}
-use Rattle.code_outline.specs.declared.layout.Layout.{Layout}
 use Rattle.code_outline.specs.declared.maker.Maker.{Maker}
 use Rattle.code_outline.specs.Laws.{IsWithin}
 use Rattle.code_outline.specs.Makers.{maker_of, around, outer, further, scope_out, is_function}
-use Rattle.code_outline.specs.Outlined.{AreParts}
+use Rattle.code_outline.specs.Outlined.{AreMakers}
 use Rattle.code_outline.proofs.Kept.{nests}
 use Rattle.code_outline.proofs.Scopes.{outer-below}
 
@@ -42,15 +41,14 @@ pub outer_around : (p : Program) (ms : List (Option Maker)) (j : ℕ) → length
 outer_around p ms j count made lt =
     get_or-map around ms j None None (omega (arith, count, lt)) ∙ ap around (made j lt)
 
-pub come_before : (p : Program) (ls : List Layout) (ms : List (Option Maker)) → AreParts p ls ms
-    → ComeBefore (map around ms)
-come_before p ls ms h = λ k lt.
+pub come_before : (p : Program) (ms : List (Option Maker)) → AreMakers p ms → ComeBefore (map around ms)
+come_before p ms h = λ k lt.
     let there : k < length p.bodies = omega (arith, lt, length-map ms around, h.count) in
     rw (outer_around p ms k h.count h.makers there)
     (around_before k (maker_of p k) (λ m e. made_before p k m h.whole e))
 
-pub few : (p : Program) (ls : List Layout) (ms : List (Option Maker)) → AreParts p ls ms → length ms < 2 ^ 32
-few p ls ms h = omega (arith, h.count, h.whole.count)
+pub few : (p : Program) (ms : List (Option Maker)) → AreMakers p ms → length ms < 2 ^ 32
+few p ms h = omega (arith, h.count, h.whole.count)
 
 -- one more
 pub outers_more : (ms : List (Option Maker)) (i : ℕ) (outers : List (Option ℕ)) → i < length ms

@@ -1,10 +1,11 @@
 //! Who makes each body.
-ghost use Rattle.std.specs.Prelude.{◌≡◌};
+ghost use Rattle.std.specs.Prelude.{◌≡◌, ◌<◌, ◌^◌, length};
+ghost use Rattle.code_outline.specs.Layout as laid;
 ghost use Rattle.code_outline.specs.Makers as made;
 ghost use Rattle.code_outline.specs.Making.{listed, AreMarked};
 ghost use Rattle.code_outline.specs.Outlined.{seen};
-ghost use Rattle.std.specs.Prelude as prelude;
 
+use crate::laying::standing_at;
 use crate::layout::Standing;
 use crate::maker::{Maker, Purpose};
 use rite_code::{Irep, Operation};
@@ -47,12 +48,20 @@ fn put_maker(makers: &mut [Option<Maker>], child: u32, maker: Maker)
     }
 }
 
-/// Puts down the makers that stand in a body, of each body that has none yet.
-pub fn put_makers(makers: &mut [Option<Maker>], number: u32, body: &Irep, instructions: &[Standing])
-    ensures { AreMarked (made.made_in number body.now (prelude.map seen instructions.now)) makers.old makers.new }
+/// Puts down the makers that stand in a body, of each body that has none yet. No list of its instructions is made; that
+/// of a body without children is passed over.
+pub fn put_makers(makers: &mut [Option<Maker>], version: u8, number: u32, body: &Irep)
+    requires { length body.now.code < 2 ^ 32 }
+    ensures { AreMarked (made.made_in number body.now (laid.layout version body.now.code)) makers.old makers.new }
 {
-    for standing in instructions {
-        if let Some((child, maker)) = made_by(number, body, *standing) {
+    if body.children.is_empty() {
+        return;
+    }
+    let code = body.code.as_slice();
+    let mut at = 0;
+    'places: while let Some(standing) = standing_at(version, code, at) {
+        at = standing.next as usize;
+        if let Some((child, maker)) = made_by(number, body, standing) {
             put_maker(makers, child, maker);
         }
     }

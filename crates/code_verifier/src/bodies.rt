@@ -1,17 +1,20 @@
 //! The checks of a body: its instructions, the place where reading ends, its catch entries; and of all bodies.
-ghost use Rattle.std.specs.Prelude.{◌≡◌, ◌≤◌, length, map};
+ghost use Rattle.std.specs.Prelude.{◌≡◌, ◌≤◌, length, map, IfOk, IfErr};
 ghost use Rattle.code_outline.specs.Layout as laid;
 ghost use Rattle.code_outline.specs.Outlined.{LaysOut, Outlines, seen};
 ghost use Rattle.code_verifier.specs.Answers.{answer, outcome};
 ghost use Rattle.code_verifier.specs.Checks as checks;
 ghost use Rattle.code_verifier.specs.Known.{KnowsBody};
+ghost use Rattle.code_verifier.specs.Verified.{IsVerified, IsFault};
 
 use crate::causes::check_instruction;
 use crate::checks::catch_holds;
 use crate::error::VerifyError;
 use crate::unread::unread;
+use code_outline::laying::layout;
 use code_outline::{Layout, Outline, Standing};
 use rite_code::{Cause, Code, Irep};
+use std::alloc::Global;
 
 fn check_instructions(
     code: &Code,
@@ -104,22 +107,19 @@ fn check_body(
     check_catches(version, number, body, layout)
 }
 
-/// The first check of the program that fails.
+/// Checks every body, each laid out where it is checked, so that one layout at most is kept. `Bad` is the first check of
+/// the program that fails, `NoMemory` where memory runs out.
 #[tactic(auto, unfolding(crate::specs::Checks::first_bad))]
-pub fn check_bodies(code: &Code, outline: &Outline) -> Result<(), VerifyError>
+pub fn check_bodies(alloc: Global, code: &Code, outline: &Outline) -> Result<(), VerifyError>
     requires { Outlines code.now outline.now }
-    ensures { result ≡ answer (checks.first_bad code.now) }
+    ensures verified { IfOk result (λ _. IsVerified code.now) }
+    ensures bad { IfErr result (IsFault (checks.first_bad code.now)) }
 {
     let bodies = code.bodies();
-    let layouts = outline.layouts.as_slice();
     for number in 0..bodies.len() {
-        check_body(
-            code,
-            outline,
-            number as u32,
-            &bodies[number],
-            &layouts[number],
-        )?;
+        let body = &bodies[number];
+        let layout = layout(alloc, code.version(), body.code.as_slice())?;
+        check_body(code, outline, number as u32, body, &layout)?;
     }
     Ok(())
 }

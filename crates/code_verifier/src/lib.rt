@@ -29,12 +29,11 @@ pub use verified::Verified;
 /// The same code, where no check fails. `Bad` is the first check that fails: bodies in their order, in each its
 /// instructions by their places, the place where reading ends, then its catch entries. `NoMemory` where memory
 /// runs out.
-#[tactic(auto, using(crate::proofs::Faults::is_fault, crate::proofs::Faults::no_fault))]
 pub fn verify(alloc: Global, code: Code) -> Result<Verified, VerifyError>
     ensures verified { IfOk result (λ v. (v ≡ code) × IsVerified code) }
     ensures bad { IfErr result (IsFault (first_bad code)) }
 {
     let found = outline(alloc, &code)?;
-    check_bodies(&code, &found)?;
-    Ok(Verified::new(code, found))
+    check_bodies(alloc, &code, &found)?;
+    Ok(Verified::new(code))
 }

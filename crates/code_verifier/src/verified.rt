@@ -1,13 +1,10 @@
-use code_outline::Outline;
 use rite_code::Code;
 use std::marker::Model;
 
-/// A program in which no check of the verifier fails, with its instructions decoded once, the index of the
-/// instruction at each place, and who makes each body.
+/// A program in which no check of the verifier fails. Nothing is kept beside it.
 #[derive(Debug, Drop)]
 pub struct Verified {
     code: Code,
-    outline: Outline,
 }
 
 impl Model for Verified {
@@ -16,25 +13,22 @@ impl Model for Verified {
     ghost Value = { Program };
 
     ghost use Rattle.code_verifier.specs.Verified.{IsVerified};
-    ghost use Rattle.code_outline.specs.Outlined.{Outlines};
 
     ghost view = { λ v. v.code };
 
-    ghost invariant = { λ v. IsVerified v.code × Outlines v.code v.outline };
+    ghost invariant = { λ v. IsVerified v.code };
 }
 
 impl Verified {
     ghost use Rattle.std.specs.Prelude.{◌≡◌};
     ghost use Rattle.code_verifier.specs.Verified.{IsVerified};
-    ghost use Rattle.code_outline.specs.Outlined.{Outlines};
 
-    /// The program of this outline, in which no check fails.
-    pub fn new(code: Code, outline: Outline) -> Verified
-        requires verified { IsVerified code }
-        requires outlined { Outlines code outline }
+    /// A program in which no check fails.
+    pub fn new(code: Code) -> Verified
+        requires { IsVerified code }
         ensures { result ≡ code }
     {
-        Verified { code, outline }
+        Verified { code }
     }
 
     /// The program.
@@ -45,15 +39,7 @@ impl Verified {
         &self.code
     }
 
-    /// Its instructions, the index of the instruction at each place, and the maker of each body.
-    pub fn outline(&self) -> &Outline
-        ensures value { Outlines self.now result.now }
-        ensures verified { IsVerified self.now }
-    {
-        &self.outline
-    }
-
-    /// The program alone.
+    /// The program, owned.
     pub fn into_code(self) -> Code
         ensures value { result ≡ self }
         ensures verified { IsVerified self }

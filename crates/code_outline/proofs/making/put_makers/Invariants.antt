@@ -1,9 +1,12 @@
-use Rattle.std.proofs.Common.{map, take}
-use Rattle.code_outline.specs.Makers.{made_in}
-use Rattle.code_outline.specs.Making.{AreMarked}
-use Rattle.code_outline.specs.Outlined.{seen}
+use Rattle.std.proofs.Common.{◌≤◌, ◌-◌, length}
+use Rattle.code_outline.proofs.Reading.{IsReadTo}
 use Rattle.code_outline.proofs.making.put_makers.Given as goal
 
-abbrev pub invariant-loop-standing : goal.invariant-loop-standing
-invariant-loop-standing l = AreMarked (made_in l.number l.body (map seen (take l.standing-index l.instructions)))
-    l.fn.makers l.makers
+abbrev pub invariant-places : goal.invariant-places
+invariant-places l = record {
+  read : IsReadTo l.version l.code l.number l.body l.at l.fn.makers l.makers;
+  within : l.at ≤ length l.code;
+}
+
+abbrev pub decreases-places : goal.decreases-places
+decreases-places l = length l.code - l.at
