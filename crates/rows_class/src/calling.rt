@@ -7,6 +7,14 @@ use def_core::Cause;
 use rb_value::{CoreClass, ObjId, SymId, Value};
 use std::alloc::AllocError;
 
+/// The class or module on which a call acts: its receiver, and Object where that is the main object.
+fn acted_on(heap: &Heap, receiver: Value) -> Option<ObjId> {
+    if receiver == heap.main_object() {
+        return Some(heap.class_object(CoreClass::Object));
+    }
+    heap.space_in(receiver)
+}
+
 /// Calls a core method, and gives its value or raises.
 pub fn call(heap: &mut Heap, row: ClassRow, call: Call<'_>) -> Result<Given, AllocError> {
     let (least, most) = row.counts();
@@ -16,7 +24,7 @@ pub fn call(heap: &mut Heap, row: ClassRow, call: Call<'_>) -> Result<Given, All
     if row == ClassRow::DefineMethod && call.block.is_none() {
         return heap.fail(Cause::NoBlockGiven);
     }
-    match heap.space_in(call.receiver) {
+    match acted_on(heap, call.receiver) {
         Some(space) => counted(heap, row, space, call),
         None => heap.unexpected(CoreClass::Module, call.receiver),
     }

@@ -67,6 +67,14 @@ pub const CLASS_ROWS: [Named; 2] = [
 
 pub const CLASS_CLASS_ROWS: [Named; 1] = [(b"new", ClassRow::NewClass)];
 
+/// The methods of the main object itself, which act on Object.
+pub const MAIN_ROWS: [Named; 4] = [
+    (b"include", ClassRow::Include),
+    (b"define_method", ClassRow::DefineMethod),
+    (b"public", ClassRow::Public),
+    (b"private", ClassRow::Private),
+];
+
 /// The methods of this crate that a segment of the rows has, by their names.
 pub fn rows_of(segment: u16) -> &'static [(&'static [u8], ClassRow)] {
     match segment {
@@ -74,6 +82,7 @@ pub fn rows_of(segment: u16) -> &'static [(&'static [u8], ClassRow)] {
         5 => &MODULE_CLASS_ROWS,
         6 => &CLASS_ROWS,
         7 => &CLASS_CLASS_ROWS,
+        77 => &MAIN_ROWS,
         _ => &[],
     }
 }

@@ -28,7 +28,10 @@ const WITHOUT_ALLOCATE: [CoreClass; 7] = [
     CoreClass::Yielder,
 ];
 
-/// The singleton class of a class object, which is made where it isn't there.
+/// The segment of the main object's own methods: its number is the next after those of the core classes.
+const MAIN: u16 = 77;
+
+/// The singleton class of a class object, or of the main object, which is made where it isn't there.
 fn singleton(heap: &mut Heap, class: ObjId) -> Result<ObjId, AllocError> {
     match heap.singleton_class(Value::Obj(class))? {
         Given::Gives(Value::Obj(own)) => Ok(own),
@@ -36,8 +39,7 @@ fn singleton(heap: &mut Heap, class: ObjId) -> Result<ObjId, AllocError> {
     }
 }
 
-/// The class or module that has the methods of a segment: the singleton class of the class object where the number is
-/// odd.
+/// The class or module that has the methods of a segment: the singleton class of the object where the number is odd.
 fn holder(heap: &mut Heap, segment: u16) -> Result<ObjId, AllocError> {
     let class = ObjId(u64::from(segment / 2));
     if segment % 2 == 0 {
@@ -134,6 +136,7 @@ pub fn opening_heap(alloc: Global) -> Result<Heap, AllocError> {
     'segments: for segment in 0..HIDDEN {
         add_segment(&mut heap, segment)?;
     }
+    add_segment(&mut heap, MAIN)?;
     let_strings_initialize(&mut heap)?;
     undefine(&mut heap, &WITHOUT_NEW, b"new")?;
     undefine(&mut heap, &WITHOUT_NEW, b"allocate")?;
