@@ -17,6 +17,28 @@ fn put_in_place(heap: &mut Heap, id: ObjId, index: i64, value: Value) -> Option<
     }
 }
 
+/// What a method without arguments reads straight on: how many elements there are. Nothing of any other method
+/// and receiver.
+#[inline(always)]
+pub fn read_alone(heap: &Heap, row: ArrayRow, receiver: Value) -> Option<Value> {
+    let id = heap.an_array(receiver)?;
+    match row {
+        ArrayRow::Length => Some(length(heap, id)),
+        _ => None,
+    }
+}
+
+/// What a method with one argument reads straight on: an element by its index. Nothing of any other method, receiver and
+/// argument.
+#[inline(always)]
+pub fn read_by(heap: &Heap, row: ArrayRow, receiver: Value, argument: Value) -> Option<Value> {
+    let id = heap.an_array(receiver)?;
+    match (row, argument) {
+        (ArrayRow::Element, Value::Int(index)) => Some(value_at(heap.elements(id), index)),
+        _ => None,
+    }
+}
+
 /// What a method gives straight on: an element by its index, how many there are, a value in the place of an element or
 /// behind the last one. Nothing of any other method, receiver and arguments, which change nothing then. Where memory
 /// runs out the Array is as before.

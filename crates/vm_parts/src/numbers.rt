@@ -39,11 +39,20 @@ fn computed_of(row: u16, left: i64, right: i64) -> Option<Value> {
     }
 }
 
-/// What a row gives straight on; nothing where it has to be called.
+/// What a row gives straight on for an argument; nothing where it has to be called.
+#[inline(always)]
+pub fn computed_by(row: u16, receiver: Value, argument: Value) -> Option<Value> {
+    match (receiver, argument) {
+        (Value::Int(left), Value::Int(right)) => computed_of(row, left, right),
+        _ => None,
+    }
+}
+
+/// What a row gives straight on for some arguments; nothing where it has to be called.
 #[inline(always)]
 pub fn computed(row: u16, receiver: Value, args: &[Value]) -> Option<Value> {
-    match (receiver, args) {
-        (Value::Int(left), [Value::Int(right)]) => computed_of(row, left, *right),
+    match args {
+        [argument] => computed_by(row, receiver, *argument),
         _ => None,
     }
 }
