@@ -20,6 +20,7 @@ use vm_acts::vm_parts::flow::Flow;
 use vm_acts::vm_parts::known::{MethodBody, Usual};
 use vm_acts::vm_parts::loaded::Loaded;
 use vm_acts::vm_parts::parts::Parts;
+use vm_plain::pair_value;
 
 /// The row of `new` of a class.
 const MAKES_OBJECT: Row = Row::Star(StarRow::Kernel(KernelRow::NewObject));
@@ -59,28 +60,13 @@ fn passed_of(parts: &Parts, arguments: Arguments) -> Option<Passed> {
     }
 }
 
-/// The value under a key of a Hash, or what an absent key gives; nothing where a Proc is called for it, or the key is
-/// nested too deep.
-fn pair_value(parts: &Parts, hash: ObjId, key: Value) -> Result<Option<Value>, AllocError> {
-    let Some(key) = parts.heap.key_of(key)? else {
-        return Ok(None);
-    };
-    match parts.heap.pair(hash, &key) {
-        Some(pair) => Ok(Some(pair.value)),
-        None => match parts.heap.absent_of(hash) {
-            (default, None) => Ok(Some(default)),
-            _ => Ok(None),
-        },
-    }
-}
-
 /// The element of a Hash by a key, where it is there at once.
 fn first_of_element(parts: &Parts, begun: &Begun) -> Result<Option<First>, AllocError> {
     match (
         parts.heap.a_hash(begun.receiver),
         parts.frames.given(begun.arguments),
     ) {
-        (Some(hash), [key]) => match pair_value(parts, hash, *key)? {
+        (Some(hash), [key]) => match pair_value(&parts.heap, hash, *key)? {
             Some(value) => Ok(Some(First::Gives(value))),
             None => Ok(None),
         },
