@@ -1,17 +1,27 @@
 -- What the calls that change one object leave. An object of another sort than is wanted stays as it is.
-use Rattle.std.specs.Prelude.{ℕ, length, List, [], ◌∷◌, ◌++◌, Bool, true, nat_lt, if◌then◌else◌, Option, Some, None, is_some}
+use Rattle.std.specs.Prelude.{ℕ, length, List, [], ◌∷◌, ◌++◌, Bool, true, nat_lt, ◌&&◌, if◌then◌else◌, Option, Some, None, is_some}
 use Rattle.rb_value.specs.declared.value.Value.{Value}
 use Rattle.rb_value.specs.declared.value.ObjId.{ObjId}
 use Rattle.rb_value.specs.declared.key.Key.{Key}
 use Rattle.rb_value.specs.declared.hash.HashContents.{HashContents}
 use Rattle.rb_value.specs.declared.kind.Kind.TheVariants as kind
+use Rattle.rb_value.specs.declared.value.SymId.{SymId}
+use Rattle.rb_value.specs.declared.method.Method.{Method}
+use Rattle.rb_value.specs.declared.method.Visibility.{Visibility}
 use Rattle.rb_value.specs.Object.{Object}
 use Rattle.def_core.specs.Store.{Store, object_at, sort_at}
+use Rattle.def_core.specs.Changes as defined
+use Rattle.def_core.specs.Classes.{class_at, with_class}
 use Rattle.def_core.specs.Sound.{has_object}
 use Rattle.def_core.specs.Parts as parts
+use Rattle.rb_value.specs.MethodTable.{without_entry}
 use Rattle.def_calls.specs.Values.{key_of}
+use Rattle.def_calls.specs.Views.{message_of, detail_of}
 use Rattle.rb_store.specs.Held.{Held}
-use Rattle.heap.specs.Operands.{own, own_block, has_all, is_array, is_string, is_hash, is_fiber, is_exception}
+use Rattle.rb_value.specs.declared.kind.EnumeratorSource.{EnumeratorSource}
+use Rattle.heap.specs.declared.enumerators.Cursor.{Cursor}
+use Rattle.heap.specs.Reading.{source_in}
+use Rattle.heap.specs.Operands.{own, own_block, own_fiber, own_result, own_source, own_method, has_all, has_symbol, has_space, is_array, is_string, is_hash, is_fiber, is_exception}
 
 abbrev pub with_objects : Held → List Object → Held
 with_objects held objects = record held { store = parts.with_objects held.store objects }
@@ -108,3 +118,54 @@ with_sent held id activation = if has_object held.store.objects id
 abbrev pub with_ended : Held → ObjId → Held
 with_ended held id = if is_fiber (sort_at held.store.objects id)
     then with_objects held (parts.with_ended held.store.objects id) else held
+
+abbrev pub with_message : Held → ObjId → Value → Held
+with_message held id message = where_exception held id (parts.with_kind held.store.objects id
+    (kind.Exception (own held.store message) (own held.store (detail_of (object_at held.store.objects id).kind))))
+
+abbrev pub with_detail : Held → ObjId → Value → Held
+with_detail held id detail = where_exception held id (parts.with_kind held.store.objects id
+    (kind.Exception (own held.store (message_of (object_at held.store.objects id).kind)) (own held.store detail)))
+
+-- Enumerators. One whose Array of items is none, or that is no Enumerator, stays as it is.
+
+abbrev pub put_cursor : Held → ObjId → Cursor → Option EnumeratorSource → Held
+put_cursor held id cursor None = held
+put_cursor held id cursor (Some source) = if is_array (sort_at held.store.objects cursor.items)
+    then with_objects held (parts.with_kind held.store.objects id (kind.Enumerator (record {
+      source = source;
+      fiber = own_fiber held.store cursor.fiber;
+      items = cursor.items;
+      position = cursor.position;
+      result = own_result held.store cursor.result;
+    })))
+    else held
+
+abbrev pub own_source_of : Store → Option EnumeratorSource → Option EnumeratorSource
+own_source_of st None = None
+own_source_of st (Some source) = own_source st source
+
+abbrev pub with_cursor : Held → ObjId → Cursor → Held
+with_cursor held id cursor =
+    put_cursor held id cursor (own_source_of held.store (source_in (object_at held.store.objects id).kind))
+
+-- Methods of classes and modules.
+
+abbrev pub put_method : Store → ObjId → SymId → Option Method → Visibility → Store
+put_method st class name None visibility = st
+put_method st class name (Some m) visibility = defined.with_method st class name m visibility
+
+-- where the store lacks the class, the name or what the method names, all stays
+abbrev pub with_method : Store → ObjId → SymId → Method → Visibility → Store
+with_method st class name m visibility = if has_space st class && has_symbol st name
+    then put_method st class name (own_method st m) visibility else st
+
+abbrev pub with_default : Store → ObjId → Visibility → Store
+with_default st class visibility = if has_space st class
+    then parts.with_objects st (defined.with_default st.objects class visibility) else st
+
+abbrev pub without_method : Store → ObjId → SymId → Store
+without_method st class name = if has_space st class
+    then parts.with_objects st (with_class st.objects class (record (class_at st.objects class)
+    { methods = without_entry (class_at st.objects class).methods name }))
+    else st

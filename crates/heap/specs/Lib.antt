@@ -1,3 +1,9 @@
 pub mod Whole
 pub mod Operands
 pub mod Changes
+pub mod Told
+pub mod Reading
+pub mod Made
+pub mod Rows
+pub mod Finding
+pub mod Constants

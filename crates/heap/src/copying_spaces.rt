@@ -1,4 +1,6 @@
 //! Copies of classes, modules and Procs.
+ghost use Rattle.std.specs.Prelude.{◌≡◌, IfOk, OnOk, OnErr};
+ghost use Rattle.heap.specs.Made as made;
 
 use crate::heap::Heap;
 use crate::testing::space;
@@ -11,7 +13,9 @@ fn copy_body(
     alloc: Global,
     contents: &ProcContents,
     lambda: bool,
-) -> Result<ProcContents, AllocError> {
+) -> Result<ProcContents, AllocError>
+    ensures { IfOk result (λ copy. copy ≡ record contents.now { lambda = lambda }) }
+{
     let scopes = Vec::from_slice(alloc, contents.scopes.as_slice())?;
     Ok(ProcContents {
         code: contents.code,
@@ -30,7 +34,11 @@ fn copy_body(
 
 impl Heap {
     /// A new Proc with the body of another, as a lambda or not; none where that has no body.
-    pub fn copy_proc(&mut self, id: ObjId, lambda: bool) -> Result<Option<ObjId>, AllocError> {
+    pub fn copy_proc(&mut self, id: ObjId, lambda: bool) -> Result<Option<ObjId>, AllocError>
+        ensures number { IfOk result (λ found. found ≡ made.copy_number self.old.store id) }
+        ensures made { OnOk result (self.new ≡ made.with_proc_copy self.old id lambda) }
+        ensures err { OnErr result (self.new ≡ self.old) }
+    {
         let contents = match self.proc_of(id) {
             Some(contents) => copy_body(self.alloc(), contents, lambda)?,
             None => return Ok(None),

@@ -1,9 +1,11 @@
 //! Definitions of methods, classes and modules.
-ghost use Rattle.std.specs.Prelude.{◌≡◌, true};
+ghost use Rattle.std.specs.Prelude.{◌≡◌, IfOk, OnOk, OnErr};
+ghost use Rattle.def_core.specs.Changes as defined;
 ghost use Rattle.def_core.specs.Sound.{Sound, census};
 ghost use Rattle.def_calls.specs.Definitions as definitions;
 ghost use Rattle.rb_store.specs.Keeps.{Keeps};
 ghost use Rattle.run_values.specs.Answers.{Answers};
+ghost use Rattle.heap.specs.Changes as changes;
 ghost use Rattle.heap.specs.Operands as operands;
 
 use crate::heap::Heap;
@@ -17,6 +19,10 @@ use std::alloc::AllocError;
 #[tactic(auto, using(rb_store::proofs::Keeping::keeps_itself))]
 pub(crate) fn intern(st: &mut Store, name: &[u8]) -> Result<SymId, AllocError>
     requires sound { Sound st.old.store }
+    ensures symbol { IfOk result (λ s. s ≡ (defined.intern st.old.store name.now).symbol) }
+    ensures store { OnOk result (st.new.store ≡ (defined.intern st.old.store name.now).store) }
+    ensures changes { st.new.changes ≡ st.old.changes }
+    ensures err { OnErr result (st.new.store ≡ st.old.store) }
     ensures keeps { Keeps st.old st.new }
 {
     st.intern(name)
@@ -34,8 +40,8 @@ pub(crate) fn define_method(
 ) -> Result<Given, AllocError>
     requires sound { Sound st.old.store }
     ensures keeps { Keeps st.old st.new }
-    ensures answers { operands.has_space st.old.store class ≡ true → operands.has_symbol st.old.store name ≡ true →
-        Answers st.old st.new result (λ w. definitions.define_method w class name body around) }
+    ensures answers { Answers st.old st.new result
+        (operands.with_space class (operands.with_symbol name (λ w. definitions.define_method w class name body around))) }
 {
     let Some(class) = space(st, class) else {
         return Ok(Given::Gives(Value::Nil));
@@ -68,8 +74,8 @@ pub(crate) fn open_class(
 ) -> Result<Given, AllocError>
     requires sound { Sound st.old.store }
     ensures keeps { Keeps st.old st.new }
-    ensures answers { operands.has_symbol st.old.store name ≡ true → Answers st.old st.new result (λ w.
-        definitions.open_class w (operands.own st.old.store scope) name (operands.own st.old.store parent)) }
+    ensures answers { Answers st.old st.new result (operands.with_symbol name (λ w.
+        definitions.open_class w (operands.own st.old.store scope) name (operands.own st.old.store parent))) }
 {
     let scope = own(st, scope);
     let parent = own(st, parent);
@@ -84,8 +90,8 @@ pub(crate) fn open_class(
 pub(crate) fn open_module(st: &mut Store, scope: Value, name: SymId) -> Result<Given, AllocError>
     requires sound { Sound st.old.store }
     ensures keeps { Keeps st.old st.new }
-    ensures answers { operands.has_symbol st.old.store name ≡ true → Answers st.old st.new result (λ w.
-        definitions.open_module w (operands.own st.old.store scope) name) }
+    ensures answers { Answers st.old st.new result (operands.with_symbol name (λ w.
+        definitions.open_module w (operands.own st.old.store scope) name)) }
 {
     let scope = own(st, scope);
     match symbol(st, name) {
@@ -105,8 +111,8 @@ pub(crate) fn alias_method(
 ) -> Result<Given, AllocError>
     requires sound { Sound st.old.store }
     ensures keeps { Keeps st.old st.new }
-    ensures answers { operands.has_space st.old.store class ≡ true → operands.has_symbol st.old.store alias ≡ true → operands.has_symbol st.old.store name ≡ true →
-        Answers st.old st.new result (λ w. definitions.alias_method w class alias name) }
+    ensures answers { Answers st.old st.new result
+        (operands.with_space class (operands.with_symbol alias (operands.with_symbol name (λ w. definitions.alias_method w class alias name)))) }
 {
     let Some(class) = space(st, class) else {
         return Ok(Given::Gives(Value::Nil));
@@ -129,8 +135,8 @@ pub(crate) fn undefine_method(
 ) -> Result<Given, AllocError>
     requires sound { Sound st.old.store }
     ensures keeps { Keeps st.old st.new }
-    ensures answers { operands.has_space st.old.store class ≡ true → operands.has_symbol st.old.store name ≡ true →
-        Answers st.old st.new result (λ w. definitions.undefine_method w class name) }
+    ensures answers { Answers st.old st.new result
+        (operands.with_space class (operands.with_symbol name (λ w. definitions.undefine_method w class name))) }
 {
     let Some(class) = space(st, class) else {
         return Ok(Given::Gives(Value::Nil));
@@ -145,6 +151,7 @@ pub(crate) fn undefine_method(
 #[tactic(auto, using(rb_store::proofs::Keeping::keeps_itself))]
 pub(crate) fn remove_method(st: &mut Store, class: ObjId, name: SymId) -> Result<(), AllocError>
     requires sound { Sound st.old.store }
+    ensures ok { OnOk result (st.new.store ≡ changes.without_method st.old.store class name) }
     ensures keeps { Keeps st.old st.new }
 {
     match space(st, class) {
@@ -155,7 +162,12 @@ pub(crate) fn remove_method(st: &mut Store, class: ObjId, name: SymId) -> Result
 
 impl Heap {
     /// The symbol of a name, which is added where it isn't there.
-    pub fn intern(&mut self, name: &[u8]) -> Result<SymId, AllocError> {
+    pub fn intern(&mut self, name: &[u8]) -> Result<SymId, AllocError>
+        ensures symbol { IfOk result (λ s. s ≡ (defined.intern self.old.store name.now).symbol) }
+        ensures store { OnOk result (self.new.store ≡ (defined.intern self.old.store name.now).store) }
+        ensures changes { self.new.changes ≡ self.old.changes }
+        ensures err { OnErr result (self.new.store ≡ self.old.store) }
+    {
         intern(&mut self.st, name)
     }
 
@@ -168,8 +180,8 @@ impl Heap {
         body: u32,
         around: u64,
     ) -> Result<Given, AllocError>
-        ensures answers { operands.has_space self.old.store class ≡ true → operands.has_symbol self.old.store name ≡ true →
-            Answers self.old self.new result (λ w. definitions.define_method w class name body around) }
+        ensures answers { Answers self.old self.new result
+            (operands.with_space class (operands.with_symbol name (λ w. definitions.define_method w class name body around))) }
     {
         define_method(&mut self.st, class, name, body, around)
     }
@@ -189,16 +201,16 @@ impl Heap {
         name: SymId,
         parent: Value,
     ) -> Result<Given, AllocError>
-        ensures answers { operands.has_symbol self.old.store name ≡ true → Answers self.old self.new result (λ w.
-            definitions.open_class w (operands.own self.old.store scope) name (operands.own self.old.store parent)) }
+        ensures answers { Answers self.old self.new result (operands.with_symbol name (λ w.
+            definitions.open_class w (operands.own self.old.store scope) name (operands.own self.old.store parent))) }
     {
         open_class(&mut self.st, scope, name, parent)
     }
 
     /// Gives the module of that name in a scope: the one that is there, or a new one. What can't be so raises.
     pub fn open_module(&mut self, scope: Value, name: SymId) -> Result<Given, AllocError>
-        ensures answers { operands.has_symbol self.old.store name ≡ true → Answers self.old self.new result (λ w.
-            definitions.open_module w (operands.own self.old.store scope) name) }
+        ensures answers { Answers self.old self.new result (operands.with_symbol name (λ w.
+            definitions.open_module w (operands.own self.old.store scope) name)) }
     {
         open_module(&mut self.st, scope, name)
     }
@@ -211,22 +223,24 @@ impl Heap {
         alias: SymId,
         name: SymId,
     ) -> Result<Given, AllocError>
-        ensures answers { operands.has_space self.old.store class ≡ true → operands.has_symbol self.old.store alias ≡ true → operands.has_symbol self.old.store name ≡ true →
-            Answers self.old self.new result (λ w. definitions.alias_method w class alias name) }
+        ensures answers { Answers self.old self.new result
+            (operands.with_space class (operands.with_symbol alias (operands.with_symbol name (λ w. definitions.alias_method w class alias name)))) }
     {
         alias_method(&mut self.st, class, alias, name)
     }
 
     /// Ends the search for a method in a class or module with nothing. A name that isn't found raises.
     pub fn undefine_method(&mut self, class: ObjId, name: SymId) -> Result<Given, AllocError>
-        ensures answers { operands.has_space self.old.store class ≡ true → operands.has_symbol self.old.store name ≡ true →
-            Answers self.old self.new result (λ w. definitions.undefine_method w class name) }
+        ensures answers { Answers self.old self.new result
+            (operands.with_space class (operands.with_symbol name (λ w. definitions.undefine_method w class name))) }
     {
         undefine_method(&mut self.st, class, name)
     }
 
     /// Takes a method out of the own list of a class or module, so that what stands above is found.
-    pub fn remove_method(&mut self, class: ObjId, name: SymId) -> Result<(), AllocError> {
+    pub fn remove_method(&mut self, class: ObjId, name: SymId) -> Result<(), AllocError>
+        ensures ok { OnOk result (self.new.store ≡ changes.without_method self.old.store class name) }
+    {
         remove_method(&mut self.st, class, name)
     }
 }

@@ -1,7 +1,12 @@
 //! Enumerators.
-ghost use Rattle.std.specs.Prelude.{IfOk};
+ghost use Rattle.std.specs.Prelude.{◌≡◌, IfOk, OnOk, OnErr};
+ghost use Rattle.def_core.specs.Store.{object_at, next_number};
 ghost use Rattle.def_core.specs.Sound.{Sound, SoundSource, census, Is, Array, Fiber, IsValue, OptionIs};
 ghost use Rattle.rb_store.specs.Keeps.{Keeps};
+ghost use Rattle.heap.specs.Changes as changes;
+ghost use Rattle.heap.specs.Made as made;
+ghost use Rattle.heap.specs.Reading as reading;
+ghost use Rattle.heap.specs.Operands as operands;
 
 use crate::heap::Heap;
 use crate::making::add;
@@ -11,9 +16,7 @@ use crate::testing::{
 use list_queue::Queue;
 use rb_base::List;
 use rb_store::Store;
-use rb_value::{
-    Boxed, CoreClass, EnumeratorContents, EnumeratorSource, Kind, ObjId, Object, Value,
-};
+use rb_value::{Boxed, CoreClass, EnumeratorContents, EnumeratorSource, Kind, ObjId, Value};
 use std::alloc::{AllocError, Global};
 
 /// How far an Enumerator has come: the fiber that gives its items, where one has begun; the Array of the items that
@@ -27,20 +30,23 @@ pub struct Cursor {
 }
 
 /// A new empty Array.
-#[tactic(auto, using(class_model::proofs::Lineages::core_is_class, crate::proofs::Fresh::next_is_array))]
+#[tactic(auto, using(crate::proofs::Fresh::array_class, crate::proofs::Fresh::next_is_array))]
 fn add_array(st: &mut Store) -> Result<ObjId, AllocError>
     requires sound { Sound st.old.store }
     ensures array { IfOk result (Is (census st.new.store) Array) }
+    ensures number { IfOk result (λ id. id ≡ next_number st.old.store) }
+    ensures made { OnOk result (st.new ≡ made.with_items st.old) }
+    ensures err { OnErr result (st.new ≡ st.old) }
     ensures keeps { Keeps st.old st.new }
 {
-    let of = class_or_object(st, st.class_object(CoreClass::Array));
-    let id = st.add(Object::new(of, Kind::Array(Queue::new(st.alloc()))))?;
-    Ok(id)
+    let of = st.class_object(CoreClass::Array);
+    add(st, of, Kind::Array(Queue::new(st.alloc())))
 }
 
 /// The source, where all that it names is of the store.
 fn own_source(st: &Store, source: EnumeratorSource) -> Option<EnumeratorSource>
-    ensures { OptionIs (SoundSource (census st.now.store)) result }
+    ensures sound { OptionIs (SoundSource (census st.now.store)) result }
+    ensures own { result ≡ operands.own_source st.now.store source }
 {
     match source {
         EnumeratorSource::Call {
@@ -66,7 +72,9 @@ fn own_source(st: &Store, source: EnumeratorSource) -> Option<EnumeratorSource>
 }
 
 /// The same source.
-fn copy_source(alloc: Global, source: &EnumeratorSource) -> Result<EnumeratorSource, AllocError> {
+fn copy_source(alloc: Global, source: &EnumeratorSource) -> Result<EnumeratorSource, AllocError>
+    ensures { IfOk result (λ copy. copy ≡ source.now) }
+{
     match source {
         EnumeratorSource::Call {
             receiver,
@@ -90,6 +98,8 @@ pub(crate) fn make_enumerator(
     source: EnumeratorSource,
 ) -> Result<ObjId, AllocError>
     requires sound { Sound st.old.store }
+    ensures number { IfOk result (λ id. id ≡ made.enumerator_number st.old source) }
+    ensures made { OnOk result (st.new ≡ made.with_enumerator st.old of source) }
     ensures keeps { Keeps st.old st.new }
 {
     let items = add_array(st)?;
@@ -112,9 +122,11 @@ pub(crate) fn make_enumerator(
 }
 
 /// Notes how far an Enumerator has come.
-#[tactic(auto, using(rb_store::proofs::Keeping::keeps_itself))]
+#[tactic(auto, using(rb_store::proofs::Keeping::keeps_itself, crate::proofs::Fresh::has_source))]
 pub(crate) fn set_cursor(st: &mut Store, id: ObjId, cursor: Cursor) -> Result<(), AllocError>
     requires sound { Sound st.old.store }
+    ensures ok { OnOk result (st.new ≡ changes.with_cursor st.old id cursor) }
+    ensures err { OnErr result (st.new ≡ st.old) }
     ensures keeps { Keeps st.old st.new }
 {
     let Some(source) = copied_source(st, id)? else {
@@ -141,8 +153,10 @@ pub(crate) fn set_cursor(st: &mut Store, id: ObjId, cursor: Cursor) -> Result<()
 }
 
 /// The source of an Enumerator, copied.
-#[tactic(auto, using(def_core::proofs::Good::is_good))]
-fn copied_source(st: &Store, id: ObjId) -> Result<Option<EnumeratorSource>, AllocError> {
+#[tactic(auto, using(def_core::proofs::Good::is_good, def_core::proofs::Good::absent_where_none))]
+fn copied_source(st: &Store, id: ObjId) -> Result<Option<EnumeratorSource>, AllocError>
+    ensures { IfOk result (λ source. source ≡ reading.source_in (object_at st.now.store.objects id).kind) }
+{
     match object(st, id) {
         Some(id) => match st.get(id).kind() {
             Kind::Enumerator(contents) => Ok(Some(copy_source(
@@ -157,12 +171,16 @@ fn copied_source(st: &Store, id: ObjId) -> Result<Option<EnumeratorSource>, Allo
 
 impl Heap {
     /// The source of an Enumerator.
-    pub fn source_of(&self, id: ObjId) -> Result<Option<EnumeratorSource>, AllocError> {
+    pub fn source_of(&self, id: ObjId) -> Result<Option<EnumeratorSource>, AllocError>
+        ensures { IfOk result (λ source. source ≡ reading.source_in (object_at self.now.store.objects id).kind) }
+    {
         copied_source(&self.st, id)
     }
 
     /// How far an Enumerator has come.
-    pub fn cursor_of(&self, id: ObjId) -> Option<Cursor> {
+    pub fn cursor_of(&self, id: ObjId) -> Option<Cursor>
+        ensures { result ≡ reading.cursor_in (object_at self.now.store.objects id).kind }
+    {
         let contents = self.enumerator_of(id)?;
         Some(Cursor {
             fiber: contents.fiber,
@@ -178,19 +196,26 @@ impl Heap {
         &mut self,
         of: ObjId,
         source: EnumeratorSource,
-    ) -> Result<ObjId, AllocError> {
+    ) -> Result<ObjId, AllocError>
+        ensures number { IfOk result (λ id. id ≡ made.enumerator_number self.old source) }
+        ensures made { OnOk result (self.new ≡ made.with_enumerator self.old of source) }
+    {
         make_enumerator(&mut self.st, of, source)
     }
 
     /// Notes how far an Enumerator has come.
-    pub fn set_cursor(&mut self, id: ObjId, cursor: Cursor) -> Result<(), AllocError> {
+    pub fn set_cursor(&mut self, id: ObjId, cursor: Cursor) -> Result<(), AllocError>
+        ensures ok { OnOk result (self.new ≡ changes.with_cursor self.old id cursor) }
+        ensures err { OnErr result (self.new ≡ self.old) }
+    {
         set_cursor(&mut self.st, id, cursor)
     }
 }
 
 /// The fiber, where there is one of that number.
 fn own_fiber(st: &Store, id: Option<ObjId>) -> Option<ObjId>
-    ensures { OptionIs (Is (census st.now.store) Fiber) result }
+    ensures there { OptionIs (Is (census st.now.store) Fiber) result }
+    ensures own { result ≡ operands.own_fiber st.now.store id }
 {
     match id {
         Some(id) => fiber(st, id),
@@ -200,7 +225,8 @@ fn own_fiber(st: &Store, id: Option<ObjId>) -> Option<ObjId>
 
 /// The value, where there is one.
 fn own_result(st: &Store, value: Option<Value>) -> Option<Value>
-    ensures { OptionIs (IsValue (census st.now.store)) result }
+    ensures there { OptionIs (IsValue (census st.now.store)) result }
+    ensures own { result ≡ operands.own_result st.now.store value }
 {
     match value {
         Some(value) => Some(own(st, value)),

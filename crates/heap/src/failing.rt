@@ -1,15 +1,21 @@
 //! Exceptions that the language raises.
+ghost use Rattle.std.specs.Prelude.{◌≡◌};
+ghost use Rattle.def_core.specs.declared.cause.Cause.TheVariants as cause;
+ghost use Rattle.def_core.specs.Store.{core};
+ghost use Rattle.def_core.specs.Classes as classes;
 ghost use Rattle.def_core.specs.Sound.{Sound, census};
 ghost use Rattle.def_calls.specs.Values as values;
+ghost use Rattle.def_calls.specs.World as world;
 ghost use Rattle.rb_store.specs.Keeps.{Keeps};
 ghost use Rattle.run_values.specs.Answers.{Answers};
+ghost use Rattle.heap.specs.Operands as operands;
+ghost use Rattle.heap.specs.Told.{told};
 
 use crate::heap::Heap;
-use crate::making::make_exception;
-use crate::testing::{own, told};
+use crate::testing::told;
 use def_core::Cause;
 use rb_store::Store;
-use rb_value::{CoreClass, Outcome, Value};
+use rb_value::{CoreClass, Value};
 use run_values::Given;
 use std::alloc::AllocError;
 
@@ -18,6 +24,7 @@ use std::alloc::AllocError;
 pub(crate) fn fail(st: &mut Store, cause: Cause) -> Result<Given, AllocError>
     requires sound { Sound st.old.store }
     ensures keeps { Keeps st.old st.new }
+    ensures answers { Answers st.old st.new result (λ w. world.fail w (told st.old.store cause)) }
 {
     let cause = told(st, cause);
     run_values::fail(st, cause)
@@ -33,26 +40,11 @@ pub(crate) fn wrong_value(st: &mut Store, instruction: &[u8]) -> Result<Given, A
     run_values::wrong_value(st, instruction)
 }
 
-/// Gives the value of an outcome, or raises the exception of its failure.
-#[tactic(auto, using(rb_store::proofs::Keeping::keeps_itself))]
-pub(crate) fn give_outcome(st: &mut Store, outcome: Outcome) -> Result<Given, AllocError>
-    requires sound { Sound st.old.store }
-    ensures keeps { Keeps st.old st.new }
-{
-    match outcome {
-        Outcome::Value(value) => Ok(Given::Gives(own(st, value))),
-        Outcome::Raise(failure) => {
-            let message = Value::Obj(failure.message);
-            let class = st.class_object(failure.class);
-            let id = make_exception(st, class, message, failure.detail)?;
-            Ok(Given::Raises(id))
-        }
-    }
-}
-
 impl Heap {
     /// Raises by a cause, whose text and exception are new objects.
-    pub fn fail(&mut self, cause: Cause) -> Result<Given, AllocError> {
+    pub fn fail(&mut self, cause: Cause) -> Result<Given, AllocError>
+        ensures answers { Answers self.old self.new result (λ w. world.fail w (told self.old.store cause)) }
+    {
         fail(&mut self.st, cause)
     }
 
@@ -64,24 +56,24 @@ impl Heap {
     }
 
     /// Raises since a value of a core class was expected.
-    pub fn unexpected(&mut self, class: CoreClass, value: Value) -> Result<Given, AllocError> {
-        let cause = Cause::Expected {
-            class: self.class_object(class),
-            got: self.plain_class_of(value),
-        };
+    pub fn unexpected(&mut self, class: CoreClass, value: Value) -> Result<Given, AllocError>
+        ensures answers { Answers self.old self.new result (λ w. world.fail w (cause.Expected (core class)
+            (classes.plain_class_of self.old.store.objects (operands.own self.old.store value)))) }
+    {
+        let cause = self.refusal(class, value);
         self.fail(cause)
     }
 
     /// The cause by which a value is refused where one of a core class is expected.
-    pub fn refusal(&self, class: CoreClass, value: Value) -> Cause {
+    #[tactic(auto, using(crate::proofs::Told::expected_told))]
+    pub fn refusal(&self, class: CoreClass, value: Value) -> Cause
+        ensures cause { result ≡ cause.Expected (core class)
+            (classes.plain_class_of self.now.store.objects (operands.own self.now.store value)) }
+        ensures told { told self.now.store result ≡ result }
+    {
         Cause::Expected {
-            class: self.class_object(class),
+            class: self.st.class_object(class),
             got: self.plain_class_of(value),
         }
-    }
-
-    /// Gives the value of an outcome, or raises the exception of its failure.
-    pub(crate) fn give_outcome(&mut self, outcome: Outcome) -> Result<Given, AllocError> {
-        give_outcome(&mut self.st, outcome)
     }
 }

@@ -1,5 +1,8 @@
 //! The heap.
 ghost use Rattle.std.specs.Prelude.{◌≡◌, IfOk};
+ghost use Rattle.rb_value.specs.declared.value.Value.TheVariants.{Obj};
+ghost use Rattle.def_core.specs.Store.{core};
+ghost use Rattle.rb_store.specs.Opening as opening;
 
 use method_lookup::{Cache, new_cache};
 use rb_base::Steps;
@@ -33,7 +36,10 @@ impl Model for Heap {
 
 impl Heap {
     /// A heap with the core classes, the main object, and the core methods of the table of rows.
-    pub fn new(alloc: Global) -> Result<Heap, AllocError> {
+    pub fn new(alloc: Global) -> Result<Heap, AllocError>
+        ensures store { IfOk result (λ heap. heap.store ≡ opening.opening) }
+        ensures changes { IfOk result (λ heap. heap.changes ≡ 0) }
+    {
         Ok(Heap {
             st: Store::new(alloc)?,
             lists: EnclosingLists::new(alloc),
@@ -49,19 +55,25 @@ impl Heap {
     }
 
     /// The main object.
-    pub fn main_object(&self) -> Value {
+    pub fn main_object(&self) -> Value
+        ensures { result ≡ Obj opening.main_object }
+    {
         Value::Obj(self.st.main_object())
     }
 
     /// The number of the object of a core class.
     #[inline(always)]
-    pub fn class_object(&self, class: CoreClass) -> ObjId {
+    pub fn class_object(&self, class: CoreClass) -> ObjId
+        ensures { result ≡ core class }
+    {
         self.st.class_object(class)
     }
 
     /// The number of changes of classes and modules, which rises where one may find methods differently.
     #[inline(always)]
-    pub fn changes(&self) -> u64 {
+    pub fn changes(&self) -> u64
+        ensures { result ≡ self.now.changes }
+    {
         self.st.changes()
     }
 

@@ -1,10 +1,15 @@
 //! New objects.
-ghost use Rattle.std.specs.Prelude.{◌≡◌, [], None, length, IfOk};
-ghost use Rattle.rb_value.specs.declared.value.Value.TheVariants.{Nil};
+ghost use Rattle.std.specs.Prelude.{◌≡◌, length, IfOk, OnOk, OnErr};
+ghost use Rattle.rb_value.specs.declared.value.Value.TheVariants.{Obj};
+ghost use Rattle.rb_value.specs.declared.core_class.CoreClass.TheVariants as classes;
+ghost use Rattle.rb_value.specs.declared.kind.Kind.TheVariants as kinds;
+ghost use Rattle.def_core.specs.Store.{core, next_number};
+ghost use Rattle.def_core.specs.Parts as parts;
 ghost use Rattle.def_core.specs.Sound.{Sound, SoundKind, census, Is, Class};
 ghost use Rattle.def_calls.specs.Values as values;
 ghost use Rattle.rb_store.specs.Keeps.{Keeps};
 ghost use Rattle.run_values.specs.Answers.{Answers};
+ghost use Rattle.heap.specs.Made as made;
 
 use crate::heap::Heap;
 use crate::testing::{are_own, class_or_object, own, own_proc, proc};
@@ -30,7 +35,7 @@ pub enum Blank {
 
 /// A Hash without pairs.
 fn no_pairs(alloc: Global) -> HashContents
-    ensures { result ≡ record { pairs = []; default = Nil; block = None } }
+    ensures { result ≡ parts.no_pairs }
 {
     HashContents {
         pairs: PairTable::new(alloc),
@@ -40,11 +45,14 @@ fn no_pairs(alloc: Global) -> HashContents
 }
 
 /// A new object of a class, with what it holds. Where memory runs out the store is as before.
-#[tactic(auto, using(crate::proofs::Fresh::fresh_is))]
+#[tactic(auto, using(crate::proofs::Fresh::fresh_is, crate::proofs::Fresh::held_is))]
 pub(crate) fn add(st: &mut Store, of: ObjId, kind: Kind) -> Result<ObjId, AllocError>
     requires sound { Sound st.old.store }
     requires class { Is (census st.old.store) Class of }
     requires kind { SoundKind (census st.old.store) (length st.old.store.objects) kind }
+    ensures number { IfOk result (λ id. id ≡ next_number st.old.store) }
+    ensures made { OnOk result (st.new ≡ made.with_new st.old of kind) }
+    ensures err { OnErr result (st.new ≡ st.old) }
     ensures keeps { Keeps st.old st.new }
 {
     st.add(Object::new(of, kind))
@@ -53,7 +61,8 @@ pub(crate) fn add(st: &mut Store, of: ObjId, kind: Kind) -> Result<ObjId, AllocE
 /// What a new object holds that has nothing in it.
 #[tactic(auto, using(crate::proofs::Fresh::no_pairs_is))]
 fn blank_kind(st: &Store, blank: Blank) -> Result<Kind, AllocError>
-    ensures { IfOk result (SoundKind (census st.now.store) (length st.now.store.objects)) }
+    ensures sound { IfOk result (SoundKind (census st.now.store) (length st.now.store.objects)) }
+    ensures kind { IfOk result (λ kind. kind ≡ made.blank_kind blank) }
 {
     let alloc = st.alloc();
     match blank {
@@ -68,32 +77,35 @@ fn blank_kind(st: &Store, blank: Blank) -> Result<Kind, AllocError>
     }
 }
 
-/// A new Array of these elements, which is empty where one of them is of no heap. Where memory runs out all is as
-/// before.
-#[tactic(auto, using(rb_store::proofs::Keeping::keeps_itself))]
+/// A new Array of these elements; nil where one of them is of no heap. Where memory runs out all is as before.
+#[tactic(auto, using(rb_store::proofs::Keeping::keeps_itself, crate::proofs::Fresh::array_class))]
 pub(crate) fn make_array(st: &mut Store, elements: Vec<Value>) -> Result<Value, AllocError>
     requires sound { Sound st.old.store }
+    ensures value { IfOk result (λ v. v ≡ made.array_given st.old.store elements.items) }
+    ensures made { OnOk result (st.new ≡ made.with_array st.old elements.items) }
+    ensures err { OnErr result (st.new ≡ st.old) }
     ensures keeps { Keeps st.old st.new }
 {
     if !are_own(st, &elements) {
         return Ok(Value::Nil);
     }
-    match run_values::making::make_items(st, elements)? {
-        Given::Gives(value) => Ok(value),
-        Given::Raises(id) => Ok(Value::Obj(id)),
-    }
+    let class = st.class_object(CoreClass::Array);
+    let id = add(st, class, Kind::Array(Queue::from_vec(elements)))?;
+    Ok(Value::Obj(id))
 }
 
 /// A new String of these bytes.
-#[tactic(auto, using(rb_store::proofs::Keeping::keeps_itself))]
+#[tactic(auto, using(crate::proofs::Fresh::string_class))]
 pub(crate) fn make_string(st: &mut Store, bytes: Vec<u8>) -> Result<Value, AllocError>
     requires sound { Sound st.old.store }
+    ensures value { IfOk result (λ v. v ≡ Obj (next_number st.old.store)) }
+    ensures made { OnOk result (st.new ≡ made.with_new st.old (core classes.String) (kinds.String bytes.items)) }
+    ensures err { OnErr result (st.new ≡ st.old) }
     ensures keeps { Keeps st.old st.new }
 {
-    match run_values::make_text(st, Bytes::from_vec(bytes))? {
-        Given::Gives(value) => Ok(value),
-        Given::Raises(id) => Ok(Value::Obj(id)),
-    }
+    let class = st.class_object(CoreClass::String);
+    let id = add(st, class, Kind::String(Bytes::from_vec(bytes)))?;
+    Ok(Value::Obj(id))
 }
 
 /// A new Range, or the failure of ends that are none of a Range.
@@ -119,6 +131,9 @@ pub(crate) fn make_range_of(
     contents: RangeContents,
 ) -> Result<ObjId, AllocError>
     requires sound { Sound st.old.store }
+    ensures number { IfOk result (λ id. id ≡ next_number st.old.store) }
+    ensures made { OnOk result (st.new ≡ made.with_range st.old of contents) }
+    ensures err { OnErr result (st.new ≡ st.old) }
     ensures keeps { Keeps st.old st.new }
 {
     let of = class_or_object(st, of);
@@ -129,6 +144,9 @@ pub(crate) fn make_range_of(
 #[tactic(auto, using(rb_store::proofs::Keeping::keeps_itself))]
 pub(crate) fn make_blank(st: &mut Store, of: ObjId, blank: Blank) -> Result<Value, AllocError>
     requires sound { Sound st.old.store }
+    ensures value { IfOk result (λ v. v ≡ Obj (next_number st.old.store)) }
+    ensures made { OnOk result (st.new ≡ made.with_blank st.old of blank) }
+    ensures err { OnErr result (st.new ≡ st.old) }
     ensures keeps { Keeps st.old st.new }
 {
     let of = class_or_object(st, of);
@@ -146,6 +164,9 @@ pub(crate) fn make_exception(
     detail: Value,
 ) -> Result<ObjId, AllocError>
     requires sound { Sound st.old.store }
+    ensures number { IfOk result (λ id. id ≡ next_number st.old.store) }
+    ensures made { OnOk result (st.new ≡ made.with_exception st.old of message detail) }
+    ensures err { OnErr result (st.new ≡ st.old) }
     ensures keeps { Keeps st.old st.new }
 {
     let of = class_or_object(st, of);
@@ -155,24 +176,30 @@ pub(crate) fn make_exception(
 }
 
 /// A new Proc with a body of code; what it names and isn't of the heap is left out.
-#[tactic(auto, using(rb_store::proofs::Keeping::keeps_itself))]
+#[tactic(auto, using(rb_store::proofs::Keeping::keeps_itself, crate::proofs::Fresh::proc_class))]
 pub(crate) fn make_proc(st: &mut Store, contents: ProcContents) -> Result<ObjId, AllocError>
     requires sound { Sound st.old.store }
+    ensures number { IfOk result (λ id. id ≡ next_number st.old.store) }
+    ensures made { OnOk result (st.new ≡ made.with_proc st.old contents) }
+    ensures err { OnErr result (st.new ≡ st.old) }
     ensures keeps { Keeps st.old st.new }
 {
-    let of = class_or_object(st, st.class_object(CoreClass::Proc));
+    let of = st.class_object(CoreClass::Proc);
     let contents = own_proc(st, contents);
     let kind = Kind::Proc(Boxed::new(st.alloc(), contents)?);
     add(st, of, kind)
 }
 
 /// A new Proc whose call enters a row with the kept value as the receiver.
-#[tactic(auto, using(rb_store::proofs::Keeping::keeps_itself))]
+#[tactic(auto, using(rb_store::proofs::Keeping::keeps_itself, crate::proofs::Fresh::proc_class))]
 pub(crate) fn make_core_proc(st: &mut Store, row: u16, kept: Value) -> Result<ObjId, AllocError>
     requires sound { Sound st.old.store }
+    ensures number { IfOk result (λ id. id ≡ next_number st.old.store) }
+    ensures made { OnOk result (st.new ≡ made.with_core_proc st.old row kept) }
+    ensures err { OnErr result (st.new ≡ st.old) }
     ensures keeps { Keeps st.old st.new }
 {
-    let of = class_or_object(st, st.class_object(CoreClass::Proc));
+    let of = st.class_object(CoreClass::Proc);
     let kept = own(st, kept);
     add(st, of, Kind::CoreProc { row, kept })
 }
@@ -185,6 +212,9 @@ pub(crate) fn make_fiber(
     block: ObjId,
 ) -> Result<Option<ObjId>, AllocError>
     requires sound { Sound st.old.store }
+    ensures number { IfOk result (λ found. found ≡ made.number_for st.old.store block) }
+    ensures made { OnOk result (st.new ≡ made.with_fiber st.old of block) }
+    ensures err { OnErr result (st.new ≡ st.old) }
     ensures keeps { Keeps st.old st.new }
 {
     let of = class_or_object(st, of);
@@ -201,12 +231,15 @@ pub(crate) fn make_fiber(
 }
 
 /// A new Yielder that gives its items to a Proc; none where that is no Proc.
-#[tactic(auto, using(rb_store::proofs::Keeping::keeps_itself))]
+#[tactic(auto, using(rb_store::proofs::Keeping::keeps_itself, crate::proofs::Fresh::yielder_class))]
 pub(crate) fn make_yielder(st: &mut Store, block: ObjId) -> Result<Option<ObjId>, AllocError>
     requires sound { Sound st.old.store }
+    ensures number { IfOk result (λ found. found ≡ made.number_for st.old.store block) }
+    ensures made { OnOk result (st.new ≡ made.with_yielder st.old block) }
+    ensures err { OnErr result (st.new ≡ st.old) }
     ensures keeps { Keeps st.old st.new }
 {
-    let of = class_or_object(st, st.class_object(CoreClass::Yielder));
+    let of = st.class_object(CoreClass::Yielder);
     match proc(st, block) {
         Some(block) => Ok(Some(add(st, of, Kind::Yielder { block })?)),
         None => Ok(None),
@@ -214,19 +247,30 @@ pub(crate) fn make_yielder(st: &mut Store, block: ObjId) -> Result<Option<ObjId>
 }
 
 impl Heap {
-    /// A new Array of these elements, which is empty where one of them is of no heap. Where memory runs out all is as
-    /// before.
-    pub fn make_array(&mut self, elements: Vec<Value>) -> Result<Value, AllocError> {
+    /// A new Array of these elements; nil where one of them is of no heap. Where memory runs out all is as before.
+    pub fn make_array(&mut self, elements: Vec<Value>) -> Result<Value, AllocError>
+        ensures value { IfOk result (λ v. v ≡ made.array_given self.old.store elements.items) }
+        ensures made { OnOk result (self.new ≡ made.with_array self.old elements.items) }
+        ensures err { OnErr result (self.new ≡ self.old) }
+    {
         make_array(&mut self.st, elements)
     }
 
     /// A new String of these bytes.
-    pub fn make_string(&mut self, bytes: Vec<u8>) -> Result<Value, AllocError> {
+    pub fn make_string(&mut self, bytes: Vec<u8>) -> Result<Value, AllocError>
+        ensures value { IfOk result (λ v. v ≡ Obj (next_number self.old.store)) }
+        ensures made { OnOk result (self.new ≡ made.with_new self.old (core classes.String) (kinds.String bytes.items)) }
+        ensures err { OnErr result (self.new ≡ self.old) }
+    {
         make_string(&mut self.st, bytes)
     }
 
     /// A new String of these bytes.
-    pub fn make_text(&mut self, bytes: &[u8]) -> Result<Value, AllocError> {
+    pub fn make_text(&mut self, bytes: &[u8]) -> Result<Value, AllocError>
+        ensures value { IfOk result (λ v. v ≡ Obj (next_number self.old.store)) }
+        ensures made { OnOk result (self.new ≡ made.with_new self.old (core classes.String) (kinds.String bytes.now)) }
+        ensures err { OnErr result (self.new ≡ self.old) }
+    {
         let bytes = Vec::from_slice(self.alloc(), bytes)?;
         self.make_string(bytes)
     }
@@ -244,22 +288,31 @@ impl Heap {
     }
 
     /// A new Range of a class, and of Object where there is no such class.
-    pub fn make_range_of(
-        &mut self,
-        of: ObjId,
-        contents: RangeContents,
-    ) -> Result<ObjId, AllocError> {
+    pub fn make_range_of(&mut self, of: ObjId, contents: RangeContents) -> Result<ObjId, AllocError>
+        ensures number { IfOk result (λ id. id ≡ next_number self.old.store) }
+        ensures made { OnOk result (self.new ≡ made.with_range self.old of contents) }
+        ensures err { OnErr result (self.new ≡ self.old) }
+    {
         make_range_of(&mut self.st, of, contents)
     }
 
     /// A new object of a class with nothing in it; of Object where there is no such class.
-    pub fn make_blank(&mut self, of: ObjId, blank: Blank) -> Result<Value, AllocError> {
+    pub fn make_blank(&mut self, of: ObjId, blank: Blank) -> Result<Value, AllocError>
+        ensures value { IfOk result (λ v. v ≡ Obj (next_number self.old.store)) }
+        ensures made { OnOk result (self.new ≡ made.with_blank self.old of blank) }
+        ensures err { OnErr result (self.new ≡ self.old) }
+    {
         make_blank(&mut self.st, of, blank)
     }
 
     /// A new Hash without pairs.
-    pub fn make_hash(&mut self) -> Result<Value, AllocError> {
-        let class = self.class_object(CoreClass::Hash);
+    #[tactic(auto, using(crate::proofs::Fresh::hash_own))]
+    pub fn make_hash(&mut self) -> Result<Value, AllocError>
+        ensures value { IfOk result (λ v. v ≡ Obj (next_number self.old.store)) }
+        ensures made { OnOk result (self.new ≡ made.with_new self.old (core classes.Hash) (kinds.Hash parts.no_pairs)) }
+        ensures err { OnErr result (self.new ≡ self.old) }
+    {
+        let class = self.st.class_object(CoreClass::Hash);
         self.make_blank(class, Blank::Hash)
     }
 
@@ -269,27 +322,47 @@ impl Heap {
         of: ObjId,
         message: Value,
         detail: Value,
-    ) -> Result<ObjId, AllocError> {
+    ) -> Result<ObjId, AllocError>
+        ensures number { IfOk result (λ id. id ≡ next_number self.old.store) }
+        ensures made { OnOk result (self.new ≡ made.with_exception self.old of message detail) }
+        ensures err { OnErr result (self.new ≡ self.old) }
+    {
         make_exception(&mut self.st, of, message, detail)
     }
 
     /// A new Proc with a body of code; what it names and isn't of the heap is left out.
-    pub fn make_proc(&mut self, contents: ProcContents) -> Result<ObjId, AllocError> {
+    pub fn make_proc(&mut self, contents: ProcContents) -> Result<ObjId, AllocError>
+        ensures number { IfOk result (λ id. id ≡ next_number self.old.store) }
+        ensures made { OnOk result (self.new ≡ made.with_proc self.old contents) }
+        ensures err { OnErr result (self.new ≡ self.old) }
+    {
         make_proc(&mut self.st, contents)
     }
 
     /// A new Proc whose call enters a row with the kept value as the receiver.
-    pub fn make_core_proc(&mut self, row: u16, kept: Value) -> Result<ObjId, AllocError> {
+    pub fn make_core_proc(&mut self, row: u16, kept: Value) -> Result<ObjId, AllocError>
+        ensures number { IfOk result (λ id. id ≡ next_number self.old.store) }
+        ensures made { OnOk result (self.new ≡ made.with_core_proc self.old row kept) }
+        ensures err { OnErr result (self.new ≡ self.old) }
+    {
         make_core_proc(&mut self.st, row, kept)
     }
 
     /// A new fiber of a class that runs a Proc; none where that is no Proc.
-    pub fn make_fiber(&mut self, of: ObjId, block: ObjId) -> Result<Option<ObjId>, AllocError> {
+    pub fn make_fiber(&mut self, of: ObjId, block: ObjId) -> Result<Option<ObjId>, AllocError>
+        ensures number { IfOk result (λ found. found ≡ made.number_for self.old.store block) }
+        ensures made { OnOk result (self.new ≡ made.with_fiber self.old of block) }
+        ensures err { OnErr result (self.new ≡ self.old) }
+    {
         make_fiber(&mut self.st, of, block)
     }
 
     /// A new Yielder that gives its items to a Proc; none where that is no Proc.
-    pub fn make_yielder(&mut self, block: ObjId) -> Result<Option<ObjId>, AllocError> {
+    pub fn make_yielder(&mut self, block: ObjId) -> Result<Option<ObjId>, AllocError>
+        ensures number { IfOk result (λ found. found ≡ made.number_for self.old.store block) }
+        ensures made { OnOk result (self.new ≡ made.with_yielder self.old block) }
+        ensures err { OnErr result (self.new ≡ self.old) }
+    {
         make_yielder(&mut self.st, block)
     }
 }

@@ -1,6 +1,8 @@
 //! Changes of single facts of objects.
-ghost use Rattle.std.specs.Prelude.{◌≡◌, true};
+ghost use Rattle.std.specs.Prelude.{◌≡◌};
 ghost use Rattle.def_core.specs.Sound.{Sound, census};
+ghost use Rattle.def_core.specs.Store.{object_at};
+ghost use Rattle.def_calls.specs.Views as views;
 ghost use Rattle.def_calls.specs.World.{World, with_store};
 ghost use Rattle.def_calls.specs.Values as values;
 ghost use Rattle.rb_store.specs.Keeps.{Keeps};
@@ -16,8 +18,11 @@ use run_values::Given;
 use std::alloc::AllocError;
 
 /// The message and the detail of an exception; nil of another object.
-#[tactic(auto, using(def_core::proofs::Good::is_good))]
-fn held(st: &Store, id: ObjId) -> (Value, Value) {
+#[tactic(auto, using(def_core::proofs::Good::is_good, def_core::proofs::Good::absent_where_none))]
+fn held(st: &Store, id: ObjId) -> (Value, Value)
+    ensures message { result.0 ≡ views.message_of (object_at st.now.store.objects id).kind }
+    ensures detail { result.1 ≡ views.detail_of (object_at st.now.store.objects id).kind }
+{
     match object(st, id) {
         Some(id) => match st.get(id).kind() {
             Kind::Exception { message, detail } => (*message, *detail),
@@ -37,8 +42,8 @@ pub(crate) fn set_instance_variable(
 ) -> Result<Given, AllocError>
     requires sound { Sound st.old.store }
     ensures keeps { Keeps st.old st.new }
-    ensures answers { operands.has_symbol st.old.store name ≡ true → Answers st.old st.new result (λ w.
-        values.set_instance_variable w (operands.own st.old.store receiver) name (operands.own st.old.store value)) }
+    ensures answers { Answers st.old st.new result (operands.with_symbol name (λ w.
+        values.set_instance_variable w (operands.own st.old.store receiver) name (operands.own st.old.store value))) }
 {
     let receiver = own(st, receiver);
     let value = own(st, value);
@@ -52,6 +57,7 @@ pub(crate) fn set_instance_variable(
 #[tactic(auto, using(rb_store::proofs::Keeping::keeps_itself))]
 pub(crate) fn set_message(st: &mut Store, id: ObjId, message: Value)
     requires sound { Sound st.old.store }
+    ensures message { st.new ≡ changes.with_message st.old id message }
     ensures keeps { Keeps st.old st.new }
 {
     let message = own(st, message);
@@ -66,6 +72,7 @@ pub(crate) fn set_message(st: &mut Store, id: ObjId, message: Value)
 #[tactic(auto, using(rb_store::proofs::Keeping::keeps_itself))]
 pub(crate) fn set_detail(st: &mut Store, id: ObjId, detail: Value)
     requires sound { Sound st.old.store }
+    ensures detail { st.new ≡ changes.with_detail st.old id detail }
     ensures keeps { Keeps st.old st.new }
 {
     let message = own(st, held(st, id).0);
@@ -117,20 +124,24 @@ impl Heap {
         name: SymId,
         value: Value,
     ) -> Result<Given, AllocError>
-        ensures answers { operands.has_symbol self.old.store name ≡ true → Answers self.old self.new result (λ w.
-            values.set_instance_variable w (operands.own self.old.store receiver) name (operands.own self.old.store value)) }
+        ensures answers { Answers self.old self.new result (operands.with_symbol name (λ w.
+            values.set_instance_variable w (operands.own self.old.store receiver) name (operands.own self.old.store value))) }
     {
         set_instance_variable(&mut self.st, receiver, name, value)
     }
 
     /// Gives an exception another message.
-    pub fn set_message(&mut self, id: ObjId, message: Value) {
+    pub fn set_message(&mut self, id: ObjId, message: Value)
+        ensures message { self.new ≡ changes.with_message self.old id message }
+    {
         set_message(&mut self.st, id, message);
     }
 
     /// Gives an exception another detail: the name of a NameError, the status of a SystemExit, the result of a
     /// StopIteration.
-    pub fn set_detail(&mut self, id: ObjId, detail: Value) {
+    pub fn set_detail(&mut self, id: ObjId, detail: Value)
+        ensures detail { self.new ≡ changes.with_detail self.old id detail }
+    {
         set_detail(&mut self.st, id, detail);
     }
 

@@ -1,9 +1,13 @@
 //! What objects hold.
-ghost use Rattle.std.specs.Prelude.{◌≡◌, [], length, false, slice_get, option_map, MatchOption, if◌then◌else◌};
-ghost use Rattle.def_core.specs.Store.{object_at, name_at};
+ghost use Rattle.std.specs.Prelude.{◌≡◌, ◌≢◌, [], length, true, false, None, slice_get, option_map, IfSome, MatchOption, if◌then◌else◌};
+ghost use Rattle.rb_value.specs.declared.value.Value.TheVariants.{Obj};
+ghost use Rattle.def_core.specs.Store.{absent, object_at, name_at, sort_at};
 ghost use Rattle.def_core.specs.Sound.{has_object};
 ghost use Rattle.def_core.specs.Parts as parts;
+ghost use Rattle.def_core.specs.Bind.{elements_in};
+ghost use Rattle.def_calls.specs.Views as views;
 ghost use Rattle.heap.specs.Operands as operands;
+ghost use Rattle.heap.specs.Reading as reading;
 
 use crate::hashes::absent_of;
 use crate::heap::Heap;
@@ -16,10 +20,12 @@ use rb_value::{
 impl Heap {
     /// What an object holds.
     #[inline(always)]
-    #[tactic(auto, using(def_core::proofs::Good::is_good))]
+    #[tactic(auto, using(def_core::proofs::Good::is_good, def_core::proofs::Good::absent_where_none))]
     pub fn kind(&self, id: ObjId) -> Option<&Kind>
-        ensures { MatchOption result (has_object self.now.store.objects id ≡ false)
+        ensures found { MatchOption result (has_object self.now.store.objects id ≡ false)
             (λ kind. kind.now ≡ (object_at self.now.store.objects id).kind) }
+        ensures there { IfSome result (λ kind. has_object self.now.store.objects id ≡ true) }
+        ensures none { result ≡ None → object_at self.now.store.objects id ≡ absent }
     {
         let id = object(&self.st, id)?;
         Some(self.st.get(id).kind())
@@ -27,7 +33,9 @@ impl Heap {
 
     /// What sort of object a value is.
     #[inline(always)]
-    pub fn sort(&self, value: Value) -> Option<Sort> {
+    pub fn sort(&self, value: Value) -> Option<Sort>
+        ensures { result ≡ reading.sort_of_value self.now.store value }
+    {
         match value {
             Value::Obj(id) => Some(self.kind(id)?.sort()),
             _ => None,
@@ -36,7 +44,11 @@ impl Heap {
 
     /// The object that a value is, where it is of that sort.
     #[inline(always)]
-    fn of_sort(&self, value: Value, sort: Sort) -> Option<ObjId> {
+    fn of_sort(&self, value: Value, sort: Sort) -> Option<ObjId>
+        ensures found { IfSome result (λ id. (value ≡ Obj id) × (sort_at self.now.store.objects id ≡ sort)) }
+        ensures none { result ≡ None → (id : ObjId) → value ≡ Obj id → has_object self.now.store.objects id ≡ true →
+            sort_at self.now.store.objects id ≢ sort }
+    {
         match value {
             Value::Obj(id) => if self.kind(id)?.sort() == sort {
                 Some(id)
@@ -49,35 +61,47 @@ impl Heap {
 
     /// The Array that a value is.
     #[inline(always)]
-    pub fn an_array(&self, value: Value) -> Option<ObjId> {
+    pub fn an_array(&self, value: Value) -> Option<ObjId>
+        ensures { result ≡ views.an_array self.now.store.objects value }
+    {
         self.of_sort(value, Sort::Array)
     }
 
     /// The String that a value is.
     #[inline(always)]
-    pub fn a_string(&self, value: Value) -> Option<ObjId> {
+    pub fn a_string(&self, value: Value) -> Option<ObjId>
+        ensures { result ≡ views.a_string self.now.store.objects value }
+    {
         self.of_sort(value, Sort::String)
     }
 
     /// The Hash that a value is.
     #[inline(always)]
-    pub fn a_hash(&self, value: Value) -> Option<ObjId> {
+    pub fn a_hash(&self, value: Value) -> Option<ObjId>
+        ensures { result ≡ views.a_hash self.now.store.objects value }
+    {
         self.of_sort(value, Sort::Hash)
     }
 
     /// The Proc that a value is.
     #[inline(always)]
-    pub fn a_proc(&self, value: Value) -> Option<ObjId> {
+    pub fn a_proc(&self, value: Value) -> Option<ObjId>
+        ensures { result ≡ views.a_proc self.now.store.objects value }
+    {
         self.of_sort(value, Sort::Proc)
     }
 
     /// The fiber that a value is.
-    pub fn a_fiber(&self, value: Value) -> Option<ObjId> {
+    pub fn a_fiber(&self, value: Value) -> Option<ObjId>
+        ensures { result ≡ views.a_fiber self.now.store.objects value }
+    {
         self.of_sort(value, Sort::Fiber)
     }
 
     /// The exception that a value is.
-    pub fn an_exception(&self, value: Value) -> Option<ObjId> {
+    pub fn an_exception(&self, value: Value) -> Option<ObjId>
+        ensures { result ≡ views.an_exception self.now.store.objects value }
+    {
         self.of_sort(value, Sort::Exception)
     }
 
@@ -94,7 +118,10 @@ impl Heap {
     }
 
     /// The elements of an Array.
-    pub fn elements_of(&self, value: Value) -> Option<&[Value]> {
+    #[tactic(auto, using(crate::proofs::Sorted::elements_there, crate::proofs::Sorted::elements_none))]
+    pub fn elements_of(&self, value: Value) -> Option<&[Value]>
+        ensures { option_map (λ e. e.now) result ≡ elements_in self.now.store.objects value }
+    {
         let id = self.an_array(value)?;
         Some(self.elements(id))
     }
@@ -111,7 +138,10 @@ impl Heap {
     }
 
     /// The bytes of a String.
-    pub fn text_of(&self, value: Value) -> Option<&[u8]> {
+    #[tactic(auto, using(crate::proofs::Sorted::text_there, crate::proofs::Sorted::text_none))]
+    pub fn text_of(&self, value: Value) -> Option<&[u8]>
+        ensures { option_map (λ t. t.now) result ≡ views.string_of (views.kind_in self.now.store.objects value) }
+    {
         let id = self.a_string(value)?;
         Some(self.text(id))
     }
@@ -135,7 +165,9 @@ impl Heap {
     }
 
     /// The ends of a Range.
-    pub fn range_of(&self, value: Value) -> Option<RangeContents> {
+    pub fn range_of(&self, value: Value) -> Option<RangeContents>
+        ensures { result ≡ reading.range_in (views.kind_in self.now.store.objects value) }
+    {
         let Value::Obj(id) = value else {
             return None;
         };
@@ -147,7 +179,9 @@ impl Heap {
 
     /// What a Proc with a body holds.
     #[inline(always)]
-    pub fn proc_of(&self, id: ObjId) -> Option<&ProcContents> {
+    pub fn proc_of(&self, id: ObjId) -> Option<&ProcContents>
+        ensures { option_map (λ p. p.now) result ≡ reading.proc_in (object_at self.now.store.objects id).kind }
+    {
         match self.kind(id)? {
             Kind::Proc(contents) => Some(contents.get()),
             _ => None,
@@ -155,7 +189,9 @@ impl Heap {
     }
 
     /// The row that a call of a Proc without a body enters, and the value that it keeps.
-    pub fn core_proc_of(&self, id: ObjId) -> Option<(u16, Value)> {
+    pub fn core_proc_of(&self, id: ObjId) -> Option<(u16, Value)>
+        ensures { result ≡ reading.core_proc_in self.now.store (object_at self.now.store.objects id).kind }
+    {
         match self.kind(id)? {
             Kind::CoreProc { row, kept } => Some((*row, own(&self.st, *kept))),
             _ => None,
@@ -163,7 +199,9 @@ impl Heap {
     }
 
     /// The Proc that a fiber runs, and whether it has ended.
-    pub fn fiber_of(&self, id: ObjId) -> Option<(ObjId, bool)> {
+    pub fn fiber_of(&self, id: ObjId) -> Option<(ObjId, bool)>
+        ensures { result ≡ views.fiber_of (object_at self.now.store.objects id).kind }
+    {
         match self.kind(id)? {
             Kind::Fiber { block, ended } => Some((*block, *ended)),
             _ => None,
@@ -171,7 +209,9 @@ impl Heap {
     }
 
     /// The message of an exception; nil of another object.
-    pub fn message_of(&self, id: ObjId) -> Value {
+    pub fn message_of(&self, id: ObjId) -> Value
+        ensures { result ≡ views.message_of (object_at self.now.store.objects id).kind }
+    {
         match self.kind(id) {
             Some(Kind::Exception { message, detail: _ }) => *message,
             _ => Value::Nil,
@@ -179,7 +219,9 @@ impl Heap {
     }
 
     /// The name, status or result that an exception has; nil of another object.
-    pub fn detail_of(&self, id: ObjId) -> Value {
+    pub fn detail_of(&self, id: ObjId) -> Value
+        ensures { result ≡ views.detail_of (object_at self.now.store.objects id).kind }
+    {
         match self.kind(id) {
             Some(Kind::Exception { message: _, detail }) => *detail,
             _ => Value::Nil,
@@ -187,7 +229,9 @@ impl Heap {
     }
 
     /// What an Enumerator holds.
-    pub fn enumerator_of(&self, id: ObjId) -> Option<&EnumeratorContents> {
+    pub fn enumerator_of(&self, id: ObjId) -> Option<&EnumeratorContents>
+        ensures { option_map (λ e. e.now) result ≡ reading.contents_in (object_at self.now.store.objects id).kind }
+    {
         match self.kind(id)? {
             Kind::Enumerator(contents) => Some(contents.get()),
             _ => None,
@@ -195,7 +239,9 @@ impl Heap {
     }
 
     /// The Proc that a Yielder gives its items to.
-    pub fn yielder_of(&self, id: ObjId) -> Option<ObjId> {
+    pub fn yielder_of(&self, id: ObjId) -> Option<ObjId>
+        ensures { result ≡ reading.yielder_in (object_at self.now.store.objects id).kind }
+    {
         match self.kind(id)? {
             Kind::Yielder { block } => Some(*block),
             _ => None,

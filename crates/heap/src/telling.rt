@@ -1,5 +1,5 @@
 //! What `defined?` tells: a text of what is there, or nil.
-ghost use Rattle.std.specs.Prelude.{◌≡◌};
+ghost use Rattle.std.specs.Prelude.{◌≡◌, codes, is_some};
 ghost use Rattle.def_core.specs.Sound.{Sound, census};
 ghost use Rattle.def_calls.specs.Definitions as definitions;
 ghost use Rattle.rb_store.specs.Keeps.{Keeps};
@@ -9,10 +9,11 @@ ghost use Rattle.heap.specs.Operands as operands;
 
 use crate::heap::Heap;
 use crate::testing::{own, symbol};
+use rb_base::Bytes;
 use rb_store::Store;
 use rb_value::{ObjId, SymId, Value};
 use run_definitions::{EnclosingLists, telling};
-use run_values::Given;
+use run_values::{Given, make_text};
 use std::alloc::AllocError;
 
 /// Whether an instance variable of a value was set.
@@ -80,14 +81,27 @@ pub(crate) fn tell_method(
     telling::method(st, caller, receiver, name)
 }
 
+/// A text where a condition holds, and else nil.
+#[tactic(auto, using(rb_store::proofs::Keeping::keeps_itself))]
+fn tell(st: &mut Store, holds: bool, text: &[u8]) -> Result<Given, AllocError>
+    requires sound { Sound st.old.store }
+    ensures keeps { Keeps st.old st.new }
+    ensures answers { Answers st.old st.new result (λ w. definitions.text_if w text.now holds) }
+{
+    if holds {
+        let bytes = Bytes::from_slice(st.alloc(), text)?;
+        make_text(st, bytes)
+    } else {
+        Ok(Given::Gives(Value::Nil))
+    }
+}
+
 impl Heap {
     /// A text where a condition holds, and else nil.
-    pub fn tell(&mut self, holds: bool, text: &[u8]) -> Result<Given, AllocError> {
-        if holds {
-            Ok(Given::Gives(self.make_text(text)?))
-        } else {
-            Ok(Given::Gives(Value::Nil))
-        }
+    pub fn tell(&mut self, holds: bool, text: &[u8]) -> Result<Given, AllocError>
+        ensures answers { Answers self.old self.new result (λ w. definitions.text_if w text.now holds) }
+    {
+        tell(&mut self.st, holds, text)
     }
 
     /// Whether an instance variable of a value was set.
@@ -125,7 +139,10 @@ impl Heap {
     }
 
     /// Whether a method was called with a block.
-    pub fn tell_block(&mut self, block: Option<ObjId>) -> Result<Given, AllocError> {
+    pub fn tell_block(&mut self, block: Option<ObjId>) -> Result<Given, AllocError>
+        ensures answers { Answers self.old self.new result
+            (λ w. definitions.text_if w (codes "yield") (is_some block)) }
+    {
         self.tell(block.is_some(), b"yield")
     }
 
@@ -135,7 +152,10 @@ impl Heap {
         receiver: Value,
         owner: Option<ObjId>,
         name: Option<SymId>,
-    ) -> Result<Given, AllocError> {
+    ) -> Result<Given, AllocError>
+        ensures answers { Answers self.old self.new result (λ w. definitions.text_if w (codes "super")
+            (is_some (definitions.super_of w (operands.own self.old.store receiver) owner name))) }
+    {
         let class = self.class_of(receiver);
         let holds = match (owner, name) {
             (Some(owner), Some(name)) => self.find_super(class, owner, name).is_some(),

@@ -2,9 +2,11 @@
 ghost use Rattle.std.specs.Prelude.{◌≡◌, true, false, IfSome, MatchOption};
 ghost use Rattle.rb_value.specs.declared.kind.Sort.TheVariants as sorts;
 ghost use Rattle.def_core.specs.Store.{sort_at};
+ghost use Rattle.def_core.specs.Changes.{is_class_sort};
 ghost use Rattle.def_core.specs.Sound.{census, has_object, plays, Is, IsGood, Any, Class, ClassOrModule, Module, Proc, Array, String, Fiber, IsSymbol, IsValue, OptionIs, AllAre, Sound, SoundMethod, SoundProc};
 ghost use Rattle.rb_raise.specs.Causes.{SoundCause};
 ghost use Rattle.heap.specs.Operands as operands;
+ghost use Rattle.heap.specs.Told as causes;
 
 use def_core::Cause;
 use rb_store::Store;
@@ -73,7 +75,9 @@ pub(crate) fn space(st: &Store, id: ObjId) -> Option<ObjId>
 /// The class of that number, which is no singleton class.
 #[tactic(auto, using(def_core::proofs::Good::has_role))]
 pub(crate) fn class(st: &Store, id: ObjId) -> Option<ObjId>
-    ensures { OptionIs (Is (census st.now.store) Class) result }
+    ensures there { OptionIs (Is (census st.now.store) Class) result }
+    ensures found { MatchOption result (is_class_sort (sort_at st.now.store.objects id) ≡ false)
+        (λ found. (found ≡ id) × (is_class_sort (sort_at st.now.store.objects id) ≡ true)) }
 {
     match st.sort(id)? {
         Sort::Class => Some(id),
@@ -85,7 +89,8 @@ pub(crate) fn class(st: &Store, id: ObjId) -> Option<ObjId>
 #[tactic(auto, using(def_core::proofs::Grows::core_is_class))]
 pub(crate) fn class_or_object(st: &Store, id: ObjId) -> ObjId
     requires { Sound st.now.store }
-    ensures { Is (census st.now.store) Class result }
+    ensures there { Is (census st.now.store) Class result }
+    ensures own { result ≡ operands.own_class st.now.store id }
 {
     match class(st, id) {
         Some(id) => id,
@@ -178,6 +183,8 @@ pub(crate) fn exception(st: &Store, id: ObjId) -> Option<ObjId>
 pub(crate) fn enumerator(st: &Store, id: ObjId) -> Option<ObjId>
     ensures there { IfSome result (IsGood st.now.store) }
     ensures sort { IfSome result (λ id. sort_at st.now.store.objects id ≡ sorts.Enumerator) }
+    ensures found { MatchOption result (operands.is_enumerator (sort_at st.now.store.objects id) ≡ false)
+        (λ found. found ≡ id) }
 {
     match st.sort(id)? {
         Sort::Enumerator => Some(id),
@@ -201,36 +208,6 @@ pub(crate) fn are_own(st: &Store, values: &[Value]) -> bool
     true
 }
 
-/// A cause that names only what is of the store: this one, or that an exception is raised without a reason.
-pub(crate) fn told(st: &Store, cause: Cause) -> Cause
-    ensures { SoundCause (census st.now.store) result }
-{
-    match known(st, cause) {
-        Some(cause) => cause,
-        None => Cause::Unhandled,
-    }
-}
-
-/// A symbol and a class or module of the store.
-fn names(st: &Store, name: SymId, class: ObjId) -> Option<(SymId, ObjId)>
-    ensures symbol { OptionIs (λ p. IsSymbol (census st.now.store) p.0) result }
-    ensures class { OptionIs (λ p. Is (census st.now.store) ClassOrModule p.1) result }
-{
-    let name = symbol(st, name)?;
-    let class = space(st, class)?;
-    Some((name, class))
-}
-
-/// Two classes or modules of the store.
-fn both(st: &Store, left: ObjId, right: ObjId) -> Option<(ObjId, ObjId)>
-    ensures left { OptionIs (λ p. Is (census st.now.store) ClassOrModule p.0) result }
-    ensures right { OptionIs (λ p. Is (census st.now.store) ClassOrModule p.1) result }
-{
-    let left = space(st, left)?;
-    let right = space(st, right)?;
-    Some((left, right))
-}
-
 /// The String of that number.
 #[tactic(auto, using(def_core::proofs::Good::has_role))]
 pub(crate) fn string(st: &Store, id: ObjId) -> Option<ObjId>
@@ -245,116 +222,75 @@ pub(crate) fn string(st: &Store, id: ObjId) -> Option<ObjId>
     }
 }
 
-/// The cause of a method that isn't found, or of a name, where what it names is of the store.
-fn known_method(st: &Store, cause: Cause) -> Option<Cause>
-    ensures { OptionIs (SoundCause (census st.now.store)) result }
+/// Whether the store has a symbol and a class or module.
+fn has_names(st: &Store, name: SymId, class: ObjId) -> bool
+    ensures names { result ≡ causes.has_names st.now.store name class }
+    ensures symbol { result ≡ true → IsSymbol (census st.now.store) name }
+    ensures class { result ≡ true → Is (census st.now.store) ClassOrModule class }
+{
+    symbol(st, name).is_some() && space(st, class).is_some()
+}
+
+/// Whether the store has two classes or modules.
+fn has_both(st: &Store, left: ObjId, right: ObjId) -> bool
+    ensures both { result ≡ causes.has_both st.now.store left right }
+    ensures left { result ≡ true → Is (census st.now.store) ClassOrModule left }
+    ensures right { result ≡ true → Is (census st.now.store) ClassOrModule right }
+{
+    space(st, left).is_some() && space(st, right).is_some()
+}
+
+/// Whether the store has all that a cause names.
+#[tactic(auto, unfolding(crate::specs::Told::has_cause))]
+fn has_cause(st: &Store, cause: Cause) -> bool
+    ensures known { result ≡ causes.has_cause st.now.store cause }
+    ensures sound { result ≡ true → SoundCause (census st.now.store) cause }
 {
     match cause {
-        Cause::UndefinedMethod { name, class } => {
-            let (name, class) = names(st, name, class)?;
-            Some(Cause::UndefinedMethod { name, class })
-        }
-        Cause::PrivateMethod { name, class } => {
-            let (name, class) = names(st, name, class)?;
-            Some(Cause::PrivateMethod { name, class })
-        }
-        Cause::ProtectedMethod { name, class } => {
-            let (name, class) = names(st, name, class)?;
-            Some(Cause::ProtectedMethod { name, class })
-        }
-        Cause::NoSuperMethod { name, class } => {
-            let (name, class) = names(st, name, class)?;
-            Some(Cause::NoSuperMethod { name, class })
-        }
-        Cause::UndefinedName { name, class } => {
-            let (name, class) = names(st, name, class)?;
-            Some(Cause::UndefinedName { name, class })
-        }
-        Cause::UndefinedInClass { name, class } => {
-            let (name, class) = names(st, name, class)?;
-            Some(Cause::UndefinedInClass { name, class })
-        }
-        _ => None,
+        Cause::UndefinedMethod { name, class }
+        | Cause::PrivateMethod { name, class }
+        | Cause::ProtectedMethod { name, class }
+        | Cause::NoSuperMethod { name, class }
+        | Cause::UndefinedName { name, class }
+        | Cause::UndefinedInClass { name, class } => has_names(st, name, class),
+        Cause::UninitializedConstant { scope, name } => match scope {
+            Some(scope) => has_names(st, name, scope),
+            None => symbol(st, name).is_some(),
+        },
+        Cause::WrongValue(name)
+        | Cause::SuperclassMismatch(name)
+        | Cause::NotClass(name)
+        | Cause::NotModule(name) => symbol(st, name).is_some(),
+        Cause::Incomparable { left, right } => has_both(st, left, right),
+        Cause::Expected { class, got } => has_both(st, class, got),
+        Cause::KeyNotFound(key) => string(st, key).is_some(),
+        Cause::IterationEnd { result } => own(st, result) == result,
+        _ => true,
     }
 }
 
-/// The cause of a name that is wrong, where the store has it.
-fn known_name(st: &Store, cause: Cause) -> Option<Cause>
-    ensures { OptionIs (SoundCause (census st.now.store)) result }
+/// A cause that names only what is of the store: this one, or that an exception is raised without a reason.
+#[tactic(auto, unfolding(crate::specs::Told::told, crate::specs::Told::has_cause))]
+pub(crate) fn told(st: &Store, cause: Cause) -> Cause
+    ensures sound { SoundCause (census st.now.store) result }
+    ensures told { result ≡ causes.told st.now.store cause }
 {
     match cause {
-        Cause::UninitializedConstant {
-            scope: Some(scope),
-            name,
-        } => {
-            let (name, scope) = names(st, name, scope)?;
-            Some(Cause::UninitializedConstant {
-                scope: Some(scope),
-                name,
-            })
-        }
-        Cause::UninitializedConstant { scope: None, name } => {
-            let name = symbol(st, name)?;
-            Some(Cause::UninitializedConstant { scope: None, name })
-        }
-        Cause::WrongValue(name) => {
-            let name = symbol(st, name)?;
-            Some(Cause::WrongValue(name))
-        }
-        Cause::SuperclassMismatch(name) => {
-            let name = symbol(st, name)?;
-            Some(Cause::SuperclassMismatch(name))
-        }
-        Cause::NotClass(name) => {
-            let name = symbol(st, name)?;
-            Some(Cause::NotClass(name))
-        }
-        Cause::NotModule(name) => {
-            let name = symbol(st, name)?;
-            Some(Cause::NotModule(name))
-        }
-        _ => None,
-    }
-}
-
-/// The cause, where all that it names is of the store.
-fn known(st: &Store, cause: Cause) -> Option<Cause>
-    ensures { OptionIs (SoundCause (census st.now.store)) result }
-{
-    match cause {
-        Cause::UndefinedMethod { name: _, class: _ }
-        | Cause::PrivateMethod { name: _, class: _ }
-        | Cause::ProtectedMethod { name: _, class: _ }
-        | Cause::NoSuperMethod { name: _, class: _ }
-        | Cause::UndefinedName { name: _, class: _ }
-        | Cause::UndefinedInClass { name: _, class: _ } => known_method(st, cause),
-        Cause::UninitializedConstant { scope: _, name: _ }
-        | Cause::WrongValue(_)
-        | Cause::SuperclassMismatch(_)
-        | Cause::NotClass(_)
-        | Cause::NotModule(_) => known_name(st, cause),
-        Cause::Incomparable { left, right } => {
-            let (left, right) = both(st, left, right)?;
-            Some(Cause::Incomparable { left, right })
-        }
-        Cause::Expected { class, got } => {
-            let (class, got) = both(st, class, got)?;
-            Some(Cause::Expected { class, got })
-        }
-        Cause::KeyNotFound(key) => {
-            let key = string(st, key)?;
-            Some(Cause::KeyNotFound(key))
-        }
-        Cause::IterationEnd { result } => Some(Cause::IterationEnd {
+        Cause::IterationEnd { result } => Cause::IterationEnd {
             result: own(st, result),
-        }),
-        other => Some(other),
+        },
+        other => if has_cause(st, other) {
+            other
+        } else {
+            Cause::Unhandled
+        },
     }
 }
 
 /// The class or module, where there is one of that number.
 fn owner(st: &Store, owner: Option<ObjId>) -> Option<ObjId>
-    ensures { OptionIs (Is (census st.now.store) ClassOrModule) result }
+    ensures there { OptionIs (Is (census st.now.store) ClassOrModule) result }
+    ensures own { result ≡ operands.own_space st.now.store owner }
 {
     match owner {
         Some(id) => space(st, id),
@@ -364,7 +300,8 @@ fn owner(st: &Store, owner: Option<ObjId>) -> Option<ObjId>
 
 /// The symbol, where there is one of that number.
 fn maybe_symbol(st: &Store, name: Option<SymId>) -> Option<SymId>
-    ensures { OptionIs (IsSymbol (census st.now.store)) result }
+    ensures there { OptionIs (IsSymbol (census st.now.store)) result }
+    ensures own { result ≡ operands.own_symbol st.now.store name }
 {
     match name {
         Some(name) => symbol(st, name),
@@ -374,7 +311,8 @@ fn maybe_symbol(st: &Store, name: Option<SymId>) -> Option<SymId>
 
 /// The contents of a Proc without what isn't of the store.
 pub(crate) fn own_proc(st: &Store, contents: ProcContents) -> ProcContents
-    ensures { SoundProc (census st.now.store) result }
+    ensures sound { SoundProc (census st.now.store) result }
+    ensures own { result ≡ operands.own_proc st.now.store contents }
 {
     ProcContents {
         receiver: own(st, contents.receiver),
@@ -387,7 +325,8 @@ pub(crate) fn own_proc(st: &Store, contents: ProcContents) -> ProcContents
 
 /// The method, where what it names is of the store.
 pub(crate) fn own_method(st: &Store, method: Method) -> Option<Method>
-    ensures { OptionIs (SoundMethod (census st.now.store)) result }
+    ensures sound { OptionIs (SoundMethod (census st.now.store)) result }
+    ensures own { result ≡ operands.own_method st.now.store method }
 {
     match method {
         Method::Reader(name) => {

@@ -1,0 +1,5 @@
+use Rattle.heap.proofs.Sorted.{fiber_by}
+use Rattle.heap.proofs.heap.Heap.a_fiber.Goals as goal
+
+pub returns : goal.returns
+returns c = fiber_by c.args.self.now.store c.args.value c.of_sort.result c.of_sort.ensures.found c.of_sort.ensures.none
