@@ -394,3 +394,27 @@ row(309) { [ensured, $ensured] }
 row(310) { replaced }
 row(311) { 1.then { |x| raise Quiet } }
 row(312) { Quiet.new.message }
+row(313) { ArgumentError.new(5).message }
+row(314) { ArgumentError.new(5).inspect }
+row(315) { ArgumentError.new(:own).message }
+row(316) { ArgumentError.new(:own).inspect }
+row(317) { ArgumentError.new(true).message }
+row(318) { ArgumentError.new(true).inspect }
+row(319) { ArgumentError.new(false).message }
+row(320) { ArgumentError.new(false).inspect }
+row(321) { ArgumentError.new([1, :a]).message }
+row(322) { ArgumentError.new([1, :a]).inspect }
+row(323) { ArgumentError.new({1 => nil}).message }
+row(324) { ArgumentError.new({1 => nil}).inspect }
+row(325) { ArgumentError.new(String).message }
+row(326) { ArgumentError.new(String).inspect }
+row(327) { ArgumentError.new(1..2).message }
+row(328) { ArgumentError.new(1..2).inspect }
+row(329) { ArgumentError.new(5).to_s }
+row(330) { ArgumentError.new(:own).to_s }
+row(331) { ArgumentError.new(true).to_s }
+row(332) { ArgumentError.new(false).to_s }
+row(333) { "#{ArgumentError.new(5)}" }
+row(334) { "#{ArgumentError.new(:own)}" }
+row(335) { (begin; raise ArgumentError, ArgumentError.new("own"); rescue => e; [e.message, e.inspect]; end) }
+row(336) { (begin; raise ArgumentError, [:own, nil]; rescue => e; e.message; end) }

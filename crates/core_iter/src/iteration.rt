@@ -38,8 +38,11 @@ pub enum Iteration {
     Inspecting(Rest),
     InspectingText(Rest),
     Raising,
-    /// An exception waits for the message by which it is shown.
+    /// An exception waits for its message, to give it.
+    Messaging(Value),
+    /// An exception waits for the message by which it is shown, or for the text of that.
     Telling(Value),
+    TellingText(Value),
     /// An exception that nothing rescued is asked for its message, or waits for it, and is raised again then.
     Reporting(ObjId),
     Reported(ObjId),

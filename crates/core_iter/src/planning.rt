@@ -11,7 +11,9 @@ use crate::sending::{
     begin_call, begin_kept, begin_resume, begin_send, begin_yield, blockless, call_with, loop_next,
 };
 use crate::strings::{begin_string, byte_next, character_next, line_next};
-use crate::telling::{ask_message, raise_reported, report, tell};
+use crate::telling::{
+    ask_message, begin_message, give_message, raise_reported, report, tell, tell_text,
+};
 use crate::visiting::{begin_visit, delete_then, index_next, replace_then, visit_beat, visit_next};
 use crate::writing::{
     all_of, inspect_next, inspect_text, print_next, print_text, put_all, put_next, put_text,
@@ -93,7 +95,7 @@ fn begin_kernel(
         KernelRow::CallProc => begin_call(heap, call),
         KernelRow::Resume => begin_resume(heap, call),
         KernelRow::Yield => begin_yield(heap, call.args),
-        KernelRow::Message => ask_message(heap, Iteration::Handing, call.receiver),
+        KernelRow::Message => begin_message(heap, call.receiver),
         KernelRow::InspectException => {
             ask_message(heap, Iteration::Telling(call.receiver), call.receiver)
         }
@@ -184,7 +186,9 @@ pub fn next(
         Iteration::Inspecting(rest) => inspect_next(heap, rest),
         Iteration::InspectingText(rest) => inspect_text(heap, rest, answer),
         Iteration::Raising => Ok(raise_made(heap, answer)),
+        Iteration::Messaging(exception) => give_message(heap, exception, answer),
         Iteration::Telling(exception) => tell(heap, exception, answer),
+        Iteration::TellingText(exception) => tell_text(heap, exception, answer),
         Iteration::Reporting(exception) => report(heap, exception),
         Iteration::Reported(exception) => Ok(raise_reported(heap, exception, answer)),
         Iteration::Looping(block) => Ok(loop_next(heap, block)),

@@ -20,13 +20,60 @@ pub(crate) fn ask_message(
     }
 }
 
-/// Shows an exception by what its `to_s` gave.
+/// The object that an exception was made with, where it is no String.
+fn other_object(heap: &Heap, exception: Value) -> Option<Value> {
+    let message = heap.message_of(heap.an_exception(exception)?);
+    match (message, heap.text_of(message)) {
+        (Value::Obj(_), None) => Some(message),
+        _ => None,
+    }
+}
+
+/// Begins to ask an exception for its message.
+pub(crate) fn begin_message(
+    heap: &mut Heap,
+    exception: Value,
+) -> Result<Plan<Iteration>, AllocError> {
+    let then = match other_object(heap, exception) {
+        Some(_) => Iteration::Messaging(exception),
+        None => Iteration::Handing,
+    };
+    ask_message(heap, then, exception)
+}
+
+/// Gives what `to_s` of an exception gave. An object that it was made with is asked for its `to_s`.
+pub(crate) fn give_message(
+    heap: &mut Heap,
+    exception: Value,
+    message: Value,
+) -> Result<Plan<Iteration>, AllocError> {
+    if other_object(heap, exception) == Some(message) {
+        ask(heap, Iteration::Handing, message, b"to_s")
+    } else {
+        Ok(Plan::Finishes(message))
+    }
+}
+
+/// Shows an exception by what its `to_s` gave. An object that it was made with is asked for its `to_s`.
 pub(crate) fn tell(
     heap: &mut Heap,
     exception: Value,
     message: Value,
 ) -> Result<Plan<Iteration>, AllocError> {
-    Ok(Plan::Finishes(inspection(heap, exception, message)?))
+    if other_object(heap, exception) == Some(message) {
+        ask(heap, Iteration::TellingText(exception), message, b"to_s")
+    } else {
+        tell_text(heap, exception, message)
+    }
+}
+
+/// Shows an exception by the text of its message.
+pub(crate) fn tell_text(
+    heap: &mut Heap,
+    exception: Value,
+    text: Value,
+) -> Result<Plan<Iteration>, AllocError> {
+    Ok(Plan::Finishes(inspection(heap, exception, text)?))
 }
 
 /// Asks an exception that nothing rescued for its message.

@@ -20,12 +20,18 @@ fn is_written(heap: &mut Heap, value: Value, name: &[u8]) -> Result<bool, AllocE
     }
 }
 
+/// Whether an exception was made with a message that is no String, so that it is asked for a text.
+fn has_other_message(heap: &Heap, exception: ObjId) -> bool {
+    let message = heap.message_of(exception);
+    message != Value::Nil && heap.text_of(message).is_none()
+}
+
 /// Whether the program says what the message of an exception is. That of one that ends the program isn't seen.
 fn says_message(heap: &mut Heap, exception: ObjId) -> Result<bool, AllocError> {
     let value = Value::Obj(exception);
     if heap.is_below(heap.plain_class_of(value), CoreClass::SystemExit) {
         Ok(false)
-    } else if is_written(heap, value, b"message")? {
+    } else if has_other_message(heap, exception) || is_written(heap, value, b"message")? {
         Ok(true)
     } else {
         is_written(heap, value, b"to_s")

@@ -31,14 +31,18 @@ fn class_name(heap: &Heap, value: Value) -> Result<Vec<u8>, AllocError> {
     Vec::from_slice(heap.alloc(), heap.class_name(class))
 }
 
-/// `to_s`: the message, and the name of the class where there is none.
+/// `to_s`: the message, of an Integer, a Symbol, true and false the text, and the name of the class where there is none.
 fn message(heap: &mut Heap, id: ObjId, receiver: Value) -> Result<Given, AllocError> {
     match heap.message_of(id) {
         Value::Nil => {
             let name = class_name(heap, receiver)?;
             Ok(Given::Gives(heap.make_string(name)?))
         }
-        message => Ok(Given::Gives(message)),
+        Value::Obj(of) => Ok(Given::Gives(Value::Obj(of))),
+        plain => {
+            let text = shown(heap, plain)?;
+            Ok(Given::Gives(heap.make_string(text)?))
+        }
     }
 }
 
