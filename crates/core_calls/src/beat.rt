@@ -1,4 +1,7 @@
 //! Calls of a block that a core method makes again and again.
+ghost use Rattle.std.specs.Prelude.{◌≡◌, IfOk};
+ghost use Rattle.core_calls.specs.Passing.{args_of};
+
 use rb_value::{ObjId, Value};
 use std::alloc::{AllocError, Global};
 
@@ -20,7 +23,9 @@ pub struct Beat {
 
 impl Passed {
     /// The values as arguments.
-    pub fn args(self, alloc: Global) -> Result<Vec<Value>, AllocError> {
+    pub fn args(self, alloc: Global) -> Result<Vec<Value>, AllocError>
+        ensures { IfOk result (λ args. args.items ≡ args_of self) }
+    {
         match self {
             Passed::Nothing => Ok(Vec::new(alloc)),
             Passed::One(value) => Vec::from_slice(alloc, &[value]),
