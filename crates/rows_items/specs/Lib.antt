@@ -1,1 +1,5 @@
+pub mod Told
+pub mod Checks
+pub mod Made
 pub mod Keyed
+pub mod Zipped

@@ -1,13 +1,16 @@
 //! What arguments are, or the cause by which they are refused.
 ghost use Rattle.std.specs.Prelude.{◌≡◌, pos, IfOk};
 ghost use Rattle.rb_value.specs.declared.value.Value.TheVariants.{Int};
+ghost use Rattle.rows_items.specs.Checks as checks;
 
 use core_calls::heap::Heap;
 use def_core::Cause;
 use rb_value::{CoreClass, ObjId, Value};
 
 /// The Array that a value is.
-pub fn an_array(heap: &Heap, value: Value) -> Result<ObjId, Cause> {
+pub fn an_array(heap: &Heap, value: Value) -> Result<ObjId, Cause>
+    ensures { result ≡ checks.array_of heap.now.store value }
+{
     match heap.an_array(value) {
         Some(id) => Ok(id),
         None => Err(heap.refusal(CoreClass::Array, value)),
@@ -16,7 +19,8 @@ pub fn an_array(heap: &Heap, value: Value) -> Result<ObjId, Cause> {
 
 /// The number that a value is.
 pub fn an_integer(heap: &Heap, value: Value) -> Result<i64, Cause>
-    ensures { IfOk result (λ number. value ≡ Int number) }
+    ensures number { IfOk result (λ number. value ≡ Int number) }
+    ensures checked { result ≡ checks.integer_of heap.now.store value }
 {
     match value {
         Value::Int(number) => Ok(number),
@@ -26,7 +30,8 @@ pub fn an_integer(heap: &Heap, value: Value) -> Result<i64, Cause>
 
 /// The count that a value is: an Integer that isn't below 0.
 pub fn count(heap: &Heap, value: Value) -> Result<usize, Cause>
-    ensures { IfOk result (λ count. value ≡ Int (pos count)) }
+    ensures number { IfOk result (λ count. value ≡ Int (pos count)) }
+    ensures checked { result ≡ checks.count_of heap.now.store value }
 {
     let number = an_integer(heap, value)?;
     match usize::try_from(number) {

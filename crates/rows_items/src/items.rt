@@ -1,11 +1,15 @@
 //! The items of Arrays, Hashes and Ranges.
+ghost use Rattle.std.specs.Prelude.{◌≡◌, ◌++◌, take, OnOk};
+
 use crate::error::RowError;
 use core_calls::heap::Heap;
 use rb_value::{CoreClass, ObjId, RangeContents, RangeEnds, Sort, Value};
 use std::alloc::AllocError;
 
 /// The first values of a list, at most so many.
-fn front(values: &[Value], limit: usize) -> &[Value] {
+fn front(values: &[Value], limit: usize) -> &[Value]
+    ensures { result.now ≡ take limit values.now }
+{
     match values.get(..limit) {
         Some(front) => front,
         None => values,
@@ -13,7 +17,9 @@ fn front(values: &[Value], limit: usize) -> &[Value] {
 }
 
 /// Puts values after others.
-pub fn put_values(values: &mut Vec<Value>, more: &[Value]) -> Result<(), AllocError> {
+pub fn put_values(values: &mut Vec<Value>, more: &[Value]) -> Result<(), AllocError>
+    ensures { OnOk result (values.new.items ≡ values.old.items ++ more.now) }
+{
     values.extend_from_slice(more)
 }
 

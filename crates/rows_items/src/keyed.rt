@@ -1,8 +1,8 @@
 //! Items as keys of Hashes.
-ghost use Rattle.std.specs.Prelude.{◌≡◌, Some, IfOk, IfErr};
-ghost use Rattle.def_calls.specs.Values as values;
-ghost use Rattle.heap.specs.Operands.{own};
+ghost use Rattle.std.specs.Prelude.{◌≡◌, Ok, IfOk, IfErr};
+ghost use Rattle.rows_items.specs.declared.error.RowError.TheVariants.{NoMemory};
 ghost use Rattle.rows_items.specs.Keyed as keyed;
+ghost use Rattle.rows_items.specs.Told.{Told, Refused};
 
 use crate::error::RowError;
 use core_calls::heap::Heap;
@@ -12,9 +12,7 @@ use rb_value::{CoreClass, Key, ObjId, Value};
 
 /// The key of a Hash that a value is; Arrays that are nested too deep are refused.
 pub fn key_of(heap: &Heap, value: Value) -> Result<Key, RowError>
-    ensures key { IfOk result (λ key.
-        values.key_of heap.now.store.objects (own heap.now.store value) ≡ Some key) }
-    ensures refused { IfErr result (keyed.Refuses (values.key_of heap.now.store.objects (own heap.now.store value))) }
+    ensures { Told result (keyed.key_in heap.now.store value) }
 {
     match heap.key_of(value)? {
         Some(key) => Ok(key),
@@ -23,7 +21,10 @@ pub fn key_of(heap: &Heap, value: Value) -> Result<Key, RowError>
 }
 
 /// What a Hash shows as a key that it doesn't have yet: a copy of a String, and else the value.
-fn shown_key(heap: &mut Heap, key: Value) -> Result<Value, RowError> {
+fn shown_key(heap: &mut Heap, key: Value) -> Result<Value, RowError>
+    ensures shown { IfOk result (λ shown. keyed.shown_copy heap.old key ≡ (shown, heap.new)) }
+    ensures memory { IfErr result (λ e. e ≡ NoMemory) }
+{
     let class = heap.class_object(CoreClass::String);
     match heap.text_of(key) {
         Some(text) if heap.plain_class_of(key) == class => {
@@ -35,7 +36,10 @@ fn shown_key(heap: &mut Heap, key: Value) -> Result<Value, RowError> {
 }
 
 /// What a String is put into a Hash as: itself, where it is there, and else a copy.
-fn shown_text(heap: &mut Heap, id: ObjId, key: Value) -> Result<Value, RowError> {
+fn shown_text(heap: &mut Heap, id: ObjId, key: Value) -> Result<Value, RowError>
+    ensures shown { IfOk result (λ shown. keyed.shown_text heap.old id key ≡ Ok (shown, heap.new)) }
+    ensures refused { IfErr result (Refused (keyed.shown_text heap.old id key)) }
+{
     let own = key_of(heap, key)?;
     match heap.pair(id, &own) {
         Some(_) => Ok(key),
@@ -45,7 +49,10 @@ fn shown_text(heap: &mut Heap, id: ObjId, key: Value) -> Result<Value, RowError>
 
 /// Gives a key of a Hash a value. A key that is there keeps its place and what is shown as the key; a new one that is a
 /// String is shown by a copy.
-pub fn put_pair(heap: &mut Heap, id: ObjId, key: Value, value: Value) -> Result<(), RowError> {
+pub fn put_pair(heap: &mut Heap, id: ObjId, key: Value, value: Value) -> Result<(), RowError>
+    ensures put { IfOk result (λ _. keyed.put heap.old id key value ≡ Ok heap.new) }
+    ensures refused { IfErr result (Refused (keyed.put heap.old id key value)) }
+{
     let shown = if heap.a_string(key).is_some() {
         shown_text(heap, id, key)?
     } else {
@@ -59,7 +66,11 @@ pub fn put_pair(heap: &mut Heap, id: ObjId, key: Value, value: Value) -> Result<
 }
 
 /// The first of the values that are equal as keys.
-pub(crate) fn unique(heap: &Heap, values: &[Value]) -> Result<Vec<Value>, RowError> {
+#[tactic(auto, using(crate::proofs::Each::front_more, crate::proofs::Each::front_all))]
+pub(crate) fn unique(heap: &Heap, values: &[Value]) -> Result<Vec<Value>, RowError>
+    ensures first { IfOk result (λ list. keyed.unique heap.now.store values.now ≡ Ok list.items) }
+    ensures refused { IfErr result (Refused (keyed.unique heap.now.store values.now)) }
+{
     let mut seen: PairTable<Key, Value> = PairTable::new(heap.alloc());
     let mut unique = Vec::new(heap.alloc());
     'values: for value in values {
