@@ -1,2 +1,4 @@
 pub mod Lists
+pub mod Read
 pub mod Changed
+pub mod Directly

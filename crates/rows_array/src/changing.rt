@@ -1,6 +1,7 @@
 //! Changes of all elements of Arrays.
 ghost use Rattle.std.specs.Prelude.{◌≡◌, [], OnOk};
 ghost use Rattle.heap.specs.Changes as changes;
+ghost use Rattle.rows_items.specs.Told.{Leaves};
 ghost use Rattle.rows_array.specs.Changed as changed;
 
 use rb_value::{ObjId, Value};
@@ -27,7 +28,9 @@ pub(crate) fn clear(heap: &mut Heap, id: ObjId)
 }
 
 /// Puts the elements of an Array in the place of all.
-pub(crate) fn replace(heap: &mut Heap, id: ObjId, other: Value) -> Result<(), RowError> {
+pub(crate) fn replace(heap: &mut Heap, id: ObjId, other: Value) -> Result<(), RowError>
+    ensures { Leaves heap.old heap.new result (changed.replace heap.old id other) }
+{
     let other = an_array(heap, other)?;
     let values = Vec::from_slice(heap.alloc(), heap.elements(other))?;
     heap.replace_elements(id, values);

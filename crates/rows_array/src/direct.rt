@@ -1,4 +1,7 @@
 //! Methods whose outcome is given straight on.
+ghost use Rattle.std.specs.Prelude.{◌≡◌, IfOk, OnErr};
+ghost use Rattle.rows_array.specs.Directly as directly;
+
 use crate::places::value_at;
 use crate::rows::{ArrayRow, length};
 use rb_value::{ObjId, Value};
@@ -7,7 +10,9 @@ use std::alloc::AllocError;
 
 /// Puts a value in the place of the element at an index that counts from the front; nothing where there is none.
 #[inline(always)]
-fn put_in_place(heap: &mut Heap, id: ObjId, index: i64, value: Value) -> Option<Value> {
+fn put_in_place(heap: &mut Heap, id: ObjId, index: i64, value: Value) -> Option<Value>
+    ensures { directly.put_in_place heap.old id index value ≡ (result, heap.new) }
+{
     let place = usize::try_from(index).ok()?;
     if place < heap.elements(id).len() {
         heap.set_element(id, place, value);
@@ -48,7 +53,10 @@ pub fn give_directly(
     row: ArrayRow,
     receiver: Value,
     args: &[Value],
-) -> Result<Option<Value>, AllocError> {
+) -> Result<Option<Value>, AllocError>
+    ensures given { IfOk result (λ found. directly.given row heap.old receiver args.now ≡ (found, heap.new)) }
+    ensures err { OnErr result (heap.new ≡ heap.old) }
+{
     let Some(id) = heap.an_array(receiver) else {
         return Ok(None);
     };

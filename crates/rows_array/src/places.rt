@@ -1,5 +1,5 @@
 //! Places of a list by indexes, which count from the end where they are negative.
-ghost use Rattle.std.specs.Prelude.{◌≡◌, take, drop, None, Some, MatchOption};
+ghost use Rattle.std.specs.Prelude.{◌≡◌, ◌<◌, ◌-◌, ◌^◌, take, drop, None, Some, IfSome, MatchOption};
 ghost use Rattle.def_calls.specs.Values.{element_at};
 ghost use Rattle.rows_array.specs.Lists as lists;
 
@@ -8,7 +8,8 @@ use rb_value::Value;
 /// The place of an index in a list of so many; none before its start. It may lie past the end.
 #[inline(always)]
 pub(crate) fn place_in(len: usize, index: i64) -> Option<usize>
-    ensures { result ≡ lists.place_in len index }
+    ensures place { result ≡ lists.place_in len index }
+    ensures within { IfSome result (λ place. place < 2 ^ 64 - 1) }
 {
     match usize::try_from(index) {
         Ok(place) => Some(place),
@@ -64,7 +65,10 @@ pub(crate) fn range_part(
     first: i64,
     last: i64,
     exclusive: bool,
-) -> Option<&[Value]> {
+) -> Option<&[Value]>
+    ensures { MatchOption result (lists.range_part values.now first last exclusive ≡ None)
+        (λ part. lists.range_part values.now first last exclusive ≡ Some part.now) }
+{
     let place = place_in(values.len(), first)?;
     let rest = values.get(place..)?;
     let end = match place_in(values.len(), last) {

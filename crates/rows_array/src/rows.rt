@@ -1,4 +1,8 @@
 //! The rows of Array.
+ghost use Rattle.std.specs.Prelude.{◌≡◌, pos, length};
+ghost use Rattle.rb_value.specs.declared.value.Value.TheVariants.{Int};
+ghost use Rattle.def_core.specs.Parts.{elements_at};
+
 use crate::{arranging, changing, ending, flattening, reading, storing};
 use rb_value::{CoreClass, ObjId, Value};
 use rows_items::core_calls::{Call, argument, miscounted};
@@ -106,7 +110,9 @@ fn arity(row: ArrayRow) -> (u64, Option<u64>) {
 
 /// How many elements there are.
 #[inline(always)]
-pub(crate) fn length(heap: &Heap, id: ObjId) -> Value {
+pub(crate) fn length(heap: &Heap, id: ObjId) -> Value
+    ensures { result ≡ Int (pos (length (elements_at heap.now.store.objects id))) }
+{
     match i64::try_from(heap.elements(id).len()) {
         Ok(length) => Value::Int(length),
         Err(_) => Value::Nil,

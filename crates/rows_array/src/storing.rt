@@ -1,7 +1,7 @@
 //! Stores at places of Arrays.
-ghost use Rattle.std.specs.Prelude.{◌≡◌, ◌<◌, ◌^◌, ◌++◌, ℤ, replicate, drop, get_or, OnOk, IfOk, IfErr};
-ghost use Rattle.rb_value.specs.declared.value.Value.TheVariants.{Nil, Int};
-ghost use Rattle.def_calls.specs.Values.{element_at};
+ghost use Rattle.std.specs.Prelude.{◌≡◌, ◌<◌, ◌^◌, ◌++◌, replicate, get_or, OnOk, IfOk};
+ghost use Rattle.rb_value.specs.declared.value.Value.TheVariants.{Nil};
+ghost use Rattle.rows_items.specs.Told.{Gives, Leaves};
 ghost use Rattle.rows_array.specs.Lists as lists;
 ghost use Rattle.rows_array.specs.Changed as changed;
 
@@ -36,9 +36,7 @@ fn pad(heap: &mut Heap, id: ObjId, len: usize) -> Result<(), AllocError>
 
 /// Puts a value in the place of an element, or after nils where there is none.
 fn store(heap: &mut Heap, id: ObjId, index: i64, value: Value) -> Result<Value, RowError>
-    ensures stored { OnOk result (heap.new ≡ changed.stored heap.old id index value) }
-    ensures value { IfOk result (λ given. given ≡ value) }
-    ensures refused { IfErr result (changed.Misses (changed.place_of heap.old id index) index) }
+    ensures { Gives heap.old heap.new result (changed.store heap.old id index value) }
 {
     let len = heap.elements(id).len();
     let Some(place) = place_in(len, index) else {
@@ -71,7 +69,10 @@ fn spliced(
 }
 
 /// Puts the elements of an Array in the place of so many from an index on.
-fn store_part(heap: &mut Heap, id: ObjId, args: &[Value]) -> Result<Value, RowError> {
+fn store_part(heap: &mut Heap, id: ObjId, args: &[Value]) -> Result<Value, RowError>
+    ensures { Gives heap.old heap.new result
+        (changed.store_part heap.old id (get_or args.now 0 Nil) (get_or args.now 1 Nil) (get_or args.now 2 Nil)) }
+{
     let index = an_integer(heap, argument(args, 0))?;
     an_integer(heap, argument(args, 1))?;
     let value = argument(args, 2);
@@ -87,7 +88,9 @@ fn store_part(heap: &mut Heap, id: ObjId, args: &[Value]) -> Result<Value, RowEr
 }
 
 /// `array[index] = value` and `array[index, count] = array`.
-pub(crate) fn set_element(heap: &mut Heap, id: ObjId, args: &[Value]) -> Result<Value, RowError> {
+pub(crate) fn set_element(heap: &mut Heap, id: ObjId, args: &[Value]) -> Result<Value, RowError>
+    ensures { Gives heap.old heap.new result (changed.set_element heap.old id args.now) }
+{
     if args.len() > 2 {
         return store_part(heap, id, args);
     }
@@ -109,8 +112,7 @@ fn insertion(len: usize, index: i64) -> Option<usize>
 
 /// `array.insert(index, value, ..)`.
 pub(crate) fn insert(heap: &mut Heap, id: ObjId, args: &[Value]) -> Result<(), RowError>
-    ensures { (index : ℤ) → get_or args.now 0 Nil ≡ Int index →
-        OnOk result (heap.new ≡ changed.inserted heap.old id index (drop 1 args.now)) }
+    ensures { Leaves heap.old heap.new result (changed.insert heap.old id args.now) }
 {
     let index = an_integer(heap, argument(args, 0))?;
     let more = behind(args, 1);
@@ -125,9 +127,7 @@ pub(crate) fn insert(heap: &mut Heap, id: ObjId, args: &[Value]) -> Result<(), R
 
 /// `array.delete_at(index)`: the element, which is taken out; nil outside.
 pub(crate) fn delete_at(heap: &mut Heap, id: ObjId, index: Value) -> Result<Value, RowError>
-    ensures left { (place : ℤ) → index ≡ Int place → OnOk result (heap.new ≡ changed.deleted heap.old id place) }
-    ensures element { (place : ℤ) → index ≡ Int place →
-        IfOk result (λ value. value ≡ element_at (changed.elements heap.old id) place) }
+    ensures { Gives heap.old heap.new result (changed.delete_at heap.old id index) }
 {
     let index = an_integer(heap, index)?;
     let elements = heap.elements(id);
