@@ -1,11 +1,8 @@
 //! Pairs of Hashes.
-ghost use Rattle.std.specs.Prelude.{◌≡◌, Some, None, is_some, option_map, unwrap_or, OnOk, IfOk};
-ghost use Rattle.rb_value.specs.declared.key.Key.{Key};
-ghost use Rattle.rb_value.specs.declared.value.Value.TheVariants.{Nil};
-ghost use Rattle.def_core.specs.Parts.{pair_of};
-ghost use Rattle.def_calls.specs.Values as values;
-ghost use Rattle.heap.specs.Operands.{own};
+ghost use Rattle.std.specs.Prelude.{◌≡◌, ◌++◌, take, drop, Ok, IfOk, IfErr, OnOk, OnErr};
 ghost use Rattle.heap.specs.Changes as changes;
+ghost use Rattle.rows_items.specs.Told.{Told, Gives, Refused};
+ghost use Rattle.rows_hash.specs.Pairs as defined;
 
 use def_core::Cause;
 use rb_value::{CoreClass, ObjId, Value};
@@ -14,7 +11,9 @@ use rows_items::{RowError, key_of, put_pair};
 use std::alloc::AllocError;
 
 /// The Hash that a value is.
-pub(crate) fn a_hash(heap: &Heap, value: Value) -> Result<ObjId, Cause> {
+pub(crate) fn a_hash(heap: &Heap, value: Value) -> Result<ObjId, Cause>
+    ensures { result ≡ defined.hash_of heap.now.store value }
+{
     match heap.a_hash(value) {
         Some(id) => Ok(id),
         None => Err(heap.refusal(CoreClass::Hash, value)),
@@ -23,30 +22,24 @@ pub(crate) fn a_hash(heap: &Heap, value: Value) -> Result<ObjId, Cause> {
 
 /// Whether a Hash has a key.
 pub(crate) fn has_key(heap: &Heap, id: ObjId, key: Value) -> Result<bool, RowError>
-    ensures { (own_key : Key) → values.key_of heap.now.store.objects (own heap.now.store key) ≡ Some own_key →
-        IfOk result (λ has. has ≡ is_some (pair_of heap.now.store.objects id own_key)) }
+    ensures { Told result (defined.has_key heap.now.store id key) }
 {
     let key = key_of(heap, key)?;
     Ok(heap.pair(id, &key).is_some())
 }
 
 /// Gives a key a value, and gives the value.
-pub(crate) fn store(
-    heap: &mut Heap,
-    id: ObjId,
-    key: Value,
-    value: Value,
-) -> Result<Value, RowError> {
+pub(crate) fn store(heap: &mut Heap, id: ObjId, key: Value, value: Value) -> Result<Value, RowError>
+    ensures stored { IfOk result (λ given. defined.store heap.old id key value ≡ Ok (given, heap.new)) }
+    ensures refused { IfErr result (Refused (defined.store heap.old id key value)) }
+{
     put_pair(heap, id, key, value)?;
     Ok(value)
 }
 
 /// The value of a key, which is taken out; nil where it isn't there.
 pub(crate) fn delete(heap: &mut Heap, id: ObjId, key: Value) -> Result<Value, RowError>
-    ensures left { (own_key : Key) → values.key_of heap.old.store.objects (own heap.old.store key) ≡ Some own_key →
-        OnOk result (heap.new ≡ changes.without_key heap.old id own_key) }
-    ensures value { (own_key : Key) → values.key_of heap.old.store.objects (own heap.old.store key) ≡ Some own_key →
-        IfOk result (λ value. value ≡ unwrap_or (option_map (λ p. p.value) (pair_of heap.old.store.objects id own_key)) Nil) }
+    ensures { Gives heap.old heap.new result (defined.delete heap.old id key) }
 {
     let key = key_of(heap, key)?;
     match heap.remove_pair(id, &key) {
@@ -55,24 +48,61 @@ pub(crate) fn delete(heap: &mut Heap, id: ObjId, key: Value) -> Result<Value, Ro
     }
 }
 
+/// Puts what is shown as the key at a place, if there is one, after others.
+#[tactic(auto, using(crate::proofs::More::key_there, crate::proofs::More::no_key))]
+fn put_key(heap: &Heap, keys: &mut Vec<Value>, id: ObjId, place: usize) -> Result<(), AllocError>
+    ensures { OnOk result (keys.new.items
+        ≡ keys.old.items ++ defined.shown_keys (take 1 (drop place (defined.pairs heap.now.store id)))) }
+{
+    match heap.pair_at(id, place) {
+        Some(pair) => {
+            keys.push(pair.shown)?;
+            Ok(())
+        }
+        None => Ok(()),
+    }
+}
+
 /// The keys in their order.
-pub(crate) fn keys(heap: &Heap, id: ObjId) -> Result<Vec<Value>, AllocError> {
+#[tactic(auto, using(crate::proofs::More::keys_more))]
+pub(crate) fn keys(heap: &Heap, id: ObjId) -> Result<Vec<Value>, AllocError>
+    ensures { IfOk result (λ list. list.items ≡ defined.shown_keys (defined.pairs heap.now.store id)) }
+{
     let mut keys = Vec::with_capacity(heap.alloc(), heap.pair_count(id))?;
     'pairs: for place in 0..heap.pair_count(id) {
-        if let Some(pair) = heap.pair_at(id, place) {
-            keys.push(pair.shown)?;
-        }
+        put_key(heap, &mut keys, id, place)?;
     }
     Ok(keys)
 }
 
+/// Puts the value at a place, if there is one, after others.
+#[tactic(auto, using(crate::proofs::More::value_there, crate::proofs::More::no_value))]
+fn put_value(
+    heap: &Heap,
+    values: &mut Vec<Value>,
+    id: ObjId,
+    place: usize,
+) -> Result<(), AllocError>
+    ensures { OnOk result (values.new.items
+        ≡ values.old.items ++ defined.values (take 1 (drop place (defined.pairs heap.now.store id)))) }
+{
+    match heap.pair_at(id, place) {
+        Some(pair) => {
+            values.push(pair.value)?;
+            Ok(())
+        }
+        None => Ok(()),
+    }
+}
+
 /// The values in the order of their keys.
-pub(crate) fn values(heap: &Heap, id: ObjId) -> Result<Vec<Value>, AllocError> {
+#[tactic(auto, using(crate::proofs::More::values_more))]
+pub(crate) fn values(heap: &Heap, id: ObjId) -> Result<Vec<Value>, AllocError>
+    ensures { IfOk result (λ list. list.items ≡ defined.values (defined.pairs heap.now.store id)) }
+{
     let mut values = Vec::with_capacity(heap.alloc(), heap.pair_count(id))?;
     'pairs: for place in 0..heap.pair_count(id) {
-        if let Some(pair) = heap.pair_at(id, place) {
-            values.push(pair.value)?;
-        }
+        put_value(heap, &mut values, id, place)?;
     }
     Ok(values)
 }
@@ -115,6 +145,9 @@ pub(crate) fn invert(heap: &mut Heap, id: ObjId) -> Result<Value, RowError> {
 }
 
 /// Takes all pairs out of a Hash.
-pub(crate) fn clear(heap: &mut Heap, id: ObjId) -> Result<(), AllocError> {
+pub(crate) fn clear(heap: &mut Heap, id: ObjId) -> Result<(), AllocError>
+    ensures cleared { OnOk result (heap.new ≡ changes.without_pairs heap.old id) }
+    ensures err { OnErr result (heap.new ≡ heap.old) }
+{
     heap.clear_pairs(id)
 }

@@ -1,4 +1,8 @@
 //! The rows of Hash.
+ghost use Rattle.std.specs.Prelude.{◌≡◌, length};
+ghost use Rattle.rows_items.specs.Told.{Gives};
+ghost use Rattle.rows_hash.specs.Pairs as defined;
+
 use crate::pairs;
 use rb_value::{CoreClass, ObjId, Value};
 use rows_items::core_calls::{Call, argument, miscounted};
@@ -78,7 +82,9 @@ fn arity(row: HashRow) -> u64 {
 }
 
 /// How many pairs there are.
-fn length(heap: &Heap, id: ObjId) -> Value {
+fn length(heap: &Heap, id: ObjId) -> Value
+    ensures { result ≡ defined.count_value (length (defined.pairs heap.now.store id)) }
+{
     match i64::try_from(heap.pair_count(id)) {
         Ok(length) => Value::Int(length),
         Err(_) => Value::Nil,
@@ -86,13 +92,17 @@ fn length(heap: &Heap, id: ObjId) -> Value {
 }
 
 /// A new Array of the keys.
-fn key_array(heap: &mut Heap, id: ObjId) -> Result<Value, RowError> {
+fn key_array(heap: &mut Heap, id: ObjId) -> Result<Value, RowError>
+    ensures { Gives heap.old heap.new result (defined.key_array heap.old id) }
+{
     let keys = pairs::keys(heap, id)?;
     Ok(heap.make_array(keys)?)
 }
 
 /// A new Array of the values.
-fn value_array(heap: &mut Heap, id: ObjId) -> Result<Value, RowError> {
+fn value_array(heap: &mut Heap, id: ObjId) -> Result<Value, RowError>
+    ensures { Gives heap.old heap.new result (defined.value_array heap.old id) }
+{
     let values = pairs::values(heap, id)?;
     Ok(heap.make_array(values)?)
 }
