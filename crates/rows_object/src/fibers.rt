@@ -1,4 +1,7 @@
 //! Methods of Fiber.
+ghost use Rattle.core_calls.specs.Answered.{Answered};
+ghost use Rattle.rows_object.specs.Rows as rows;
+
 use core_calls::heap::{Given, Heap};
 use rb_value::{CoreClass, ObjId, Value};
 use std::alloc::AllocError;
@@ -19,7 +22,10 @@ pub(crate) fn of_block(
 }
 
 /// `alive?`: whether a fiber hasn't ended.
-pub(crate) fn is_alive(heap: &mut Heap, receiver: Value) -> Result<Given, AllocError> {
+#[tactic(auto, unfolding(def_calls::specs::World::fail))]
+pub(crate) fn is_alive(heap: &mut Heap, receiver: Value) -> Result<Given, AllocError>
+    ensures { Answered heap.old heap.new result (rows.is_alive receiver) }
+{
     let Some(id) = heap.a_fiber(receiver) else {
         return heap.unexpected(CoreClass::Fiber, receiver);
     };

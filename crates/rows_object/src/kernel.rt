@@ -1,4 +1,8 @@
 //! Methods of Kernel, and `method_missing`.
+ghost use Rattle.std.specs.Prelude.{◌≡◌};
+ghost use Rattle.core_calls.specs.Answered.{Answered};
+ghost use Rattle.rows_object.specs.Rows as rows;
+
 use core_calls::heap::{Given, Heap};
 use core_calls::name_in;
 use def_core::Cause;
@@ -22,7 +26,9 @@ pub(crate) fn method_missing(
 }
 
 /// The status that a value stands for: true is a good end, and false isn't.
-fn status_in(value: Value) -> Option<i64> {
+fn status_in(value: Value) -> Option<i64>
+    ensures { result ≡ rows.status_in value }
+{
     match value {
         Value::True => Some(0),
         Value::False => Some(1),
@@ -32,7 +38,9 @@ fn status_in(value: Value) -> Option<i64> {
 }
 
 /// The end of a program with a status, or why there is no such end.
-fn ending(status: i64) -> Cause {
+fn ending(status: i64) -> Cause
+    ensures { result ≡ rows.ending status }
+{
     match u8::try_from(status) {
         Ok(status) => Cause::Exit { status },
         Err(_) => Cause::StatusOutOfRange,
@@ -40,7 +48,10 @@ fn ending(status: i64) -> Cause {
 }
 
 /// `exit`, with a status or without one.
-pub(crate) fn exit(heap: &mut Heap, args: &[Value]) -> Result<Given, AllocError> {
+#[tactic(auto, unfolding(def_calls::specs::World::fail))]
+pub(crate) fn exit(heap: &mut Heap, args: &[Value]) -> Result<Given, AllocError>
+    ensures { Answered heap.old heap.new result (rows.exit args.now) }
+{
     let wish = args.first().copied().unwrap_or(Value::True);
     match status_in(wish) {
         Some(status) => heap.fail(ending(status)),

@@ -1,4 +1,9 @@
 //! Methods of Object that ask what class a value has, and what it answers to.
+ghost use Rattle.std.specs.Prelude.{◌≡◌};
+ghost use Rattle.run_values.specs.declared.given.Given.TheVariants.{Gives};
+ghost use Rattle.core_calls.specs.Answered.{Answered};
+ghost use Rattle.rows_object.specs.Rows as rows;
+
 use core_calls::heap::{Given, Heap};
 use core_calls::name_in;
 use rb_value::{CoreClass, ObjId, Sort, Value, Visibility};
@@ -17,7 +22,9 @@ pub(crate) fn text(heap: &mut Heap, receiver: Value) -> Result<Given, AllocError
 }
 
 /// `class` of an object.
-pub(crate) fn class_of(heap: &Heap, receiver: Value) -> Given {
+pub(crate) fn class_of(heap: &Heap, receiver: Value) -> Given
+    ensures { result ≡ Gives (rows.class_of_object heap.now.store receiver) }
+{
     Given::Gives(Value::Obj(heap.plain_class_of(receiver)))
 }
 
@@ -44,7 +51,10 @@ pub(crate) fn extend(heap: &mut Heap, receiver: Value, mixin: Value) -> Result<G
 }
 
 /// `is_a?` and `kind_of?`: whether the class of a value has a class or module among its ancestors.
-pub(crate) fn is_a(heap: &mut Heap, receiver: Value, of: Value) -> Result<Given, AllocError> {
+#[tactic(auto, unfolding(def_calls::specs::World::fail))]
+pub(crate) fn is_a(heap: &mut Heap, receiver: Value, of: Value) -> Result<Given, AllocError>
+    ensures { Answered heap.old heap.new result (rows.is_a receiver of) }
+{
     match heap.space_in(of) {
         Some(space) => Ok(Given::Gives(Value::from_truth(heap.is_a(receiver, space)))),
         None => heap.unexpected(CoreClass::Module, of),
@@ -52,11 +62,10 @@ pub(crate) fn is_a(heap: &mut Heap, receiver: Value, of: Value) -> Result<Given,
 }
 
 /// `instance_of?`: whether a class is that of a value.
-pub(crate) fn is_instance(
-    heap: &mut Heap,
-    receiver: Value,
-    of: Value,
-) -> Result<Given, AllocError> {
+#[tactic(auto, unfolding(def_calls::specs::World::fail))]
+pub(crate) fn is_instance(heap: &mut Heap, receiver: Value, of: Value) -> Result<Given, AllocError>
+    ensures { Answered heap.old heap.new result (rows.is_instance receiver of) }
+{
     match heap.space_in(of) {
         Some(space) => {
             let class = heap.plain_class_of(receiver);

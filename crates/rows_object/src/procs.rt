@@ -1,4 +1,7 @@
 //! Methods of Proc, and those that give Procs of blocks and Symbols.
+ghost use Rattle.core_calls.specs.Answered.{Answered};
+ghost use Rattle.rows_object.specs.Rows as rows;
+
 use crate::row::ObjectRow;
 use crate::{enumerators, fibers};
 use core_calls::Call;
@@ -77,7 +80,10 @@ fn arity(heap: &mut Heap, receiver: Value) -> Result<Given, AllocError> {
 }
 
 /// `lambda?` of a Proc.
-fn is_lambda(heap: &mut Heap, receiver: Value) -> Result<Given, AllocError> {
+#[tactic(auto, unfolding(def_calls::specs::World::fail))]
+fn is_lambda(heap: &mut Heap, receiver: Value) -> Result<Given, AllocError>
+    ensures { Answered heap.old heap.new result (rows.is_lambda receiver) }
+{
     let Some(id) = heap.a_proc(receiver) else {
         return heap.unexpected(CoreClass::Proc, receiver);
     };
