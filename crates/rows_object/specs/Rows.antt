@@ -17,7 +17,7 @@ use Rattle.def_calls.specs.Definitions.{space_in}
 use Rattle.heap.specs.Operands.{own}
 use Rattle.heap.specs.Reading.{proc_in}
 use Rattle.heap.specs.Told.{told}
-use Rattle.core_calls.specs.Answered.{refused}
+use Rattle.rows_object.specs.Answered.{refused}
 
 -- Object.
 

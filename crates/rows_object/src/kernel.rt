@@ -1,6 +1,6 @@
 //! Methods of Kernel, and `method_missing`.
 ghost use Rattle.std.specs.Prelude.{◌≡◌};
-ghost use Rattle.core_calls.specs.Answered.{Answered};
+ghost use Rattle.rows_object.specs.Answered.{Answered};
 ghost use Rattle.rows_object.specs.Rows as rows;
 
 use core_calls::heap::{Given, Heap};

@@ -1,7 +1,7 @@
 //! Methods of Object that ask what class a value has, and what it answers to.
 ghost use Rattle.std.specs.Prelude.{◌≡◌};
 ghost use Rattle.run_values.specs.declared.given.Given.TheVariants.{Gives};
-ghost use Rattle.core_calls.specs.Answered.{Answered};
+ghost use Rattle.rows_object.specs.Answered.{Answered};
 ghost use Rattle.rows_object.specs.Rows as rows;
 
 use core_calls::heap::{Given, Heap};

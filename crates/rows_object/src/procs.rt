@@ -1,5 +1,5 @@
 //! Methods of Proc, and those that give Procs of blocks and Symbols.
-ghost use Rattle.core_calls.specs.Answered.{Answered};
+ghost use Rattle.rows_object.specs.Answered.{Answered};
 ghost use Rattle.rows_object.specs.Rows as rows;
 
 use crate::row::ObjectRow;
