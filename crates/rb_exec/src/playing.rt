@@ -34,6 +34,7 @@ pub fn build<F: Files>(alloc: Global, files: &mut F, source: &str, file: &str) -
 
 /// Compiles the source in the file `source`, puts its code into the file `file`, and runs it for at most `steps` turns.
 /// Nothing is done where the source goes the first path, as in [`build`].
+#[tactic(auto, using(crate::proofs::Executed::ran))]
 pub fn exec<F: Files, S: Source, O: Sink + Drop>(
     alloc: Global,
     files: &mut F,
