@@ -55,8 +55,8 @@ fn tell_run<E: Sink>(
     counts: Counts,
     err: &mut E,
 ) -> Result<(), Failed>
-    ensures { Says (general.text_of asked.steps played.now
-        ++ general.counted asked.counts counts.turns counts.probes)
+    ensures { Says (general.text_of asked.entry.steps played.now
+        ++ general.counted asked.entry.counts counts.turns counts.probes)
         (⟦<E as OfSink>⟧.told err.old) (⟦<E as OfSink>⟧.told err.new) result }
 {
     tell(played, asked.steps, err)?;
@@ -77,7 +77,7 @@ fn run_file<F: Files, S: Source, O: Sink + Drop, E: Sink + Drop>(
     err: &mut Buffered<E>,
 ) -> End
     ensures { general.IsRun (⟦<F as OfFiles>⟧.told files.old) (⟦<F as OfFiles>⟧.told files.new)
-        (⟦<Buffered<E> as OfSink>⟧.told err.old) (⟦<Buffered<E> as OfSink>⟧.told err.new) (run_meant asked) result }
+        (⟦<Buffered<E> as OfSink>⟧.told err.old) (⟦<Buffered<E> as OfSink>⟧.told err.new) (run_meant asked.entry) result }
 {
     let (played, counts) = run(alloc, files, input, out, asked.steps, asked.file);
     let said = tell_run(&played, asked, counts, err);

@@ -84,11 +84,11 @@ pub fn read_run(words: &[String]) -> Option<Run<'_>>
     if word.as_bytes() != b"run".as_slice() {
         return None;
     }
-    run(rest)
+    run_behind(rest)
 }
 
 // The run after the word run.
-fn run(words: &[String]) -> Option<Run<'_>>
+fn run_behind(words: &[String]) -> Option<Run<'_>>
     ensures { run_asked result ≡ run_after (map string_bytes words.now) }
 {
     let (steps, words) = options(words)?;
