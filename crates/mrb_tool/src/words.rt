@@ -1,5 +1,5 @@
 //! What the words after the program's name mean.
-ghost use Rattle.std.specs.Prelude.{◌≡◌, ◌≢◌, None, true, nat_le, if◌then◌else◌, map, string_bytes};
+ghost use Rattle.std.specs.Prelude.{◌≡◌, true, nat_le, if◌then◌else◌, map, string_bytes};
 ghost use Rattle.mrb_tool.specs.Words.{is_digit, are_digits, is_numeral, value_after, most_turns, number_of, is_name, two_files, one_file, options_of, exec_of, command_of, stats_of, run_after, run_of};
 ghost use Rattle.mrb_tool.specs.Asked.{asked, run_asked};
 ghost use Rattle.std.specs.Option.{option_map};
@@ -73,10 +73,9 @@ fn exec(words: &[String]) -> Option<Command<'_>>
     })
 }
 
-/// The run that the words ask for, if they do. No such words are a command.
+/// The run that the words ask for, if they do.
 pub fn read_run(words: &[String]) -> Option<Run<'_>>
-    ensures run { run_asked result ≡ run_of (map string_bytes words.now) }
-    ensures alone { result ≢ None → command_of (map string_bytes words.now) ≡ None }
+    ensures { run_asked result ≡ run_of (map string_bytes words.now) }
 {
     let [word, rest @ ..] = words else {
         return None;
