@@ -2,7 +2,7 @@
 
 ghost use Rattle.std.specs.Prelude.{◌≡◌, ◌++◌, ℕ, List, Some, map, string_bytes, MatchOption};
 ghost use Rattle.rb_refusal.specs.Writing.{Says};
-ghost use Rattle.mrb_tool.specs.Asked.{run_meant};
+ghost use Rattle.mrb_tool.specs.Asked.{command_meant, run_meant};
 ghost use Rattle.mrb_tool.specs.General as general;
 ghost use Rattle.mrb_tool.specs.Words as meant;
 ghost use Rattle.mrb_tool.specs.Words.{command_of, run_of};
@@ -121,6 +121,34 @@ fn execute<F: Files, S: Source, O: Sink + Drop, E: Sink + Drop>(
     Some(send_answer(said, end_of(&played), err))
 }
 
+/// Does what a command asks, and tells of it, where it is for the general path.
+fn obey<F: Files, S: Source, O: Sink + Drop, E: Sink + Drop>(
+    alloc: Global,
+    command: Command<'_>,
+    files: &mut F,
+    input: &mut S,
+    out: &mut Buffered<O>,
+    err: &mut Buffered<E>,
+) -> Option<End>
+    ensures built { (source file : List ℕ) → command_meant command.entry ≡ meant.build source file →
+        general.Builds (⟦<F as OfFiles>⟧.told files.old) (⟦<F as OfFiles>⟧.told files.new)
+        (⟦<Buffered<E> as OfSink>⟧.told err.old) (⟦<Buffered<E> as OfSink>⟧.told err.new) source file result }
+    ensures executed { (steps : ℕ) (source file : List ℕ) →
+        command_meant command.entry ≡ meant.exec steps source file →
+        general.Executes (⟦<F as OfFiles>⟧.told files.old) (⟦<F as OfFiles>⟧.told files.new)
+        (⟦<Buffered<E> as OfSink>⟧.told err.old) (⟦<Buffered<E> as OfSink>⟧.told err.new) steps source file result }
+{
+    match command {
+        Command::Build { source, file } => build_file(alloc, files, source, file, err),
+        Command::Exec {
+            steps,
+            source,
+            file,
+        } => execute(alloc, files, input, out, steps, source, file, err),
+        Command::List { .. } | Command::Info { .. } => None,
+    }
+}
+
 /// Does what the words ask, and tells of it, where it is for the general path. Nothing is done for other words and other
 /// sources. `build` ends with 0, and `exec` runs, only where the file holds the file of the source, whose code is
 /// verified; every other file is as before, and that file too where the source is refused. `run` changes no file.
@@ -147,13 +175,5 @@ pub fn play<F: Files, S: Source, O: Sink + Drop, E: Sink + Drop>(
     if let Some(asked) = read_run(words) {
         return Some(run_file(alloc, asked, files, input, out, err));
     }
-    match read_words(words)? {
-        Command::Build { source, file } => build_file(alloc, files, source, file, err),
-        Command::Exec {
-            steps,
-            source,
-            file,
-        } => execute(alloc, files, input, out, steps, source, file, err),
-        Command::List { .. } | Command::Info { .. } => None,
-    }
+    obey(alloc, read_words(words)?, files, input, out, err)
 }
