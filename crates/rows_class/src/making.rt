@@ -1,4 +1,7 @@
 //! New classes and modules, and new objects of a class.
+ghost use Rattle.std.specs.Prelude.{◌≡◌};
+ghost use Rattle.rows_class.specs.Making as defined;
+
 use core_calls::heap::{Blank, Given, Heap};
 use def_core::Cause;
 use rb_value::{CoreClass, ObjId, Sort, Value};
@@ -24,7 +27,9 @@ const WITHOUT_ALLOCATE: [CoreClass; 6] = [
 ];
 
 /// Whether a class is one of some core classes or below one.
-fn is_below_any(heap: &Heap, class: ObjId, among: &[CoreClass]) -> bool {
+fn is_below_any(heap: &Heap, class: ObjId, among: &[CoreClass]) -> bool
+    ensures { result ≡ defined.is_below_any heap.now.store class among.now }
+{
     'classes: for core in among {
         if heap.is_below(class, *core) {
             return true;
@@ -34,7 +39,9 @@ fn is_below_any(heap: &Heap, class: ObjId, among: &[CoreClass]) -> bool {
 }
 
 /// What a new object of a class holds; none where the class has no objects that a program makes without a value.
-pub fn blank_of(heap: &Heap, class: ObjId) -> Option<Blank> {
+pub fn blank_of(heap: &Heap, class: ObjId) -> Option<Blank>
+    ensures { result ≡ defined.blank_of heap.now.store class }
+{
     if heap.is_below(class, CoreClass::Exception) {
         return Some(Blank::Exception);
     }

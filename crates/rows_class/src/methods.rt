@@ -1,4 +1,8 @@
 //! Methods on the methods of a class or module.
+ghost use Rattle.std.specs.Prelude.{◌≡◌, IfOk};
+ghost use Rattle.run_values.specs.declared.given.Given.TheVariants.{Gives};
+ghost use Rattle.rows_class.specs.Spaces as defined;
+
 use crate::accessors::names_in;
 use crate::row::ClassRow;
 use core_calls::heap::{Given, Heap};
@@ -8,7 +12,10 @@ use rb_value::{Method, ObjId, SymId, Value, Visibility};
 use std::alloc::AllocError;
 
 /// `method_defined?`: whether a public or protected method of that name is found.
-pub(crate) fn has(heap: &mut Heap, space: ObjId, name: SymId) -> Result<Given, AllocError> {
+pub(crate) fn has(heap: &mut Heap, space: ObjId, name: SymId) -> Result<Given, AllocError>
+    ensures given { IfOk result (λ given. given ≡ Gives (defined.has_method heap.old.store space name)) }
+    ensures same { heap.new ≡ heap.old }
+{
     let open = match heap.find(space, name)? {
         Some(found) => found.visibility != Visibility::Private,
         None => false,
@@ -50,7 +57,9 @@ pub(crate) fn alias(
 }
 
 /// Whether a class or module has a method of that name itself.
-fn is_own(heap: &Heap, space: ObjId, name: SymId) -> bool {
+fn is_own(heap: &Heap, space: ObjId, name: SymId) -> bool
+    ensures { result ≡ defined.has_own heap.now.store space name }
+{
     match heap.own_entry(space, name) {
         Some(entry) => entry.method != Method::Undefined,
         None => false,

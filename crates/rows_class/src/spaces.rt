@@ -1,16 +1,27 @@
 //! What a class or module is called, what stands above it, and what it includes.
+ghost use Rattle.std.specs.Prelude.{◌≡◌};
+ghost use Rattle.def_core.specs.Classes.{class_at};
+ghost use Rattle.run_values.specs.declared.given.Given.TheVariants.{Gives};
+ghost use Rattle.rows_object.specs.Answered.{Answered};
+ghost use Rattle.rows_class.specs.Spaces as defined;
+
 use core_calls::heap::{Given, Heap};
 use rb_value::{CoreClass, Kind, ObjId, Sort, SymId, Value};
 use std::alloc::AllocError;
 
 /// What a class or module is called by texts.
-pub(crate) fn text(heap: &mut Heap, space: ObjId) -> Result<Given, AllocError> {
+pub(crate) fn text(heap: &mut Heap, space: ObjId) -> Result<Given, AllocError>
+    ensures { Answered heap.old heap.new result (defined.text space) }
+{
     let text = Vec::from_slice(heap.alloc(), heap.class_name(space))?;
     Ok(Given::Gives(heap.make_string(text)?))
 }
 
 /// The name of a class or module that has one.
-fn own_name(heap: &Heap, space: ObjId) -> Option<SymId> {
+#[tactic(auto, using(def_core::proofs::Good::absent_where_none))]
+fn own_name(heap: &Heap, space: ObjId) -> Option<SymId>
+    ensures { result ≡ (class_at heap.now.store.objects space).name }
+{
     match heap.kind(space)? {
         Kind::Class(contents) => contents.get().name,
         _ => None,
@@ -18,7 +29,9 @@ fn own_name(heap: &Heap, space: ObjId) -> Option<SymId> {
 }
 
 /// `name`: that of a class or module, and nil of one without a name.
-pub(crate) fn name(heap: &mut Heap, space: ObjId) -> Result<Given, AllocError> {
+pub(crate) fn name(heap: &mut Heap, space: ObjId) -> Result<Given, AllocError>
+    ensures { Answered heap.old heap.new result (defined.name space) }
+{
     match own_name(heap, space) {
         Some(_) => text(heap, space),
         None => Ok(Given::Gives(Value::Nil)),
@@ -26,7 +39,9 @@ pub(crate) fn name(heap: &mut Heap, space: ObjId) -> Result<Given, AllocError> {
 }
 
 /// Whether a class or module has another among its ancestors; nil where neither has the other.
-fn order(heap: &Heap, space: ObjId, other: ObjId) -> Value {
+fn order(heap: &Heap, space: ObjId, other: ObjId) -> Value
+    ensures { result ≡ defined.order heap.now.store space other }
+{
     if heap.is_in_chain(space, other) {
         return Value::True;
     }
@@ -38,7 +53,10 @@ fn order(heap: &Heap, space: ObjId, other: ObjId) -> Value {
 }
 
 /// `<=`: whether a class or module is another or has it among its ancestors; nil where neither has the other.
-pub(crate) fn is_at_most(heap: &mut Heap, space: ObjId, other: Value) -> Result<Given, AllocError> {
+#[tactic(auto, unfolding(def_calls::specs::World::fail))]
+pub(crate) fn is_at_most(heap: &mut Heap, space: ObjId, other: Value) -> Result<Given, AllocError>
+    ensures { Answered heap.old heap.new result (defined.is_at_most space other) }
+{
     match heap.space_in(other) {
         Some(other) => Ok(Given::Gives(order(heap, space, other))),
         None => heap.unexpected(CoreClass::Module, other),
@@ -46,7 +64,10 @@ pub(crate) fn is_at_most(heap: &mut Heap, space: ObjId, other: Value) -> Result<
 }
 
 /// `<`: whether a class or module has another, which it isn't, among its ancestors; nil where neither has the other.
-pub(crate) fn is_below(heap: &mut Heap, space: ObjId, other: Value) -> Result<Given, AllocError> {
+#[tactic(auto, unfolding(def_calls::specs::World::fail))]
+pub(crate) fn is_below(heap: &mut Heap, space: ObjId, other: Value) -> Result<Given, AllocError>
+    ensures { Answered heap.old heap.new result (defined.is_below space other) }
+{
     match heap.space_in(other) {
         Some(other) => if other == space {
             Ok(Given::Gives(Value::False))
@@ -95,7 +116,9 @@ pub(crate) fn include(
 }
 
 /// `superclass`: that of a class, and nil where it has none.
-pub(crate) fn superclass(heap: &Heap, class: ObjId) -> Given {
+pub(crate) fn superclass(heap: &Heap, class: ObjId) -> Given
+    ensures { result ≡ Gives (defined.superclass heap.now.store class) }
+{
     match heap.superclass_of(class) {
         Some(above) => Given::Gives(Value::Obj(above)),
         None => Given::Gives(Value::Nil),
