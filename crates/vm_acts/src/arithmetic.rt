@@ -6,28 +6,11 @@ use def_core::Found;
 use rb_value::{CoreClass, Method, Visibility};
 use std::alloc::AllocError;
 use vm_parts::flow::Flow;
+use vm_parts::integer_operators::{Operator, operated};
 use vm_parts::loaded::Loaded;
-use vm_parts::numbers::{INTEGER_ROWS, operated};
-use vm_parts::operators::Operator;
 use vm_parts::parts::{Parts, behind, put};
 use vm_parts::run_calls::Naming;
 use vm_parts::vm_frames::Frame;
-
-/// The row of Integer that an operator's method is.
-fn row_of(operator: Operator) -> u16 {
-    let place = match operator {
-        Operator::Add => 0,
-        Operator::Subtract => 1,
-        Operator::Multiply => 2,
-        Operator::Divide => 3,
-        Operator::Equal => 17,
-        Operator::Less => 19,
-        Operator::AtMost => 20,
-        Operator::Greater => 21,
-        Operator::AtLeast => 22,
-    };
-    INTEGER_ROWS + place
-}
 
 const OPERATORS: [Operator; 9] = [
     Operator::Add,
@@ -45,7 +28,7 @@ const OPERATORS: [Operator; 9] = [
 fn is_core(found: Option<Found>, operator: Operator) -> bool {
     match found {
         Some(found) => found.visibility == Visibility::Public
-            && found.method == Method::Core(row_of(operator)),
+            && found.method == Method::Core(operator.row()),
         None => false,
     }
 }

@@ -5,7 +5,7 @@
 //!
 //! Types: [`Parts`], [`Loaded`], [`Superinstruction`], [`Operators`], [`Names`], [`KnownCalls`]; [`Flow`], [`Step`],
 //! [`End`], [`Handed`]. Calls: modules [`exits`], [`entering`],
-//! [`arguments`], [`numbers`].
+//! [`arguments`].
 #![tactic(auto)]
 
 pub mod arguments;
@@ -15,7 +15,6 @@ pub mod flow;
 pub mod known;
 pub mod loaded;
 pub mod names;
-pub mod numbers;
 pub mod operators;
 pub mod parts;
 pub mod superinstruction;
@@ -23,9 +22,10 @@ pub mod superinstruction;
 pub use fiber_switch;
 pub use fiber_switch::{core_calls, core_iter, heap, run_calls, run_rows, vm_frames, vm_unwind};
 pub use flow::{End, Flow, Handed, Step};
+pub use integer_operators;
 pub use known::{KnownCalls, MethodBody, Usual};
 pub use loaded::Loaded;
 pub use names::Names;
-pub use operators::{Operator, Operators};
+pub use operators::Operators;
 pub use parts::{Parts, behind, put, step};
 pub use superinstruction::Superinstruction;
