@@ -1,5 +1,5 @@
 //! Changes of Strings.
-ghost use Rattle.std.specs.Prelude.{◌≡◌, OnOk, OnErr};
+ghost use Rattle.std.specs.Prelude.{◌≡◌, [], OnOk, OnErr};
 ghost use Rattle.def_core.specs.Sound.{Sound, census};
 ghost use Rattle.rb_store.specs.Keeps.{Keeps};
 ghost use Rattle.heap.specs.Changes as changes;
@@ -8,7 +8,7 @@ use crate::heap::Heap;
 use crate::testing::string;
 use rb_base::Bytes;
 use rb_store::Store;
-use rb_value::ObjId;
+use rb_value::{ObjId, Value};
 use std::alloc::AllocError;
 
 /// Puts bytes after those of a String. Where memory runs out the String is as before.
@@ -37,7 +37,41 @@ pub(crate) fn replace_text(st: &mut Store, id: ObjId, bytes: Vec<u8>)
     }
 }
 
+/// Takes all bytes out of a String. It takes no memory.
+#[tactic(auto, using(rb_store::proofs::Keeping::keeps_itself, def_core::proofs::Good::is_good))]
+pub(crate) fn take_text(st: &mut Store, id: ObjId) -> Vec<u8>
+    requires sound { Sound st.old.store }
+    ensures keeps { Keeps st.old st.new }
+    ensures taken { st.new ≡ changes.with_bytes st.old id [] }
+{
+    let none = Bytes::new(st.alloc());
+    match string(st, id) {
+        Some(id) => st.replace_text(id, none).into_vec(),
+        None => none.into_vec(),
+    }
+}
+
 impl Heap {
+    /// Puts the bytes of a String after those of another, which lends them for that. Where memory runs out both are as
+    /// before.
+    fn append_lent(&mut self, id: ObjId, from: ObjId) -> Result<(), AllocError> {
+        let lent = take_text(&mut self.st, from);
+        let answer = self.append_bytes(id, &lent);
+        self.replace_text(from, lent);
+        answer
+    }
+
+    /// Puts what a value is in a text after a String. Where memory runs out both are as before.
+    pub fn append_text(&mut self, id: ObjId, value: Value) -> Result<(), AllocError> {
+        match self.a_string(value) {
+            Some(from) if from != id => self.append_lent(id, from),
+            _ => {
+                let bytes = self.text_of_value(value)?;
+                self.append_bytes(id, &bytes)
+            }
+        }
+    }
+
     /// Puts bytes after those of a String. Where memory runs out the String is as before.
     pub fn append_bytes(&mut self, id: ObjId, more: &[u8]) -> Result<(), AllocError>
         ensures ok { OnOk result (self.new ≡ changes.with_more_bytes self.old id more.now) }

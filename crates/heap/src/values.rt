@@ -96,12 +96,6 @@ impl Heap {
         run_values::text_of_value(&self.st, own(&self.st, value))
     }
 
-    /// Puts what a value is in a text after a String.
-    pub fn append_text(&mut self, id: ObjId, value: Value) -> Result<(), AllocError> {
-        let bytes = self.text_of_value(value)?;
-        self.append_bytes(id, &bytes)
-    }
-
     /// Gives the symbol of a text.
     pub fn make_symbol(&mut self, value: Value) -> Result<Given, AllocError>
         ensures answers { Answers self.old self.new result (λ w. values.make_symbol w (operands.own self.old.store value)) }
