@@ -1,10 +1,10 @@
 //! `initialize` of an Array and of a Hash.
 
 use crate::iteration::Iteration;
-use crate::sending::{call_with, refuse};
+use crate::sending::{call_beat, refuse, with_one};
 use def_core::Cause;
 use rb_value::{CoreClass, ObjId, Value};
-use run_rows::core_calls::{Call, Plan, argument, integer};
+use run_rows::core_calls::{Beat, Call, Plan, argument, integer};
 use run_rows::heap::Heap;
 use std::alloc::AllocError;
 
@@ -20,16 +20,37 @@ pub struct Filling {
     pub block: ObjId,
 }
 
+/// The call of the block with the next place, which is passed, where there is one.
+fn place_beat(filling: &mut Filling) -> Option<Beat> {
+    let place = filling.place;
+    if place >= filling.count {
+        return None;
+    }
+    filling.place = place.saturating_add(1);
+    Some(with_one(filling.block, Value::Int(place)))
+}
+
 /// Calls the block with the next place, or ends.
 fn fill_next(heap: &Heap, filling: Filling) -> Result<Plan<Iteration>, AllocError> {
-    if filling.place >= filling.count {
-        return Ok(Plan::Finishes(Value::Obj(filling.array)));
+    let mut filling = filling;
+    match place_beat(&mut filling) {
+        Some(beat) => call_beat(heap, Iteration::Filling(filling), beat),
+        None => Ok(Plan::Finishes(Value::Obj(filling.array))),
     }
-    let then = Iteration::Filling(Filling {
-        place: filling.place.saturating_add(1),
-        ..filling
-    });
-    call_with(heap, then, filling.block, Value::Int(filling.place))
+}
+
+/// Puts what the block gives after the elements, and calls it with the next place, where there is one; nothing is done
+/// where there is none.
+pub(crate) fn fill_beat(
+    heap: &mut Heap,
+    filling: &mut Filling,
+    answer: Value,
+) -> Result<Option<Beat>, AllocError> {
+    if filling.place >= filling.count {
+        return Ok(None);
+    }
+    heap.push(filling.array, answer)?;
+    Ok(place_beat(filling))
 }
 
 /// Puts what the block gives after the elements, and goes on.

@@ -1,7 +1,7 @@
 //! The first plan of each row, and the next with the answer to the one before.
 
 use crate::counting::{begin_integers, begin_range, begin_range_step, count_beat, count_next};
-use crate::filling::{begin_array, begin_hash, fill_then};
+use crate::filling::{begin_array, begin_hash, fill_beat, fill_then};
 use crate::iteration::Iteration;
 use crate::lifting::lift;
 use crate::making::begin_new;
@@ -10,11 +10,16 @@ use crate::raising::{raise_all, raise_made};
 use crate::sending::{
     begin_call, begin_kept, begin_resume, begin_send, begin_yield, blockless, call_with, loop_next,
 };
-use crate::strings::{begin_string, byte_next, character_next, line_next};
+use crate::strings::{
+    begin_string, byte_beat, byte_next, character_beat, character_next, line_beat, line_next,
+};
 use crate::telling::{
     ask_message, begin_message, give_message, raise_reported, report, tell, tell_text,
 };
-use crate::visiting::{begin_visit, delete_then, index_next, replace_then, visit_beat, visit_next};
+use crate::visiting::{
+    begin_visit, delete_then, index_beat, index_next, replace_beat, replace_then, visit_beat,
+    visit_next,
+};
 use crate::writing::{
     all_of, inspect_next, inspect_text, print_next, print_text, put_all, put_next, put_text,
 };
@@ -220,6 +225,12 @@ pub fn beat(
         })),
         Iteration::Counting(count) => count_beat(heap, count),
         Iteration::Visiting(visit) => Ok(visit_beat(heap, visit)),
+        Iteration::Indexing(visit) => Ok(index_beat(heap, visit)),
+        Iteration::Replacing(visit) => Ok(replace_beat(heap, visit, answer)),
+        Iteration::Filling(filling) => fill_beat(heap, filling, answer),
+        Iteration::Characters(walk) => character_beat(heap, walk),
+        Iteration::Lines(walk) => line_beat(heap, walk),
+        Iteration::Bytes(walk) => Ok(byte_beat(heap, walk)),
         Iteration::Pairs(walk) => pair_beat(heap, walk, answer),
         Iteration::Items(state) => run_rows::iter_items::beat(heap, state, answer),
         _ => Ok(None),

@@ -57,6 +57,14 @@ pub(crate) fn call_beat(
     })
 }
 
+/// The call of a block with one value.
+pub(crate) fn with_one(callee: ObjId, value: Value) -> Beat {
+    Beat {
+        callee,
+        passed: Passed::One(value),
+    }
+}
+
 /// Calls a Proc with one value.
 pub(crate) fn call_with(
     heap: &Heap,
@@ -64,8 +72,7 @@ pub(crate) fn call_with(
     callee: ObjId,
     value: Value,
 ) -> Result<Plan<Iteration>, AllocError> {
-    let passed = Passed::One(value);
-    call_beat(heap, then, Beat { callee, passed })
+    call_beat(heap, then, with_one(callee, value))
 }
 
 /// The arguments behind the first.

@@ -2,10 +2,10 @@
 //! are read anew at each turn.
 
 use crate::iteration::Iteration;
-use crate::sending::{call_with, refuse};
+use crate::sending::{call_beat, refuse, with_one};
 use rb_value::{CoreClass, ObjId, Value};
 use run_rows::VisitRow;
-use run_rows::core_calls::Plan;
+use run_rows::core_calls::{Beat, Plan};
 use run_rows::heap::Heap;
 use std::alloc::AllocError;
 
@@ -26,71 +26,78 @@ pub struct ByteWalk {
     pub block: ObjId,
 }
 
-/// Calls the block with a new String of the bytes up to an end, or gives the String where there are none.
-fn part_next(
-    heap: &mut Heap,
-    walk: TextWalk,
-    end: usize,
-    of_lines: bool,
-) -> Result<Plan<Iteration>, AllocError> {
-    let part = match walk.text.get(walk.place..end) {
-        Some(bytes) => heap.make_text(bytes)?,
-        None => return Ok(Plan::Finishes(Value::Obj(walk.string))),
-    };
-    let block = walk.block;
-    let walk = TextWalk {
-        text: walk.text,
-        place: end,
-        block,
-        string: walk.string,
-    };
-    let then = if of_lines {
-        Iteration::Lines(walk)
-    } else {
-        Iteration::Characters(walk)
-    };
-    call_with(heap, then, block, part)
+/// The call of the block with a new String of the bytes up to an end, which are passed; nothing where there are none.
+fn part_beat(heap: &mut Heap, walk: &mut TextWalk, end: usize) -> Result<Option<Beat>, AllocError> {
+    match walk.text.get(walk.place..end) {
+        Some(bytes) => {
+            let part = heap.make_text(bytes)?;
+            walk.place = end;
+            Ok(Some(with_one(walk.block, part)))
+        }
+        None => Ok(None),
+    }
 }
 
-/// The next character.
+/// The call of the block with the next character.
+pub(crate) fn character_beat(
+    heap: &mut Heap,
+    walk: &mut TextWalk,
+) -> Result<Option<Beat>, AllocError> {
+    let end = walk.place.saturating_add(1);
+    part_beat(heap, walk, end)
+}
+
+/// The next character; behind the last one the String is given.
 pub(crate) fn character_next(
     heap: &mut Heap,
     walk: TextWalk,
 ) -> Result<Plan<Iteration>, AllocError> {
-    let end = walk.place.saturating_add(1);
-    part_next(heap, walk, end, false)
+    let mut walk = walk;
+    match character_beat(heap, &mut walk)? {
+        Some(beat) => call_beat(heap, Iteration::Characters(walk), beat),
+        None => Ok(Plan::Finishes(Value::Obj(walk.string))),
+    }
 }
 
 /// Where the line ends that begins at a place: behind its newline, and at the end of the text where it has none.
 fn line_end(text: &[u8], place: usize) -> usize {
-    'bytes: for (i, byte) in text.iter().enumerate() {
-        if i >= place && *byte == b'\n' {
-            return i.saturating_add(1);
-        }
+    let rest = text.get(place..).unwrap_or(&[]);
+    match rest.iter().position(|byte| *byte == b'\n') {
+        Some(at) => place.saturating_add(at).saturating_add(1),
+        None => text.len(),
     }
-    text.len()
 }
 
-/// The next line, with its newline.
-pub(crate) fn line_next(heap: &mut Heap, walk: TextWalk) -> Result<Plan<Iteration>, AllocError> {
+/// The call of the block with the next line, with its newline.
+pub(crate) fn line_beat(heap: &mut Heap, walk: &mut TextWalk) -> Result<Option<Beat>, AllocError> {
     if walk.place >= walk.text.len() {
-        return Ok(Plan::Finishes(Value::Obj(walk.string)));
+        return Ok(None);
     }
     let end = line_end(&walk.text, walk.place);
-    part_next(heap, walk, end, true)
+    part_beat(heap, walk, end)
 }
 
-/// The next byte, as a number.
+/// The next line; behind the last one the String is given.
+pub(crate) fn line_next(heap: &mut Heap, walk: TextWalk) -> Result<Plan<Iteration>, AllocError> {
+    let mut walk = walk;
+    match line_beat(heap, &mut walk)? {
+        Some(beat) => call_beat(heap, Iteration::Lines(walk), beat),
+        None => Ok(Plan::Finishes(Value::Obj(walk.string))),
+    }
+}
+
+/// The call of the block with the next byte, as a number.
+pub(crate) fn byte_beat(heap: &Heap, walk: &mut ByteWalk) -> Option<Beat> {
+    let byte = heap.text(walk.string).get(walk.place).copied()?;
+    walk.place = walk.place.saturating_add(1);
+    Some(with_one(walk.block, Value::Int(i64::from(byte))))
+}
+
+/// The next byte; behind the last one the String is given.
 pub(crate) fn byte_next(heap: &Heap, walk: ByteWalk) -> Result<Plan<Iteration>, AllocError> {
-    match heap.text(walk.string).get(walk.place) {
-        Some(byte) => {
-            let value = Value::Int(i64::from(*byte));
-            let then = Iteration::Bytes(ByteWalk {
-                place: walk.place.saturating_add(1),
-                ..walk
-            });
-            call_with(heap, then, walk.block, value)
-        }
+    let mut walk = walk;
+    match byte_beat(heap, &mut walk) {
+        Some(beat) => call_beat(heap, Iteration::Bytes(walk), beat),
         None => Ok(Plan::Finishes(Value::Obj(walk.string))),
     }
 }

@@ -58,7 +58,7 @@ fn sent(
         return Ok(Value::Nil);
     };
     let given = match row_at(number) {
-        Row::OfTable => heap.call_row(number, receiver, args, None)?,
+        Row::OfTable(_) => heap.call_row(number, receiver, args, None)?,
         Row::Plain(row) => call_plain(heap, row, call)?,
         Row::Star(_) => Given::Gives(Value::Nil),
     };

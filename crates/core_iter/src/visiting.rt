@@ -1,10 +1,10 @@
 //! `each`, `each_index`, `map!` and `delete_if` of an Array, whose length is read anew at each turn.
 
 use crate::iteration::Iteration;
-use crate::sending::{call_beat, call_with, refuse};
+use crate::sending::{call_beat, call_with, refuse, with_one};
 use rb_value::{CoreClass, ObjId, Value};
 use run_rows::VisitRow;
-use run_rows::core_calls::{Beat, Passed, Plan};
+use run_rows::core_calls::{Beat, Plan};
 use run_rows::heap::Heap;
 use std::alloc::AllocError;
 
@@ -30,10 +30,7 @@ impl Visit {
 pub(crate) fn visit_beat(heap: &Heap, visit: &mut Visit) -> Option<Beat> {
     let value = heap.elements(visit.array).get(visit.place).copied()?;
     *visit = visit.passed();
-    Some(Beat {
-        callee: visit.block,
-        passed: Passed::One(value),
-    })
+    Some(with_one(visit.block, value))
 }
 
 /// The element at the place, with what comes behind; at the end the Array is given.
@@ -45,18 +42,23 @@ pub(crate) fn visit_next(heap: &Heap, visit: Visit) -> Result<Plan<Iteration>, A
     }
 }
 
-/// The number of the place, where the Array has it.
-pub(crate) fn index_next(heap: &Heap, visit: Visit) -> Result<Plan<Iteration>, AllocError> {
+/// The call of the block with the number of the place, which is passed, where the Array has it.
+pub(crate) fn index_beat(heap: &Heap, visit: &mut Visit) -> Option<Beat> {
     if visit.place >= heap.elements(visit.array).len() {
-        return Ok(Plan::Finishes(Value::Obj(visit.array)));
+        return None;
     }
     let number = i64::try_from(visit.place).unwrap_or(i64::MAX);
-    call_with(
-        heap,
-        Iteration::Indexing(visit.passed()),
-        visit.block,
-        Value::Int(number),
-    )
+    *visit = visit.passed();
+    Some(with_one(visit.block, Value::Int(number)))
+}
+
+/// The number of the place, where the Array has it; behind the last one the Array is given.
+pub(crate) fn index_next(heap: &Heap, visit: Visit) -> Result<Plan<Iteration>, AllocError> {
+    let mut visit = visit;
+    match index_beat(heap, &mut visit) {
+        Some(beat) => call_beat(heap, Iteration::Indexing(visit), beat),
+        None => Ok(Plan::Finishes(Value::Obj(visit.array))),
+    }
 }
 
 /// The element at the place, which the answer shall replace.
@@ -65,6 +67,16 @@ fn replace_next(heap: &Heap, visit: Visit) -> Result<Plan<Iteration>, AllocError
         Some(value) => call_with(heap, Iteration::Replacing(visit), visit.block, *value),
         None => Ok(Plan::Finishes(Value::Obj(visit.array))),
     }
+}
+
+/// Puts the answer in the place of the element, and calls the block with the one behind it, where there is one; nothing
+/// is done where there is none.
+pub(crate) fn replace_beat(heap: &mut Heap, visit: &mut Visit, answer: Value) -> Option<Beat> {
+    let next = visit.passed();
+    let value = heap.elements(next.array).get(next.place).copied()?;
+    heap.set_element(visit.array, visit.place, answer);
+    *visit = next;
+    Some(with_one(next.block, value))
 }
 
 /// Puts the answer in the place of the element, and goes on behind it.

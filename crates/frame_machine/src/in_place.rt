@@ -8,11 +8,11 @@ use vm_acts::core_calls::{Call, Passed};
 use vm_acts::core_iter::Iteration;
 use vm_acts::core_iter::making::blank_for;
 use vm_acts::fiber_switch::Resumed;
-use vm_acts::heap::Blank;
+use vm_acts::heap::{Blank, Heap};
 use vm_acts::run_calls::method_running;
 use vm_acts::run_rows::iter_items::ItemsRow;
 use vm_acts::run_rows::iter_items::iter_comparing::ComparingRow;
-use vm_acts::run_rows::{KernelRow, PlainRow, Row, StarRow, call_plain};
+use vm_acts::run_rows::{KernelRow, PlainRow, Row, StarRow, call_at_once, call_plain};
 use vm_acts::vm_frames::{Arguments, Begun, Frame};
 use vm_acts::vm_parts::entering::{Entered, enter_called, keep_passed, open_body};
 use vm_acts::vm_parts::exits::{hand_out, handed, receive_here};
@@ -22,9 +22,6 @@ use vm_acts::vm_parts::loaded::Loaded;
 use vm_acts::vm_parts::parts::Parts;
 use vm_plain::pair_value;
 
-/// The row of `new` of a class.
-const MAKES_OBJECT: Row = Row::Star(StarRow::Kernel(KernelRow::NewObject));
-
 /// What `initialize` of a class is: a body, or a core method that calls no other.
 #[derive(Clone, Copy)]
 enum Initialize {
@@ -33,7 +30,8 @@ enum Initialize {
 }
 
 /// What the first turn of an iteration does in place: it ends with a value, calls a Proc, resumes a fiber with at most one
-/// value, yields at most one, makes an object of a class, or has a class make one, which is raised.
+/// value, yields at most one, makes an object of a class, has a class make one, which is raised, or asks its receiver for
+/// what a core method gives.
 #[derive(Clone, Copy)]
 enum First {
     Gives(Value),
@@ -49,6 +47,10 @@ enum First {
         initialize: Initialize,
     },
     Raises(Value),
+    Asks {
+        number: u16,
+        row: Row,
+    },
 }
 
 /// Arguments that are at most one.
@@ -110,9 +112,12 @@ fn first_of_raise(parts: &mut Parts, begun: &Begun) -> Result<Option<First>, All
     }
     let class = parts.heap.class_of(raised);
     match found_in(parts, class, parts.names.new)? {
-        Some(Usual::Core { number: _, row }) if row == MAKES_OBJECT => {
-            Ok(Some(First::Raises(raised)))
-        }
+        Some(
+            Usual::Core {
+                number: _,
+                row: Row::Star(StarRow::Kernel(KernelRow::NewObject)),
+            },
+        ) => Ok(Some(First::Raises(raised))),
         _ => Ok(None),
     }
 }
@@ -149,6 +154,31 @@ fn first_of_call(parts: &Parts, begun: &Begun, row: KernelRow) -> Option<First> 
     }
 }
 
+/// Whether an exception was made with no object but a String, so that what its `to_s` gives is its message.
+fn has_text(heap: &Heap, exception: ObjId) -> bool {
+    match heap.message_of(exception) {
+        Value::Obj(id) => heap.sort(Value::Obj(id)) == Some(Sort::String),
+        _ => true,
+    }
+}
+
+/// An exception is asked for its `to_s`, where that is remembered and calls no others.
+fn first_of_message(parts: &Parts, begun: &Begun) -> Option<First> {
+    let exception = parts.heap.an_exception(begun.receiver)?;
+    if begun.arguments.count > 0 || !has_text(&parts.heap, exception) {
+        return None;
+    }
+    let class = parts.heap.class_of(begun.receiver);
+    match parts.known.look_in(&parts.heap, class, parts.names.to_s)? {
+        Usual::Core {
+            number: _,
+            row: Row::Star(_),
+        } => None,
+        Usual::Core { number, row } => Some(First::Asks { number, row }),
+        _ => None,
+    }
+}
+
 /// What the first turn of an iteration does, where it is done in place.
 fn first_of(parts: &mut Parts, begun: &Begun) -> Result<Option<First>, AllocError> {
     match begun.row {
@@ -157,6 +187,7 @@ fn first_of(parts: &mut Parts, begun: &Begun) -> Result<Option<First>, AllocErro
         }
         StarRow::Kernel(KernelRow::NewObject) => first_of_object(parts, begun),
         StarRow::Kernel(KernelRow::Raise) => first_of_raise(parts, begun),
+        StarRow::Kernel(KernelRow::Message) => Ok(first_of_message(parts, begun)),
         StarRow::Kernel(row) => Ok(first_of_call(parts, begun, row)),
         _ => Ok(None),
     }
@@ -304,6 +335,25 @@ fn wait_handing(parts: &mut Parts, begun: &Begun) -> Result<(), AllocError> {
         .push_iteration(waiting(begun.number, Iteration::Handing))
 }
 
+/// Asks the receiver of an iteration, which waits, for what a core method gives.
+fn ask_in_place(
+    code: &Loaded,
+    parts: &mut Parts,
+    begun: &Begun,
+    number: u16,
+    row: Row,
+) -> Result<Flow, AllocError> {
+    let call = Call {
+        receiver: begun.receiver,
+        args: &[],
+        block: None,
+    };
+    match call_at_once(&mut parts.heap, number, row, call)? {
+        Some(given) => hand_out(code, parts, handed(given)),
+        None => Ok(Flow::Ends),
+    }
+}
+
 /// Does the first turn of an iteration in place.
 fn begin_with(
     code: &Loaded,
@@ -337,6 +387,11 @@ fn begin_with(
             initialize,
         } => make_in_place(code, hot, parts, begun, class, blank, initialize),
         First::Raises(class) => raise_in_place(parts, begun, class),
+        First::Asks { number, row } => {
+            wait_handing(parts, begun)?;
+            parts.frames.drop_arguments(begun.arguments);
+            ask_in_place(code, parts, begun, number, row)
+        }
     }
 }
 

@@ -1,6 +1,6 @@
 //! One plan of an iteration.
 
-use def_core::Cause;
+use def_core::{Cause, Found};
 use rb_value::{ObjId, SymId, Value};
 use std::alloc::AllocError;
 use vm_acts::core_calls::{Call, Plan};
@@ -8,10 +8,12 @@ use vm_acts::core_iter::{Iteration, next, start};
 use vm_acts::fiber_switch::Resumed;
 use vm_acts::heap::Given;
 use vm_acts::run_calls::{Request, enter_proc, one_of, send_by_core};
+use vm_acts::run_rows::call_at_once;
 use vm_acts::vm_frames::{Begun, Frame, Iterating};
 use vm_acts::vm_parts::entering::{enter_above, enter_called, enter_first};
 use vm_acts::vm_parts::exits::{hand_out, handed, raise_out, receive};
 use vm_acts::vm_parts::flow::{Flow, Step};
+use vm_acts::vm_parts::known::Usual;
 use vm_acts::vm_parts::loaded::Loaded;
 use vm_acts::vm_parts::parts::Parts;
 
@@ -34,7 +36,25 @@ struct Sent {
     public: bool,
 }
 
-/// Enters the method that an iteration calls.
+/// What a core method gives that calls no others and may be private, where an iteration calls it and that is remembered;
+/// nothing of any other call, which does nothing then.
+fn given_at_once(parts: &mut Parts, sent: &Sent) -> Result<Option<Given>, AllocError> {
+    if sent.public {
+        return Ok(None);
+    }
+    let class = parts.heap.class_of(sent.receiver);
+    let call = Call {
+        receiver: sent.receiver,
+        args: sent.args.as_slice(),
+        block: sent.block,
+    };
+    match parts.known.look_in(&parts.heap, class, sent.name) {
+        Some(Usual::Core { number, row }) => call_at_once(&mut parts.heap, number, row, call),
+        _ => Ok(None),
+    }
+}
+
+/// Calls the method that an iteration calls, which waits.
 fn send(
     code: &Loaded,
     hot: &mut Frame,
@@ -42,7 +62,35 @@ fn send(
     waiting: Iterating,
     sent: Sent,
 ) -> Result<Flow, AllocError> {
+    match given_at_once(parts, &sent)? {
+        Some(given) => {
+            parts.frames.push_iteration(waiting)?;
+            hand_out(code, parts, handed(given))
+        }
+        None => enter_sent(code, hot, parts, waiting, sent),
+    }
+}
+
+/// What is found for a call of an iteration, which is remembered where later ones may be made at once.
+fn find_sent(parts: &mut Parts, sent: &Sent) -> Result<Option<Found>, AllocError> {
+    let found = parts.heap.find_for(sent.receiver, sent.name)?;
+    if let Some(found) = found {
+        let class = parts.heap.class_of(sent.receiver);
+        let _usual = parts.known.note(&parts.heap, class, sent.name, found);
+    }
+    Ok(found)
+}
+
+/// Enters the method that an iteration calls.
+fn enter_sent(
+    code: &Loaded,
+    hot: &mut Frame,
+    parts: &mut Parts,
+    waiting: Iterating,
+    sent: Sent,
+) -> Result<Flow, AllocError> {
     let arguments = parts.frames.keep_all(sent.args.as_slice())?;
+    let found = find_sent(parts, &sent)?;
     let request = Request {
         name: sent.name,
         call: Call {
@@ -52,7 +100,7 @@ fn send(
         },
         next: parts.next_activation()?,
     };
-    let entry = send_by_core(&mut parts.heap, sent.public, request)?;
+    let entry = send_by_core(&mut parts.heap, sent.public, found, request)?;
     parts.frames.push_iteration(waiting)?;
     enter_above(code, hot, parts, entry, &arguments)
 }

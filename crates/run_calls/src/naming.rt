@@ -76,14 +76,16 @@ pub fn enter_named(
     }
 }
 
-/// What a core method's own call by a name enters: it isn't checked, or has to be public.
+/// What a core method's own call by a name enters, by what is found for its receiver: it isn't checked, or has to be
+/// public.
 pub fn send_by_core(
     heap: &mut Heap,
     public: bool,
+    found: Option<Found>,
     request: Request<'_>,
 ) -> Result<Entry, AllocError> {
     let receiver = request.call.receiver;
-    match heap.find_for(receiver, request.name)? {
+    match found {
         Some(found) => if !public || found.visibility == Visibility::Public {
             enter_found(heap, &found, request)
         } else {

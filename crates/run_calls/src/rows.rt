@@ -3,16 +3,13 @@
 use crate::entry::{Beginning, Entry};
 use core_iter::core_calls::Call;
 use core_iter::heap::Heap;
-use core_iter::run_rows::{Row, call_plain, row_at};
+use core_iter::run_rows::{Row, call_of_table, call_plain, row_at};
 use std::alloc::AllocError;
 
 /// What the call of a core method enters, by its row: nothing, or an iteration.
 pub fn enter_row(heap: &mut Heap, row: u16, call: Call<'_>) -> Result<Entry, AllocError> {
     match row_at(row) {
-        Row::OfTable => {
-            let given = heap.call_row(row, call.receiver, call.args, call.block)?;
-            Ok(Entry::Answers(given))
-        }
+        Row::OfTable(of_table) => Ok(Entry::Answers(call_of_table(heap, row, of_table, call)?)),
         Row::Plain(plain) => Ok(Entry::Answers(call_plain(heap, plain, call)?)),
         Row::Star(star) => Ok(Entry::Begins(Beginning {
             row: star,

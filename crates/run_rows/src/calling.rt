@@ -1,9 +1,11 @@
 //! Calls of rows that give their outcome at once.
 
-use crate::row::PlainRow;
+use crate::row::{PlainRow, Row};
+use crate::straight::give_of_table;
 use iter_items::core_calls::Call;
 use iter_items::heap::{Given, Heap};
 use rb_value::Value;
+use row_table::CoreRow;
 use std::alloc::AllocError;
 
 /// Puts what a Proc is called with after the elements of the Array that it keeps: several values as one Array, none as
@@ -32,5 +34,34 @@ pub fn call_plain(heap: &mut Heap, row: PlainRow, call: Call<'_>) -> Result<Give
         PlainRow::Array(row) => rows_array::call(heap, row, call),
         PlainRow::Hash(row) => rows_hash::call(heap, row, call),
         PlainRow::Collect => collect(heap, call),
+    }
+}
+
+/// Calls a row of the table by its number, and gives its value or raises.
+pub fn call_of_table(
+    heap: &mut Heap,
+    number: u16,
+    row: Option<CoreRow>,
+    call: Call<'_>,
+) -> Result<Given, AllocError> {
+    if let Some(row) = row {
+        if let Some(value) = give_of_table(heap, row, call.receiver, call.args)? {
+            return Ok(Given::Gives(value));
+        }
+    }
+    heap.call_row(number, call.receiver, call.args, call.block)
+}
+
+/// Calls a row that calls no others, and gives its value or raises; nothing of any other row, which does nothing then.
+pub fn call_at_once(
+    heap: &mut Heap,
+    number: u16,
+    row: Row,
+    call: Call<'_>,
+) -> Result<Option<Given>, AllocError> {
+    match row {
+        Row::OfTable(row) => Ok(Some(call_of_table(heap, number, row, call)?)),
+        Row::Plain(row) => Ok(Some(call_plain(heap, row, call)?)),
+        Row::Star(_) => Ok(None),
     }
 }

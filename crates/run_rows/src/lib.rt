@@ -4,7 +4,8 @@
 //! each crate of rows, one behind another.
 //!
 //! Types: [`Row`], [`PlainRow`], [`StarRow`], [`KernelRow`], [`VisitRow`]. Calls: [`row_at`], [`call_plain`],
-//! [`opening_heap`]. Numbers: [`METHOD_MISSING_ROW`], [`SEND_KEPT_ROW`].
+//! [`call_of_table`], [`call_at_once`],
+//! [`opening_heap`]. Straight on: [`read_alone`], [`give_of_table`], [`give_of_hash`]. Numbers: [`METHOD_MISSING_ROW`], [`SEND_KEPT_ROW`].
 #![tactic(auto)]
 
 pub mod calling;
@@ -12,18 +13,23 @@ pub mod naming;
 pub mod numbering;
 pub mod opening;
 pub mod row;
+pub mod straight;
+mod texts;
 
-pub use calling::call_plain;
+pub use calling::{call_at_once, call_of_table, call_plain};
 pub use iter_items::core_calls::hidden::SEND_KEPT_ROW;
 pub use numbering::{METHOD_MISSING_ROW, row_at};
 pub use opening::opening_heap;
 pub use row::{KernelRow, PlainRow, Row, StarRow, VisitRow};
+pub use straight::{give_of_hash, give_of_table, read_alone};
 
 #[cfg(test)]
 mod tests;
 
 pub use iter_items;
 pub use iter_items::{core_calls, heap};
+pub use row_table;
 pub use rows_array;
 pub use rows_class;
+pub use rows_hash;
 pub use rows_object;

@@ -5,7 +5,7 @@ use crate::row::{KernelRow, PlainRow, Row, StarRow};
 use iter_items::core_calls::hidden::{
     COLLECT_ROW, FIRST_OF_ITEMS, HIDDEN, SEND_KEPT_ROW, YIELD_ROW,
 };
-use row_table::names;
+use row_table::{CoreRow, line_at, names};
 
 /// The row of `method_missing` of Object.
 pub const METHOD_MISSING_ROW: u16 = 1;
@@ -15,7 +15,7 @@ fn hidden_of_items(number: u16) -> Row {
     let place = usize::from(number.saturating_sub(FIRST_OF_ITEMS));
     match iter_items::rows_of(HIDDEN).get(place) {
         Some((_, row)) => Row::Star(StarRow::Items(*row)),
-        None => Row::OfTable,
+        None => Row::OfTable(None),
     }
 }
 
@@ -92,8 +92,16 @@ fn further(segment: u16, place: usize) -> Row {
         Ok(row) => Row::Plain(row),
         Err(place) => match star_at(segment, place) {
             Some(row) => Row::Star(row),
-            None => Row::OfTable,
+            None => Row::OfTable(None),
         },
+    }
+}
+
+/// The row of the table that a number is.
+fn row_of_table(number: u16) -> Option<CoreRow> {
+    match line_at(number) {
+        Some(line) => Some(line.row),
+        None => None,
     }
 }
 
@@ -106,7 +114,7 @@ pub fn row_at(number: u16) -> Row {
     }
     let of_table = names(segment).len();
     if place < of_table {
-        Row::OfTable
+        Row::OfTable(row_of_table(number))
     } else {
         further(segment, place - of_table)
     }

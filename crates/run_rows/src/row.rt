@@ -2,6 +2,7 @@
 
 use iter_items::ItemsRow;
 use iter_items::rows_items::ItemRow;
+use row_table::CoreRow;
 use rows_array::ArrayRow;
 use rows_class::ClassRow;
 use rows_hash::HashRow;
@@ -82,7 +83,7 @@ pub enum StarRow {
 /// that calls others.
 #[derive(Clone, Copy, Debug, PartialEq, Eq)]
 pub enum Row {
-    OfTable,
+    OfTable(Option<CoreRow>),
     Plain(PlainRow),
     Star(StarRow),
 }

@@ -37,7 +37,7 @@ fn hidden_rows_have_their_numbers(rt: HostRuntime) -> Result<(), Fail> {
     assert!(rt; row_at(COLLECT_ROW) == Row::Plain(PlainRow::Collect));
     assert!(rt; matches!(row_at(SEND_KEPT_ROW), Row::Star(StarRow::Kernel(_))));
     assert!(rt; matches!(row_at(YIELD_ROW), Row::Star(StarRow::Kernel(_))));
-    assert!(rt; row_at(u16::MAX) == Row::OfTable);
+    assert!(rt; row_at(u16::MAX) == Row::OfTable(None));
     Ok(())
 }
 

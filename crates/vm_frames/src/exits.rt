@@ -9,9 +9,14 @@ use std::alloc::AllocError;
 const PENDING: u64 = 65_536;
 
 impl Frames {
+    /// Whether registers of a frame may keep exits.
+    fn may_keep(&self, frame: &Frame) -> bool {
+        frame.keeps && !self.around.keeps_none()
+    }
+
     /// The exit that register `a` keeps.
     pub fn kept(&self, frame: &Frame, a: u16) -> Option<Exit> {
-        if frame.keeps {
+        if self.may_keep(frame) {
             self.around
                 .exits
                 .get(&(frame.number, u64::from(a)))
@@ -23,7 +28,7 @@ impl Frames {
 
     /// The exit that came to the frame's handler, and hasn't been taken.
     pub fn pending(&self, frame: &Frame) -> Option<Exit> {
-        if frame.keeps {
+        if self.may_keep(frame) {
             self.around.exits.get(&(frame.number, PENDING)).copied()
         } else {
             None
@@ -55,12 +60,17 @@ impl Frames {
     /// Register `a` keeps no exit. It takes no memory.
     #[cold]
     pub fn drop_exit(&mut self, frame: &Frame, a: u16) {
-        self.around.exits.remove(&(frame.number, u64::from(a)));
+        if self.may_keep(frame) {
+            self.around.exits.remove(&(frame.number, u64::from(a)));
+        }
     }
 
     /// The exits of a frame's registers go. It takes no memory.
     #[cold]
     pub(crate) fn drop_exits(&mut self, frame: &Frame) {
+        if !self.may_keep(frame) {
+            return;
+        }
         self.around.exits.remove(&(frame.number, PENDING));
         'registers: for a in 0..frame.registers {
             self.around.exits.remove(&(frame.number, u64::from(a)));

@@ -4,12 +4,13 @@ use fiber_switch::heap::Heap;
 use rb_value::SymId;
 use std::alloc::AllocError;
 
-/// The symbols of `new`, `initialize` and `method_missing`.
+/// The symbols of `new`, `initialize`, `method_missing` and `to_s`.
 #[derive(Clone, Copy, Debug)]
 pub struct Names {
     pub new: SymId,
     pub initialize: SymId,
     pub method_missing: SymId,
+    pub to_s: SymId,
 }
 
 impl Names {
@@ -19,6 +20,7 @@ impl Names {
             new: heap.intern(b"new")?,
             initialize: heap.intern(b"initialize")?,
             method_missing: heap.intern(b"method_missing")?,
+            to_s: heap.intern(b"to_s")?,
         })
     }
 }
