@@ -404,3 +404,5 @@ row(375) { Asked.new.then { |x| [x].index(x) } }
 row(376) { Asked.new.then { |x| [x].count(x) } }
 row(377) { Asked.new.then { |x| [[x].delete(x).equal?(x), [x] == [x], {1 => x} == {1 => x}, {1 => x}.value?(x), {1 => x}.key(x)] } }
 row(378) { Asked.new.then { |x| [([x] - [x]).length, ([x] & [x]).length, ([x] | [x]).length] } }
+row(379) { Class.new(Array).new(2, 1).then { |x| [x.to_a, x.to_a.class, x.to_a.equal?(x), x.class == Array] } }
+row(380) { [1].then { |x| x.to_a.equal?(x) } }

@@ -82,8 +82,14 @@ pub(crate) fn report(heap: &mut Heap, exception: ObjId) -> Result<Plan<Iteration
     ask(heap, then, Value::Obj(exception), b"message")
 }
 
-/// Raises an exception that nothing rescued once more, with the message that it gave.
+/// Raises an exception that nothing rescued once more, with the message that it gave. One that gave no String is seen by
+/// the name of its class, as one without a message.
 pub(crate) fn raise_reported(heap: &mut Heap, exception: ObjId, message: Value) -> Plan<Iteration> {
+    let message = if heap.text_of(message).is_none() {
+        Value::Nil
+    } else {
+        message
+    };
     heap.set_message(exception, message);
     Plan::Raises(exception)
 }

@@ -7,13 +7,13 @@ use crate::sorting::{Extreme, extreme_place, sorted};
 use crate::zipping::zipped;
 use core_calls::heap::{Given, Heap};
 use core_calls::{Call, argument, miscounted};
-use rb_value::{RangeContents, RangeEnds, Value};
+use rb_value::{CoreClass, RangeContents, RangeEnds, Value};
 use std::alloc::AllocError;
 
 /// A core method of items.
 #[derive(Clone, Copy, Debug, PartialEq, Eq)]
 pub enum ItemRow {
-    /// `to_a` of an Array gives the Array.
+    /// `to_a` of an Array gives the Array, and of one of a class below Array a new Array.
     ToArray,
     Entries,
     First,
@@ -153,6 +153,12 @@ fn item_at(values: &[Value], place: Option<usize>) -> Value {
     }
 }
 
+/// Whether a value is an Array of no class below Array.
+fn is_plain_array(heap: &Heap, value: Value) -> bool {
+    heap.an_array(value).is_some()
+        && heap.plain_class_of(value) == heap.class_object(CoreClass::Array)
+}
+
 /// What a method gives, where it takes so many arguments.
 fn answer(heap: &mut Heap, row: ItemRow, call: Call<'_>) -> Result<Value, RowError> {
     let receiver = call.receiver;
@@ -162,7 +168,7 @@ fn answer(heap: &mut Heap, row: ItemRow, call: Call<'_>) -> Result<Value, RowErr
         ItemRow::Drop => return drop_first(heap, receiver, argument(call.args, 0)),
         ItemRow::Min => return extreme_item(heap, receiver, Extreme::Least),
         ItemRow::Max => return extreme_item(heap, receiver, Extreme::Greatest),
-        ItemRow::ToArray if heap.an_array(receiver).is_some() => return Ok(receiver),
+        ItemRow::ToArray if is_plain_array(heap, receiver) => return Ok(receiver),
         _ => {}
     }
     let items = items_of(heap, receiver)?;
