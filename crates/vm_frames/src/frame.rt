@@ -26,6 +26,8 @@ pub struct Frame {
     pub first: usize,
     pub given: usize,
     pub block: Option<ObjId>,
+    /// The Proc that a yield calls, as its activation has it.
+    pub yields: Option<ObjId>,
     pub binds: BindKind,
     /// Whether the table may have exits of its registers, or one that is pending.
     pub keeps: bool,
@@ -47,6 +49,7 @@ impl Frame {
             first: 0,
             given: 0,
             block: None,
+            yields: None,
             binds: BindKind::Method,
             keeps: false,
         }

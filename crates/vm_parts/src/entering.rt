@@ -57,6 +57,7 @@ pub fn open_body(
         None => None,
     };
     hot.block = entered.block;
+    hot.yields = activation.block;
     hot.binds = entered.binds;
     parts.activations = number;
     Ok(())
