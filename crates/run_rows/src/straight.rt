@@ -1,7 +1,7 @@
 //! What rows give straight on, where they only read, or change or make one String or Hash.
 
 use crate::row::{PlainRow, Row};
-use crate::texts::{give_digits, give_text, read_text};
+use crate::texts::{give_number, give_text, read_text};
 use iter_items::heap::Heap;
 use iter_items::rows_items::{RowError, put_pair};
 use rb_value::Value;
@@ -53,7 +53,7 @@ pub fn give_of_table(
 ) -> Result<Option<Value>, AllocError> {
     match row {
         CoreRow::String(method) => give_text(heap, method, receiver, args),
-        CoreRow::Integer(method) => give_digits(heap, method, receiver, args),
+        CoreRow::Integer(method) => give_number(heap, method, receiver, args),
         _ => Ok(None),
     }
 }

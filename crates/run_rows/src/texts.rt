@@ -2,6 +2,7 @@
 //! want it they are called.
 
 use iter_items::heap::Heap;
+use rb_integer::comparison::{is_even, is_odd, is_zero};
 use rb_integer::numeral::decimal;
 use rb_string::{GREATEST_LENGTH, comparison, editing, searching, slicing};
 use rb_value::Value;
@@ -151,18 +152,22 @@ pub(crate) fn give_text(
     }
 }
 
-/// What a method of Integer gives straight on, the digits of a number; nothing of any other method, receiver and
-/// arguments.
-pub(crate) fn give_digits(
+/// What a method of Integer without arguments gives straight on: the digits of a number, or whether it is even, odd or 0;
+/// nothing of any other method, receiver and arguments.
+pub(crate) fn give_number(
     heap: &mut Heap,
     method: IntegerMethod,
     receiver: Value,
     args: &[Value],
 ) -> Result<Option<Value>, AllocError> {
-    match (method, receiver, args) {
-        (IntegerMethod::ToText, Value::Int(number), []) => {
-            Ok(Some(heap.make_text(decimal(number).as_slice())?))
-        }
+    let (Value::Int(number), []) = (receiver, args) else {
+        return Ok(None);
+    };
+    match method {
+        IntegerMethod::ToText => Ok(Some(heap.make_text(decimal(number).as_slice())?)),
+        IntegerMethod::IsEven => Ok(Some(Value::from_truth(is_even(number)))),
+        IntegerMethod::IsOdd => Ok(Some(Value::from_truth(is_odd(number)))),
+        IntegerMethod::IsZero => Ok(Some(Value::from_truth(is_zero(number)))),
         _ => Ok(None),
     }
 }
