@@ -8,6 +8,7 @@ use rb_base::{Buffered, Sink, Source};
 use rb_refusal::Refusal;
 use rb_value::ObjId;
 use std::alloc::{AllocError, Global};
+use std::mem;
 
 /// How a program comes out: it ended with a status; an exception wasn't rescued, whose class and message are a line;
 /// the turns that were allowed are made; or nothing of it runs, or no more, for a cause.
@@ -57,7 +58,8 @@ fn come_out(machine: &Machine, ran: Result<Ran, StepFault>) -> Played
     }
 }
 
-/// Runs verified code for at most so many turns, and sends on what it wrote.
+/// Runs verified code for at most so many turns, and sends on what it wrote. The memory of the machine isn't given back
+/// object by object: the process ends with the run, which gives all of it back at once.
 pub(crate) fn run_code<S: Source, O: Sink + Drop>(
     alloc: Global,
     code: Verified,
@@ -76,8 +78,10 @@ pub(crate) fn run_code<S: Source, O: Sink + Drop>(
         turns: machine.turns(),
         probes: machine.probes(),
     };
-    match out.flush() {
-        Ok(()) => (come_out(&machine, ran), counts),
-        Err(_) => (Played::OutputFault, counts),
-    }
+    let played = match out.flush() {
+        Ok(()) => come_out(&machine, ran),
+        Err(_) => Played::OutputFault,
+    };
+    mem::forget(machine);
+    (played, counts)
 }
