@@ -1,0 +1,11 @@
+-- The core of a tree that fits is that of a program.
+use Rattle.std.proofs.Common.{List}
+use Rattle.parser_tree.specs.Node.{Name, Node}
+use Rattle.ir_core.specs.Program.{IsProgram}
+use Rattle.lower_table.specs.Lowering.{program}
+use Rattle.program_laws.specs.Fits.{IsFitting}
+use Rattle.program_laws.proofs.Scenes.{in_program}
+use Rattle.program_laws.proofs.Cores.{core_fits}
+
+pub fitting_is_program : (ls : List Name) (n : Node) → IsFitting ls n → IsProgram (program ls n)
+fitting_is_program ls n h = core_fits n (in_program ls) 0 h
