@@ -9,3 +9,5 @@ pub mod Choices
 pub mod Bodies
 pub mod Cores
 pub mod Programs
+pub mod Kept
+pub mod Placed
