@@ -8,6 +8,6 @@ pub mod Stores
 pub mod Choices
 pub mod Bodies
 pub mod Cores
-pub mod Programs
 pub mod Kept
 pub mod Placed
+pub mod Programs

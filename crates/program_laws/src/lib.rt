@@ -18,12 +18,13 @@ ghost use Rattle.program_laws.specs.Example as example;
 ghost use Rattle.program_laws.specs.Fits.{IsFitting};
 ghost use Rattle.program_laws.specs.Knows.{knows};
 
-/// A tree that fits, with the variables of its text, has the core of a program. It fits where no word of it is misplaced
-/// and each local that it names is known.
-#[tactic(auto, using(crate::proofs::Programs::fitting_is_program, crate::proofs::Placed::placed_is_fitting))]
+/// A tree that fits, with the variables of its text, has the core of a program, and so has one in which no word is
+/// misplaced and each local that is named is known.
+#[tactic(auto, using(crate::proofs::Programs::fitting_is_program, crate::proofs::Programs::placed_is_program))]
 pub fn laws_of_programs()
     ensures fitting { (ls : List Name) (n : Node) → IsFitting ls n → IsProgram (program ls n) }
-    ensures placed { (ls : List Name) (n : Node) → misplaced n ≡ None → knows ls n ≡ true → IsFitting ls n }
+    ensures placed { (ls : List Name) (n : Node) → misplaced n ≡ None → knows ls n ≡ true
+        → IsProgram (program ls n) }
 {}
 
 /// A program with a method, a block, a clause and a loop has such a tree. The core of a word that is misplaced is that of
