@@ -233,7 +233,8 @@ mutual
       let values = each_value (in_target s).around (λ k. form.exception) 0 t (λ j. refl) in
       both (each_fits cs (in_clause s) d p.0) (both (target_fits (in_target s).around
       (stores s.passes d (λ k. form.exception) 0 t)
-      (stores_fit t (in_target s) d (λ k. form.exception) 0 q.0 values)) (both (core_fits b (in_clause s) d q.1) others))
+      (stores_fit t (in_target s) d (λ k. form.exception) 0 q.0 values))
+      (both (core_fits b (in_clause s) d q.1) others))
   clause_fits n s d cs h others = others
 
   call_items_fit : (ns : Nodes) (s : Scene) (d : ℕ) → AllFitting s ns

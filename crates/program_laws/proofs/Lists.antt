@@ -25,7 +25,8 @@ module _ (a : Around) where
   sequence_fits (more f none) h = (split f none h).0
   sequence_fits (more f (more g gs)) h = h
 
-  pub after_fits : (gs : Forms) (f : CoreForm) → are_forms a gs ≡ true → is_form a f ≡ true → is_form a (after gs f) ≡ true
+  pub after_fits : (gs : Forms) (f : CoreForm) → are_forms a gs ≡ true → is_form a f ≡ true
+      → is_form a (after gs f) ≡ true
   after_fits none f h k = k
   after_fits (more g gs) f h k = let p = split g gs h in both p.0 (append_fit gs (one f) p.1 (both k refl))
 

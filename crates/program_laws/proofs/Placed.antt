@@ -71,7 +71,8 @@ mutual
       let h1 = assigned_kept a (any_constant ts) k1 h2 in
       let p0 = and_parts (knows xs e) (all_known xs ts && knows xs b) g in
       let p1 = and_parts (all_known xs ts) (knows xs b) p0.1 in
-      both (placed e a xs k h1 p0.0) (both (all_placed ts (within_for a) xs k2 h3 p1.0) (placed b (within_for a) xs k3 h p1.1))
+      both (placed e a xs k h1 p0.0) (both (all_placed ts (within_for a) xs k2 h3 p1.0)
+      (placed b (within_for a) xs k3 h p1.1))
   placed (node.case_node s cs o) a xs k h g =
       let k1 = walk_all a s k in
       let k2 = walk_all a cs k1 in
@@ -90,7 +91,8 @@ mutual
       let p0 = and_parts (knows xs b) (all_known xs cs && (all_known xs o && all_known xs e)) g in
       let p1 = and_parts (all_known xs cs) (all_known xs o && all_known xs e) p0.1 in
       let p2 = and_parts (all_known xs o) (all_known xs e) p1.1 in
-      both (placed b a xs k h1 p0.0) (both (all_placed cs a xs k1 h2 p1.0) (both (all_placed o a xs k2 h3 p2.0) (all_placed e a xs k3 h p2.1)))
+      both (placed b a xs k h1 p0.0) (both (all_placed cs a xs k1 h2 p1.0)
+      (both (all_placed o a xs k2 h3 p2.0) (all_placed e a xs k3 h p2.1)))
   placed (node.rescue_modifier e f) a xs k h g =
       let k1 = walk a e k in
       let h1 = kept f (within_clause a) k1 h in
@@ -103,7 +105,8 @@ mutual
       let h1 = all_kept is a k1 h2 in
       let p0 = and_parts (all_known xs r) (all_known xs is && all_known xs b) g in
       let p1 = and_parts (all_known xs is) (all_known xs b) p0.1 in
-      both (all_placed r a xs k h1 p0.0) (both (all_placed is a xs k1 h2 p1.0) (all_placed b (within_block a) xs k2 h p1.1))
+      both (all_placed r a xs k h1 p0.0) (both (all_placed is a xs k1 h2 p1.0)
+      (all_placed b (within_block a) xs k2 h p1.1))
   placed (node.index e is) a xs k h g =
       let k1 = walk a e k in
       let h1 = all_kept is a k1 h in
@@ -115,7 +118,8 @@ mutual
       let h2 = all_kept b (within_block a) k2 h in
       let h1 = all_kept is a k1 h2 in
       let p0 = and_parts (all_known xs is) (all_known xs b) g in
-      both ((noted_kept a.in_method at k h1).0) (both (all_placed is a xs k1 h2 p0.0) (all_placed b (within_block a) xs k2 h p0.1))
+      both ((noted_kept a.in_method at k h1).0) (both (all_placed is a xs k1 h2 p0.0)
+      (all_placed b (within_block a) xs k2 h p0.1))
   placed (node.yield_node at is) a xs k h g =
       let k1 = noted a.in_method at k in
       let h1 = all_kept is a k1 h in
@@ -211,7 +215,8 @@ mutual
       let h1 = assigned_kept a (any_constant t) k1 h2 in
       let p0 = and_parts (all_known xs cs) (all_known xs t && knows xs b) g in
       let p1 = and_parts (all_known xs t) (knows xs b) p0.1 in
-      both (all_placed cs (within_clause a) xs k h1 p0.0) (both (all_placed t (within_clause a) xs k2 h3 p1.0) (placed b (within_clause a) xs k3 h p1.1))
+      both (all_placed cs (within_clause a) xs k h1 p0.0) (both (all_placed t (within_clause a) xs k2 h3 p1.0)
+      (placed b (within_clause a) xs k3 h p1.1))
   placed (node.arguments is b) a xs k h g =
       let k1 = walk_all a is k in
       let h1 = all_kept b a k1 h in
@@ -228,14 +233,16 @@ mutual
       let h4 = all_kept outs a k4 h5 in
       let h3 = all_kept ps a k3 h4 in
       let h2 = all_kept os a k2 h3 in
-      let p0 = and_parts (are_optional os) (all_known ys rs && (all_known ys os && (all_known ys ps && knows ys b))) g in
+      let p0 = and_parts (are_optional os)
+      (all_known ys rs && (all_known ys os && (all_known ys ps && knows ys b))) g in
       let p1 = and_parts (all_known ys rs) (all_known ys os && (all_known ys ps && knows ys b)) p0.1 in
       let p2 = and_parts (all_known ys os) (all_known ys ps && knows ys b) p1.1 in
       let p3 = and_parts (all_known ys ps) (knows ys b) p2.1 in
-      both (p0.0) (both (all_placed rs a ys k1 h2 p1.0) (both (all_placed os a ys k2 h3 p2.0) (both (all_placed ps a ys k3 h4 p3.0) (placed b a ys k5 h p3.1))))
+      both p0.0 (both (all_placed rs a ys k1 h2 p1.0)
+      (both (all_placed os a ys k2 h3 p2.0) (both (all_placed ps a ys k3 h4 p3.0) (placed b a ys k5 h p3.1))))
   placed (node.optional_parameter x e) a xs k h g =
       let p0 = and_parts (is_among x xs) (knows xs e) g in
-      both (p0.0) (placed e a xs k h p0.1)
+      both p0.0 (placed e a xs k h p0.1)
   placed n a xs k h g = refl
 
   pub all_placed : (ns : Nodes) (a : Around) (xs : List Name) (k : Option ℕ) → walk_all a ns k ≡ None

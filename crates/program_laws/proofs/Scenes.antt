@@ -104,7 +104,8 @@ in_block s q ls ys k = record {
 abbrev pub target_parameters : Nodes → Parameters
 target_parameters ts = record { required = target_locals 0 ts; optional = []; rest = []; post = []; block = [] }
 
-pub for_known : (s : Scene) (ts : Nodes) → Carries s.names (all_parameters (target_parameters ts) ++ [] ++ s.around.known)
+pub for_known : (s : Scene) (ts : Nodes)
+    → Carries s.names (all_parameters (target_parameters ts) ++ [] ++ s.around.known)
 for_known s ts x h =
     within_right (all_parameters (target_parameters ts) ++ []) s.around.known (form.named x) (s.are_known x h)
 

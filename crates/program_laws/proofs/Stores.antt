@@ -57,7 +57,8 @@ module _ (a : Around) where
   attribute_store_fits d x v hv = stored_fit d (x ++ codes "=") no_items (d + 1) v refl hv
 
   index_store_fits : (d : ℕ) (is : Nodes) (v : CoreForm) → is_form a v ≡ true → are_forms a (index_store d is v) ≡ true
-  index_store_fits d is v hv = stored_fit d (codes "[]=") (kept (d + 1) is) (d + 1 + count is) v (kept_fit (d + 1) is) hv
+  index_store_fits d is v hv =
+      stored_fit d (codes "[]=") (kept (d + 1) is) (d + 1 + count is) v (kept_fit (d + 1) is) hv
 
   pub attribute_set_fits : (d : ℕ) (x : Name) (r : Maybe) (v : CoreForm) → may_be a r ≡ true → is_form a v ≡ true
       → is_form a (attribute_set d x r v) ≡ true
@@ -92,10 +93,12 @@ module _ (a : Around) where
   pub scoped_operated_fits : (d : ℕ) (m : CoreForm) (x : Name) (o : AssignmentOperator) (v : CoreForm)
       → is_form a m ≡ true → is_form a v ≡ true → is_form a (scoped_operated d m x o v) ≡ true
   scoped_operated_fits d m x o v h hv =
-      both h (both (operated_fits o _ _ (λ f. form.set_in_constant (local_number d) x f) v refl refl (λ f hf. hf) hv) refl)
+      let store : CoreForm → CoreForm = λ f. form.set_in_constant (local_number d) x f in
+      both h (both (operated_fits o _ _ store v refl refl (λ f hf. hf) hv) refl)
 
   tail_fits : (d m n : ℕ) → are_forms a (tail_kept d m n) ≡ true
-  tail_fits d m n = either (λ fs. are_forms a fs ≡ true) (n == 0) none (one (keep (d + 1) (last_elements d m n))) refl refl
+  tail_fits d m n =
+      either (λ fs. are_forms a fs ≡ true) (n == 0) none (one (keep (d + 1) (last_elements d m n))) refl refl
 
   pub group_fits : (d : ℕ) (b c : Nodes) (before between behind : Forms) → are_forms a before ≡ true
       → are_forms a between ≡ true → are_forms a behind ≡ true

@@ -27,8 +27,8 @@ pub fn laws_of_programs()
         → IsProgram (program ls n) }
 {}
 
-/// A program with a method, a block, a clause and a loop has such a tree. The core of a word that is misplaced is that of
-/// no program, and so is that of a local that isn't known.
+/// A program with a method, a block, a clause and a loop has such a tree. The core of a word that is misplaced is that
+/// of no program, and so is that of a local that isn't known.
 pub fn a_tree_fits()
     ensures placed { misplaced example.tree ≡ None }
     ensures known { knows example.variables example.tree ≡ true }
