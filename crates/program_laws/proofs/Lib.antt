@@ -1,0 +1,13 @@
+pub mod Both
+pub mod Bound
+pub mod Known
+pub mod Passing
+pub mod Scenes
+pub mod Lists
+pub mod Stores
+pub mod Choices
+pub mod Bodies
+pub mod Cores
+pub mod Kept
+pub mod Placed
+pub mod Programs
