@@ -9,5 +9,6 @@ pub mod Choices
 pub mod Bodies
 pub mod Cores
 pub mod Kept
+pub mod Language
 pub mod Placed
 pub mod Programs

@@ -1,9 +1,18 @@
--- Which trees name no local but those that are known, and have the shape of trees: each optional parameter is one.
-use Rattle.std.specs.Prelude.{Bool, true, ◌&&◌, List, [], ◌++◌}
+-- Which trees name no local but those that are known, and have the shape of trees: each optional parameter is one. What
+-- stands in a definition with a parameter outside the language isn't asked, since it may name that.
+use Rattle.std.specs.Prelude.{Bool, true, false, ◌&&◌, ◌||◌, List, [], ◌++◌}
 use Rattle.text_set.specs.Sets.{is_among}
 use Rattle.parser_tree.specs.Node as node
 use Rattle.parser_tree.specs.Node.{Name, Node, Nodes}
 use Rattle.program_laws.specs.Fits.{names_within, are_optional}
+
+abbrev pub is_outside : Node → Bool
+is_outside (node.outside o at es) = true
+is_outside n = false
+
+abbrev pub has_outside : Nodes → Bool
+has_outside node.none = false
+has_outside (node.more n ns) = is_outside n || has_outside ns
 
 -- a tree or a part of one, where these names are known
 abbrev mutual
@@ -53,7 +62,8 @@ abbrev mutual
   knows xs (node.arguments is b) = all_known xs is && all_known xs b
   knows xs (node.definition at rs os rest ps x outside ls b) =
       let ys = names_within rs os rest ps x ls ++ xs in
-      are_optional os && (all_known ys rs && (all_known ys os && (all_known ys ps && knows ys b)))
+      has_outside outside
+      || (are_optional os && (all_known ys rs && (all_known ys os && (all_known ys ps && knows ys b))))
   knows xs (node.optional_parameter x e) = is_among x xs && knows xs e
   knows xs n = true
 
