@@ -21,7 +21,7 @@ use Rattle.program_laws.proofs.Bound.{within_left, within_right}
 abbrev pub Carries : List Name → List Local → Type 0
 Carries xs ls = (x : Name) → is_among x xs ≡ true → is_bound (form.named x) ls ≡ true
 
-among_either : (x : Name) (xs ys : List Name) → is_among x (xs ++ ys) ≡ true
+pub among_either : (x : Name) (xs ys : List Name) → is_among x (xs ++ ys) ≡ true
     → (is_among x xs ≡ true) ⊎ (is_among x ys ≡ true)
 among_either x [] ys h = inr h
 among_either x (z ∷ xs) ys h =
