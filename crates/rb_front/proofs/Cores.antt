@@ -1,5 +1,5 @@
--- The core of a text whose tree is within the language.
-use Rattle.std.proofs.Common.{◌≡◌, ℕ, List, length, Some, None, Result, Ok, Err, sym, ap, ◌∙◌, if◌then◌else◌}
+-- The core of a text whose tree is within the language, which is that of a program.
+use Rattle.std.proofs.Common.{◌≡◌, ℕ, List, length, Some, None, Result, Ok, Err, sym, ap, ◌∙◌, subst, if◌then◌else◌}
 use Rattle.std.proofs.lemmas.Bool.{le-leb}
 use Rattle.rb_syntax.specs.declared.token.Token.{Token}
 use Rattle.rb_lexer.specs.Lexing.{tokens_of}
@@ -10,6 +10,8 @@ use Rattle.rb_parser.specs.Program.{tree_of}
 use Rattle.lower_outside.specs.Search.{found}
 use Rattle.ir_core.specs.CoreForm.{Body}
 use Rattle.lower_table.specs.Lowering.{program}
+use Rattle.ir_core.specs.Program.{IsProgram}
+use Rattle.name_laws.proofs.Laws.{is_program as tree_is_program}
 use Rattle.rb_front.specs.Front.{IsTree, HasTree, core_within, core_of_tree, core_of_tokens, core_of}
 
 of_tree : (n : PlainNode) → misplaced n.1 ≡ None → found None n.1 ≡ None
@@ -29,3 +31,13 @@ unfolding core_of
 has_core text n f (short, is) o e =
     ap (λ b. if b then core_of_tokens (tokens_of text) (length text) else None) (le-leb (length text) 16777216 short)
     ∙ of_tokens (tokens_of text) (length text) n is o ∙ ap Some (sym e)
+
+tree_has_program : (r : Result (List Token) ℕ) (size : ℕ) (n : PlainNode) → IsTree r size n → found None n.1 ≡ None
+    → IsProgram (program n.0 n.1)
+tree_has_program (Err place) size n t o = absurd t
+tree_has_program (Ok ts) size n (few, is, stand) o = tree_is_program ts size n is stand o
+
+pub has_program : (text : List ℕ) (n : PlainNode) (f : Body) → HasTree text n → found None n.1 ≡ None
+    → f ≡ program n.0 n.1 → IsProgram f
+has_program text n f (short, is) o e =
+    subst IsProgram (sym e) (tree_has_program (tokens_of text) (length text) n is o)

@@ -5,6 +5,7 @@
 
 ghost use Rattle.std.specs.Prelude.{◌≡◌, Some, IfOk, IfErr};
 ghost use Rattle.ir_core.specs.View.{body_view};
+ghost use Rattle.ir_core.specs.Program.{IsProgram};
 ghost use Rattle.parser_tree.specs.Parts.{plain_view};
 ghost use Rattle.rb_front.specs.Front as front;
 
@@ -43,9 +44,11 @@ fn tree_of(alloc: Global, text: &[u8]) -> Result<Source, FrontError>
 ///
 /// `TooLong` comes exactly where the text has more than 16,777,216 bytes. Else `Syntax` comes where it has no tokens,
 /// `TooDeep` where these are more than 256 deep, `Syntax` where they have no tree or a word stands where it may not, and
-/// `Outside` where the tree has a construct outside the language: the one with the least place.
+/// `Outside` where the tree has a construct outside the language: the one with the least place. A core that is given is
+/// that of a program: what leaves a form has where to go, and names are bound.
 pub fn read(alloc: Global, text: &[u8]) -> Result<Program, FrontError>
     ensures core { IfOk result (λ c. front.core_of text.now ≡ Some (body_view c)) }
+    ensures program { IfOk result (λ c. IsProgram (body_view c)) }
     ensures refused { IfErr result (front.Refuses text.now) }
 {
     let source = tree_of(alloc, text)?;
