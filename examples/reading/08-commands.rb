@@ -7,5 +7,6 @@ puts"a"
 puts@x
 $y = 3
 puts$y
+puts:z
 def self.twice(n); n * 2; end
 p self.twice 4
