@@ -11,7 +11,7 @@ use Rattle.ir_walk.specs.Width.{width}
 use Rattle.ir_counts.specs.declared.tally.Tally.{Tally}
 use Rattle.ir_counts.specs.Counts.{tally}
 use Rattle.scope_resolver.specs.declared.body_kind.BodyKind.{BodyKind}
-use Rattle.scope_resolver.specs.Layout.{Scopes, slots_by, seen_around, scopes_in}
+use Rattle.scope_resolver.specs.Layout.{Slots, Scopes, slots_by, slots_of, scopes_in}
 use Rattle.scope_resolver.specs.Scope.{slots_at}
 use Rattle.scope_resolver.specs.declared.scope.Scope.{Scope}
 use Rattle.gen_parts.specs.declared.emitter.Spot.{Spot}
@@ -84,16 +84,14 @@ pub opening-seen : (k : BodyKind) (b : Body) (around seen found : Scopes) (t : T
 opening-seen k b around seen found t c h shown is =
     h ∙ ap (λ (z : Scopes). seeing k z t) (shown ∙ is)
 
--- the scopes that the form of a body sees, and the layout of the body, by the scope of the body
-pub seen-within : (k : BodyKind) (ps : listed.Parameters) (ls : List variable.Local) (f : CoreForm) (s : Scope)
-    (around seen : Scopes) → s.kind ≡ k → s.parameters.now ≡ ps → s.locals.now ≡ ls
-    → seen ≡ slots_at s ∷ seen_around s.kind around
-    → seen ≡ scopes_in k (body (parameters_of ps) (locals_of ls) f) around
-seen-within k ps ls f s around seen hk hp hl h =
-    h ∙ (ap (λ (z : BodyKind). slots_by z (parameters_of s.parameters.now) (locals_of s.locals.now)
-    ∷ seen_around z around) hk
-    ∙ (ap (λ (z : listed.Parameters). slots_by k (parameters_of z) (locals_of s.locals.now) ∷ seen_around k around) hp
-    ∙ ap (λ (z : List variable.Local). slots_by k (parameters_of ps) (locals_of z) ∷ seen_around k around) hl))
+-- the slots of a body, and its layout, by the scope of the body
+pub slots-within : (k : BodyKind) (ps : listed.Parameters) (ls : List variable.Local) (f : CoreForm) (s : Scope)
+    (found : Slots) → s.kind ≡ k → s.parameters.now ≡ ps → s.locals.now ≡ ls → found ≡ slots_at s
+    → found ≡ slots_of k (body (parameters_of ps) (locals_of ls) f)
+slots-within k ps ls f s found hk hp hl h =
+    h ∙ (ap (λ (z : BodyKind). slots_by z (parameters_of s.parameters.now) (locals_of s.locals.now)) hk
+    ∙ (ap (λ (z : listed.Parameters). slots_by k (parameters_of z) (locals_of s.locals.now)) hp
+    ∙ ap (λ (z : List variable.Local). slots_by k (parameters_of ps) (locals_of z)) hl))
 
 pub laid-within : (k : BodyKind) (ps : listed.Parameters) (ls : List variable.Local) (f : CoreForm) (s : Scope)
     (t : Tally) (w : ℕ) → s.kind ≡ k → s.parameters.now ≡ ps → s.locals.now ≡ ls → w ≡ width f

@@ -6,8 +6,7 @@ ghost use Rattle.ir_walk.specs.Width.{width};
 ghost use Rattle.ir_counts.specs.Counts as counts;
 ghost use Rattle.rite_code.specs.declared.operation.Operation.TheVariants as op;
 ghost use Rattle.scope_resolver.specs.declared.body_kind.BodyKind.TheVariants as kinds;
-ghost use Rattle.scope_resolver.specs.Scope.{scopes_of};
-ghost use Rattle.scope_resolver.specs.Layout.{scopes_in};
+ghost use Rattle.scope_resolver.specs.Layout.{slots_of};
 ghost use Rattle.gen_parts.specs.Pieces.{does};
 ghost use Rattle.gen_parts.specs.Emission.{with_piece, here};
 ghost use Rattle.gen_parts.specs.Assembly.{assembled};
@@ -25,7 +24,7 @@ use ir_core::{Body, Local, Parameters};
 use ir_counts::Tally;
 use rb_base::Bytes;
 use rite_code::{Operation, Parameters as Entering};
-use scope_resolver::{BodyKind, Scope, scopes_within};
+use scope_resolver::{BodyKind, Scope, SlotTable, scopes_within};
 use std::alloc::{AllocError, Global};
 
 /// The instruction that makes a body.
@@ -353,10 +352,10 @@ fn scope_of<'s, T: Emits>(kind: BodyKind, body: &'s Body<Box<T>>) -> Scope<'s>
 fn opening<'l, 's>(
     alloc: Global,
     kind: BodyKind,
-    scopes: &'l [Scope<'s>],
+    scopes: &'l [SlotTable<'s>],
     tally: &'l Tally<'s>,
 ) -> Context<'l, 's>
-    ensures { context_of result ≡ gens.seeing kind (scopes_of scopes.now) tally.now }
+    ensures { context_of result ≡ gens.seeing kind scopes.now tally.now }
 {
     Context {
         alloc,
@@ -397,18 +396,16 @@ fn body_layout<T: Emits>(
     layout_of(&scope, tally, registers)
 }
 
-/// The scopes that the form of a body sees.
-fn scopes_of_form<'s, T: Emits>(
+/// The slots of a body.
+fn slots_of_body<'s, T: Emits>(
     alloc: Global,
     kind: BodyKind,
     body: &'s Body<Box<T>>,
-    around: &[Scope<'s>],
-) -> Result<Vec<Scope<'s>>, AllocError>
-    ensures { IfOk result (λ list. scopes_of list.items ≡
-        scopes_in kind (by.body_by T.form body.now) (scopes_of around.now)) }
+) -> Result<SlotTable<'s>, AllocError>
+    ensures { IfOk result (λ slots. slots ≡ slots_of kind (by.body_by T.form body.now)) }
 {
     let scope = scope_of(kind, body);
-    scopes_within(alloc, scope, around)
+    SlotTable::new(alloc, scope)
 }
 
 /// The body of a file from the code of a body, and those in it.
@@ -424,15 +421,16 @@ fn finished(alloc: Global, head: Head, tally: &Tally, code: Emitter) -> Result<B
 /// A body with that number, and those in it.
 pub fn bodies_of<'s, T: Emits>(
     alloc: Global,
-    scopes: &[Scope<'s>],
+    scopes: &[SlotTable<'s>],
     kind: BodyKind,
     number: u32,
     body: &'s Body<Box<T>>,
 ) -> Result<Bodies, AllocError>
     ensures { IfOk result (λ bodies. bodies ≡
-        opened.coded kind (scopes_of scopes.now) number (by.body_by T.form body.now)) }
+        opened.coded kind scopes.now number (by.body_by T.form body.now)) }
 {
-    let seen = scopes_of_form(alloc, kind, body, scopes)?;
+    let own = slots_of_body(alloc, kind, body)?;
+    let seen = scopes_within(alloc, kind, own, scopes)?;
     let tally = body_tally(alloc, body)?;
     let layout = body_layout(alloc, kind, body, &tally)?;
     let context = opening(alloc, kind, seen.as_slice(), &tally);

@@ -7,7 +7,7 @@ use crate::numbers::{count, operand};
 use ir_counts::Tally;
 use rb_base::Bytes;
 use rite_code::Operation;
-use scope_resolver::{BodyKind, Place, Scope};
+use scope_resolver::{BodyKind, Place, SlotTable};
 use std::alloc::{AllocError, Global};
 
 /// A loop: the register of its value, the line where a break of it leads, and that where its next round begins.
@@ -24,7 +24,7 @@ pub struct Context<'l, 's> {
     pub alloc: Global,
     pub kind: BodyKind,
     /// The bodies whose locals the form sees, the innermost first.
-    pub scopes: &'l [Scope<'s>],
+    pub scopes: &'l [SlotTable<'s>],
     /// What the body counts: its names, texts and integers.
     pub tally: &'l Tally<'s>,
     /// The innermost loop of the body.

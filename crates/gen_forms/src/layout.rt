@@ -114,7 +114,7 @@ fn add_names(alloc: Global, names: &mut Vec<Bytes>, symbols: &[&[u8]]) -> Result
 pub fn symbol_list(alloc: Global, tally: &Tally) -> Result<List<Bytes>, AllocError>
     ensures { IfOk result (λ list. list ≡ tally.now.symbols) }
 {
-    let mut names = Vec::new(alloc);
+    let mut names = Vec::with_capacity(alloc, tally.symbols.len())?;
     add_names(alloc, &mut names, tally.symbols.as_slice())?;
     Ok(List::from_vec(names))
 }

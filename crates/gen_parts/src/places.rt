@@ -75,7 +75,7 @@ fn sum(a: u32, b: u32) -> Result<u32, AllocError>
 pub fn places(alloc: Global, wide: bool, lines: &[Line]) -> Result<Vec<u32>, AllocError>
     ensures { IfOk result (λ at. at.items ≡ assembly.places wide 0 lines.now) }
 {
-    let mut at = Vec::new(alloc);
+    let mut at = Vec::with_capacity(alloc, lines.len().saturating_add(1))?;
     let mut here = 0;
     for line in lines {
         at.push(here)?;
@@ -128,6 +128,27 @@ fn instruction_before(wide: bool, at: &[u32], next: u32, line: Line) -> Result<I
     instruction_by(wide, by, line)
 }
 
+/// The instruction of a line at a place, and the place behind it.
+#[tactic(auto, unfolding(crate::specs::Assembly::instruction_before))]
+fn next_instruction(
+    wide: bool,
+    at: &[u32],
+    here: u32,
+    line: Line,
+) -> Result<(Instr, u32), AllocError>
+    ensures instruction { IfOk result (λ p. p.0 ≡
+        assembly.instruction_before wide at.now (here + assembly.size wide line) line) }
+    ensures next { IfOk result (λ p. p.1 ≡ here + assembly.size wide line) }
+{
+    if let Line::Does(operation) = line {
+        let instr = shortest(operation)?;
+        let next = sum(here, size_of(&instr))?;
+        return Ok((instr, next));
+    }
+    let next = sum(here, size(wide, line)?)?;
+    Ok((instruction_before(wide, at, next, line)?, next))
+}
+
 /// The instructions of the lines.
 pub fn instructions(
     alloc: Global,
@@ -137,11 +158,12 @@ pub fn instructions(
 ) -> Result<Vec<Instr>, AllocError>
     ensures { IfOk result (λ list. list.items ≡ assembly.instructions wide at.now 0 lines.now) }
 {
-    let mut list = Vec::new(alloc);
+    let mut list = Vec::with_capacity(alloc, lines.len())?;
     let mut here = 0;
     for line in lines {
-        here = sum(here, size(wide, *line)?)?;
-        list.push(instruction_before(wide, at, here, *line)?)?;
+        let (instr, next) = next_instruction(wide, at, here, *line)?;
+        list.push(instr)?;
+        here = next;
     }
     Ok(list)
 }
@@ -165,7 +187,7 @@ pub fn catch_table(
 ) -> Result<List<CatchEntry>, AllocError>
     ensures { IfOk result (λ list. list ≡ map (assembly.entry_by at.now) entries.now) }
 {
-    let mut list = Vec::new(alloc);
+    let mut list = Vec::with_capacity(alloc, entries.len())?;
     for entry in entries {
         list.push(entry_by(at, entry))?;
     }

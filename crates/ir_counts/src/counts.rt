@@ -83,11 +83,14 @@ fn byte_count(code: u64, tally: &Tally) -> Result<u64, AllocError>
     text_bytes(texts, tally.symbols.as_slice())
 }
 
+/// How many steps of a body there is room for at once.
+const STEPS: usize = 64;
+
 /// The tally of a body with this form.
 pub fn form_tally<'a>(alloc: Global, form: &'a Term) -> Result<Tally<'a>, AllocError>
     ensures { IfOk result (λ t. t ≡ spec.form_tally (term_view form.now)) }
 {
-    let mut steps = Vec::new(alloc);
+    let mut steps = Vec::with_capacity(alloc, STEPS)?;
     form.walk(Extent::Body, &mut steps)?;
     tally_of(alloc, &steps)
 }

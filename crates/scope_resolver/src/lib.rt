@@ -5,16 +5,20 @@
 //! the block, the body's other locals, and its hidden ones. Blocks and lambdas see the locals of the bodies around
 //! them, and nothing else does.
 //!
-//! Types: [`BodyKind`], [`Scope`], [`Place`], [`Search`]. Calls: [`scopes_within`], [`place_of`], [`own_place`],
-//! [`slot_count`].
+//! Types: [`BodyKind`], [`Scope`], [`SlotTable`], [`Place`], [`Search`]. Calls: [`scopes_within`], [`place_of`],
+//! [`own_place`], [`slot_count`].
 #![tactic(auto)]
 
 pub mod body_kind;
 pub mod place;
+pub mod registers;
 pub mod scope;
 pub mod seek;
+pub mod sums;
+pub mod table;
 
 pub use body_kind::BodyKind;
 pub use place::{Place, own_place, place_of};
-pub use scope::{Scope, scopes_within, slot_count};
+pub use scope::{Scope, slot_count};
 pub use seek::Search;
+pub use table::{SlotTable, scopes_within};

@@ -2,10 +2,10 @@
 ghost use Rattle.std.specs.Prelude.{◌≡◌, ◌+◌, IfOk};
 ghost use Rattle.ir_core.specs.View.{local_of};
 ghost use Rattle.scope_resolver.specs.Layout as layout;
-ghost use Rattle.scope_resolver.specs.Scope.{scopes_of};
 
-use crate::scope::{Scope, seek_scope, slot_count};
 use crate::seek::Search;
+use crate::sums::add;
+use crate::table::SlotTable;
 use ir_core::Local;
 use std::alloc::AllocError;
 
@@ -25,23 +25,14 @@ const SELF: Place = Place {
 /// A place. It fails only where a number passes 2^64 - 1, which no memory can hold.
 pub type Placed = Result<Place, AllocError>;
 
-fn add(a: u64, b: u64) -> Result<u64, AllocError>
-    ensures { IfOk result (λ sum. sum ≡ a + b) }
-{
-    match a.checked_add(b) {
-        Some(sum) => Ok(sum),
-        None => Err(AllocError),
-    }
-}
-
 /// The nearest place of a local that isn't hidden; self where no body has it.
-fn nearest(scopes: &[Scope], local: &Local) -> Placed
+fn nearest(scopes: &[SlotTable], local: &Local) -> Placed
     ensures { IfOk result (λ p. p ≡ layout.place_or_self
-        (layout.place_from (local_of local.now) (scopes_of scopes.now) 0)) }
+        (layout.place_from (local_of local.now) scopes.now 0)) }
 {
     let mut levels = 0;
     for scope in scopes {
-        match seek_scope(local, scope)? {
+        match scope.find(local)? {
             Search::Found(register) => return Ok(Place { levels, register }),
             Search::Past(_) => {}
         }
@@ -52,24 +43,23 @@ fn nearest(scopes: &[Scope], local: &Local) -> Placed
 
 /// How many slots the innermost body has.
 #[tactic(auto, using(crate::proofs::Searches::search_laws))]
-fn innermost_count(scopes: &[Scope]) -> Result<u64, AllocError>
-    ensures { IfOk result (λ n. n ≡ layout.innermost_count (scopes_of scopes.now)) }
+fn innermost_count(scopes: &[SlotTable]) -> u64
+    ensures { result ≡ layout.innermost_count scopes.now }
 {
     match scopes.first() {
-        Some(scope) => slot_count(scope),
-        None => Ok(0),
+        Some(scope) => scope.len(),
+        None => 0,
     }
 }
 
 /// The place of a local from a form that sees these bodies, the innermost first. A name that none of them has stands
 /// for self; no program has one.
-pub fn place_of(scopes: &[Scope], local: &Local) -> Placed
-    ensures { IfOk result (λ p. p ≡ layout.place_of (scopes_of scopes.now) (local_of local.now)) }
+pub fn place_of(scopes: &[SlotTable], local: &Local) -> Placed
+    ensures { IfOk result (λ p. p ≡ layout.place_of scopes.now (local_of local.now)) }
 {
     match local {
         Local::Hidden(number) => {
-            let count = innermost_count(scopes)?;
-            let register = add(add(1, count)?, *number as u64)?;
+            let register = add(add(1, innermost_count(scopes))?, *number as u64)?;
             Ok(Place {
                 levels: 0,
                 register,
@@ -82,11 +72,11 @@ pub fn place_of(scopes: &[Scope], local: &Local) -> Placed
 /// The place of a parameter of the method around the text, whatever blocks between name theirs: the method's body is
 /// the outermost that the form sees.
 #[tactic(auto, using(crate::proofs::Searches::search_laws))]
-pub fn own_place(scopes: &[Scope], local: &Local) -> Placed
-    ensures { IfOk result (λ p. p ≡ layout.own_place (scopes_of scopes.now) (local_of local.now)) }
+pub fn own_place(scopes: &[SlotTable], local: &Local) -> Placed
+    ensures { IfOk result (λ p. p ≡ layout.own_place scopes.now (local_of local.now)) }
 {
     match scopes.last() {
-        Some(scope) => match seek_scope(local, scope)? {
+        Some(scope) => match scope.find(local)? {
             Search::Found(register) => Ok(Place {
                 levels: (scopes.len() - 1) as u64,
                 register,

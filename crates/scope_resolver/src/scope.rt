@@ -1,13 +1,14 @@
 //! A body as the forms in it see it.
-ghost use Rattle.std.specs.Prelude.{◌≡◌, ◌+◌, ◌∷◌, length, IfOk};
+ghost use Rattle.std.specs.Prelude.{◌≡◌, ◌+◌, length, IfOk};
 ghost use Rattle.ir_core.specs.View.{local_of, maybe_local, parameters_of};
 ghost use Rattle.scope_resolver.specs.Layout as layout;
-ghost use Rattle.scope_resolver.specs.Scope.{slots_at, scopes_of};
+ghost use Rattle.scope_resolver.specs.Scope.{slots_at};
 
 use crate::body_kind::BodyKind;
 use crate::seek::{Search, Sought, seek, seek_block, seek_optional};
+use crate::sums::add;
 use ir_core::{Local, Parameters};
-use std::alloc::{AllocError, Global};
+use std::alloc::AllocError;
 
 /// A body as the forms in it see it: what it stands for, its parameters, and its other locals.
 #[derive(Clone, Copy)]
@@ -31,7 +32,7 @@ fn seek_parameters(local: &Local, parameters: &Parameters, from: Search) -> Soug
 }
 
 /// Whether a body of this kind has parameters.
-fn has_parameters(kind: BodyKind) -> bool
+pub fn has_parameters(kind: BodyKind) -> bool
     ensures { result ≡ layout.has_parameters kind }
 {
     match kind {
@@ -51,33 +52,6 @@ pub fn seek_scope(local: &Local, scope: &Scope) -> Sought
         Search::Past(1)
     };
     seek(local, scope.locals, from)
-}
-
-/// The scopes of the forms in a body, the innermost first: the body, and what it sees of those around it.
-pub fn scopes_within<'a>(
-    alloc: Global,
-    scope: Scope<'a>,
-    around: &[Scope<'a>],
-) -> Result<Vec<Scope<'a>>, AllocError>
-    ensures { IfOk result (λ list. scopes_of list.items ≡
-        slots_at scope.entry ∷ layout.seen_around scope.entry.kind (scopes_of around.entry.now)) }
-{
-    let mut list = Vec::new(alloc);
-    list.push(scope)?;
-    match scope.kind {
-        BodyKind::Block => list.extend_from_slice(around)?,
-        BodyKind::Main | BodyKind::Method | BodyKind::Class => {}
-    }
-    Ok(list)
-}
-
-fn add(a: u64, b: u64) -> Result<u64, AllocError>
-    ensures { IfOk result (λ sum. sum ≡ a + b) }
-{
-    match a.checked_add(b) {
-        Some(sum) => Ok(sum),
-        None => Err(AllocError),
-    }
 }
 
 fn optional_count(local: &Option<Local>) -> u64
