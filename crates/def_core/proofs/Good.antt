@@ -29,7 +29,7 @@ any_sort sort.Exception = refl
 any_sort sort.Enumerator = refl
 any_sort sort.Yielder = refl
 
--- For the store, and for code that asks it how many objects there are: a number is good where it is below their count.
+-- For the store: a number is good where it is below the count of its objects.
 
 pub good_within : (st : Store) (id : ObjId) → IsGood st id → id.0 < length st.objects
 good_within st id good = is_within st Any id good.there

@@ -19,3 +19,4 @@ pub mod Listing
 pub mod Stating
 pub mod Sectioning
 pub mod Laws
+pub mod Witness
