@@ -1,6 +1,7 @@
 //! What rows of Integer without an instruction of their own give for two numbers.
 ghost use Rattle.std.specs.Prelude.{◌≡◌, ◌∷◌, []};
 ghost use Rattle.row_table.specs.declared.integer.IntegerMethod.TheVariants as method;
+ghost use Rattle.integer_operators.specs.Operators as operators;
 ghost use Rattle.integer_operators.specs.Operators.{given};
 ghost use Rattle.integer_operators.specs.Straight.{GivesStraight, GivesFor};
 
@@ -54,7 +55,8 @@ fn one(left: i64, right: i64) -> Option<Value>
 /// What a row gives for two numbers, where it is `%`, `&`, `|` or `^`; nothing of any other row, and where it fails.
 #[tactic(auto, using(crate::proofs::Called::percent_gives, crate::proofs::Called::and_gives, crate::proofs::Called::or_gives, crate::proofs::Called::xor_gives))]
 fn computed_of(row: u16, left: i64, right: i64) -> Option<Value>
-    ensures { GivesStraight row (Value.Int left) (Value.Int right) result }
+    ensures row { GivesStraight row (Value.Int left) (Value.Int right) result }
+    ensures value { result ≡ operators.computed_of row left right }
 {
     match row {
         PERCENT => remainder(left, right),
@@ -68,7 +70,8 @@ fn computed_of(row: u16, left: i64, right: i64) -> Option<Value>
 /// What a row gives straight on for an argument; nothing where it has to be called.
 #[inline(always)]
 pub fn computed_by(row: u16, receiver: Value, argument: Value) -> Option<Value>
-    ensures { GivesStraight row receiver argument result }
+    ensures row { GivesStraight row receiver argument result }
+    ensures value { result ≡ operators.computed_by row receiver argument }
 {
     match (receiver, argument) {
         (Value::Int(left), Value::Int(right)) => computed_of(row, left, right),
@@ -79,7 +82,8 @@ pub fn computed_by(row: u16, receiver: Value, argument: Value) -> Option<Value>
 /// What a row gives straight on for some arguments; nothing where it has to be called.
 #[inline(always)]
 pub fn computed(row: u16, receiver: Value, args: &[Value]) -> Option<Value>
-    ensures { GivesFor row receiver args.now result }
+    ensures row { GivesFor row receiver args.now result }
+    ensures value { result ≡ operators.computed row receiver args.now }
 {
     match args {
         [argument] => computed_by(row, receiver, *argument),

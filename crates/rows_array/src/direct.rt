@@ -1,5 +1,5 @@
 //! Methods whose outcome is given straight on.
-ghost use Rattle.std.specs.Prelude.{◌≡◌, IfOk, OnErr};
+ghost use Rattle.std.specs.Prelude.{◌≡◌, [], IfOk, OnErr};
 ghost use Rattle.rows_array.specs.Directly as directly;
 
 use crate::places::value_at;
@@ -25,7 +25,9 @@ fn put_in_place(heap: &mut Heap, id: ObjId, index: i64, value: Value) -> Option<
 /// What a method without arguments reads straight on: how many elements there are. Nothing of any other method
 /// and receiver.
 #[inline(always)]
-pub fn read_alone(heap: &Heap, row: ArrayRow, receiver: Value) -> Option<Value> {
+pub fn read_alone(heap: &Heap, row: ArrayRow, receiver: Value) -> Option<Value>
+    ensures { directly.given row heap.now receiver [] ≡ (result, heap.now) }
+{
     let id = heap.an_array(receiver)?;
     match row {
         ArrayRow::Length => Some(length(heap, id)),
@@ -36,7 +38,9 @@ pub fn read_alone(heap: &Heap, row: ArrayRow, receiver: Value) -> Option<Value> 
 /// What a method with one argument reads straight on: an element by its index. Nothing of any other method, receiver and
 /// argument.
 #[inline(always)]
-pub fn read_by(heap: &Heap, row: ArrayRow, receiver: Value, argument: Value) -> Option<Value> {
+pub fn read_by(heap: &Heap, row: ArrayRow, receiver: Value, argument: Value) -> Option<Value>
+    ensures { directly.read_by row heap.now receiver argument ≡ (result, heap.now) }
+{
     let id = heap.an_array(receiver)?;
     match (row, argument) {
         (ArrayRow::Element, Value::Int(index)) => Some(value_at(heap.elements(id), index)),

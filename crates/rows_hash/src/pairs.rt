@@ -1,7 +1,9 @@
 //! Pairs of Hashes.
-ghost use Rattle.std.specs.Prelude.{◌≡◌, ◌++◌, take, drop, Ok, IfOk, IfErr, OnOk, OnErr};
+ghost use Rattle.std.specs.Prelude.{◌≡◌, ◌++◌, take, drop, true, false, is_some, IfOk, OnOk, OnErr};
+ghost use Rattle.def_calls.specs.Views.{a_string};
 ghost use Rattle.heap.specs.Changes as changes;
-ghost use Rattle.rows_items.specs.Told.{Told, Gives, Refused};
+ghost use Rattle.rows_items.specs.Told.{Told, Gives, Leaves};
+ghost use Rattle.rows_items.specs.Keyed.{put};
 ghost use Rattle.rows_hash.specs.Pairs as defined;
 
 use def_core::Cause;
@@ -28,12 +30,36 @@ pub(crate) fn has_key(heap: &Heap, id: ObjId, key: Value) -> Result<bool, RowErr
     Ok(heap.pair(id, &key).is_some())
 }
 
+/// Gives a key that is a String a value. No such key is refused.
+fn put_under_text(heap: &mut Heap, id: ObjId, key: Value, value: Value) -> Result<(), RowError>
+    requires { is_some (a_string heap.old.store.objects key) ≡ true }
+    ensures { Leaves heap.old heap.new result (put heap.old id key value) }
+{
+    put_pair(heap, id, key, value)
+}
+
+/// Gives a key that is no String a value.
+#[tactic(auto, using(crate::proofs::Put::other_put, crate::proofs::Put::other_refused))]
+fn put_under_other(heap: &mut Heap, id: ObjId, key: Value, value: Value) -> Result<(), RowError>
+    requires { is_some (a_string heap.old.store.objects key) ≡ false }
+    ensures { Leaves heap.old heap.new result (put heap.old id key value) }
+{
+    if heap.put_pair(id, key, value)? {
+        Ok(())
+    } else {
+        Err(RowError::Fails(Cause::StackTooDeep))
+    }
+}
+
 /// Gives a key a value, and gives the value.
 pub(crate) fn store(heap: &mut Heap, id: ObjId, key: Value, value: Value) -> Result<Value, RowError>
-    ensures stored { IfOk result (λ given. defined.store heap.old id key value ≡ Ok (given, heap.new)) }
-    ensures refused { IfErr result (Refused (defined.store heap.old id key value)) }
+    ensures { Gives heap.old heap.new result (defined.store heap.old id key value) }
 {
-    put_pair(heap, id, key, value)?;
+    if heap.a_string(key).is_some() {
+        put_under_text(heap, id, key, value)?;
+    } else {
+        put_under_other(heap, id, key, value)?;
+    }
     Ok(value)
 }
 

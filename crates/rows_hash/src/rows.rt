@@ -1,5 +1,6 @@
 //! The rows of Hash.
-ghost use Rattle.std.specs.Prelude.{◌≡◌, length};
+ghost use Rattle.std.specs.Prelude.{◌≡◌, length, nat_eq};
+ghost use Rattle.rb_value.specs.Value.{truth};
 ghost use Rattle.rows_items.specs.Told.{Gives};
 ghost use Rattle.rows_hash.specs.Pairs as defined;
 
@@ -82,13 +83,20 @@ fn arity(row: HashRow) -> u64 {
 }
 
 /// How many pairs there are.
-fn length(heap: &Heap, id: ObjId) -> Value
+pub(crate) fn length(heap: &Heap, id: ObjId) -> Value
     ensures { result ≡ defined.count_value (length (defined.pairs heap.now.store id)) }
 {
     match i64::try_from(heap.pair_count(id)) {
         Ok(length) => Value::Int(length),
         Err(_) => Value::Nil,
     }
+}
+
+/// Whether there is no pair.
+pub(crate) fn is_empty(heap: &Heap, id: ObjId) -> Value
+    ensures { result ≡ truth (nat_eq (length (defined.pairs heap.now.store id)) 0) }
+{
+    Value::from_truth(heap.pair_count(id) == 0)
 }
 
 /// A new Array of the keys.
@@ -116,7 +124,7 @@ fn answer(heap: &mut Heap, row: HashRow, id: ObjId, args: &[Value]) -> Result<Va
         HashRow::Keys => key_array(heap, id),
         HashRow::Values => value_array(heap, id),
         HashRow::Length => Ok(length(heap, id)),
-        HashRow::IsEmpty => Ok(Value::from_truth(heap.pair_count(id) == 0)),
+        HashRow::IsEmpty => Ok(is_empty(heap, id)),
         HashRow::Delete => pairs::delete(heap, id, first),
         HashRow::Merge => pairs::merge(heap, id, first),
         HashRow::Update => pairs::update(heap, id, first),

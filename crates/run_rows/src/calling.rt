@@ -1,7 +1,6 @@
 //! Calls of rows that give their outcome at once.
 
 use crate::row::{PlainRow, Row};
-use crate::straight::give_of_table;
 use iter_items::core_calls::Call;
 use iter_items::heap::{Given, Heap};
 use rb_value::Value;
@@ -45,7 +44,7 @@ pub fn call_of_table(
     call: Call<'_>,
 ) -> Result<Given, AllocError> {
     if let Some(row) = row {
-        if let Some(value) = give_of_table(heap, row, call.receiver, call.args)? {
+        if let Some(value) = straight_rows::give(heap, row, call.receiver, call.args)? {
             return Ok(Given::Gives(value));
         }
     }

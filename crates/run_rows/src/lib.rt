@@ -5,7 +5,7 @@
 //!
 //! Types: [`Row`], [`PlainRow`], [`StarRow`], [`KernelRow`], [`VisitRow`]. Calls: [`row_at`], [`call_plain`],
 //! [`call_of_table`], [`call_at_once`],
-//! [`opening_heap`]. Straight on: [`read_alone`], [`give_of_table`], [`give_of_hash`]. Numbers: [`METHOD_MISSING_ROW`], [`SEND_KEPT_ROW`].
+//! [`opening_heap`]. Straight on: [`read_alone`]. Numbers: [`METHOD_MISSING_ROW`], [`SEND_KEPT_ROW`].
 #![tactic(auto)]
 
 pub mod calling;
@@ -14,14 +14,13 @@ pub mod numbering;
 pub mod opening;
 pub mod row;
 pub mod straight;
-mod texts;
 
 pub use calling::{call_at_once, call_of_table, call_plain};
 pub use iter_items::core_calls::hidden::SEND_KEPT_ROW;
 pub use numbering::{METHOD_MISSING_ROW, row_at};
 pub use opening::opening_heap;
 pub use row::{KernelRow, PlainRow, Row, StarRow, VisitRow};
-pub use straight::{give_of_hash, give_of_table, read_alone};
+pub use straight::read_alone;
 
 #[cfg(test)]
 mod tests;

@@ -8,8 +8,8 @@ use Rattle.integer_operators.proofs.Called.{percent_gives}
 use Rattle.integer_operators.proofs.rows.computed_of.Goals as goal
 
 -- src/rows.rt:55:1
-pub returns-in-3588 : goal.returns-in-3588
-returns-in-3588 c =
+pub returns-in-3588-clause-row : goal.returns-in-3588-clause-row
+returns-in-3588-clause-row c =
     let x = c.args.left in
     let y = c.args.right in
     subst (λ row. GivesStraight row (Int x) (Int y) c.remainder.result) (sym c.in-3588.is)

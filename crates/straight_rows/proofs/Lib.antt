@@ -1,0 +1,4 @@
+pub mod Places
+pub mod Fitting
+pub mod Calls
+pub mod Reading

@@ -1,0 +1,4 @@
+pub mod Goes
+pub mod Straight
+pub mod Compared
+pub mod Called
