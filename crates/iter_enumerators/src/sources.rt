@@ -1,10 +1,27 @@
 //! Calls of the source of an Enumerator, and of the Proc of a Yielder.
+ghost use Rattle.std.specs.Prelude.{◌≡◌, IfOk, OnOk};
+ghost use Rattle.rb_value.specs.declared.value.Value.TheVariants.{Nil};
+ghost use Rattle.def_core.specs.Store.{next_number};
+ghost use Rattle.heap.specs.Made.{with_core_proc};
+ghost use Rattle.def_plans.specs.Plan.{Plans};
+ghost use Rattle.iter_enumerators.specs.Sources as sources;
+
 use crate::state::EnumeratorState;
 use core_calls::Plan;
-use core_calls::heap::Heap;
+use core_calls::heap::{Cursor, Heap};
 use core_calls::hidden::YIELD_ROW;
 use rb_value::{CoreClass, EnumeratorSource, ObjId, Value};
 use std::alloc::AllocError;
+
+/// The object of a number as the only argument, where there is one.
+fn alone(heap: &Heap, object: Option<ObjId>) -> Result<Vec<Value>, AllocError>
+    ensures { IfOk result (λ args. args.items ≡ sources.alone object) }
+{
+    match object {
+        Some(id) => Vec::from_slice(heap.alloc(), &[Value::Obj(id)]),
+        None => Ok(Vec::new(heap.alloc())),
+    }
+}
 
 /// Calls the source of an Enumerator with a block: the method of its receiver, or its Proc with a Yielder.
 fn call_source(
@@ -12,7 +29,9 @@ fn call_source(
     then: EnumeratorState,
     source: &EnumeratorSource,
     block: ObjId,
-) -> Result<Plan<EnumeratorState>, AllocError> {
+) -> Result<Plan<EnumeratorState>, AllocError>
+    ensures { Plans (λ s. s) heap.new result (sources.source_called heap.old then block source.now) }
+{
     match source {
         EnumeratorSource::Call {
             receiver,
@@ -27,14 +46,11 @@ fn call_source(
             public: false,
         }),
         EnumeratorSource::Block(callee) => {
-            let mut args = Vec::new(heap.alloc());
-            if let Some(yielder) = heap.make_yielder(block)? {
-                args.push(Value::Obj(yielder))?;
-            }
+            let yielder = heap.make_yielder(block)?;
             Ok(Plan::Calls {
                 then,
                 callee: *callee,
-                args,
+                args: alone(heap, yielder)?,
                 block: None,
             })
         }
@@ -47,23 +63,43 @@ pub(crate) fn run(
     then: EnumeratorState,
     enumerator: ObjId,
     block: ObjId,
-) -> Result<Plan<EnumeratorState>, AllocError> {
+) -> Result<Plan<EnumeratorState>, AllocError>
+    ensures { Plans (λ s. s) heap.new result (sources.run heap.old then enumerator block) }
+{
     match heap.source_of(enumerator)? {
         Some(source) => call_source(heap, then, &source, block),
         None => Ok(Plan::Fails(heap.refusal(CoreClass::Enumerator, Value::Obj(enumerator)))),
     }
 }
 
+/// The fiber of an Enumerator, where one has begun.
+fn fiber_of(cursor: Option<Cursor>) -> Option<ObjId>
+    ensures { result ≡ sources.fiber_of cursor }
+{
+    match cursor {
+        Some(cursor) => cursor.fiber,
+        None => None,
+    }
+}
+
+/// A new Proc that yields its arguments.
+#[tactic(auto, unfolding(rb_value::specs::CoreClass::core_classes))]
+fn make_yielding(heap: &mut Heap) -> Result<ObjId, AllocError>
+    ensures number { IfOk result (λ id. id ≡ next_number heap.old.store) }
+    ensures made { OnOk result (heap.new ≡ with_core_proc heap.old sources.yield_row Nil) }
+{
+    heap.make_core_proc(YIELD_ROW, Value::Nil)
+}
+
 /// Runs the source of an Enumerator in its fiber, with a block that yields each item.
 pub(crate) fn enumerate(
     heap: &mut Heap,
     enumerator: ObjId,
-) -> Result<Plan<EnumeratorState>, AllocError> {
-    let fiber = match heap.cursor_of(enumerator) {
-        Some(cursor) => cursor.fiber,
-        None => None,
-    };
-    let block = heap.make_core_proc(YIELD_ROW, Value::Nil)?;
+) -> Result<Plan<EnumeratorState>, AllocError>
+    ensures { Plans (λ s. s) heap.new result (sources.enumerate heap.old enumerator) }
+{
+    let fiber = fiber_of(heap.cursor_of(enumerator));
+    let block = make_yielding(heap)?;
     run(
         heap,
         EnumeratorState::Runs { enumerator, fiber },
@@ -78,7 +114,9 @@ pub(crate) fn put(
     then: EnumeratorState,
     yielder: Value,
     args: &[Value],
-) -> Result<Plan<EnumeratorState>, AllocError> {
+) -> Result<Plan<EnumeratorState>, AllocError>
+    ensures { Plans (λ s. s) heap.now result (sources.put heap.now then yielder args.now) }
+{
     let callee = match yielder {
         Value::Obj(id) => heap.yielder_of(id),
         _ => None,

@@ -1,0 +1,2 @@
+//! Definitions of what core methods that call others want next: their plans as contracts see them. There is no code here.
+#![tactic(auto)]
