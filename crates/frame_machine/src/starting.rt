@@ -12,6 +12,7 @@ use vm_acts::heap::Site;
 use vm_acts::run_calls::{Activation, Runs};
 use vm_acts::run_rows::opening_heap;
 use vm_acts::vm_frames::{Frame, Frames};
+use vm_acts::vm_parts::constants::KnownConstants;
 use vm_acts::vm_parts::entering::{Entered, open_body};
 use vm_acts::vm_parts::flow::End;
 use vm_acts::vm_parts::known::KnownCalls;
@@ -71,6 +72,7 @@ fn opened(alloc: Global, code: IndexedCode) -> Result<(Loaded, Parts), AllocErro
         globals: PairTable::new(alloc),
         sites,
         known: KnownCalls::new(alloc)?,
+        constants: KnownConstants::new(alloc)?,
         operators,
         names,
         activations: 1,

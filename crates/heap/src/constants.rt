@@ -121,6 +121,7 @@ impl Heap {
         ensures answers { Answers self.old self.new result
             (operands.with_space class (operands.with_symbol name (λ w. constants.set_constant_in w class name (operands.own self.old.store value)))) }
     {
+        self.constants = self.constants.saturating_add(1);
         set_constant_in(&mut self.st, class, name, value)
     }
 

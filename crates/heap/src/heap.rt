@@ -12,14 +12,15 @@ use run_definitions::EnclosingLists;
 use std::alloc::{AllocError, Global};
 use std::marker::Model;
 
-/// The store, the lists of enclosing classes, the cache of the search for methods, and how many classes and modules the
-/// searches asked.
+/// The store, the lists of enclosing classes, the cache of the search for methods, how many classes and modules the
+/// searches asked, and how often a constant was set.
 #[derive(Drop)]
 pub struct Heap {
     pub(crate) st: Store,
     pub(crate) lists: EnclosingLists,
     pub(crate) cache: Cache,
     pub(crate) steps: Steps,
+    pub(crate) constants: u64,
 }
 
 impl Model for Heap {
@@ -45,6 +46,7 @@ impl Heap {
             lists: EnclosingLists::new(alloc),
             cache: new_cache(alloc),
             steps: Steps::new(),
+            constants: 0,
         })
     }
 
@@ -75,6 +77,13 @@ impl Heap {
         ensures { result ≡ self.now.changes }
     {
         self.st.changes()
+    }
+
+    /// How often a constant was set that is no class or module of its own definition. Where this and the number of changes
+    /// of classes and modules stayed, and are below 2^64 - 1, a name means the constant that it meant before.
+    #[inline(always)]
+    pub fn constant_changes(&self) -> u64 {
+        self.constants
     }
 
     /// How many classes and modules the searches for methods asked.

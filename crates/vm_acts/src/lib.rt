@@ -1,7 +1,7 @@
 //! One instruction of the frame in hand that isn't plain: calls, operators that have to be called, exits, collections and
 //! definitions; each family has a module.
 //!
-//! Call: [`act`].
+//! Calls: [`act`]; [`call_known`], where it is known what the call finds.
 #![tactic(auto)]
 
 pub mod arithmetic;
@@ -15,7 +15,7 @@ pub mod procs;
 pub mod supers;
 pub mod variables;
 
-pub use execution::act;
+pub use execution::{act, call_known};
 pub use vm_parts;
 pub use vm_parts::{
     core_calls, core_iter, fiber_switch, heap, run_calls, run_rows, vm_frames, vm_unwind,

@@ -25,6 +25,8 @@ pub struct Frame {
     /// The place of its first argument among the registers of the line, and how many they are.
     pub first: usize,
     pub given: usize,
+    /// The list of classes around its text, as its activation has it.
+    pub classes: u64,
     pub block: Option<ObjId>,
     /// The Proc that a yield calls, as its activation has it.
     pub yields: Option<ObjId>,
@@ -48,6 +50,7 @@ impl Frame {
             outer: None,
             first: 0,
             given: 0,
+            classes: 0,
             block: None,
             yields: None,
             binds: BindKind::Method,

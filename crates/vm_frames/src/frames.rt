@@ -41,7 +41,7 @@ impl Frames {
     }
 
     /// Opens a frame in place of the one in hand, with so many registers, which are `self` and then nil, and with
-    /// arguments. Its body, number, block and surroundings are the caller's to set. Where memory runs out, what the
+    /// arguments. Its body, number, classes, block and surroundings are the caller's to set. Where memory runs out, what the
     /// machine keeps is lost.
     #[inline(always)]
     pub fn open(

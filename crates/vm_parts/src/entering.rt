@@ -56,6 +56,7 @@ pub fn open_body(
         Some(list) => parts.frames.env_of(list),
         None => None,
     };
+    hot.classes = activation.classes;
     hot.block = entered.block;
     hot.yields = activation.block;
     hot.binds = entered.binds;

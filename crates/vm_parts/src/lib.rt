@@ -3,12 +3,12 @@
 //!
 //! All calls are total: code that isn't there ends the program, a register that isn't there reads as nil.
 //!
-//! Types: [`Parts`], [`Loaded`], [`Superinstruction`], [`Operators`], [`Names`], [`KnownCalls`]; [`Flow`], [`Step`],
-//! [`End`], [`Handed`]. Calls: modules [`exits`], [`entering`],
-//! [`arguments`].
+//! Types: [`Parts`], [`Loaded`], [`Superinstruction`], [`Operators`], [`Names`], [`KnownCalls`], [`KnownConstants`];
+//! [`Flow`], [`Step`], [`End`], [`Handed`]. Calls: modules [`exits`], [`entering`], [`arguments`].
 #![tactic(auto)]
 
 pub mod arguments;
+pub mod constants;
 pub mod entering;
 pub mod exits;
 pub mod flow;
@@ -19,6 +19,7 @@ pub mod operators;
 pub mod parts;
 pub mod superinstruction;
 
+pub use constants::KnownConstants;
 pub use fiber_switch;
 pub use fiber_switch::{core_calls, core_iter, heap, run_calls, run_rows, vm_frames, vm_unwind};
 pub use flow::{End, Flow, Handed, Step};
