@@ -1,4 +1,12 @@
 //! The first plan of each row, and the next with the answer to the one before.
+ghost use Rattle.std.specs.Prelude.{◌≡◌, codes, IfOk};
+ghost use Rattle.def_calls.specs.Views.{an_array, a_hash};
+ghost use Rattle.def_plans.specs.Plan.{Meets};
+ghost use Rattle.iter_comparing.specs.Asking.{Begins};
+ghost use Rattle.iter_comparing.specs.Equal as equal;
+ghost use Rattle.iter_comparing.specs.Stage.{stage_of};
+ghost use Rattle.iter_comparing.specs.Rows as rows;
+
 use crate::asking::{begin, go_on, outright};
 use crate::equating::{Equating, KeySearch, pairs_of};
 use crate::fetching::{element, fail_absent, fetch};
@@ -16,32 +24,50 @@ use crate::state::{ComparingState, Work};
 use core_calls::heap::{Given, Heap, Site};
 use core_calls::{Call, Plan, argument, miscounted};
 use def_core::Cause;
+use rb_base::List;
 use rb_value::{CoreClass, ObjId, Value};
 use std::alloc::AllocError;
 
 /// At least and at most so many arguments may go to a row.
-fn count_of(row: ComparingRow) -> (u64, u64) {
+fn count_of(row: ComparingRow) -> (u64, u64)
+    ensures { result ≡ rows.counts row }
+{
     match row {
         ComparingRow::ArrayText | ComparingRow::HashText => (0, 0),
         ComparingRow::ArrayJoin => (0, 1),
         ComparingRow::HashFetch => (1, 2),
+        ComparingRow::Order(row) => (ordering::arguments(row), ordering::arguments(row)),
         _ => (1, 1),
     }
 }
 
-/// Asks the receiver whether it is `==` the argument.
+/// The truth of an answer, or its negation.
+fn told(negating: bool, answer: Value) -> Value
+    ensures { result ≡ equal.negated negating answer }
+{
+    Value::from_truth(answer.is_true() != negating)
+}
+
+/// Asks the receiver whether it is `==` the argument, or isn't.
 fn ask_equal(
     heap: &mut Heap,
-    then: ComparingState,
+    negating: bool,
     call: Call<'_>,
-) -> Result<Plan<ComparingState>, AllocError> {
+) -> Result<Plan<ComparingState>, AllocError>
+    ensures { Meets stage_of heap.new result
+        (equal.IsAsked heap.old negating call.entry.receiver call.entry.args.now) }
+{
     let name = heap.intern(b"==")?;
     let mut site = Site::default();
     match outright(heap, &mut site, call.receiver, name, call.args)? {
-        Some(Given::Gives(answer)) => next(heap, then, answer),
+        Some(Given::Gives(answer)) => Ok(Plan::Finishes(told(negating, answer))),
         Some(Given::Raises(id)) => Ok(Plan::Raises(id)),
         None => Ok(Plan::Sends {
-            then,
+            then: if negating {
+                ComparingState::Negates
+            } else {
+                ComparingState::Tests
+            },
             receiver: call.receiver,
             name,
             args: Vec::from_slice(heap.alloc(), call.args)?,
@@ -51,25 +77,34 @@ fn ask_equal(
     }
 }
 
+/// The method that pairs of elements are asked for.
+fn name_of(ordered: bool) -> &'static [u8]
+    ensures { result.now ≡ rows.name_of ordered }
+{
+    if ordered { b"<=>" } else { b"==" }
+}
+
 /// Begins `==` or `<=>` of an Array. Another value isn't equal, and stands in no order to it.
 fn start_pairs(
     heap: &mut Heap,
     left: ObjId,
     other: Value,
     ordered: bool,
-) -> Result<Plan<ComparingState>, AllocError> {
+) -> Result<Plan<ComparingState>, AllocError>
+    ensures { Meets stage_of heap.new result
+        (rows.PairsWith heap.old left ordered (an_array heap.old.store.objects other)) }
+{
     let Some(right) = heap.an_array(other) else {
         let answer = if ordered { Value::Nil } else { Value::False };
         return Ok(Plan::Finishes(answer));
     };
-    let name: &[u8] = if ordered { b"<=>" } else { b"==" };
     let work = Pairing {
         left,
         right,
         place: 0,
         ordered,
     };
-    begin(heap, name, Work::Pairs(work))
+    begin(heap, name_of(ordered), Work::Pairs(work))
 }
 
 /// Begins a search for a value in an Array.
@@ -78,7 +113,10 @@ fn start_search(
     array: ObjId,
     wanted: Value,
     indexed: bool,
-) -> Result<Plan<ComparingState>, AllocError> {
+) -> Result<Plan<ComparingState>, AllocError>
+    ensures { Meets stage_of heap.new result
+        (Begins heap.old (codes "==") (rows.search array wanted indexed)) }
+{
     let work = Search {
         array,
         place: 0,
@@ -93,16 +131,45 @@ fn start_delete(
     heap: &mut Heap,
     array: ObjId,
     wanted: Value,
-) -> Result<Plan<ComparingState>, AllocError> {
+) -> Result<Plan<ComparingState>, AllocError>
+    ensures { Meets stage_of heap.new result (Begins heap.old (codes "==") (rows.removal array wanted)) }
+{
     let work = Removing {
         array,
         wanted,
         place: 0,
         asked: Value::Nil,
-        kept: Vec::new(heap.alloc()),
+        kept: List::new(heap.alloc()),
         taken: None,
     };
     begin(heap, b"==", Work::Removes(work))
+}
+
+/// The values of which some stay, and those that decide it: of a union the elements of both Arrays.
+fn sieve_values(
+    heap: &Heap,
+    array: ObjId,
+    sieve: Sieve,
+    other: ObjId,
+) -> Result<Sifting, AllocError>
+    ensures { IfOk result (λ work. work ≡ rows.sifting heap.now array sieve other) }
+{
+    let mut values = Vec::from_slice(heap.alloc(), heap.elements(array))?;
+    let mut others = Vec::new(heap.alloc());
+    if sieve.is_union() {
+        values.extend_from_slice(heap.elements(other))?;
+    } else {
+        others.extend_from_slice(heap.elements(other))?;
+    }
+    Ok(Sifting {
+        sieve,
+        values: List::from_vec(values),
+        place: 0,
+        others: List::from_vec(others),
+        kept: List::new(heap.alloc()),
+        among_kept: sieve.is_union(),
+        asked: 0,
+    })
 }
 
 /// Begins `-`, `&` or `|` of an Array, to which another has to be given.
@@ -111,27 +178,16 @@ fn start_sieve(
     array: ObjId,
     other: Value,
     sieve: Sieve,
-) -> Result<Plan<ComparingState>, AllocError> {
-    let Some(other) = heap.an_array(other) else {
-        return Ok(Plan::Fails(heap.refusal(CoreClass::Array, other)));
-    };
-    let mut values = Vec::from_slice(heap.alloc(), heap.elements(array))?;
-    let mut others = Vec::new(heap.alloc());
-    if sieve == Sieve::Union {
-        values.extend_from_slice(heap.elements(other))?;
-    } else {
-        others.extend_from_slice(heap.elements(other))?;
+) -> Result<Plan<ComparingState>, AllocError>
+    ensures { Meets stage_of heap.new result (rows.Sifts heap.old array sieve other) }
+{
+    match heap.an_array(other) {
+        Some(other) => {
+            let work = sieve_values(heap, array, sieve, other)?;
+            begin(heap, b"==", Work::Sifts(work))
+        }
+        None => Ok(Plan::Fails(heap.refusal(CoreClass::Array, other))),
     }
-    let work = Sifting {
-        sieve,
-        values,
-        place: 0,
-        others,
-        kept: Vec::new(heap.alloc()),
-        among_kept: sieve == Sieve::Union,
-        asked: 0,
-    };
-    begin(heap, b"==", Work::Sifts(work))
 }
 
 /// Begins `join` of an Array with the separator that was given.
@@ -151,20 +207,22 @@ fn start_join(
         return Ok(Plan::Fails(Cause::StackTooDeep));
     };
     let work = Joining {
-        pieces,
+        pieces: List::from_vec(pieces),
         place: 0,
-        text: Vec::new(heap.alloc()),
-        separator,
+        text: List::new(heap.alloc()),
+        separator: List::from_vec(separator),
     };
     begin(heap, b"to_s", Work::Joins(work))
 }
 
 /// Begins to show values.
-fn start_text(heap: &mut Heap, shown: Shown) -> Result<Plan<ComparingState>, AllocError> {
+fn start_text(heap: &mut Heap, shown: Shown) -> Result<Plan<ComparingState>, AllocError>
+    ensures { Meets stage_of heap.new result (Begins heap.old (codes "inspect") (rows.showing shown)) }
+{
     let work = Showing {
         shown,
         place: 0,
-        text: Vec::new(heap.alloc()),
+        text: List::new(heap.alloc()),
     };
     begin(heap, b"inspect", Work::Shows(work))
 }
@@ -174,7 +232,10 @@ fn start_array(
     heap: &mut Heap,
     row: ComparingRow,
     call: Call<'_>,
-) -> Result<Plan<ComparingState>, AllocError> {
+) -> Result<Plan<ComparingState>, AllocError>
+    ensures { Meets stage_of heap.new result
+        (rows.OfArray row heap.old call.entry.receiver call.entry.args.now) }
+{
     let Some(array) = heap.an_array(call.receiver) else {
         return Ok(Plan::Fails(heap.refusal(CoreClass::Array, call.receiver)));
     };
@@ -199,7 +260,10 @@ fn start_equating(
     heap: &mut Heap,
     hash: ObjId,
     other: Value,
-) -> Result<Plan<ComparingState>, AllocError> {
+) -> Result<Plan<ComparingState>, AllocError>
+    ensures { Meets stage_of heap.new result
+        (rows.EqualTo heap.old hash (a_hash heap.old.store.objects other)) }
+{
     let Some(other) = heap.a_hash(other) else {
         return Ok(Plan::Finishes(Value::False));
     };
@@ -207,7 +271,7 @@ fn start_equating(
         return Ok(Plan::Finishes(Value::False));
     }
     let work = Equating {
-        pairs: pairs_of(heap, hash)?,
+        pairs: List::from_vec(pairs_of(heap, hash)?),
         place: 0,
         other,
     };
@@ -220,9 +284,12 @@ fn start_key_search(
     hash: ObjId,
     wanted: Value,
     keyed: bool,
-) -> Result<Plan<ComparingState>, AllocError> {
+) -> Result<Plan<ComparingState>, AllocError>
+    ensures { Meets stage_of heap.new result
+        (Begins heap.old (codes "==") (rows.key_search heap.old hash wanted keyed)) }
+{
     let work = KeySearch {
-        pairs: pairs_of(heap, hash)?,
+        pairs: List::from_vec(pairs_of(heap, hash)?),
         place: 0,
         wanted,
         keyed,
@@ -235,7 +302,10 @@ fn start_hash(
     heap: &mut Heap,
     row: ComparingRow,
     call: Call<'_>,
-) -> Result<Plan<ComparingState>, AllocError> {
+) -> Result<Plan<ComparingState>, AllocError>
+    ensures { Meets stage_of heap.new result
+        (rows.OfHash row heap.old call.entry.receiver call.entry.args.now call.entry.block) }
+{
     let Some(hash) = heap.a_hash(call.receiver) else {
         return Ok(Plan::Fails(heap.refusal(CoreClass::Hash, call.receiver)));
     };
@@ -247,28 +317,25 @@ fn start_hash(
         ComparingRow::HashKeyOf => start_key_search(heap, hash, first, true),
         ComparingRow::HashEquality => start_equating(heap, hash, first),
         _ => {
-            let pairs = pairs_of(heap, hash)?;
+            let pairs = List::from_vec(pairs_of(heap, hash)?);
             start_text(heap, Shown::Pairs(pairs))
         }
     }
 }
 
-/// The first plan of a row.
-pub fn start(
+/// Begins a row whose arguments are counted.
+fn start_counted(
     heap: &mut Heap,
     row: ComparingRow,
     call: Call<'_>,
-) -> Result<Plan<ComparingState>, AllocError> {
-    if let ComparingRow::Order(row) = row {
-        return ordering::start(heap, row, call);
-    }
-    let (least, most) = count_of(row);
-    if let Some(cause) = miscounted(call.args.len(), least, Some(most)) {
-        return Ok(Plan::Fails(cause));
-    }
+) -> Result<Plan<ComparingState>, AllocError>
+    ensures { Meets stage_of heap.new result
+        (rows.Counted row heap.old call.entry.receiver call.entry.args.now call.entry.block) }
+{
     match row {
-        ComparingRow::Differs => ask_equal(heap, ComparingState::Negates, call),
-        ComparingRow::Matches => ask_equal(heap, ComparingState::Tests, call),
+        ComparingRow::Order(row) => ordering::start(heap, row, call),
+        ComparingRow::Differs => ask_equal(heap, true, call),
+        ComparingRow::Matches => ask_equal(heap, false, call),
         ComparingRow::HashElement
         | ComparingRow::HashFetch
         | ComparingRow::HashHasValue
@@ -279,15 +346,33 @@ pub fn start(
     }
 }
 
+/// The first plan of a row.
+pub fn start(
+    heap: &mut Heap,
+    row: ComparingRow,
+    call: Call<'_>,
+) -> Result<Plan<ComparingState>, AllocError>
+    ensures { Meets stage_of heap.new result
+        (rows.Starts row heap.old call.entry.receiver call.entry.args.now call.entry.block) }
+{
+    let (least, most) = count_of(row);
+    match miscounted(call.args.len(), least, Some(most)) {
+        Some(cause) => Ok(Plan::Fails(cause)),
+        None => start_counted(heap, row, call),
+    }
+}
+
 /// The next plan, with the answer to the one before.
 pub fn next(
     heap: &mut Heap,
     state: ComparingState,
     answer: Value,
-) -> Result<Plan<ComparingState>, AllocError> {
+) -> Result<Plan<ComparingState>, AllocError>
+    ensures { Meets stage_of heap.new result (rows.GoesOn heap.old (stage_of state) answer) }
+{
     match state {
-        ComparingState::Negates => Ok(Plan::Finishes(Value::from_truth(!answer.is_true()))),
-        ComparingState::Tests => Ok(Plan::Finishes(Value::from_truth(answer.is_true()))),
+        ComparingState::Negates => Ok(Plan::Finishes(told(true, answer))),
+        ComparingState::Tests => Ok(Plan::Finishes(told(false, answer))),
         ComparingState::Hands => Ok(Plan::Finishes(answer)),
         ComparingState::Missing => fail_absent(heap, answer),
         ComparingState::Orders(order) => ordering::go_on(heap, order, answer),

@@ -1,51 +1,79 @@
 //! `join` of an Array.
+ghost use Rattle.std.specs.Prelude.{◌≡◌, IfOk, OnOk};
+ghost use Rattle.iter_comparing.specs.Texts as texts;
+
 use crate::questions::Question;
-use crate::text::ends_with_text;
+use crate::text::{append, ends_with_text};
 use core_calls::heap::Heap;
+use rb_base::List;
 use rb_value::Value;
-use std::alloc::AllocError;
+use std::alloc::{AllocError, Global};
 use std::mem;
 
 /// Pieces that are put into a text, with a separator between them. A String is a text itself, and another value is
 /// asked for one.
 #[derive(Drop)]
 pub(crate) struct Joining {
-    pub(crate) pieces: Vec<Option<Value>>,
+    pub(crate) pieces: List<Option<Value>>,
     pub(crate) place: usize,
-    pub(crate) text: Vec<u8>,
-    pub(crate) separator: Vec<u8>,
+    pub(crate) text: List<u8>,
+    pub(crate) separator: List<u8>,
 }
 
 impl Joining {
     /// Goes on to the next piece, before which a separator stands.
-    fn pass(&mut self) -> Result<(), AllocError> {
+    fn pass(&mut self, alloc: Global) -> Result<(), AllocError>
+        ensures { OnOk result (self.new ≡ texts.passed self.old) }
+    {
         self.place = self.place.saturating_add(1);
         if self.place < self.pieces.len() {
-            self.text.extend_from_slice(&self.separator)?;
+            append(alloc, &mut self.text, self.separator.as_slice())?;
         }
         Ok(())
     }
 
-    /// Puts the pieces into the text up to one that has to be asked; at the end the text is given.
-    pub(crate) fn question(&mut self, heap: &mut Heap) -> Result<Question, AllocError> {
-        let left = self.pieces.len().saturating_sub(self.place);
-        'pieces: for _ in 0..left {
-            if let Some(Some(value)) = self.pieces.get(self.place) {
-                match heap.text_of(*value) {
-                    Some(text) => self.text.extend_from_slice(text)?,
-                    None => return Ok(Question::show(*value)),
-                }
+    /// Puts a piece into the text, or gives the value that has to be asked for one.
+    fn put(&mut self, heap: &Heap, piece: Option<Value>) -> Result<Option<Value>, AllocError>
+        ensures asks { IfOk result (λ asked. asked ≡ texts.asks_piece heap.now.store piece) }
+        ensures work { OnOk result (self.new ≡ texts.pieced heap.now.store self.old piece) }
+    {
+        let Some(value) = piece else {
+            self.pass(heap.alloc())?;
+            return Ok(None);
+        };
+        match heap.text_of(value) {
+            Some(text) => {
+                append(heap.alloc(), &mut self.text, text)?;
+                self.pass(heap.alloc())?;
+                Ok(None)
             }
-            self.pass()?;
+            None => Ok(Some(value)),
         }
-        let text = mem::replace(&mut self.text, Vec::new(heap.alloc()));
+    }
+
+    /// Puts the pieces into the text up to one that has to be asked; at the end the text is given.
+    #[tactic(auto, using(crate::proofs::Joined::joins_on, crate::proofs::Joined::joins_asking, crate::proofs::Joined::joins_ending))]
+    pub(crate) fn question(&mut self, heap: &mut Heap) -> Result<Question, AllocError>
+        ensures asks { IfOk result (λ question. question ≡ (texts.joined heap.old self.old).question) }
+        ensures work { OnOk result (self.new ≡ (texts.joined heap.old self.old).work) }
+        ensures heap { OnOk result (heap.new ≡ (texts.joined heap.old self.old).held) }
+    {
+        'pieces: for place in self.place..self.pieces.len() {
+            let piece = self.pieces.as_slice()[place];
+            if let Some(value) = self.put(heap, piece)? {
+                return Ok(Question::show(value));
+            }
+        }
+        let text = mem::replace(&mut self.text, List::new(heap.alloc()));
         ends_with_text(heap, text)
     }
 
     /// Puts what stands for a value into the text.
-    pub(crate) fn hear(&mut self, heap: &Heap, answer: Value) -> Result<(), AllocError> {
+    pub(crate) fn hear(&mut self, heap: &Heap, answer: Value) -> Result<(), AllocError>
+        ensures work { OnOk result (self.new ≡ texts.joined_heard heap.now.store self.old answer) }
+    {
         let text = heap.text_of_value(answer)?;
-        self.text.extend_from_slice(&text)?;
-        self.pass()
+        append(heap.alloc(), &mut self.text, &text)?;
+        self.pass(heap.alloc())
     }
 }

@@ -1,8 +1,13 @@
 //! The methods of Comparable, by the program's own `<=>`.
+ghost use Rattle.std.specs.Prelude.{◌≡◌, Ok};
+ghost use Rattle.def_plans.specs.Plan.{Plans};
+ghost use Rattle.iter_comparing.specs.Stage.{stage_of};
+ghost use Rattle.iter_comparing.specs.Ordering as ordering;
+
 use crate::row::OrderRow;
 use crate::state::ComparingState;
 use core_calls::heap::Heap;
-use core_calls::{Call, Plan, argument, miscounted};
+use core_calls::{Call, Plan, argument};
 use def_core::Cause;
 use rb_value::Value;
 use std::alloc::AllocError;
@@ -18,7 +23,9 @@ pub struct Order {
 }
 
 /// How many arguments a method of Comparable takes.
-fn wanted(row: OrderRow) -> u64 {
+pub(crate) fn arguments(row: OrderRow) -> u64
+    ensures { result ≡ ordering.arguments row }
+{
     match row {
         OrderRow::Between | OrderRow::Clamp => 2,
         OrderRow::Less
@@ -31,7 +38,9 @@ fn wanted(row: OrderRow) -> u64 {
 
 impl Order {
     /// The value with which the receiver is compared.
-    fn other(&self) -> Value {
+    fn other(&self) -> Value
+        ensures { result ≡ ordering.other self.now }
+    {
         if self.at_second {
             self.second
         } else {
@@ -40,7 +49,9 @@ impl Order {
     }
 
     /// What an answer of `<=>` comes to; nothing where the second value is compared next.
-    fn hear(&self, sign: i64) -> Option<Value> {
+    fn hear(&self, sign: i64) -> Option<Value>
+        ensures { result ≡ ordering.told self.now sign }
+    {
         match self.row {
             OrderRow::Less => Some(Value::from_truth(sign < 0)),
             OrderRow::AtMost => Some(Value::from_truth(sign <= 0)),
@@ -53,7 +64,9 @@ impl Order {
     }
 
     /// What an answer comes to for `between?`.
-    fn hear_between(&self, sign: i64) -> Option<Value> {
+    fn hear_between(&self, sign: i64) -> Option<Value>
+        ensures { result ≡ ordering.between self.now.at_second sign }
+    {
         if self.at_second {
             Some(Value::from_truth(sign <= 0))
         } else if sign < 0 {
@@ -64,7 +77,9 @@ impl Order {
     }
 
     /// What an answer comes to for `clamp`.
-    fn hear_clamp(&self, sign: i64) -> Option<Value> {
+    fn hear_clamp(&self, sign: i64) -> Option<Value>
+        ensures { result ≡ ordering.clamped self.now.at_second sign self.now }
+    {
         if self.at_second {
             if sign > 0 {
                 Some(self.second)
@@ -80,7 +95,9 @@ impl Order {
 }
 
 /// Asks the receiver how it stands to a value.
-fn ask(heap: &mut Heap, order: Order) -> Result<Plan<ComparingState>, AllocError> {
+fn ask(heap: &mut Heap, order: Order) -> Result<Plan<ComparingState>, AllocError>
+    ensures { Plans stage_of heap.new result (ordering.ask heap.old order) }
+{
     let name = heap.intern(b"<=>")?;
     Ok(Plan::Sends {
         then: ComparingState::Orders(order),
@@ -92,18 +109,31 @@ fn ask(heap: &mut Heap, order: Order) -> Result<Plan<ComparingState>, AllocError
     })
 }
 
-/// Begins a method of Comparable. A value is equal to itself without a call.
+/// Whether a value is equal to another without a call, since it is the same one.
+fn is_itself(row: OrderRow, receiver: Value, first: Value) -> bool
+    ensures { result ≡ ordering.is_itself row receiver first }
+{
+    match row {
+        OrderRow::Equal => receiver == first,
+        OrderRow::Less
+        | OrderRow::AtMost
+        | OrderRow::Greater
+        | OrderRow::AtLeast
+        | OrderRow::Between
+        | OrderRow::Clamp => false,
+    }
+}
+
+/// Begins a method of Comparable whose arguments are counted. A value is equal to itself without a call.
 pub(crate) fn start(
     heap: &mut Heap,
     row: OrderRow,
     call: Call<'_>,
-) -> Result<Plan<ComparingState>, AllocError> {
-    let count = wanted(row);
-    if let Some(cause) = miscounted(call.args.len(), count, Some(count)) {
-        return Ok(Plan::Fails(cause));
-    }
+) -> Result<Plan<ComparingState>, AllocError>
+    ensures { Plans stage_of heap.new result (ordering.begun heap.old row call.entry.receiver call.entry.args.now) }
+{
     let first = argument(call.args, 0);
-    if row == OrderRow::Equal && call.receiver == first {
+    if is_itself(row, call.receiver, first) {
         return Ok(Plan::Finishes(Value::True));
     }
     let order = Order {
@@ -117,7 +147,9 @@ pub(crate) fn start(
 }
 
 /// What an answer of `<=>` that is no Integer comes to.
-fn refuse(heap: &Heap, order: Order) -> Plan<ComparingState> {
+fn refuse(heap: &Heap, order: Order) -> Plan<ComparingState>
+    ensures { Plans stage_of heap.now (Ok result) (ordering.refused_by order.row heap.now order) }
+{
     match order.row {
         OrderRow::Equal => Plan::Finishes(Value::False),
         _ => Plan::Fails(Cause::Incomparable {
@@ -132,7 +164,9 @@ pub(crate) fn go_on(
     heap: &mut Heap,
     order: Order,
     answer: Value,
-) -> Result<Plan<ComparingState>, AllocError> {
+) -> Result<Plan<ComparingState>, AllocError>
+    ensures { Plans stage_of heap.new result (ordering.answered heap.old order answer) }
+{
     let Value::Int(sign) = answer else {
         return Ok(refuse(heap, order));
     };

@@ -1,4 +1,7 @@
 //! `==` and `<=>` of Arrays: their elements are asked in pairs.
+ghost use Rattle.std.specs.Prelude.{◌≡◌};
+ghost use Rattle.iter_comparing.specs.Pairing as pairing;
+
 use crate::questions::Question;
 use core_calls::heap::Heap;
 use rb_value::{ObjId, Value};
@@ -13,7 +16,9 @@ pub(crate) struct Pairing {
 }
 
 /// How a number stands to another: below, the same or above.
-fn order(left: usize, right: usize) -> Value {
+fn order(left: usize, right: usize) -> Value
+    ensures { result ≡ pairing.order left right }
+{
     if left < right {
         Value::Int(-1)
     } else if left == right {
@@ -25,7 +30,9 @@ fn order(left: usize, right: usize) -> Value {
 
 impl Pairing {
     /// The next pair, while both have an element there; Arrays of different lengths aren't equal.
-    pub(crate) fn question(&self, heap: &Heap) -> Question {
+    pub(crate) fn question(&self, heap: &Heap) -> Question
+        ensures { result ≡ pairing.question heap.now.store self.now }
+    {
         let left = heap.elements(self.left);
         let right = heap.elements(self.right);
         if !self.ordered && left.len() != right.len() {
@@ -41,7 +48,9 @@ impl Pairing {
     }
 
     /// What Arrays of these lengths come to, where no pair was different.
-    fn at_end(&self, left: usize, right: usize) -> Value {
+    fn at_end(&self, left: usize, right: usize) -> Value
+        ensures { result ≡ pairing.at_end self.now.ordered left right }
+    {
         if self.ordered {
             order(left, right)
         } else {
@@ -49,14 +58,23 @@ impl Pairing {
         }
     }
 
-    /// Ends with the first pair that is different.
-    pub(crate) fn hear(&mut self, answer: Value) -> Option<Value> {
-        let same = if self.ordered {
+    /// Whether an answer says that a pair isn't different.
+    fn is_same(&self, answer: Value) -> bool
+        ensures { result ≡ pairing.is_same self.now.ordered answer }
+    {
+        if self.ordered {
             answer == Value::Int(0)
         } else {
             answer.is_true()
-        };
-        if same {
+        }
+    }
+
+    /// Ends with the first pair that is different.
+    pub(crate) fn hear(&mut self, answer: Value) -> Option<Value>
+        ensures ends { result ≡ (pairing.heard self.old answer).ends }
+        ensures work { self.new ≡ (pairing.heard self.old answer).work }
+    {
+        if self.is_same(answer) {
             self.place = self.place.saturating_add(1);
             None
         } else if self.ordered {

@@ -1,4 +1,7 @@
 //! What a work wants next.
+ghost use Rattle.std.specs.Prelude.{◌≡◌};
+ghost use Rattle.iter_comparing.specs.Questions as questions;
+
 use def_core::Cause;
 use rb_value::Value;
 
@@ -15,7 +18,9 @@ pub(crate) enum Question {
 
 impl Question {
     /// Asks a value whether it is another, or how it stands to it.
-    pub(crate) fn compare(receiver: Value, argument: Value) -> Question {
+    pub(crate) fn compare(receiver: Value, argument: Value) -> Question
+        ensures { result ≡ questions.compare receiver argument }
+    {
         Question::Asks {
             receiver,
             argument: Some(argument),
@@ -23,7 +28,9 @@ impl Question {
     }
 
     /// Asks a value what stands for it in a text.
-    pub(crate) fn show(receiver: Value) -> Question {
+    pub(crate) fn show(receiver: Value) -> Question
+        ensures { result ≡ questions.show receiver }
+    {
         Question::Asks {
             receiver,
             argument: None,

@@ -1,4 +1,7 @@
 //! `index` and `include?` of an Array, whose length is read anew each time.
+ghost use Rattle.std.specs.Prelude.{◌≡◌};
+ghost use Rattle.iter_comparing.specs.Searching as searching;
+
 use crate::questions::Question;
 use core_calls::heap::Heap;
 use rb_value::{ObjId, Value};
@@ -15,7 +18,9 @@ pub(crate) struct Search {
 
 impl Search {
     /// Asks the next element.
-    pub(crate) fn question(&self, heap: &Heap) -> Question {
+    pub(crate) fn question(&self, heap: &Heap) -> Question
+        ensures { result ≡ searching.question heap.now.store self.now }
+    {
         match heap.elements(self.array).get(self.place) {
             Some(element) => Question::compare(*element, self.wanted),
             None => if self.indexed {
@@ -27,7 +32,10 @@ impl Search {
     }
 
     /// Ends with the first element that is equal.
-    pub(crate) fn hear(&mut self, answer: Value) -> Option<Value> {
+    pub(crate) fn hear(&mut self, answer: Value) -> Option<Value>
+        ensures ends { result ≡ (searching.heard self.old answer).ends }
+        ensures work { self.new ≡ (searching.heard self.old answer).work }
+    {
         if !answer.is_true() {
             self.place = self.place.saturating_add(1);
             None

@@ -1,7 +1,11 @@
 //! `inspect` of an Array and of a Hash.
+ghost use Rattle.std.specs.Prelude.{◌≡◌, IfOk, OnOk, option_map};
+ghost use Rattle.iter_comparing.specs.Texts as texts;
+
 use crate::questions::Question;
-use crate::text::ends_with_text;
+use crate::text::{append, ends_with_text};
 use core_calls::heap::Heap;
+use rb_base::List;
 use rb_value::{HashItem, ObjId, Value};
 use std::alloc::AllocError;
 use std::mem;
@@ -10,7 +14,7 @@ use std::mem;
 #[derive(Drop)]
 pub(crate) enum Shown {
     Elements(ObjId),
-    Pairs(Vec<HashItem>),
+    Pairs(List<HashItem>),
 }
 
 /// Values that are shown from a place on, and the text of those before it. The key and the value of a pair have a place
@@ -19,12 +23,14 @@ pub(crate) enum Shown {
 pub(crate) struct Showing {
     pub(crate) shown: Shown,
     pub(crate) place: usize,
-    pub(crate) text: Vec<u8>,
+    pub(crate) text: List<u8>,
 }
 
 impl Showing {
     /// The value at the place, and what stands before it.
-    fn part(&self, heap: &Heap) -> Option<(Value, &'static [u8])> {
+    fn part(&self, heap: &Heap) -> Option<(Value, &'static [u8])>
+        ensures { option_map (λ p. (p.0, p.1.now)) result ≡ texts.part heap.now.store self.now.shown self.now.place }
+    {
         match &self.shown {
             Shown::Elements(array) => {
                 let value = *heap.elements(*array).get(self.place)?;
@@ -35,7 +41,7 @@ impl Showing {
                 }
             }
             Shown::Pairs(pairs) => {
-                let pair = *pairs.get(self.place / 2)?;
+                let pair = *pairs.as_slice().get(self.place / 2)?;
                 if self.place % 2 == 1 {
                     Some((pair.value, b"=>"))
                 } else if self.place == 0 {
@@ -48,7 +54,9 @@ impl Showing {
     }
 
     /// What stands at the end.
-    fn last(&self) -> &'static [u8] {
+    fn last(&self) -> &'static [u8]
+        ensures { result.now ≡ texts.last self.now.shown self.now.place }
+    {
         match self.shown {
             Shown::Elements(_) => if self.place == 0 { b"[]" } else { b"]" },
             Shown::Pairs(_) => if self.place == 0 { b"{}" } else { b"}" },
@@ -56,25 +64,31 @@ impl Showing {
     }
 
     /// Asks the next value; at the end the text is given.
-    pub(crate) fn question(&mut self, heap: &mut Heap) -> Result<Question, AllocError> {
+    pub(crate) fn question(&mut self, heap: &mut Heap) -> Result<Question, AllocError>
+        ensures asks { IfOk result (λ question. question ≡ (texts.shown heap.old self.old).question) }
+        ensures work { OnOk result (self.new ≡ (texts.shown heap.old self.old).work) }
+        ensures heap { OnOk result (heap.new ≡ (texts.shown heap.old self.old).held) }
+    {
         match self.part(heap) {
             Some((value, before)) => {
-                self.text.extend_from_slice(before)?;
+                append(heap.alloc(), &mut self.text, before)?;
                 Ok(Question::show(value))
             }
             None => {
                 let last = self.last();
-                self.text.extend_from_slice(last)?;
-                let text = mem::replace(&mut self.text, Vec::new(heap.alloc()));
+                append(heap.alloc(), &mut self.text, last)?;
+                let text = mem::replace(&mut self.text, List::new(heap.alloc()));
                 ends_with_text(heap, text)
             }
         }
     }
 
     /// Puts what stands for a value into the text.
-    pub(crate) fn hear(&mut self, heap: &Heap, answer: Value) -> Result<(), AllocError> {
+    pub(crate) fn hear(&mut self, heap: &Heap, answer: Value) -> Result<(), AllocError>
+        ensures work { OnOk result (self.new ≡ texts.shown_heard heap.now.store self.old answer) }
+    {
         let text = heap.text_of_value(answer)?;
-        self.text.extend_from_slice(&text)?;
+        append(heap.alloc(), &mut self.text, &text)?;
         self.place = self.place.saturating_add(1);
         Ok(())
     }

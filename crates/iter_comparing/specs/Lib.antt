@@ -1,0 +1,16 @@
+pub mod Stage
+pub mod Ordering
+pub mod Outright
+pub mod Equal
+pub mod Fetching
+pub mod Repeating
+pub mod Questions
+pub mod Pairing
+pub mod Searching
+pub mod Removing
+pub mod Hashes
+pub mod Sifting
+pub mod Texts
+pub mod Asking
+pub mod Rows
+pub mod Turns
