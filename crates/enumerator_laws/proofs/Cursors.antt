@@ -18,13 +18,14 @@ use Rattle.def_core.proofs.PartsSound.{all_more, sound_with_elements}
 use Rattle.def_core.proofs.Grows.{sound_with_object}
 use Rattle.rb_store.proofs.Kept.{elements_are}
 use Rattle.rb_store.specs.Held.{Held}
+use Rattle.run_values.proofs.Members.{is_array as array_sort}
 use Rattle.heap.specs.declared.enumerators.Cursor.{Cursor}
 use Rattle.heap.specs.Reading.{cursor_in}
 use Rattle.heap.specs.Operands.{own_source, own_fiber, own_result, is_array}
 use Rattle.heap.specs.Changes.{with_cursor, with_objects, pushed}
 use Rattle.iter_enumerators.specs.Items.{cursor_at}
 use Rattle.enumerator_laws.specs.Told.{HasCome}
-use Rattle.enumerator_laws.proofs.Own.{value_own, array_sort, array_is, fiber_own, result_own, source_own}
+use Rattle.enumerator_laws.proofs.Own.{value_own, array_is, fiber_own, result_own, source_own}
 
 abbrev cursor_with : EnumeratorContents → Cursor
 cursor_with x = record { fiber = x.fiber; items = x.items; position = x.position; result = x.result }

@@ -13,6 +13,7 @@ use Rattle.rb_value.specs.declared.kind.EnumeratorSource.TheVariants as source
 use Rattle.def_core.specs.Store.{Store, sort_at}
 use Rattle.def_core.specs.Sound.{census, plays, Is, IsSymbol, IsValue, OptionIs, AllAre, Array, Fiber, Proc, SoundSource}
 use Rattle.def_core.proofs.Roles.{is_plays}
+use Rattle.run_values.proofs.Members.{is_array as array_sort}
 use Rattle.heap.specs.Operands.{has_symbol, has_proc, has, has_all, own, own_source, own_fiber, own_result, is_array, is_fiber}
 
 symbol_has : (st : Store) (s : SymId) → IsSymbol (census st) s → has_symbol st s ≡ true
@@ -36,24 +37,6 @@ value_own st v is = rw (value_has st v is) refl
 pub result_own : (st : Store) (r : Option Value) → OptionIs (IsValue (census st)) r → own_result st r ≡ r
 result_own st None is = refl
 result_own st (Some v) is = ap Some (value_own st v is)
-
-plays_array : (s : Sort) → plays Array s ≡ true → s ≡ sort.Array
-plays_array sort.Plain h = cc
-plays_array sort.Class h = cc
-plays_array sort.Singleton h = cc
-plays_array sort.Module h = cc
-plays_array sort.String h = cc
-plays_array sort.Array h = refl
-plays_array sort.Hash h = cc
-plays_array sort.Range h = cc
-plays_array sort.Proc h = cc
-plays_array sort.Fiber h = cc
-plays_array sort.Exception h = cc
-plays_array sort.Enumerator h = cc
-plays_array sort.Yielder h = cc
-
-pub array_sort : (st : Store) (id : ObjId) → Is (census st) Array id → sort_at st.objects id ≡ sort.Array
-array_sort st id is = plays_array (sort_at st.objects id) (is_plays st Array id is)
 
 pub array_is : (st : Store) (id : ObjId) → Is (census st) Array id → is_array (sort_at st.objects id) ≡ true
 array_is st id is = ap is_array (array_sort st id is)
