@@ -5,7 +5,7 @@ use Rattle.rite_code.specs.declared.operation.Operation.{Operation}
 use Rattle.rite_code.specs.declared.operation.Operation.TheVariants as op
 use Rattle.ir_core.specs.CoreForm as form
 use Rattle.ir_core.specs.CoreForm.{Local, named, hidden, pattern, rest, Parameters, CoreForm}
-use Rattle.ir_core.specs.Program.{is_bound, are_same, all_parameters}
+use Rattle.ir_core.specs.Program.{Around, is_bound, are_same, all_parameters, within_program, within_class, within_method, within_block}
 use Rattle.scope_resolver.specs.declared.body_kind.BodyKind.TheVariants as kind
 use Rattle.scope_resolver.specs.declared.place.Place.{Place}
 use Rattle.scope_resolver.specs.declared.seek.Search.{Search}
@@ -15,7 +15,7 @@ use Rattle.gen_parts.specs.declared.emitter.Spot.{Spot}
 use Rattle.gen_parts.specs.Pieces.{◌⊕◌, does}
 use Rattle.gen_forms.specs.Gen.{Context, gen, read, write}
 use Rattle.code_laws.proofs.Checking.{not_zero}
-use Rattle.code_laws.specs.Bound.{IsSeen, Lacks, IsFirst, IsBound, Binds, reading, writing, AreHeld}
+use Rattle.code_laws.specs.Bound.{IsSeen, Lacks, IsFirst, IsBound, Binds, reading, writing, Owns, AreHeld, AreOwned, Knows}
 
 -- ## A search through slots
 
@@ -263,27 +263,73 @@ no_parameter x p few l =
     (unbound x p.post (lacks_right x (q1 ++ q2 ++ q3) q4 l4)))
     (unbound_block x p.block few (lacks_right x (q1 ++ q2 ++ q3 ++ q4) (block_slot p.block) l))
 
-pub main_held : (p : Parameters) (ls : List Local) (f : CoreForm)
-    → AreHeld (scopes_in kind.Main (form.body p ls f) []) ls
-main_held p ls f = held_within (named_slots ls) [] [] ls (λ x l e. unbound x ls l) nothing_held
+no_method : (scopes : Scopes) → AreOwned scopes None
+no_method scopes x e = absurd (cc e)
 
-pub class_held : (p : Parameters) (ls : List Local) (f : CoreForm) (around : Scopes)
-    → AreHeld (scopes_in kind.Class (form.body p ls f) around) ls
-class_held p ls f around = held_within (named_slots ls) [] [] ls (λ x l e. unbound x ls l) nothing_held
+-- the parameters of a method are among the slots of its body
+owned_here : (p : Parameters) (ls : List Local) → length p.block ≤ 1
+    → AreOwned ((parameter_slots p ++ named_slots ls) ∷ []) (Some p)
+owned_here p ls few x own = by (lacks_or_has x (parameter_slots p ++ named_slots ls))
+  where
+    by : Lacks x (parameter_slots p ++ named_slots ls) ⊎ ((n : ℕ) × IsFirst x (parameter_slots p ++ named_slots ls) n)
+        → Owns ((parameter_slots p ++ named_slots ls) ∷ []) x
+    by (inr (n, first)) = record {
+      levels = 0;
+      place = n;
+      slots = parameter_slots p ++ named_slots ls;
+      outermost = omega arith;
+      body = refl;
+      first = first;
+    }
+    by (inl l) = absurd (cc (own, no_parameter x p few (lacks_left x (parameter_slots p) (named_slots ls) l)))
 
-pub method_held : (p : Parameters) (ls : List Local) (f : CoreForm) (around : Scopes) → length p.block ≤ 1
-    → AreHeld (scopes_in kind.Method (form.body p ls f) around) (all_parameters p ++ ls)
-method_held p ls f around few =
-    held_within (parameter_slots p ++ named_slots ls) [] [] (all_parameters p ++ ls)
-    (λ x l e. unbound_both x (all_parameters p) ls
+owned_further : (ss : Slots) (around : Scopes) (method : Option Parameters) → AreOwned around method
+    → AreOwned (ss ∷ around) method
+owned_further ss around method owned x own =
+    let o = owned x own in
+    record {
+      levels = suc o.levels;
+      place = o.place;
+      slots = o.slots;
+      outermost = omega (arith, o.outermost);
+      body = o.body;
+      first = o.first;
+    }
+
+lines_known : (p : Parameters) (ls : List Local) (x : Local) → Lacks x (parameter_slots p ++ named_slots ls)
+    → length p.block ≤ 1 → is_bound x (all_parameters p ++ ls) ≡ false
+lines_known p ls x l few =
+    unbound_both x (all_parameters p) ls
     (no_parameter x p few (lacks_left x (parameter_slots p) (named_slots ls) l))
-    (unbound x ls (lacks_right x (parameter_slots p) (named_slots ls) l))) nothing_held
+    (unbound x ls (lacks_right x (parameter_slots p) (named_slots ls) l))
 
-pub block_held : (p : Parameters) (ls : List Local) (f : CoreForm) (around : Scopes) (known : List Local)
-    → length p.block ≤ 1 → AreHeld around known
-    → AreHeld (scopes_in kind.Block (form.body p ls f) around) (all_parameters p ++ ls ++ known)
-block_held p ls f around known few held =
-    held_within (parameter_slots p ++ named_slots ls) around known (all_parameters p ++ ls ++ known)
-    (λ x l e. unbound_both x (all_parameters p ++ ls) known (unbound_both x (all_parameters p) ls
-    (no_parameter x p few (lacks_left x (parameter_slots p) (named_slots ls) l))
-    (unbound x ls (lacks_right x (parameter_slots p) (named_slots ls) l))) e) held
+pub main_knows : (p : Parameters) (ls : List Local) (f : CoreForm)
+    → Knows (scopes_in kind.Main (form.body p ls f) []) (within_program ls)
+main_knows p ls f = (
+  held_within (named_slots ls) [] [] ls (λ x l e. unbound x ls l) nothing_held,
+  no_method (named_slots ls ∷ []),
+)
+
+pub class_knows : (p : Parameters) (ls : List Local) (f : CoreForm) (around : Scopes)
+    → Knows (scopes_in kind.Class (form.body p ls f) around) (within_class ls)
+class_knows p ls f around = (
+  held_within (named_slots ls) [] [] ls (λ x l e. unbound x ls l) nothing_held,
+  no_method (named_slots ls ∷ []),
+)
+
+pub method_knows : (p : Parameters) (ls : List Local) (f : CoreForm) (around : Scopes) → length p.block ≤ 1
+    → Knows (scopes_in kind.Method (form.body p ls f) around) (within_method p ls)
+method_knows p ls f around few = (
+  held_within (parameter_slots p ++ named_slots ls) [] [] (all_parameters p ++ ls) (λ x l e. lines_known p ls x l few)
+      nothing_held,
+  owned_here p ls few,
+)
+
+pub block_knows : (p : Parameters) (ls : List Local) (f : CoreForm) (around : Scopes) (a : Around)
+    → length p.block ≤ 1 → Knows around a
+    → Knows (scopes_in kind.Block (form.body p ls f) around) (within_block a p ls)
+block_knows p ls f around a few knows = (
+  held_within (parameter_slots p ++ named_slots ls) around a.known (all_parameters p ++ ls ++ a.known)
+      (λ x l e. unbound_both x (all_parameters p ++ ls) a.known (lines_known p ls x l few) e) knows.0,
+  owned_further (parameter_slots p ++ named_slots ls) around a.method knows.1,
+)

@@ -41,5 +41,6 @@ pub mod Counting
 pub mod Trees
 pub mod Filing
 pub mod Binding
+pub mod Knowing
 pub mod Programs
 pub mod Witness

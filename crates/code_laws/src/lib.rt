@@ -14,7 +14,9 @@ ghost use Rattle.rite_code.specs.Code.{program, IsForest, IsWhole};
 ghost use Rattle.rite_file.specs.File.{canonical};
 ghost use Rattle.ir_core.specs.CoreForm as form;
 ghost use Rattle.ir_core.specs.CoreForm.{Local, Parameters, CoreForm, Body};
-ghost use Rattle.ir_core.specs.Program.{Around, IsProgram, is_program, within_program, within_class, within_method, within_block};
+ghost use Rattle.ir_core.specs.Program.{Around, IsProgram, is_program, is_form, within_program, within_class, within_method, within_block};
+ghost use Rattle.ir_walk.specs.Walk.{walked};
+ghost use Rattle.ir_walk.specs.declared.extent.Extent.TheVariants as extent;
 ghost use Rattle.ir_counts.specs.Counts.{need};
 ghost use Rattle.ir_counts.specs.Limits.{first_excess};
 ghost use Rattle.code_verifier.specs.Checks.{first_bad};
@@ -25,7 +27,7 @@ ghost use Rattle.gen_parts.specs.declared.emitter.Spot.{Spot};
 ghost use Rattle.gen_parts.specs.Pieces.{◌⊕◌, does};
 ghost use Rattle.gen_forms.specs.Gen.{Context, gen};
 ghost use Rattle.gen_forms.specs.Making.{coded_program};
-ghost use Rattle.code_laws.specs.Bound.{IsSeen, IsFirst, IsBound, AreHeld, reading, writing};
+ghost use Rattle.code_laws.specs.Bound.{IsSeen, IsFirst, IsBound, Knows, IsHeldAt, reading, writing};
 ghost use Rattle.code_laws.specs.Counted.{IsCounted};
 ghost use Rattle.code_laws.specs.Example as example;
 
@@ -81,18 +83,21 @@ pub fn laws_of_locals()
         → gen c s r (form.own x) ≡ does (reading r levels place) }
 {}
 
-/// The bodies that a form of a program sees bind each name that the form may know: the parameters and locals of its own
-/// body, and of the bodies around a block.
+/// Where the bodies that a form sees bind all that it may name, each form in it that reads or writes a local, without those
+/// of the bodies within, sees a body that binds that local. And they do bind it: the body of the program or of a class
+/// its locals, that of a method its parameters too, and that of a block what is known around it besides.
 pub fn names_are_bound()
+    ensures forms { (scopes : Scopes) (a : Around) (f : CoreForm) → is_form a f ≡ true → Knows scopes a
+        → All (IsHeldAt scopes) (walked extent.Body [] f) }
     ensures main { (p : Parameters) (ls : List Local) (f : CoreForm)
-        → AreHeld (scopes_in kind.Main (form.body p ls f) []) (within_program ls).known }
+        → Knows (scopes_in kind.Main (form.body p ls f) []) (within_program ls) }
     ensures class { (p : Parameters) (ls : List Local) (f : CoreForm) (around : Scopes)
-        → AreHeld (scopes_in kind.Class (form.body p ls f) around) (within_class ls).known }
+        → Knows (scopes_in kind.Class (form.body p ls f) around) (within_class ls) }
     ensures method { (p : Parameters) (ls : List Local) (f : CoreForm) (around : Scopes) → length p.block ≤ 1
-        → AreHeld (scopes_in kind.Method (form.body p ls f) around) (within_method p ls).known }
+        → Knows (scopes_in kind.Method (form.body p ls f) around) (within_method p ls) }
     ensures block { (p : Parameters) (ls : List Local) (f : CoreForm) (around : Scopes) (a : Around)
-        → length p.block ≤ 1 → AreHeld around a.known
-        → AreHeld (scopes_in kind.Block (form.body p ls f) around) (within_block a p ls).known }
+        → length p.block ≤ 1 → Knows around a
+        → Knows (scopes_in kind.Block (form.body p ls f) around) (within_block a p ls) }
 {}
 
 /// A program with a class, a method, a block that sets a variable around it, a loop and a clause is such a core. In the
