@@ -1,0 +1,5 @@
+mod Tests
+mod Scopes
+mod Staying
+mod Sizes
+mod Sources

@@ -1,0 +1,9 @@
+//! Evaluation.
+#![tactic(auto)]
+
+ghost use Rattle.std.specs.Prelude.{◌≡◌, ℕ};
+
+#[tactic(auto, using(crate::proofs::Sources::dev))]
+pub fn dev()
+    ensures x { (n : ℕ) → n ≡ n }
+{}
