@@ -3,3 +3,4 @@ mod Scopes
 mod Staying
 mod Sizes
 mod Sources
+mod Going

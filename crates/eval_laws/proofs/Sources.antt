@@ -454,5 +454,3 @@ program_stands (body p ls e) is =
     stands s (within_program ls) 1 e (and_true is).1
     (inside s 0 p ls e (record { slice = whole [] s; names = λ x h. absurd (true≢false (sym h)) }))
 
-pub dev : (n : ℕ) → n ≡ n
-dev n = refl

@@ -11,7 +11,7 @@ use Rattle.rb_value.specs.declared.kind.Kind.{Kind}
 use Rattle.rb_value.specs.declared.kind.Kind.TheVariants as kind
 use Rattle.rb_value.specs.declared.kind.Sort.TheVariants as sort
 use Rattle.rb_value.specs.declared.procs.ProcContents.{ProcContents}
-use Rattle.def_core.specs.Sound.{census, Census, Is, IsValue, OptionIs, AllAre, Array, String, Proc}
+use Rattle.def_core.specs.Sound.{census, Census, Is, IsValue, OptionIs, AllAre, Array, Proc}
 use Rattle.ir_core.specs.Program.{Around}
 use Rattle.def_calls.specs.World.{World}
 use Rattle.def_calls.specs.Calls.{Sending, by_name, by_bare_name, to_proc, to_super}
@@ -67,7 +67,7 @@ module _ (s : Source) (w v : World) (e : Extends w v) where
   stands_still a (eval.hash_key n id x ps) h = (sort_stays w v e sort.Hash id h.0, h.1, h.2)
   stands_still a (eval.hash_value n id key ps) h =
       (sort_stays w v e sort.Hash id h.0, value_stays w v e key h.1, h.2)
-  stands_still a (eval.pieces n id es) h = (role_stays w v e String id h.0, h.1)
+  stands_still a (eval.pieces n id es) h = (sort_stays w v e sort.String id h.0, h.1)
   stands_still a (eval.rest n es) h = h
   stands_still a (eval.test n b bs o) h = h
   stands_still a eval.chosen h = h

@@ -7,7 +7,7 @@ use Rattle.rb_value.specs.declared.value.Value.{Value}
 use Rattle.rb_value.specs.declared.value.ObjId.{ObjId}
 use Rattle.rb_value.specs.declared.procs.ProcContents.{ProcContents}
 use Rattle.rb_value.specs.declared.kind.Sort.TheVariants as sort
-use Rattle.def_core.specs.Sound.{Census, census, Array, String, Is, IsValue, OptionIs, AllAre}
+use Rattle.def_core.specs.Sound.{Census, census, Array, Is, IsValue, OptionIs, AllAre}
 use Rattle.ir_core.specs.CoreForm.{Name, Local, named, hidden, pattern, rest, CoreForm, Maybe, Clauses, Parameters}
 use Rattle.ir_core.specs.Program.{Around, within_loop, within_clause, within_target, is_bound, is_own}
 use Rattle.def_calls.specs.World.{World}
@@ -22,6 +22,9 @@ use Rattle.eval_laws.specs.Standing.{IsNamed, FormStands, MaybeStands, FormsStan
 
 abbrev pub IsHash : Census → ObjId → Type 0
 IsHash k id = HasSort k sort.Hash id
+
+abbrev pub IsText : Census → ObjId → Type 0
+IsText k id = HasSort k sort.String id
 
 -- Scopes. The parent of a scope has a smaller number, and its variables are of the store.
 pub record ScopeFits (k : Census) (n : ℕ) (c : Scope) : Type 0 where
@@ -141,7 +144,7 @@ PartStands s k a (eval.elements n g id splat is) =
     GatheringFits s a k (past_items n is) g × Is k Array id × ItemsStand s a n is
 PartStands s k a (eval.hash_key n id e ps) = IsHash k id × FormStands s a n e × PairsStand s a (n + span e) ps
 PartStands s k a (eval.hash_value n id key ps) = IsHash k id × IsValue k key × PairsStand s a n ps
-PartStands s k a (eval.pieces n id es) = Is k String id × FormsStand s a n es
+PartStands s k a (eval.pieces n id es) = IsText k id × FormsStand s a n es
 PartStands s k a (eval.rest n es) = FormsStand s a n es
 PartStands s k a (eval.test n b bs o) =
     FormStands s a n b × BranchesStand s a (n + span b) bs × FormStands s a (past_branches (n + span b) bs) o
