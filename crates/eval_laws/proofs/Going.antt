@@ -21,7 +21,7 @@ use Rattle.world_laws.specs.Fine.{Extends, Keeps, IsActivation, ActivationIs}
 use Rattle.world_laws.specs.Outcomes.{AnswerIs, ResultIs}
 use Rattle.world_laws.proofs.Growing.{value_stays, extends_itself}
 use Rattle.eval_laws.specs.Standing.{IsNamed, FormStands}
-use Rattle.eval_laws.specs.Fits.{ScopeFits, ScopesFit, AroundFits, assigns_exception, has_exception, PartStands, ItemsFit, MemoryFits, FocusFits, Fits, NamesFit, bodies}
+use Rattle.eval_laws.specs.Fits.{ScopeFits, ScopesFit, AroundFits, begins_anew, in_clause, assigns_exception, has_exception, PartStands, ItemsFit, MemoryFits, FocusFits, Fits, NamesFit, bodies}
 use Rattle.eval_laws.proofs.Tests.{or_right}
 use Rattle.eval_laws.proofs.Scopes.{Values, Parents, Later, later_itself, later_put, scopes_put, parents_of, value_found, scopes_there, last_there, first_there}
 use Rattle.eval_laws.proofs.Staying.{place_stays, items_stay, fibers_stay, names_stay, fine_later}
@@ -84,7 +84,7 @@ within_or most n None lt h = lt
 within_or most n (Some m) lt h = h
 
 module _ (s : Source) where
-  scopes_stay : (w v : World) (cs : List Scope) → Extends w v → ScopesFit (census w.store) cs
+  pub scopes_stay : (w v : World) (cs : List Scope) → Extends w v → ScopesFit (census w.store) cs
       → ScopesFit (census v.store) cs
   scopes_stay w v cs e h n lt =
       let c = h n lt in record { parent = c.parent; variables = all_later (scope_at cs n).variables c.variables }
@@ -223,6 +223,7 @@ module _ (s : Source) where
     around = record {
       scene = t.around.scene;
       target = λ e. or_right (assigns_exception (stop_of p)) (has_exception ks) (t.around.target e);
+      clause = λ e. or_right (begins_anew (stop_of p)) (in_clause ks) (t.around.clause e);
     };
   }
 
@@ -230,5 +231,3 @@ module _ (s : Source) where
       → PartStands s (census m.world.store) a p → FormStands s a n e → Fits s (Run (perform n e) (eval.part p ∷ ks) m)
   does_part p n e ks m a t h f = does n e (eval.part p ∷ ks) m a (over_part p ks m a t h) f
 
-pub dev : (n : ℕ) → n ≡ n
-dev n = refl

@@ -4,3 +4,6 @@ mod Staying
 mod Sizes
 mod Sources
 mod Going
+mod Wanted
+mod Scenes
+mod Entered

@@ -276,7 +276,7 @@ module _ (s : Source) where
     stands a n (form.return_form e) h k = stands a n e (and_true h).1 k
     stands a n (form.break_form e) h k = stands a n e (and_true h).1 k
     stands a n (form.next_form e) h k = stands a n e (and_true h).1 k
-    stands a n form.retry h k = tt
+    stands a n form.retry h k = h
     stands a n (form.define x f) h k =
         (named n (piece_body f) x k, method_stands n f h (left n (piece_body f) (name x) k))
     stands a n (form.define_on e x f) h k =

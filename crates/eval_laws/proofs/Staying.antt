@@ -38,7 +38,7 @@ module _ (s : Source) (w v : World) (e : Extends w v) where
   exit_stays ks (eval.break a x) h = (h.0, value_stays w v e x h.1)
   exit_stays ks (eval.leave_loop x) h = (h.0, value_stays w v e x h.1)
   exit_stays ks (eval.next x) h = (h.0, value_stays w v e x h.1)
-  exit_stays ks eval.begin_anew h = tt
+  exit_stays ks eval.begin_anew h = h
 
   outgoing_stays : (ks : List Item) (o : Outgoing) → OutgoingFits (census w.store) ks o
       → OutgoingFits (census v.store) ks o
@@ -116,7 +116,7 @@ module _ (s : Source) (w v : World) (e : Extends w v) where
         → PartFits s (census v.store) ds n ks x
     part_stays n ks x lt h = (
       h.0,
-      record { scene = scene_later cs ds p l n lt h.0 h.1.scene; target = h.1.target },
+      record { scene = scene_later cs ds p l n lt h.0 h.1.scene; target = h.1.target; clause = h.1.clause },
       stands_still h.0 x h.2,
     )
 

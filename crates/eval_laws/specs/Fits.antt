@@ -18,7 +18,7 @@ use Rattle.def_eval.specs.Scopes.{value_in, scope_at, scopes_around, first_with,
 use Rattle.def_eval.specs.Forms.{in_loop, is_under_way}
 use Rattle.world_laws.specs.Fine.{Goes, Extends, Bodies, Fine, HasSort, IsException, IsActivation, IsClasses}
 use Rattle.world_laws.specs.Outcomes.{SendingIs, StateIs, FibersAre}
-use Rattle.eval_laws.specs.Standing.{IsNamed, FormStands, MaybeStands, FormsStand, ItemsStand, PairsStand, BranchesStand, ClausesStand, BlockStands, MethodStands, ClassStands, past_items, past_branches}
+use Rattle.eval_laws.specs.Standing.{IsNamed, IsAsked, FormStands, MaybeStands, FormsStand, ItemsStand, PairsStand, BranchesStand, ClausesStand, BlockStands, MethodStands, ClassStands, past_items, past_branches}
 
 abbrev pub IsHash : Census → ObjId → Type 0
 IsHash k id = HasSort k sort.Hash id
@@ -62,6 +62,22 @@ pub record PlaceFits (w : World) (cs : List Scope) (p : Place) : Type 0 where
 
 -- Exits.
 
+abbrev pub begins_anew : Stop → Bool
+begins_anew eval.passes = false
+begins_anew (eval.loops n t b) = false
+begins_anew (eval.rescues n r) = false
+begins_anew (eval.assigns e r) = true
+begins_anew (eval.retries r) = true
+begins_anew (eval.ensures n e) = false
+
+-- whether a clause of the running body is under way
+abbrev pub in_clause : List Item → Bool
+in_clause [] = false
+in_clause (eval.part p ∷ ks) = begins_anew (stop_of p) || in_clause ks
+in_clause (eval.activation a place ∷ ks) = false
+in_clause (eval.iteration a it place ∷ ks) = false
+in_clause (eval.ensuring o ∷ ks) = in_clause ks
+
 -- an exit that came to these items leads to one of them
 abbrev pub ExitFits : Census → List Item → Exit → Type 0
 ExitFits k ks (eval.raise e) = IsException k e
@@ -69,7 +85,7 @@ ExitFits k ks (eval.return a v) = (is_under_way ks a ≡ true) × IsValue k v
 ExitFits k ks (eval.break a v) = (is_under_way ks a ≡ true) × IsValue k v
 ExitFits k ks (eval.leave_loop v) = (in_loop ks ≡ true) × IsValue k v
 ExitFits k ks (eval.next v) = (is_there ks ≡ true) × IsValue k v
-ExitFits k ks eval.begin_anew = Unit {0}
+ExitFits k ks eval.begin_anew = in_clause ks ≡ true
 
 abbrev pub OutgoingFits : Census → List Item → Outgoing → Type 0
 OutgoingFits k ks (eval.value v) = IsValue k v
@@ -81,7 +97,7 @@ abbrev pub assigns_exception : Stop → Bool
 assigns_exception eval.passes = false
 assigns_exception (eval.loops n t b) = false
 assigns_exception (eval.rescues n r) = false
-assigns_exception (eval.assigns e) = true
+assigns_exception (eval.assigns e r) = true
 assigns_exception (eval.retries r) = false
 assigns_exception (eval.ensures n e) = false
 
@@ -97,6 +113,7 @@ has_exception (eval.ensuring o ∷ ks) = has_exception ks
 pub record AroundFits (cs : List Scope) (n : ℕ) (ks : List Item) (a : Around) : Type 0 where
   pub scene : SceneFits cs n a
   pub target : a.target ≡ true → has_exception ks ≡ true
+  pub clause : a.clause ≡ true → in_clause ks ≡ true
 
 abbrev pub ActionFits : Source → Action → Type 0
 ActionFits s (eval.assign x) = Unit {0}
@@ -117,7 +134,7 @@ ActionFits s (eval.define_on x n) = IsNamed s x × MethodStands s n (body_at s n
 ActionFits s (eval.open_class x n) = IsNamed s x × ClassStands s n (body_at s n)
 ActionFits s (eval.open_module x n) = IsNamed s x × ClassStands s n (body_at s n)
 ActionFits s (eval.open_singleton n) = ClassStands s n (body_at s n)
-ActionFits s (eval.tell k x) = Unit {0}
+ActionFits s (eval.tell k x) = IsAsked s k x
 
 -- the elements of an Array are gathered for this; the number is that behind the items
 abbrev pub GatheringFits : Source → Around → Census → ℕ → Gathering → Type 0

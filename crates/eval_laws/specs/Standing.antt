@@ -87,7 +87,7 @@ abbrev mutual
   FormStands s a n (form.return_form e) = FormStands s a n e
   FormStands s a n (form.break_form e) = FormStands s a n e
   FormStands s a n (form.next_form e) = FormStands s a n e
-  FormStands s a n form.retry = Unit {0}
+  FormStands s a n form.retry = a.clause ≡ true
   FormStands s a n (form.define x f) = IsNamed s x × MethodStands s n f
   FormStands s a n (form.define_on e x f) = IsNamed s x × FormStands s a n e × MethodStands s (n + span e) f
   FormStands s a n (form.class_form c x p f) = IsNamed s x × MaybeStands s a n c × MaybeStands s a (n + span_maybe c) p
