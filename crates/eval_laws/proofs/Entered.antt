@@ -358,5 +358,3 @@ module _ (s : Source) where
         (fails_with (bodies s m.scopes) m.world u.memory.world cause.StackTooDeep tt))
         class_begins
 
-pub dev : (n : ℕ) → n ≡ n
-dev n = refl

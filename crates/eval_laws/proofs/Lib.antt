@@ -7,3 +7,4 @@ mod Going
 mod Wanted
 mod Scenes
 mod Entered
+mod Finishing
