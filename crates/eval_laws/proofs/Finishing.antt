@@ -131,7 +131,7 @@ module _ (s : Source) (ks : List Item) (m : Memory) (u : Under s ks m) where
 
   -- What `defined?` tells.
 
-  told_alone : (k : DefinedKind) (x : Name) → AnswerIs (bodies s m.scopes) m.world (tell_alone k x m)
+  pub told_alone : (k : DefinedKind) (x : Name) → AnswerIs (bodies s m.scopes) m.world (tell_alone k x m)
   told_alone asks.Expression x = makes_text (bodies s m.scopes) m.world u.memory.world (codes "expression")
   told_alone asks.LocalVariable x = makes_text (bodies s m.scopes) m.world u.memory.world (codes "local-variable")
   told_alone asks.SelfReference x = makes_text (bodies s m.scopes) m.world u.memory.world (codes "self")
@@ -240,5 +240,3 @@ module _ (s : Source) (ks : List Item) (m : Memory) (a : Around) (t : Text s ks 
   operands_done n action vs (more e es) h all stands =
       does_part s (eval.operands (n + span e) action vs es) n e ks m a t (h, all, stands.1) stands.0
 
-pub dev : (n : ℕ) → n ≡ n
-dev n = refl

@@ -8,3 +8,5 @@ mod Wanted
 mod Scenes
 mod Entered
 mod Finishing
+mod Calling
+mod Forming

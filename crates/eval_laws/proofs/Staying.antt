@@ -29,7 +29,7 @@ use Rattle.eval_laws.proofs.Scopes.{Parents, Later, scopes_same, scene_later}
 use Rattle.eval_laws.proofs.Tests.{or_left}
 
 module _ (s : Source) (w v : World) (e : Extends w v) where
-  all_values : (vs : List Value) → AllAre (IsValue (census w.store)) vs → AllAre (IsValue (census v.store)) vs
+  pub all_values : (vs : List Value) → AllAre (IsValue (census w.store)) vs → AllAre (IsValue (census v.store)) vs
   all_values vs h = all_stay (IsValue (census w.store)) (IsValue (census v.store)) (value_stays w v e) vs h
 
   pub exit_stays : (ks : List Item) (x : Exit) → ExitFits (census w.store) ks x → ExitFits (census v.store) ks x
@@ -51,7 +51,7 @@ module _ (s : Source) (w v : World) (e : Extends w v) where
   sending_stays to_proc h = tt
   sending_stays to_super h = tt
 
-  gathering_stays : (a : Around) (n : ℕ) (g : Gathering) → GatheringFits s a (census w.store) n g
+  pub gathering_stays : (a : Around) (n : ℕ) (g : Gathering) → GatheringFits s a (census w.store) n g
       → GatheringFits s a (census v.store) n g
   gathering_stays a n eval.an_array h = tt
   gathering_stays a n (eval.arguments_of k recv b) h = (sending_stays k h.0, value_stays w v e recv h.1, h.2)
