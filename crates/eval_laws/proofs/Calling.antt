@@ -44,7 +44,7 @@ pub record Called (m : Memory) (k : Sending) (recv : Value) (args : List Value) 
   pub arguments : AllAre (IsValue (census m.world.store)) args
 
 module _ (s : Source) where
-  called_later : (m : Memory) (w : World) (k : Sending) (recv : Value) (args : List Value) → Keeps (bodies s m.scopes) m.world w
+  pub called_later : (m : Memory) (w : World) (k : Sending) (recv : Value) (args : List Value) → Keeps (bodies s m.scopes) m.world w
       → Called m k recv args → Called (with_world m w) k recv args
   called_later m w k recv args keeps h = record {
     sending = sending_stays s m.world w keeps.extends k h.sending;

@@ -68,7 +68,7 @@ class_at : (s : Source) (n : ℕ) (f : Body) → ClassStands s n f → ClassStan
 class_at s n f h = subst (ClassStands s n) (sym (class_there s n f h)) h
 
 -- nothing stands in what is absent
-behind_absent : (s : Source) (n : ℕ) (P : ℕ → Type 0) → P (n + 0) → P n
+pub behind_absent : (s : Source) (n : ℕ) (P : ℕ → Type 0) → P (n + 0) → P n
 behind_absent s n P h = let e : n + 0 ≡ n = omega arith in subst P e h
 
 -- The exception of a clause.
@@ -351,5 +351,3 @@ module _ (s : Source) where
   form_done n (form.tail_of e from count) ks m a t h =
       operands_done s ks m a t n (eval.last_elements from count) [] (one e) tt tt (h, tt)
 
-pub dev : (n : ℕ) → n ≡ n
-dev n = refl

@@ -10,3 +10,5 @@ mod Entered
 mod Finishing
 mod Calling
 mod Forming
+mod Clauses
+mod Giving

@@ -3,7 +3,7 @@
 
 ghost use Rattle.std.specs.Prelude.{◌≡◌, ℕ};
 
-#[tactic(auto, using(crate::proofs::Forming::dev))]
+#[tactic(auto, using(crate::proofs::Giving::dev))]
 pub fn dev()
     ensures x { (n : ℕ) → n ≡ n }
 {}
