@@ -163,5 +163,3 @@ module _ (s : Source) (ks : List Item) (m : Memory) (a : Around) (t : Text s ks 
   part_given v (eval.clause_body r) is h = goes s (eval.give v) ks m t.under is
   part_given v (eval.ensured n e) is h = ensure_done n e (eval.value v) h is
 
-pub dev : (n : ℕ) → n ≡ n
-dev n = refl

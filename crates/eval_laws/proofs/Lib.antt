@@ -12,3 +12,6 @@ mod Calling
 mod Forming
 mod Clauses
 mod Giving
+mod Iterating
+mod Travelling
+mod Kept

@@ -3,7 +3,7 @@
 
 ghost use Rattle.std.specs.Prelude.{◌≡◌, ℕ};
 
-#[tactic(auto, using(crate::proofs::Giving::dev))]
+#[tactic(auto, using(crate::proofs::Kept::dev))]
 pub fn dev()
     ensures x { (n : ℕ) → n ≡ n }
 {}
