@@ -32,7 +32,7 @@ use Rattle.world_laws.proofs.Worlds.{keeps_global}
 use Rattle.class_model.specs.Given.{IsClass}
 use Rattle.world_laws.proofs.Holding.{space_is}
 use Rattle.world_laws.proofs.Tables.{make_range_is}
-use Rattle.world_laws.proofs.Classes.{define_method_is, singleton_class_is, open_class_is, open_module_is, instance_variable_told_is, global_told_is, constant_told_is, constant_in_told_is, method_told_is, yield_told_is, super_told_is}
+use Rattle.world_laws.proofs.Classes.{singleton_class_gives, open_class_gives, open_module_gives, define_method_is, singleton_class_is, open_class_is, open_module_is, instance_variable_told_is, global_told_is, constant_told_is, constant_in_told_is, method_told_is, yield_told_is, super_told_is}
 use Rattle.world_laws.proofs.Constants.{set_constant_is, set_constant_in_is, get_constant_in_is}
 use Rattle.world_laws.proofs.Values.{value_at, wrong_value_is, set_instance_variable_is, element_is, elements_between_is, last_elements_is, make_symbol_is}
 use Rattle.eval_laws.specs.Standing.{IsNamed, IsAsked, FormsStand, MethodStands, ClassStands}
@@ -40,7 +40,7 @@ use Rattle.eval_laws.specs.Fits.{ActionFits, ExitFits, Fits, bodies}
 use Rattle.eval_laws.proofs.Tests.{tested}
 use Rattle.eval_laws.proofs.Going.{Under, Text, under_then, under_variable, running_is, symbol_is, memory_then, goes, after_fits, does_part}
 use Rattle.eval_laws.proofs.Entered.{class_fits}
-use Rattle.eval_laws.proofs.Wanted.{singleton_class_gives, open_class_gives, open_module_gives}
+
 
 -- Exits that lead to an item that is under way.
 

@@ -23,5 +23,3 @@ pub times_fit : (n : ℕ) (s : Source) (c : Config) → Fits s c → Fits s (go_
 times_fit zero s c h = h
 times_fit (suc n) s c h = times_fit n s (go s c) (goes_fit s c h)
 
-pub dev : (n : ℕ) → n ≡ n
-dev n = refl

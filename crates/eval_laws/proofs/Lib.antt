@@ -4,7 +4,6 @@ mod Staying
 mod Sizes
 mod Sources
 mod Going
-mod Wanted
 mod Scenes
 mod Entered
 mod Finishing
@@ -15,3 +14,4 @@ mod Giving
 mod Iterating
 mod Travelling
 mod Kept
+mod Start

@@ -236,7 +236,7 @@ module _ (cs : List Scope) (p : Parents cs) (c : Scope) where
     }
 
     -- the body of a class, and a main program
-    scene_locals : (a : Around) → a.known ≡ ls → a.method ≡ None → c.parent ≡ None → SceneFits ds (length cs) a
+    pub scene_locals : (a : Around) → a.known ≡ ls → a.method ≡ None → c.parent ≡ None → SceneFits ds (length cs) a
     scene_locals a known none e = record {
       sees = λ x h out. subst (λ ns. is_some (first_with ds ns x) ≡ true) (sym (around_alone e))
           (found_here [] x (ap (λ us. is_in us x) has
