@@ -52,7 +52,7 @@ body_from : (s : Source) (n : ℕ) (f : Body) → slice_get s n ≡ Some f → b
 unfolding body_at
 body_from s n f h = get_or_from_slice_get s n f _ h
 
-block_there : (s : Source) (a : Around) (n : ℕ) (f : Body) → BlockStands s a n f → body_at s n ≡ f
+pub block_there : (s : Source) (a : Around) (n : ℕ) (f : Body) → BlockStands s a n f → body_at s n ≡ f
 block_there s a n (body p ls e) h = body_from s n (body p ls e) h.0
 
 method_there : (s : Source) (n : ℕ) (f : Body) → MethodStands s n f → body_at s n ≡ f

@@ -1,17 +1,18 @@
-mod Tests
-mod Scopes
-mod Staying
-mod Sizes
-mod Sources
-mod Going
-mod Scenes
-mod Entered
-mod Finishing
-mod Calling
-mod Forming
-mod Clauses
-mod Giving
-mod Iterating
-mod Travelling
-mod Kept
-mod Start
+pub mod Tests
+pub mod Scopes
+pub mod Staying
+pub mod Sizes
+pub mod Sources
+pub mod Going
+pub mod Scenes
+pub mod Entered
+pub mod Finishing
+pub mod Calling
+pub mod Forming
+pub mod Clauses
+pub mod Giving
+pub mod Iterating
+pub mod Travelling
+pub mod Kept
+pub mod Start
+pub mod Reading
