@@ -44,7 +44,6 @@ pub fn the_store_is_sound()
 
 /// Where a configuration fits, what is sought is there: a local that is read or set in the scope that is found for it, a
 /// parameter of the method around a text, the exception of a clause, the body of a block at its number.
-#[tactic(auto, using(crate::proofs::Reading::local_found, crate::proofs::Reading::set_found, crate::proofs::Reading::own_found, crate::proofs::Reading::exception_found, crate::proofs::Reading::block_found))]
 pub fn what_is_sought_is_there()
     ensures local { (s : Source) (n : ℕ) (ks : List Item) (m : Memory) (x : Local)
         → Fits s (Run (perform n (local x)) ks m) → IsFound m x }
