@@ -1,12 +1,12 @@
 -- Calls fit: the receiver, the items, the block, each part left to right, and Arrays whose elements are gathered.
-use Rattle.std.proofs.Common.{◌≡◌, ℕ, ◌+◌, List, [], ◌∷◌, ◌++◌, length, Bool, true, false, refl, sym, ap, ◌∙◌, subst}
-use Rattle.std.specs.Prelude.{Option, Some, None, nat_lt, if◌then◌else◌}
+use Rattle.std.proofs.Common.{ℕ, ◌+◌, List, [], length, true, false, refl}
+use Rattle.std.specs.Prelude.{Option, Some, None, nat_lt}
 use Rattle.rb_value.specs.declared.value.Value.{Value}
 use Rattle.rb_value.specs.declared.value.Value.TheVariants.{Obj}
 use Rattle.rb_value.specs.declared.value.ObjId.{ObjId}
 use Rattle.def_core.specs.declared.cause.Cause.TheVariants as cause
 use Rattle.def_core.specs.Store.{next_number, with_object}
-use Rattle.def_core.specs.Sound.{Census, census, Any, Proc, Array, Is, IsValue, OptionIs, AllAre}
+use Rattle.def_core.specs.Sound.{census, Any, Proc, Array, Is, IsValue, OptionIs, AllAre}
 use Rattle.def_core.proofs.Good.{is_good}
 use Rattle.def_core.proofs.Grows.{new_role}
 use Rattle.def_rows.specs.Answers.{items_object}
@@ -21,9 +21,9 @@ use Rattle.def_eval.specs.Source.{Source, span}
 use Rattle.def_eval.specs.Configuration as eval
 use Rattle.def_eval.specs.Configuration.{Gathering, Item, Memory, with_world, Config, Run}
 use Rattle.def_eval.specs.Scopes.{running}
-use Rattle.def_eval.specs.Entering.{symbol, after}
-use Rattle.def_eval.specs.Forms.{self_of, perform_call, own_block, with_arguments, packed, next_item, gathered, next_element, with_new_array, gather, has_splat, do_call, do_receiver, do_yield}
-use Rattle.world_laws.specs.Fine.{Bodies, Keeps}
+use Rattle.def_eval.specs.Entering.{symbol}
+use Rattle.def_eval.specs.Forms.{self_of, perform_call, own_block, with_arguments, packed, next_item, gathered, next_element, gather, has_splat, do_call, do_receiver, do_yield}
+use Rattle.world_laws.specs.Fine.{Keeps}
 use Rattle.world_laws.specs.Outcomes.{SendingIs}
 use Rattle.world_laws.proofs.Growing.{value_stays}
 use Rattle.world_laws.proofs.Stores.{keeps_object}
@@ -33,8 +33,9 @@ use Rattle.world_laws.proofs.Calling.{call_is}
 use Rattle.eval_laws.specs.Standing.{IsNamed, MaybeStands, ItemsStand, ReceiverStands, past_items, past_receiver}
 use Rattle.eval_laws.specs.Fits.{GatheringFits, Fits, bodies}
 use Rattle.eval_laws.proofs.Tests.{either}
-use Rattle.eval_laws.proofs.Staying.{all_values, sending_stays, gathering_stays}
-use Rattle.eval_laws.proofs.Going.{Under, Text, text_then, running_is, symbol_is, all_behind, goes, after_fits, does, does_part}
+use Rattle.eval_laws.proofs.Staying.{sending_stays, gathering_stays}
+use Rattle.world_laws.proofs.Plans.{values_stay}
+use Rattle.eval_laws.proofs.Going.{Under, Text, text_then, running_is, symbol_is, goes, after_fits, does_part}
 use Rattle.eval_laws.proofs.Entered.{entry_fits}
 
 -- what a call has so far: what it calls, its receiver and its arguments
@@ -49,7 +50,7 @@ module _ (s : Source) where
   called_later m w k recv args keeps h = record {
     sending = sending_stays s m.world w keeps.extends k h.sending;
     receiver = value_stays m.world w keeps.extends recv h.receiver;
-    arguments = all_values s m.world w keeps.extends args h.arguments;
+    arguments = values_stay m.world w keeps.extends args h.arguments;
   }
 
   pub performs : (k : Sending) (recv : Value) (args : List Value) (block : Option ObjId) (ks : List Item) (m : Memory)

@@ -1,8 +1,7 @@
 -- What the clauses of a begin form do fits.
-use Rattle.std.proofs.Common.{◌≡◌, ℕ, ◌+◌, List, [], ◌∷◌, Bool, true, false, refl, sym, ap, ◌∙◌, subst, arith}
-use Rattle.std.specs.Prelude.{if◌then◌else◌}
+use Rattle.std.proofs.Common.{◌≡◌, ℕ, ◌+◌, List, ◌∷◌, refl, subst, arith}
 use Rattle.rb_value.specs.declared.value.Value.{Value}
-use Rattle.rb_value.specs.declared.value.Value.TheVariants.{Nil, Obj}
+use Rattle.rb_value.specs.declared.value.Value.TheVariants.{Obj}
 use Rattle.rb_value.specs.declared.value.ObjId.{ObjId}
 use Rattle.rb_value.specs.Value.{is_true}
 use Rattle.rb_value.specs.declared.core_class.CoreClass.TheVariants as class
@@ -15,15 +14,14 @@ use Rattle.def_calls.specs.Calls.{is_of}
 use Rattle.def_eval.specs.Source.{Source, span, span_maybe, span_forms}
 use Rattle.def_eval.specs.Configuration as eval
 use Rattle.def_eval.specs.Configuration.{Rescue, Item, Memory, Config, Run}
-use Rattle.def_eval.specs.Entering.{after}
 use Rattle.def_eval.specs.Giving.{do_clause_body, take_exception, next_class, take_if, is_standard, next_clause, match_class, begin_rescue}
-use Rattle.world_laws.specs.Fine.{Bodies, IsException}
-use Rattle.world_laws.specs.Outcomes.{AnswerIs, ResultIs}
+use Rattle.world_laws.specs.Fine.{IsException}
+use Rattle.world_laws.specs.Outcomes.{AnswerIs}
 use Rattle.world_laws.proofs.Ending.{is_of_is}
 use Rattle.eval_laws.specs.Standing.{FormStands, MaybeStands, FormsStand, ClausesStand}
 use Rattle.eval_laws.specs.Fits.{RescueStands, Fits, bodies}
 use Rattle.eval_laws.proofs.Tests.{either}
-use Rattle.eval_laws.proofs.Going.{Under, Text, goes, after_fits, does, over_part, does_part}
+use Rattle.eval_laws.proofs.Going.{Text, goes, after_fits, does, over_part, does_part}
 use Rattle.eval_laws.proofs.Forming.{behind_absent}
 
 -- The rest of a clause, behind its classes, and the clauses after it; the number is that of the first body in the classes.

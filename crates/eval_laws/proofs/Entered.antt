@@ -1,30 +1,29 @@
 -- What a call or an iteration enters fits, and so does the body of a class.
-use Rattle.std.proofs.Common.{◌≡◌, ◌≤◌, ◌<◌, ℕ, zero, suc, ◌+◌, List, [], ◌∷◌, ◌++◌, length, Bool, true, false, refl, sym, ap, ◌∙◌, subst, arith, length-append, true≢false, ◌⊎◌, ⊎_elim}
-use Rattle.std.specs.Prelude.{Option, Some, None, if◌then◌else◌, slice_get}
+use Rattle.std.proofs.Common.{◌≡◌, ◌<◌, ℕ, zero, suc, ◌+◌, List, [], ◌∷◌, ◌++◌, length, false, refl, sym, ap, ◌∙◌, subst, arith, length-append, true≢false, ⊎_elim}
+use Rattle.std.specs.Prelude.{Option, Some, None}
 use Rattle.rb_value.specs.declared.value.Value.{Value}
-use Rattle.rb_value.specs.declared.value.Value.TheVariants.{Nil, Obj}
+use Rattle.rb_value.specs.declared.value.Value.TheVariants.{Nil}
 use Rattle.rb_value.specs.declared.value.ObjId.{ObjId}
-use Rattle.rb_value.specs.declared.procs.ProcContents.{ProcContents}
 use Rattle.def_core.specs.declared.bound.Bound.{Bound}
 use Rattle.def_core.specs.declared.bound.Bound.TheVariants as bound
 use Rattle.def_core.specs.declared.cause.Cause.TheVariants as cause
 use Rattle.def_core.specs.Store.{Store}
-use Rattle.def_core.specs.Bind.{Binding, bind}
+use Rattle.def_core.specs.Bind.{bind}
 use Rattle.def_core.specs.Sound.{Census, census, ClassOrModule, Proc, Any, Is, IsValue, OptionIs, AllAre}
 use Rattle.def_core.proofs.Good.{is_good}
 use Rattle.ir_core.specs.CoreForm as form
 use Rattle.ir_core.specs.CoreForm.{Local, CoreForm, Body, body, Forms, none, more, Parameters}
 use Rattle.ir_core.specs.Program.{Around, within_block, within_method, within_class}
-use Rattle.def_calls.specs.World.{World, Answer, Result, gives, raises, Activation, next_activation, with_activation, with_store, fail}
+use Rattle.def_calls.specs.World.{World, Result, gives, raises, Activation, next_activation, with_activation, with_store, fail}
 use Rattle.def_calls.specs.Calls.{Entry, answers, enters, begins, Opening, is_full, settle, with_class_body}
 use Rattle.def_calls.specs.Plans.{Iteration}
 use Rattle.def_eval.specs.Source.{Source, body_at, form_of, parameters_of, locals_of, span}
 use Rattle.def_eval.specs.Configuration as eval
 use Rattle.def_eval.specs.Configuration.{Place, Scope, Item, Memory, Config, Run, all_nil}
 use Rattle.def_eval.specs.Scopes.{scopes_around, shape_of, with_values, all_of, block_value, first_variables, running}
-use Rattle.def_eval.specs.Entering.{after, depth, do_all, do_from, forms_in, begin_body, first_of, next_place, in_new_scope, count_failure, begin_bound, open_bound, open_body, open_iteration, enter, begin_class, run_class}
-use Rattle.world_laws.specs.Fine.{Keeps, Extends, ActivationIs, IsActivation}
-use Rattle.world_laws.specs.Outcomes.{AnswerIs, ResultIs, BoundIs, BindingIs, OpensBody, OpensIn, OpeningIs, StateIs, EntersIs, BeginsIs, EntryIs}
+use Rattle.def_eval.specs.Entering.{after, depth, do_all, do_from, forms_in, begin_body, first_of, in_new_scope, count_failure, begin_bound, open_body, open_iteration, enter, begin_class, run_class}
+use Rattle.world_laws.specs.Fine.{Keeps, Extends, IsActivation}
+use Rattle.world_laws.specs.Outcomes.{ResultIs, BoundIs, OpensIn, OpeningIs, StateIs, EntryIs}
 use Rattle.world_laws.proofs.Growing.{role_stays, sort_stays, value_stays, option_stays, extends_both}
 use Rattle.rb_value.specs.declared.kind.Sort.TheVariants as sort
 use Rattle.world_laws.proofs.Standing.{keeps_then}
@@ -35,12 +34,12 @@ use Rattle.world_laws.proofs.Entering.{opening_stays, opens_stays}
 use Rattle.world_laws.proofs.Ending.{settle_keeps, class_body_keeps}
 use Rattle.world_laws.proofs.Plans.{state_stays}
 use Rattle.eval_laws.specs.Standing.{FormStands, FormsStand, BlockStands, MethodStands, ClassStands}
-use Rattle.eval_laws.specs.Fits.{ScopeFits, SceneFits, AroundFits, ProcFits, BodyFits, Fits, bodies}
-use Rattle.eval_laws.proofs.Tests.{tested, either}
+use Rattle.eval_laws.specs.Fits.{ScopeFits, SceneFits, Fits, bodies}
+use Rattle.eval_laws.proofs.Tests.{either}
 use Rattle.eval_laws.proofs.Scopes.{Values, Parents, parents_of, later_more, later_itself, scopes_more}
-use Rattle.eval_laws.proofs.Staying.{place_stays, items_stay, fibers_stay, names_stay, fine_later}
+use Rattle.eval_laws.proofs.Staying.{place_stays, items_stay, memories_stay, names_stay, fine_later}
 use Rattle.eval_laws.proofs.Scenes.{values_with, values_nil, values_both, scene_method, scene_block, scene_class}
-use Rattle.eval_laws.proofs.Going.{Under, Text, scopes_stay, under_then, running_is, goes, after_fits, does, does_part}
+use Rattle.eval_laws.proofs.Going.{Under, Text, scopes_stay, running_is, goes, after_fits, does, does_part}
 
 -- Bodies by their parts.
 
@@ -129,7 +128,7 @@ module _ (s : Source) where
                   (scopes_stay s m.world w m.scopes e u.memory.scopes) fits;
               world = fine_later s m.scopes ds p l w k.fine;
               names = names_stay s m.world w e u.memory.names;
-              fibers = fibers_stay s m.world w e m.scopes ds p l m.fibers u.memory.fibers;
+              fibers = memories_stay s m.world w e m.scopes ds p l m.fibers u.memory.fibers;
             };
             items = (
               refl,
@@ -163,7 +162,7 @@ module _ (s : Source) where
             scopes = scopes_stay s m.world w m.scopes e u.memory.scopes;
             world = k.fine;
             names = names_stay s m.world w e u.memory.names;
-            fibers = fibers_stay s m.world w e m.scopes m.scopes p l m.fibers u.memory.fibers;
+            fibers = memories_stay s m.world w e m.scopes m.scopes p l m.fibers u.memory.fibers;
           };
           items = (
             refl,
@@ -357,4 +356,3 @@ module _ (s : Source) where
         (after_fits s (fail m.world cause.StackTooDeep) ks m u
         (fails_with (bodies s m.scopes) m.world u.memory.world cause.StackTooDeep tt))
         class_begins
-

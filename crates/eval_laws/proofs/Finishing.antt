@@ -1,16 +1,16 @@
 -- What a form does once its parts have their values fits.
-use Rattle.std.proofs.Common.{◌≡◌, ℕ, ◌+◌, List, [], ◌∷◌, Bool, true, false, refl, sym, ap, ◌∙◌, subst}
-use Rattle.std.specs.Prelude.{Option, Some, None, codes, get_or, if◌then◌else◌}
+use Rattle.std.proofs.Common.{◌≡◌, ℕ, ◌+◌, List, Bool, true, false, refl}
+use Rattle.std.specs.Prelude.{Option, Some, None, codes, get_or}
 use Rattle.rb_value.specs.declared.value.Value.{Value}
 use Rattle.rb_value.specs.declared.value.Value.TheVariants.{Nil, True, False, Int, Sym, Obj}
 use Rattle.rb_value.specs.declared.value.ObjId.{ObjId}
 use Rattle.rb_syntax.specs.declared.core_form.DefinedKind.{DefinedKind}
 use Rattle.rb_syntax.specs.declared.core_form.DefinedKind.TheVariants as asks
 use Rattle.def_core.specs.declared.cause.Cause.TheVariants as cause
-use Rattle.def_core.specs.Sound.{Census, census, ClassOrModule, Is, IsValue, IsSymbol, OptionIs, AllAre}
+use Rattle.def_core.specs.Sound.{Census, census, ClassOrModule, Is, IsValue, OptionIs, AllAre}
 use Rattle.ir_core.specs.CoreForm.{Name, Forms, none, more}
 use Rattle.ir_core.specs.Program.{Around}
-use Rattle.def_calls.specs.World.{World, Answer, Result, gives, raises, fail, with_global}
+use Rattle.def_calls.specs.World.{Answer, Result, gives, raises, fail, with_global}
 use Rattle.def_calls.specs.Calls.{break_target}
 use Rattle.def_calls.specs.Views.{object_in}
 use Rattle.def_calls.specs.Constants.{get_constant_in, set_constant_in}
@@ -23,10 +23,9 @@ use Rattle.def_eval.specs.Configuration as eval
 use Rattle.def_eval.specs.Configuration.{Exit, Action, Item, Memory, with_world, Config, Run}
 use Rattle.def_eval.specs.Scopes.{with_variable, running}
 use Rattle.def_eval.specs.Entering.{symbol, after, run_class, run_opened}
-use Rattle.def_eval.specs.Forms.{self_of, in_loop, is_under_way, leave_to, leave_from, tell_alone, tell_of, within, define_in, define_after, open_after, finish, complete, next_operand}
-use Rattle.world_laws.specs.Fine.{Bodies, Keeps}
+use Rattle.def_eval.specs.Forms.{self_of, in_loop, is_under_way, leave_to, leave_from, tell_alone, tell_of, within, define_in, define_after, open_after, finish, next_operand}
+use Rattle.world_laws.specs.Fine.{Bodies}
 use Rattle.world_laws.specs.Outcomes.{AnswerIs, ResultIs, GivesSpace}
-use Rattle.world_laws.proofs.Growing.{value_stays}
 use Rattle.world_laws.proofs.Answers.{fails_with, answer_then, makes_text}
 use Rattle.world_laws.proofs.Worlds.{keeps_global}
 use Rattle.class_model.specs.Given.{IsClass}
@@ -35,12 +34,11 @@ use Rattle.world_laws.proofs.Tables.{make_range_is}
 use Rattle.world_laws.proofs.Classes.{singleton_class_gives, open_class_gives, open_module_gives, define_method_is, singleton_class_is, open_class_is, open_module_is, instance_variable_told_is, global_told_is, constant_told_is, constant_in_told_is, method_told_is, yield_told_is, super_told_is}
 use Rattle.world_laws.proofs.Constants.{set_constant_is, set_constant_in_is, get_constant_in_is}
 use Rattle.world_laws.proofs.Values.{value_at, wrong_value_is, set_instance_variable_is, element_is, elements_between_is, last_elements_is, make_symbol_is}
-use Rattle.eval_laws.specs.Standing.{IsNamed, IsAsked, FormsStand, MethodStands, ClassStands}
+use Rattle.eval_laws.specs.Standing.{IsNamed, FormsStand, MethodStands, ClassStands}
 use Rattle.eval_laws.specs.Fits.{ActionFits, ExitFits, Fits, bodies}
 use Rattle.eval_laws.proofs.Tests.{tested}
-use Rattle.eval_laws.proofs.Going.{Under, Text, under_then, under_variable, running_is, symbol_is, memory_then, goes, after_fits, does_part}
+use Rattle.eval_laws.proofs.Going.{Under, Text, under_then, under_variable, running_is, symbol_is, goes, after_fits, does_part}
 use Rattle.eval_laws.proofs.Entered.{class_fits}
-
 
 -- Exits that lead to an item that is under way.
 
@@ -239,4 +237,3 @@ module _ (s : Source) (ks : List Item) (m : Memory) (a : Around) (t : Text s ks 
       (value_at (census m.world.store) vs 0 all) (value_at (census m.world.store) vs 1 all)
   operands_done n action vs (more e es) h all stands =
       does_part s (eval.operands (n + span e) action vs es) n e ks m a t (h, all, stands.1) stands.0
-

@@ -1,19 +1,16 @@
 -- What each form does first fits.
-use Rattle.std.proofs.Common.{◌≡◌, ◌<◌, ℕ, ◌+◌, List, [], ◌∷◌, length, Bool, true, false, refl, sym, ap, ◌∙◌, subst, arith}
-use Rattle.std.specs.Prelude.{Option, Some, None, codes, slice_get}
+use Rattle.std.proofs.Common.{◌≡◌, ℕ, ◌+◌, List, [], ◌∷◌, Bool, true, false, refl, sym, ap, subst, arith}
+use Rattle.std.specs.Prelude.{Some, slice_get}
 use Rattle.std.proofs.lemmas.Option.{get_or_from_slice_get}
 use Rattle.rb_syntax.specs.declared.core_form.DefinedKind.{DefinedKind}
-use Rattle.rb_value.specs.declared.value.Value.{Value}
 use Rattle.rb_value.specs.declared.value.Value.TheVariants.{Nil, True, False, Int, Sym, Obj}
 use Rattle.rb_value.specs.declared.value.ObjId.{ObjId}
-use Rattle.rb_value.specs.declared.procs.ProcContents.{ProcContents}
-use Rattle.rb_value.specs.declared.procs.Sending.TheVariants.{Unsent}
 use Rattle.rb_value.specs.declared.kind.Kind.TheVariants as kind
 use Rattle.rb_value.specs.declared.kind.Sort.TheVariants as sort
 use Rattle.rb_value.specs.declared.core_class.CoreClass.TheVariants as class
-use Rattle.def_core.specs.Store.{Store, core, fresh, next_number, with_object}
+use Rattle.def_core.specs.Store.{core, fresh, next_number, with_object}
 use Rattle.def_core.specs.Parts as parts
-use Rattle.def_core.specs.Sound.{Census, census, Any, Class, ClassOrModule, Is, IsValue, OptionIs, AllAre, Sound, SoundObject}
+use Rattle.def_core.specs.Sound.{census, ClassOrModule, IsValue}
 use Rattle.def_core.proofs.Good.{is_good}
 use Rattle.def_core.proofs.Grows.{core_is_class}
 use Rattle.def_rows.specs.Answers.{text_object}
@@ -21,27 +18,24 @@ use Rattle.run_values.proofs.Made.{text_sound}
 use Rattle.ir_core.specs.CoreForm as form
 use Rattle.ir_core.specs.CoreForm.{Name, CoreForm, Body, body, Maybe, absent, there, Forms, none, more, Pairs, no_pairs, pair, Branches, no_branches, branch, Clauses}
 use Rattle.ir_core.specs.Program.{Around, within_loop}
-use Rattle.def_calls.specs.World.{World, Answer, class_around, with_store, make}
+use Rattle.def_calls.specs.World.{World, class_around, with_store, make}
 use Rattle.def_calls.specs.Calls.{to_super}
-use Rattle.def_calls.specs.Definitions as definitions
 use Rattle.def_eval.specs.Source.{Source, body_at, parameters_of, span, span_maybe, span_clauses}
 use Rattle.def_eval.specs.Configuration as eval
 use Rattle.def_eval.specs.Configuration.{Place, Scope, Action, Item, Memory, Stop, Part, stop_of, with_world, Config, Run}
-use Rattle.def_eval.specs.Scopes.{variable, own_variable, running, scopes_around, shape_of}
-use Rattle.def_eval.specs.Entering.{symbol, after, make_proc}
+use Rattle.def_eval.specs.Scopes.{variable, own_variable, running, shape_of}
+use Rattle.def_eval.specs.Entering.{symbol, make_proc}
 use Rattle.def_eval.specs.Forms.{self_of, next_pair, next_piece, next_branch, do_loop, with_ensure, do_begin, exception_or, exception_in, tell_alone, one, two, any, in_scope, do_defined, do_form}
-use Rattle.world_laws.specs.Fine.{Bodies, Keeps, HasSort}
 use Rattle.world_laws.specs.Outcomes.{AnswerIs}
-use Rattle.world_laws.proofs.Growing.{value_stays}
 use Rattle.world_laws.proofs.Stores.{keeps_object}
 use Rattle.world_laws.proofs.Answers.{new_sort, makes_object, makes_text}
 use Rattle.world_laws.proofs.Changing.{has_any}
 use Rattle.world_laws.proofs.Values.{instance_variable_is}
 use Rattle.world_laws.proofs.Classes.{define_method_is, alias_method_is, undefine_method_is}
 use Rattle.world_laws.proofs.Constants.{global_is, class_around_is, get_constant_is, get_constant_in_is}
-use Rattle.eval_laws.specs.Standing.{IsNamed, IsAsked, FormStands, MaybeStands, FormsStand, PairsStand, BranchesStand, ClausesStand, BlockStands, MethodStands, ClassStands, past_branches}
-use Rattle.eval_laws.specs.Fits.{IsHash, IsText, PartFits, ItemsFit, ActionFits, BeginStands, ProcFits, Fits, bodies}
-use Rattle.eval_laws.proofs.Going.{Under, Text, under_then, text_then, running_is, symbol_is, variable_is, own_is, goes, after_fits, does, over_part, does_part}
+use Rattle.eval_laws.specs.Standing.{IsAsked, FormStands, MaybeStands, FormsStand, PairsStand, BranchesStand, BlockStands, MethodStands, ClassStands, past_branches}
+use Rattle.eval_laws.specs.Fits.{IsHash, IsText, PartFits, ItemsFit, ActionFits, BeginStands, Fits, bodies}
+use Rattle.eval_laws.proofs.Going.{Text, text_then, running_is, symbol_is, variable_is, own_is, goes, after_fits, does, over_part, does_part}
 use Rattle.eval_laws.proofs.Entered.{all_done}
 use Rattle.eval_laws.proofs.Finishing.{operands_done, told_alone}
 use Rattle.eval_laws.proofs.Calling.{gather_done, call_done, receiver_done, yield_done}
@@ -198,9 +192,11 @@ module _ (s : Source) where
       → ActionFits s action → MaybeStands s a n c → FormsStand s a (n + span_maybe c) es
       → Fits s (in_scope s n action c es ks m)
   scoped n action absent es ks m a t h stands others =
-      operands_done s ks m a t n action (Obj (class_around m.world (running m).classes) ∷ []) es h
-      ((is_good m.world.store ClassOrModule _
-      (class_around_is (bodies s m.scopes) m.world t.under.memory.world (running m).classes)).there, tt)
+      operands_done s ks m a t n action (Obj (class_around m.world (running m).classes) ∷ []) es h (
+        (is_good m.world.store ClassOrModule _
+            (class_around_is (bodies s m.scopes) m.world t.under.memory.world (running m).classes)).there,
+        tt,
+      )
       (behind_absent s n (λ i. FormsStand s a i es) others)
   scoped n action (there e) es ks m a t h stands others =
       operands_done s ks m a t n action [] (more e es) h tt (stands, others)
@@ -350,4 +346,3 @@ module _ (s : Source) where
       operands_done s ks m a t n (eval.elements_between from post) [] (one e) tt tt (h, tt)
   form_done n (form.tail_of e from count) ks m a t h =
       operands_done s ks m a t n (eval.last_elements from count) [] (one e) tt tt (h, tt)
-

@@ -1,12 +1,12 @@
 -- What goes on with a value fits: each part of a form.
-use Rattle.std.proofs.Common.{◌≡◌, ℕ, ◌+◌, List, [], ◌∷◌, ◌++◌, Bool, true, false, refl, sym, ap, ◌∙◌, subst}
-use Rattle.std.specs.Prelude.{Option, Some, None}
+use Rattle.std.proofs.Common.{ℕ, ◌+◌, List, [], ◌∷◌, ◌++◌, Bool, true, false, refl}
+use Rattle.std.specs.Prelude.{Some, None}
 use Rattle.rb_value.specs.declared.value.Value.{Value}
 use Rattle.rb_value.specs.declared.value.Value.TheVariants.{Nil}
 use Rattle.rb_value.specs.declared.value.ObjId.{ObjId}
 use Rattle.rb_value.specs.declared.kind.Sort.TheVariants as sort
 use Rattle.rb_value.specs.Value.{is_true}
-use Rattle.def_core.specs.Sound.{census, Array, Is, IsValue, AllAre}
+use Rattle.def_core.specs.Sound.{census, Array, Is, IsValue}
 use Rattle.ir_core.specs.CoreForm.{CoreForm, Maybe, absent, there, Forms, none, more, Items, Pairs, Branches}
 use Rattle.ir_core.specs.Program.{Around}
 use Rattle.def_calls.specs.World.{World, Answer, Result, gives, raises, with_store}
@@ -15,19 +15,18 @@ use Rattle.def_calls.specs.Values as values
 use Rattle.def_eval.specs.Source.{Source, span, span_clauses}
 use Rattle.def_eval.specs.Configuration as eval
 use Rattle.def_eval.specs.Configuration.{Gathering, Part, Outgoing, Item, Memory, with_world, Config, Run}
-use Rattle.def_eval.specs.Entering.{symbol, after}
-use Rattle.def_eval.specs.Forms.{next_element, next_pair, next_piece}
+use Rattle.def_eval.specs.Entering.{symbol}
+use Rattle.def_eval.specs.Forms.{next_element, next_piece}
 use Rattle.def_eval.specs.Giving.{with_block, with_element, after_pair, with_piece, choose, go_right, go_left, turn_loop, do_otherwise, give_part}
-use Rattle.world_laws.specs.Fine.{Bodies, Keeps}
-use Rattle.world_laws.specs.Outcomes.{AnswerIs, ResultIs, BlockArgumentIs}
+use Rattle.world_laws.specs.Fine.{Keeps}
+use Rattle.world_laws.specs.Outcomes.{AnswerIs, BlockArgumentIs}
 use Rattle.world_laws.proofs.Growing.{role_stays, sort_stays}
 use Rattle.world_laws.proofs.Values.{wrong_value_is, pushed_keeps, push_splat_keeps, appended_keeps, with_pair_is}
 use Rattle.world_laws.proofs.Ending.{block_argument_is}
 use Rattle.eval_laws.specs.Standing.{FormStands, MaybeStands, FormsStand, ItemsStand, PairsStand, BranchesStand, past_items, past_branches}
 use Rattle.eval_laws.specs.Fits.{GatheringFits, OutgoingFits, IsHash, IsText, PartStands, Fits, bodies}
-use Rattle.eval_laws.proofs.Tests.{either}
 use Rattle.eval_laws.proofs.Staying.{gathering_stays}
-use Rattle.eval_laws.proofs.Going.{Under, Text, under_then, text_then, symbol_is, all_behind, goes, after_fits, does, does_part}
+use Rattle.eval_laws.proofs.Going.{Text, under_then, text_then, symbol_is, all_behind, goes, after_fits, does, does_part}
 use Rattle.eval_laws.proofs.Finishing.{operands_done}
 use Rattle.eval_laws.proofs.Calling.{Called, called_later, performs, items_done, elements_done, call_done}
 use Rattle.eval_laws.proofs.Forming.{pairs_done, pieces_done, branches_done, loop_done}
@@ -162,4 +161,3 @@ module _ (s : Source) (ks : List Item) (m : Memory) (a : Around) (t : Text s ks 
   part_given v (eval.clause_target n e b r) is h = body_in_clause s ks m a t n b r h.1 h.2
   part_given v (eval.clause_body r) is h = goes s (eval.give v) ks m t.under is
   part_given v (eval.ensured n e) is h = ensure_done n e (eval.value v) h is
-

@@ -1,5 +1,5 @@
 -- What is left where an evaluation goes on: a memory that fits, over items that fit.
-use Rattle.std.proofs.Common.{◌≡◌, ◌≤◌, ◌<◌, ℕ, zero, suc, ◌+◌, ◌-◌, List, [], ◌∷◌, ◌++◌, length, get_or, Bool, true, false, cond, refl, sym, ap, ◌∙◌, subst, arith, true≢false}
+use Rattle.std.proofs.Common.{◌≡◌, ◌<◌, ℕ, ◌+◌, List, [], ◌∷◌, ◌++◌, length, Bool, true, false, cond, refl, sym, subst, true≢false}
 use Rattle.std.specs.Prelude.{Option, Some, None, is_some, bytes_eq, ◌||◌, unwrap_or}
 use Rattle.std.specs.List.{list_any, position, position_from}
 use Rattle.std.proofs.lemmas.Iterator.Adapters.{position_from-zero}
@@ -11,20 +11,21 @@ use Rattle.def_core.specs.Changes.{intern, intern_at}
 use Rattle.def_core.specs.Sound.{Census, census, IsSymbol, IsValue, OptionIs, AllAre}
 use Rattle.ir_core.specs.CoreForm.{Name, Local, named, hidden, pattern, rest, CoreForm}
 use Rattle.ir_core.specs.Program.{Around}
-use Rattle.def_calls.specs.World.{World, Answer, Result, gives, raises, activation_at, no_activation}
+use Rattle.def_calls.specs.World.{World, Answer, Result, gives, raises}
 use Rattle.def_eval.specs.Source.{Source}
 use Rattle.def_eval.specs.Configuration as eval
 use Rattle.def_eval.specs.Configuration.{Scope, Part, Item, Focus, perform, give, travel, Memory, with_world, Config, Run, stop_of}
 use Rattle.def_eval.specs.Scopes.{value_in, scope_at, scopes_around, first_with, last_or, scope_of, variable, own_variable, with_variable, running, is_there}
 use Rattle.def_eval.specs.Entering.{symbol, after, after_result}
-use Rattle.world_laws.specs.Fine.{Extends, Keeps, IsActivation, ActivationIs}
+use Rattle.world_laws.specs.Fine.{Extends, Keeps, ActivationIs}
 use Rattle.world_laws.specs.Outcomes.{AnswerIs, ResultIs}
+use Rattle.world_laws.proofs.Ending.{activation_at_is}
 use Rattle.world_laws.proofs.Growing.{value_stays, extends_itself}
 use Rattle.eval_laws.specs.Standing.{IsNamed, FormStands}
-use Rattle.eval_laws.specs.Fits.{ScopeFits, ScopesFit, AroundFits, begins_anew, in_clause, assigns_exception, has_exception, PartStands, ItemsFit, MemoryFits, FocusFits, Fits, NamesFit, bodies}
+use Rattle.eval_laws.specs.Fits.{ScopesFit, AroundFits, begins_anew, in_clause, assigns_exception, has_exception, PartStands, ItemsFit, MemoryFits, FocusFits, Fits, bodies}
 use Rattle.eval_laws.proofs.Tests.{or_right}
-use Rattle.eval_laws.proofs.Scopes.{Values, Parents, Later, later_itself, later_put, scopes_put, parents_of, value_found, scopes_there, last_there, first_there}
-use Rattle.eval_laws.proofs.Staying.{place_stays, items_stay, fibers_stay, names_stay, fine_later}
+use Rattle.eval_laws.proofs.Scopes.{Values, Parents, later_itself, later_put, scopes_put, parents_of, value_found, scopes_there, last_there, first_there}
+use Rattle.eval_laws.proofs.Staying.{place_stays, items_stay, memories_stay, names_stay, fine_later}
 
 pub record Under (s : Source) (ks : List Item) (m : Memory) : Type 0 where
   pub memory : MemoryFits s m
@@ -37,11 +38,6 @@ pub record Text (s : Source) (ks : List Item) (m : Memory) (a : Around) : Type 0
   pub around : AroundFits m.scopes m.place.scope ks a
 
 -- Lists.
-
-pub all_at : {A : Type 0} (P : A → Type 0) (xs : List A) (n : ℕ) (d : A) → AllAre P xs → n < length xs → P (get_or xs n d)
-all_at P [] n d all lt = absurd (omega (arith, lt))
-all_at P (x ∷ xs) zero d all lt = all.0
-all_at P (x ∷ xs) (suc n) d all lt = all_at P xs n d all.1 (omega (arith, lt))
 
 pub all_behind : {A : Type 0} (P : A → Type 0) (xs : List A) (x : A) → AllAre P xs → P x → AllAre P (xs ++ x ∷ [])
 all_behind P [] x all is = (is, tt)
@@ -97,16 +93,9 @@ module _ (s : Source) where
     pub symbol_is : (x : Name) → IsNamed s x → IsSymbol (census m.world.store) (symbol m x)
     symbol_is x is = name_is m.world.store x (h.names x is)
 
-    activation_is : (w : World) (a : ℕ) → AllAre (ActivationIs w) w.activations → IsActivation w a
-        → ActivationIs w (activation_at w a)
-    unfolding activation_at
-    activation_is w a all is =
-        let lt : a - 1 < length w.activations = omega (arith, is.0, is.1) in
-        all_at (ActivationIs w) w.activations (a - 1) no_activation all lt
-
     -- the activation that runs is there
     pub running_is : ActivationIs m.world (running m)
-    running_is = activation_is m.world m.place.activation h.world.activations h.place.activation
+    running_is = activation_at_is (bodies s m.scopes) m.world h.world m.place.activation h.place.activation
 
     -- Variables.
 
@@ -154,7 +143,7 @@ module _ (s : Source) where
         scopes = scopes_stay m.world w m.scopes k.extends h.scopes;
         world = k.fine;
         names = names_stay s m.world w k.extends h.names;
-        fibers = fibers_stay s m.world w k.extends m.scopes m.scopes p (later_itself m.scopes) m.fibers h.fibers;
+        fibers = memories_stay s m.world w k.extends m.scopes m.scopes p (later_itself m.scopes) m.fibers h.fibers;
       }
 
       pub items_then : (ks : List Item) → ItemsFit s m.world m.scopes m.place ks → ItemsFit s w m.scopes m.place ks
@@ -191,7 +180,7 @@ module _ (s : Source) where
           scopes = scopes_put m.scopes n x v lt k u.memory.scopes is;
           world = fine_later s m.scopes ds p l m.world u.memory.world;
           names = u.memory.names;
-          fibers = fibers_stay s m.world m.world e m.scopes ds p l m.fibers u.memory.fibers;
+          fibers = memories_stay s m.world m.world e m.scopes ds p l m.fibers u.memory.fibers;
         };
         items = items_stay s m.world m.world e m.scopes ds p l m.place ks u.memory.place.scope u.items;
       }
@@ -230,4 +219,3 @@ module _ (s : Source) where
   pub does_part : (p : Part) (n : ℕ) (e : CoreForm) (ks : List Item) (m : Memory) (a : Around) → Text s ks m a
       → PartStands s (census m.world.store) a p → FormStands s a n e → Fits s (Run (perform n e) (eval.part p ∷ ks) m)
   does_part p n e ks m a t h f = does n e (eval.part p ∷ ks) m a (over_part p ks m a t h) f
-

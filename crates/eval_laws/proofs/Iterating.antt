@@ -1,27 +1,23 @@
 -- What iterations do fits, and so does what moves between fibers.
-use Rattle.std.proofs.Common.{◌≡◌, ℕ, List, [], ◌∷◌, ◌++◌, Bool, refl, sym, ap, ◌∙◌, subst}
+use Rattle.std.proofs.Common.{◌≡◌, ℕ, List, [], ◌∷◌, ◌++◌}
 use Rattle.std.specs.Prelude.{Option, Some, None}
 use Rattle.rb_value.specs.declared.value.Value.{Value}
 use Rattle.rb_value.specs.declared.value.Value.TheVariants.{Nil}
-use Rattle.rb_value.specs.declared.value.ObjId.{ObjId}
-use Rattle.def_core.specs.declared.cause.Cause.{Cause}
 use Rattle.def_core.specs.declared.cause.Cause.TheVariants as cause
-use Rattle.def_core.specs.Sound.{Census, census, Proc, Is, IsValue, OptionIs, AllAre}
-use Rattle.rb_raise.specs.Causes.{SoundCause}
+use Rattle.def_core.specs.Sound.{census, Proc, IsValue, OptionIs, AllAre}
 use Rattle.def_calls.specs.World.{World, Answer, Result, gives, raises, fail, write, with_store}
 use Rattle.def_calls.specs.Calls.{close, one_of, read, send_by_core, enter_proc}
 use Rattle.def_calls.specs.Plans as plan
 use Rattle.def_calls.specs.Plans.{Iteration, Plan, Planned}
 use Rattle.def_calls.specs.Fibers.{Fibers, Onward, Resumed, refused, begins, continues}
 use Rattle.def_calls.specs.Fibers as fibers
-use Rattle.def_calls.specs.Seen.{Ended}
 use Rattle.def_eval.specs.Source.{Source}
 use Rattle.def_eval.specs.Configuration as eval
 use Rattle.def_eval.specs.Configuration.{Place, Item, Kept, Focus, Memory, with_world, Config, Run}
 use Rattle.def_eval.specs.Entering.{after, after_result}
 use Rattle.def_eval.specs.Giving.{returned, in_fiber, resume_by, yield_by, kept_as, carry_out, go_on, end_fiber, give_outgoing, do_give}
-use Rattle.world_laws.specs.Fine.{Bodies, Keeps, IsException}
-use Rattle.world_laws.specs.Outcomes.{AnswerIs, ResultIs, StateIs, PlanIs, PlannedIs, NameIs, FibersAre, OnwardIs, ResumedIs}
+use Rattle.world_laws.specs.Fine.{Keeps}
+use Rattle.world_laws.specs.Outcomes.{AnswerIs, ResultIs, StateIs, PlanIs, PlannedIs, OnwardIs, ResumedIs}
 use Rattle.world_laws.proofs.Growing.{value_stays}
 use Rattle.world_laws.proofs.Worlds.{keeps_io}
 use Rattle.world_laws.proofs.Answers.{fails_with}
@@ -31,9 +27,9 @@ use Rattle.world_laws.proofs.Calling.{send_is}
 use Rattle.world_laws.proofs.Plans.{next_is}
 use Rattle.world_laws.proofs.Fibers.{resume_is, yield_is, finish_is, ended_keeps}
 use Rattle.def_core.proofs.Good.{is_good}
-use Rattle.eval_laws.specs.Fits.{PlaceFits, ExitFits, OutgoingFits, ItemsFit, KeptFits, MemoryFits, FocusFits, Fits, bodies}
-use Rattle.eval_laws.proofs.Staying.{exit_stays, items_stay}
-use Rattle.eval_laws.proofs.Going.{Under, Text, under_then, goes, after_fits}
+use Rattle.eval_laws.specs.Fits.{PlaceFits, OutgoingFits, ItemsFit, KeptFits, MemoryFits, FocusFits, Fits, bodies}
+use Rattle.eval_laws.proofs.Staying.{exit_stays}
+use Rattle.eval_laws.proofs.Going.{Under, under_then, goes, after_fits}
 use Rattle.eval_laws.proofs.Entered.{entry_fits}
 use Rattle.eval_laws.proofs.Giving.{part_given}
 
@@ -225,4 +221,3 @@ module _ (s : Source) where
       (next_is (bodies s m.scopes) m.world u.memory.world it v u.items.1 is)
   value_given v (eval.ensuring o ∷ ks) m u is =
       outgoing_given o ks m (record { memory = u.memory; items = u.items.2 }) u.items.0
-

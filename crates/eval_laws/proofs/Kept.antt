@@ -1,11 +1,10 @@
 -- Every transition of the evaluation keeps what fits.
-use Rattle.std.proofs.Common.{◌≡◌, ℕ, zero, suc, List, refl}
+use Rattle.std.proofs.Common.{ℕ, zero, suc}
 use Rattle.def_eval.specs.Source.{Source}
 use Rattle.def_eval.specs.Configuration as eval
 use Rattle.def_eval.specs.Configuration.{Config, Run, Halt, opening}
 use Rattle.def_eval.specs.Transition.{go, go_times}
 use Rattle.eval_laws.specs.Fits.{Fits}
-use Rattle.eval_laws.proofs.Going.{Under, Text}
 use Rattle.eval_laws.proofs.Forming.{form_done}
 use Rattle.eval_laws.proofs.Iterating.{value_given}
 use Rattle.eval_laws.proofs.Travelling.{exit_done}
@@ -22,4 +21,3 @@ goes_fit s (Run (eval.travel x) ks m) h = exit_done s x ks m (record { memory = 
 pub times_fit : (n : ℕ) (s : Source) (c : Config) → Fits s c → Fits s (go_times n s c)
 times_fit zero s c h = h
 times_fit (suc n) s c h = times_fit n s (go s c) (goes_fit s c h)
-

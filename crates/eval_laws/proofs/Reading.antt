@@ -1,9 +1,9 @@
 -- What is read in a configuration that fits is there.
-use Rattle.std.proofs.Common.{◌≡◌, ◌<◌, ℕ, List, [], ◌∷◌, length, Bool, true, false, refl, sym, ap, ◌∙◌, subst, true≢false}
-use Rattle.std.specs.Prelude.{Option, Some, None, is_some, unwrap_or, slice_get}
+use Rattle.std.proofs.Common.{◌≡◌, ℕ, List, [], true, refl, sym, subst, true≢false}
+use Rattle.std.specs.Prelude.{Option, Some, None, is_some, unwrap_or}
 use Rattle.rb_value.specs.declared.value.Value.{Value}
 use Rattle.rb_value.specs.declared.value.ObjId.{ObjId}
-use Rattle.def_core.specs.Sound.{Census, census, IsValue, OptionIs, Sound}
+use Rattle.def_core.specs.Sound.{census, IsValue, OptionIs}
 use Rattle.ir_core.specs.CoreForm as form
 use Rattle.ir_core.specs.CoreForm.{Local, named, hidden, pattern, rest, CoreForm, Body}
 use Rattle.ir_core.specs.Program.{Around, is_known, is_bound}
@@ -11,7 +11,7 @@ use Rattle.def_eval.specs.Source.{Source, body_at}
 use Rattle.def_eval.specs.Configuration as eval
 use Rattle.def_eval.specs.Configuration.{Scope, Exit, Item, Focus, Memory, Config, Run, Halt}
 use Rattle.def_eval.specs.Scopes.{value_in, scope_at, scopes_around, first_with, scope_of}
-use Rattle.eval_laws.specs.Fits.{ExitFits, Fits, is_outward, has_exception}
+use Rattle.eval_laws.specs.Fits.{Fits, is_outward, has_exception}
 use Rattle.eval_laws.specs.Example.{lost}
 use Rattle.eval_laws.specs.Reached.{SoundStore, IsFound, IsOwn}
 use Rattle.eval_laws.proofs.Scopes.{is_in, first_has}

@@ -1,20 +1,18 @@
 -- What a body sees in a new scope: its parameters and locals, and what is seen around it.
-use Rattle.std.proofs.Common.{◌≡◌, ◌≤◌, ◌<◌, ℕ, zero, suc, ◌+◌, List, [], ◌∷◌, ◌++◌, length, Bool, true, false, refl, sym, ap, ◌∙◌, subst, arith, length-append, append_assoc, true≢false, ◌⊎◌, inl, inr, ⊎_elim}
+use Rattle.std.proofs.Common.{◌≡◌, ◌≤◌, ◌<◌, ℕ, zero, suc, List, [], ◌∷◌, ◌++◌, length, Bool, true, false, refl, sym, ap, ◌∙◌, subst, arith, length-append, true≢false, ◌⊎◌, inl, inr, ⊎_elim}
 use Rattle.std.specs.Prelude.{Option, Some, None, is_some, nat_lt, if◌then◌else◌}
 use Rattle.std.proofs.lemmas.List.{get_or_push, get_or_append_left}
 use Rattle.std.proofs.lemmas.Bool.Decides.{nat_tests}
 use Rattle.rb_value.specs.declared.value.Value.{Value}
 use Rattle.rb_value.specs.declared.value.Value.TheVariants.{Nil}
 use Rattle.rb_value.specs.declared.value.ObjId.{ObjId}
-use Rattle.def_core.specs.Sound.{Census, IsValue, OptionIs, AllAre, Is, Proc}
+use Rattle.def_core.specs.Sound.{Census, IsValue, OptionIs, AllAre}
 use Rattle.ir_core.specs.CoreForm.{Local, named, hidden, pattern, rest, Parameters}
-use Rattle.ir_core.specs.Program.{Around, within_block, within_method, within_class, within_program, are_same, is_bound, is_own, all_parameters}
+use Rattle.ir_core.specs.Program.{Around, within_block, within_method, within_class, are_same, is_bound, is_own, all_parameters}
 use Rattle.def_eval.specs.Configuration.{Scope, all_nil}
 use Rattle.def_eval.specs.Scopes.{same_local, value_in, scope_at, no_scope, outward, scopes_around, first_with, last_or, with_values, all_of, block_value, first_variables}
-use Rattle.def_eval.specs.Entering.{first_of}
-use Rattle.eval_laws.specs.Fits.{Sees, Owns, SceneFits, is_outward}
-use Rattle.eval_laws.proofs.Tests.{or_left, or_right}
-use Rattle.eval_laws.proofs.Scopes.{Parents, Later, later_more, Values, is_in, scopes_same, scene_later}
+use Rattle.eval_laws.specs.Fits.{SceneFits}
+use Rattle.eval_laws.proofs.Scopes.{Parents, later_more, Values, is_in, scopes_same, scene_later}
 
 -- Locals of a list are variables of a scope that has them all.
 
@@ -50,6 +48,7 @@ bound_either x (z ∷ xs) ys h = ⊎_elim (λ e. inl (taken (are_same x z) (is_b
     taken : (t u : Bool) → t ≡ true → (if t then true else u) ≡ true
     taken true u e = refl
     taken false u e = absurd (true≢false (sym e))
+
     later : (t u : Bool) → u ≡ true → (if t then true else u) ≡ true
     later true u e = refl
     later false u e = e
@@ -265,4 +264,3 @@ module _ (cs : List Scope) (p : Parents cs) (c : Scope) where
               subst (λ i. is_in (scope_at ds i).variables x ≡ true) (sym (ap (last_or (length cs)) around ∙ last_around n))
               (subst (λ ns. is_in (scope_at ds (last_or n ns)).variables x ≡ true) same (later.owns x own));
         }
-

@@ -1,6 +1,6 @@
 -- Lists of scopes that grow, and in which variables are set: the scopes around each stay, with the names in them.
-use Rattle.std.proofs.Common.{◌≡◌, ◌≢◌, ◌≤◌, ◌<◌, ℕ, zero, suc, ◌+◌, List, [], ◌∷◌, ◌++◌, length, get_or, set, Bool, true, false, refl, sym, ap, ◌∙◌, subst, arith, length-append, length-set, true≢false, ◌⊎◌, inl, inr, ⊎_elim}
-use Rattle.std.specs.Prelude.{Option, Some, None, is_some, nat_lt, nat_eq, bytes_eq, unwrap_or, if◌then◌else◌}
+use Rattle.std.proofs.Common.{◌≡◌, ◌≤◌, ◌<◌, ℕ, zero, suc, List, [], ◌∷◌, ◌++◌, length, Bool, true, false, refl, sym, ap, ◌∙◌, subst, arith, length-append, length-set, true≢false, ⊎_elim}
+use Rattle.std.specs.Prelude.{Option, Some, None, is_some, nat_lt, if◌then◌else◌}
 use Rattle.std.proofs.lemmas.List.{get_or_append_left, get_or_push, get_or-set_same, get_or-set_other}
 use Rattle.std.proofs.lemmas.Bool.Decides.{nat_tests, Decides-eqb}
 use Rattle.std.proofs.lemmas.Bool.{cases_eq}
@@ -11,7 +11,7 @@ use Rattle.ir_core.specs.CoreForm.{Local, named, hidden, pattern, rest}
 use Rattle.def_eval.specs.Configuration.{Scope}
 use Rattle.def_eval.specs.Scopes.{same_local, value_in, put_value, scope_at, no_scope, outward, scopes_around, first_with, last_or, put_in}
 use Rattle.eval_laws.proofs.Tests.{either, tested}
-use Rattle.eval_laws.specs.Fits.{ScopeFits, ScopesFit, Sees, Owns, SceneFits, is_outward}
+use Rattle.eval_laws.specs.Fits.{ScopeFits, ScopesFit, Sees, SceneFits}
 
 -- Locals.
 
@@ -229,4 +229,3 @@ module _ (cs ds : List Scope) (p : Parents cs) (l : Later cs ds) (n : ℕ) (with
         (l.names (last_or n (scopes_around cs n)) x
         (last_there cs n (scopes_around cs n) within (scopes_there cs n p within)) (h.owns x own));
   }
-

@@ -1,6 +1,6 @@
 -- Every body of a program's source stands where its number says.
-use Rattle.std.proofs.Common.{◌≡◌, ℕ, zero, suc, ◌+◌, ◌-◌, ◌<◌, List, [], ◌∷◌, ◌++◌, length, get_or, Bool, true, false, refl, sym, ap, ◌∙◌, subst, arith, length-append, append_assoc, true≢false}
-use Rattle.std.specs.Prelude.{Option, Some, None, slice_get, bytes_eq, ◌&&◌, ◌||◌}
+use Rattle.std.proofs.Common.{◌≡◌, ℕ, zero, suc, ◌+◌, ◌-◌, ◌<◌, List, [], ◌∷◌, ◌++◌, length, get_or, true, false, refl, sym, ap, ◌∙◌, subst, arith, length-append, append_assoc, true≢false}
+use Rattle.std.specs.Prelude.{Some, slice_get, bytes_eq}
 use Rattle.std.specs.List.{list_any}
 use Rattle.std.proofs.lemmas.Option.{slice_get_within, slice_get-get_or, get_or_from_slice_get}
 use Rattle.std.proofs.lemmas.List.{get_or-append_right}
@@ -11,7 +11,7 @@ use Rattle.rb_syntax.specs.declared.core_form.DefinedKind.TheVariants as asks
 use Rattle.ir_core.specs.CoreForm as form
 use Rattle.ir_core.specs.CoreForm.{Name, CoreForm, Body, body, Maybe, absent, there, Forms, none, more, Items, no_items, plain, splat, Pairs, no_pairs, pair, Branches, no_branches, branch, Clauses, no_clauses, clause, Receiver, to, on_self, bare}
 use Rattle.ir_core.specs.Program.{Around, within_loop, within_clause, within_target, within_block, within_method, within_class, is_form, may_be, are_forms, are_items, are_pairs, are_branches, are_clauses, is_receiver, is_block, is_method, is_class, within_program, IsProgram}
-use Rattle.def_eval.specs.Source.{Source, over, over_body, over_maybe, over_forms, over_items, over_pairs, over_branches, over_clauses, over_receiver, over_asked, in_order, named_in, all_names, source_of, body_at, no_parameters, form_of, locals_of, span, span_maybe, span_forms, span_clauses}
+use Rattle.def_eval.specs.Source.{Source, over, over_body, over_maybe, over_forms, over_items, over_pairs, over_branches, over_clauses, over_receiver, over_asked, in_order, named_in, all_names, source_of, body_at, form_of, locals_of, span, span_maybe, span_forms, span_clauses}
 use Rattle.eval_laws.specs.Standing.{IsNamed, IsAsked, FormStands, MaybeStands, FormsStand, ItemsStand, PairsStand, BranchesStand, ClausesStand, ReceiverStands, BlockStands, MethodStands, ClassStands, past_receiver, past_items, past_branches}
 use Rattle.eval_laws.proofs.Sizes.{size, size_maybe, size_forms, size_clauses}
 use Rattle.eval_laws.proofs.Tests.{and_true, or_left, or_right}
@@ -202,8 +202,7 @@ module _ (s : Source) where
     stands a n (form.set_constant x e) h k = (named n (piece e) x k, stands a n e h (left n (piece e) (name x) k))
     stands a n (form.set_in_constant c x e) h k =
         let b = and_true h in
-        let r = behind n c (joined (piece e) (name x)) k in
-        (
+        let r = behind n c (joined (piece e) (name x)) k in (
           named (n + span c) (piece e) x r,
           stands a n c b.0 (left n (piece c) (joined (piece e) (name x)) k),
           stands a (n + span c) e b.1 (left (n + span c) (piece e) (name x) r),
@@ -217,8 +216,7 @@ module _ (s : Source) where
     stands a n (form.intern e) h k = stands a n e h k
     stands a n (form.seq es) h k = forms_stand a n es h k
     stands a n (form.cond bs o) h k =
-        let b = and_true h in
-        (
+        let b = and_true h in (
           branches_stand a n bs b.0 (left n (piece_branches bs) (piece o) k),
           stands a (past_branches n bs) o b.1 (behind_branches n bs (piece o) k),
         )
@@ -229,8 +227,7 @@ module _ (s : Source) where
         let b = and_true h in
         (stands a n e b.0 (left n (piece e) (piece f) k), stands a (n + span e) f b.1 (behind n e (piece f) k))
     stands a n (form.while_form first t b) h k =
-        let c = and_true h in
-        (
+        let c = and_true h in (
           stands (within_loop a) n t c.0 (left n (piece t) (piece b) k),
           stands (within_loop a) (n + span t) b c.1 (behind n t (piece b) k),
         )
@@ -239,8 +236,7 @@ module _ (s : Source) where
         let d = and_true c.1 in
         let q = joined (piece_items is) (joined (piece_maybe b) (name x)) in
         let l = behind_receiver n r q k in
-        let m = behind_items (past_receiver n r) is (joined (piece_maybe b) (name x)) l in
-        (
+        let m = behind_items (past_receiver n r) is (joined (piece_maybe b) (name x)) l in (
           named (past_items (past_receiver n r) is) (piece_maybe b) x m,
           receiver_stands a n r c.0 (left n (piece_receiver r) q k),
           items_stand a (past_receiver n r) is d.0
@@ -250,8 +246,7 @@ module _ (s : Source) where
         )
     stands a n (form.yield_form is) h k = items_stand a n is (and_true h).1 k
     stands a n (form.super_form is b) h k =
-        let c = and_true (and_true h).1 in
-        (
+        let c = and_true (and_true h).1 in (
           items_stand a n is c.0 (left n (piece_items is) (piece_maybe b) k),
           maybe_stands a (past_items n is) b c.1 (behind_items n is (piece_maybe b) k),
         )
@@ -264,8 +259,7 @@ module _ (s : Source) where
         let p = joined (piece_clauses cs) (joined (piece_maybe o) (piece_maybe e)) in
         let q = joined (piece_maybe o) (piece_maybe e) in
         let l = behind n b p k in
-        let m = behind_clauses (n + span b) cs q l in
-        (
+        let m = behind_clauses (n + span b) cs q l in (
           stands a n b c.0 (left n (piece b) p k),
           clauses_stand a (n + span b) cs d.0 (left (n + span b) (piece_clauses cs) q l),
           maybe_stands a (n + span b + span_clauses cs) o f.0
@@ -281,8 +275,7 @@ module _ (s : Source) where
         (named n (piece_body f) x k, method_stands n f h (left n (piece_body f) (name x) k))
     stands a n (form.define_on e x f) h k =
         let b = and_true h in
-        let r = behind n e (joined (piece_body f) (name x)) k in
-        (
+        let r = behind n e (joined (piece_body f) (name x)) k in (
           named (n + span e) (piece_body f) x r,
           stands a n e b.0 (left n (piece e) (joined (piece_body f) (name x)) k),
           method_stands (n + span e) f b.1 (left (n + span e) (piece_body f) (name x) r),
@@ -292,8 +285,7 @@ module _ (s : Source) where
         let d = and_true b.1 in
         let q = joined (piece_maybe p) (joined (piece_body f) (name x)) in
         let l = behind_maybe n c q k in
-        let m = behind_maybe (n + span_maybe c) p (joined (piece_body f) (name x)) l in
-        (
+        let m = behind_maybe (n + span_maybe c) p (joined (piece_body f) (name x)) l in (
           named (n + span_maybe c + span_maybe p) (piece_body f) x m,
           maybe_stands a n c b.0 (left n (piece_maybe c) q k),
           maybe_stands a (n + span_maybe c) p d.0
@@ -303,15 +295,13 @@ module _ (s : Source) where
         )
     stands a n (form.module_form c x f) h k =
         let b = and_true h in
-        let l = behind_maybe n c (joined (piece_body f) (name x)) k in
-        (
+        let l = behind_maybe n c (joined (piece_body f) (name x)) k in (
           named (n + span_maybe c) (piece_body f) x l,
           maybe_stands a n c b.0 (left n (piece_maybe c) (joined (piece_body f) (name x)) k),
           class_stands (n + span_maybe c) f b.1 (left (n + span_maybe c) (piece_body f) (name x) l),
         )
     stands a n (form.singleton_class e f) h k =
-        let b = and_true h in
-        (
+        let b = and_true h in (
           stands a n e b.0 (left n (piece e) (piece_body f) k),
           class_stands (n + span e) f b.1 (behind n e (piece_body f) k),
         )
@@ -334,8 +324,7 @@ module _ (s : Source) where
         → FormsStand s a n es
     forms_stand a n none h k = tt
     forms_stand a n (more e es) h k =
-        let b = and_true h in
-        (
+        let b = and_true h in (
           stands a n e b.0 (left n (piece e) (piece_forms es) k),
           forms_stand a (n + span e) es b.1 (behind n e (piece_forms es) k),
         )
@@ -344,14 +333,12 @@ module _ (s : Source) where
         → ItemsStand s a n is
     items_stand a n no_items h k = tt
     items_stand a n (plain e is) h k =
-        let b = and_true h in
-        (
+        let b = and_true h in (
           stands a n e b.0 (left n (piece e) (piece_items is) k),
           items_stand a (n + span e) is b.1 (behind n e (piece_items is) k),
         )
     items_stand a n (splat e is) h k =
-        let b = and_true h in
-        (
+        let b = and_true h in (
           stands a n e b.0 (left n (piece e) (piece_items is) k),
           items_stand a (n + span e) is b.1 (behind n e (piece_items is) k),
         )
@@ -362,8 +349,7 @@ module _ (s : Source) where
     pairs_stand a n (pair e f ps) h k =
         let b = and_true h in
         let c = and_true b.1 in
-        let l = behind n e (joined (piece f) (piece_pairs ps)) k in
-        (
+        let l = behind n e (joined (piece f) (piece_pairs ps)) k in (
           stands a n e b.0 (left n (piece e) (joined (piece f) (piece_pairs ps)) k),
           stands a (n + span e) f c.0 (left (n + span e) (piece f) (piece_pairs ps) l),
           pairs_stand a (n + span e + span f) ps c.1 (behind (n + span e) f (piece_pairs ps) l),
@@ -375,8 +361,7 @@ module _ (s : Source) where
     branches_stand a n (branch t e bs) h k =
         let b = and_true h in
         let c = and_true b.1 in
-        let l = behind n t (joined (piece e) (piece_branches bs)) k in
-        (
+        let l = behind n t (joined (piece e) (piece_branches bs)) k in (
           stands a n t b.0 (left n (piece t) (joined (piece e) (piece_branches bs)) k),
           stands a (n + span t) e c.0 (left (n + span t) (piece e) (piece_branches bs) l),
           branches_stand a (n + span t + span e) bs c.1 (behind (n + span t) e (piece_branches bs) l),
@@ -392,8 +377,7 @@ module _ (s : Source) where
         let p = joined (piece_maybe t) (joined (piece e) (piece_clauses cs)) in
         let q = joined (piece e) (piece_clauses cs) in
         let l = behind_forms n es p k in
-        let m = behind_maybe (n + span_forms es) t q l in
-        (
+        let m = behind_maybe (n + span_forms es) t q l in (
           forms_stand (within_clause a) n es b.0 (left n (piece_forms es) p k),
           maybe_stands (within_target a) (n + span_forms es) t c.0 (left (n + span_forms es) (piece_maybe t) q l),
           stands (within_clause a) (n + span_forms es + span_maybe t) e d.0
@@ -453,4 +437,3 @@ program_stands (body p ls e) is =
     let s = source_of (body p ls e) in
     stands s (within_program ls) 1 e (and_true is).1
     (inside s 0 p ls e (record { slice = whole [] s; names = λ x h. absurd (true≢false (sym h)) }))
-

@@ -1,5 +1,5 @@
 -- The opening configuration of a program fits, so every configuration that its evaluation comes to does.
-use Rattle.std.proofs.Common.{◌≡◌, ◌<◌, ℕ, zero, suc, ◌+◌, List, [], ◌∷◌, ◌++◌, length, get_or, Bool, true, false, refl, sym, ap, ◌∙◌, subst, arith, true≢false}
+use Rattle.std.proofs.Common.{◌≡◌, ℕ, zero, suc, List, [], ◌∷◌, Bool, true, false, refl, sym, ◌∙◌, subst, arith, true≢false}
 use Rattle.std.specs.Prelude.{Option, Some, None, bytes_eq, ◌||◌}
 use Rattle.std.specs.List.{list_any, position}
 use Rattle.std.proofs.lemmas.List.Folds.{list_any-append, list_any_at}
@@ -13,14 +13,12 @@ use Rattle.ir_core.specs.CoreForm.{Name, Body, body}
 use Rattle.ir_core.specs.Program.{IsProgram, within_program}
 use Rattle.def_calls.specs.Rows as rows
 use Rattle.def_calls.specs.Calls.{opening_world}
-use Rattle.def_eval.specs.Source.{Source, source_of, body_at, all_names, no_parameters}
-use Rattle.def_eval.specs.Configuration as eval
-use Rattle.def_eval.specs.Configuration.{Scope, Config, all_nil, opening_place, opening}
+use Rattle.def_eval.specs.Source.{source_of, body_at, all_names, no_parameters}
+use Rattle.def_eval.specs.Configuration.{Scope, all_nil, opening}
 use Rattle.def_eval.specs.Scopes.{first_variables}
 use Rattle.def_eval.specs.Transition.{go_times}
 use Rattle.world_laws.proofs.Opening.{opening_is}
-use Rattle.eval_laws.specs.Standing.{IsNamed}
-use Rattle.eval_laws.specs.Fits.{ScopeFits, ScopesFit, SceneFits, Fits, bodies}
+use Rattle.eval_laws.specs.Fits.{ScopeFits, ScopesFit, Fits, bodies}
 use Rattle.eval_laws.proofs.Tests.{or_left, or_right}
 use Rattle.eval_laws.proofs.Scopes.{Parents}
 use Rattle.eval_laws.proofs.Sources.{program_stands}
@@ -112,4 +110,3 @@ pub evaluation_fits : (b : Body) (input : List ℕ) (n : ℕ) → IsProgram b
     → Fits (source_of b) (go_times n (source_of b) (opening (source_of b) input))
 evaluation_fits b input n is =
     times_fit n (source_of b) (opening (source_of b) input) (opening_fits b input is)
-

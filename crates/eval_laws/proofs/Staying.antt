@@ -1,37 +1,32 @@
 -- What fits a world and a list of scopes fits later ones.
-use Rattle.std.proofs.Common.{◌≡◌, ◌≤◌, ◌<◌, ℕ, List, [], ◌∷◌, ◌++◌, length, Bool, true, refl, sym, ap, ◌∙◌, subst, arith, true≢false}
-use Rattle.std.specs.Prelude.{Option, Some, None, is_some, bytes_eq, false, ◌||◌}
+use Rattle.std.proofs.Common.{◌<◌, ℕ, List, [], ◌∷◌, length, sym, ap, ◌∙◌, arith}
+use Rattle.std.specs.Prelude.{bytes_eq}
 use Rattle.std.specs.List.{list_any}
 use Rattle.std.proofs.lemmas.List.Folds.{list_any-append}
-use Rattle.rb_value.specs.declared.value.Value.{Value}
-use Rattle.rb_value.specs.declared.value.ObjId.{ObjId}
 use Rattle.rb_value.specs.declared.method.Method.{Method}
 use Rattle.rb_value.specs.declared.method.Method.TheVariants as method
 use Rattle.rb_value.specs.declared.kind.Kind.{Kind}
 use Rattle.rb_value.specs.declared.kind.Kind.TheVariants as kind
 use Rattle.rb_value.specs.declared.kind.Sort.TheVariants as sort
 use Rattle.rb_value.specs.declared.procs.ProcContents.{ProcContents}
-use Rattle.def_core.specs.Sound.{census, Census, Is, IsValue, OptionIs, AllAre, Array, Proc}
+use Rattle.def_core.specs.Sound.{census, Array}
 use Rattle.ir_core.specs.Program.{Around}
 use Rattle.def_calls.specs.World.{World}
 use Rattle.def_calls.specs.Calls.{Sending, by_name, by_bare_name, to_proc, to_super}
-use Rattle.def_calls.specs.Plans.{Iteration, begun, handing, putting, putting_text, printing, printing_text, inspecting, inspecting_text, raising, looping, visiting, counting, initializing}
-use Rattle.def_calls.specs.Fibers as fibers
+use Rattle.def_calls.specs.Fibers.{Fibers}
+use Rattle.world_laws.proofs.Plans.{values_stay, state_stays}
+use Rattle.world_laws.proofs.Fibers.{fibers_stay}
 use Rattle.def_eval.specs.Source.{Source}
 use Rattle.def_eval.specs.Configuration as eval
 use Rattle.def_eval.specs.Configuration.{Place, Scope, Exit, Gathering, Part, Outgoing, Item, Kept}
-use Rattle.def_eval.specs.Scopes.{scopes_around}
-use Rattle.world_laws.specs.Fine.{Goes, Extends, Fine, KindIs, ObjectIs, MethodIs, EntryHas}
-use Rattle.world_laws.specs.Outcomes.{SendingIs, StateIs, NameIs, FiberIs, FibersAre}
-use Rattle.world_laws.proofs.Growing.{sort_stays, role_stays, symbol_stays, value_stays, activation_number_stays, option_stays, all_stay}
-use Rattle.eval_laws.specs.Fits.{PlaceFits, ExitFits, OutgoingFits, AroundFits, GatheringFits, PartStands, PartFits, ItemsFit, KeptFits, ProcFits, BodyFits, NamesFit, bodies}
+use Rattle.world_laws.specs.Fine.{Extends, Fine, KindIs, ObjectIs, MethodIs, EntryHas}
+use Rattle.world_laws.specs.Outcomes.{SendingIs, FibersAre}
+use Rattle.world_laws.proofs.Growing.{sort_stays, role_stays, symbol_stays, value_stays, activation_number_stays, all_stay}
+use Rattle.eval_laws.specs.Fits.{PlaceFits, ExitFits, OutgoingFits, GatheringFits, PartStands, PartFits, ItemsFit, KeptFits, ProcFits, NamesFit, bodies}
 use Rattle.eval_laws.proofs.Scopes.{Parents, Later, scopes_same, scene_later}
 use Rattle.eval_laws.proofs.Tests.{or_left}
 
 module _ (s : Source) (w v : World) (e : Extends w v) where
-  pub all_values : (vs : List Value) → AllAre (IsValue (census w.store)) vs → AllAre (IsValue (census v.store)) vs
-  all_values vs h = all_stay (IsValue (census w.store)) (IsValue (census v.store)) (value_stays w v e) vs h
-
   pub exit_stays : (ks : List Item) (x : Exit) → ExitFits (census w.store) ks x → ExitFits (census v.store) ks x
   exit_stays ks (eval.raise x) h = sort_stays w v e sort.Exception x h
   exit_stays ks (eval.return a x) h = (h.0, value_stays w v e x h.1)
@@ -57,11 +52,11 @@ module _ (s : Source) (w v : World) (e : Extends w v) where
   gathering_stays a n (eval.arguments_of k recv b) h = (sending_stays k h.0, value_stays w v e recv h.1, h.2)
 
   stands_still : (a : Around) (p : Part) → PartStands s (census w.store) a p → PartStands s (census v.store) a p
-  stands_still a (eval.operands n action vs es) h = (h.0, all_values vs h.1, h.2)
+  stands_still a (eval.operands n action vs es) h = (h.0, values_stay w v e vs h.1, h.2)
   stands_still a (eval.receiver n x is b) h = h
   stands_still a (eval.items n k recv vs is b) h =
-      (sending_stays k h.0, value_stays w v e recv h.1, all_values vs h.2, h.3, h.4)
-  stands_still a (eval.block k recv vs) h = (sending_stays k h.0, value_stays w v e recv h.1, all_values vs h.2)
+      (sending_stays k h.0, value_stays w v e recv h.1, values_stay w v e vs h.2, h.3, h.4)
+  stands_still a (eval.block k recv vs) h = (sending_stays k h.0, value_stays w v e recv h.1, values_stay w v e vs h.2)
   stands_still a (eval.elements n g id splat is) h =
       (gathering_stays a _ g h.0, role_stays w v e Array id h.1, h.2)
   stands_still a (eval.hash_key n id x ps) h = (sort_stays w v e sort.Hash id h.0, h.1, h.2)
@@ -81,29 +76,6 @@ module _ (s : Source) (w v : World) (e : Extends w v) where
   stands_still a (eval.clause_target n x b r) h = (sort_stays w v e sort.Exception x h.0, h.1, h.2)
   stands_still a (eval.clause_body r) h = h
   stands_still a (eval.ensured n x) h = h
-
-  pub state_stays : (it : Iteration) → StateIs (census w.store) it → StateIs (census v.store) it
-  state_stays (begun row recv args block) h = (
-    value_stays w v e recv h.0,
-    all_values args h.1,
-    option_stays (Is (census w.store) Proc) (Is (census v.store) Proc) (role_stays w v e Proc) block h.2,
-  )
-  state_stays handing h = tt
-  state_stays (putting vs) h = all_values vs h
-  state_stays (putting_text vs) h = all_values vs h
-  state_stays (printing vs) h = all_values vs h
-  state_stays (printing_text vs) h = all_values vs h
-  state_stays (inspecting vs us) h = (all_values vs h.0, all_values us h.1)
-  state_stays (inspecting_text vs us) h = (all_values vs h.0, all_values us h.1)
-  state_stays raising h = tt
-  state_stays (looping p) h = role_stays w v e Proc p h
-  state_stays (visiting a i p) h = (role_stays w v e Array a h.0, role_stays w v e Proc p h.1)
-  state_stays (counting z i p) h = role_stays w v e Proc p h
-  state_stays (initializing x) h = value_stays w v e x h
-
-  fiber_name_stays : (n : fibers.Name) → NameIs (census w.store) n → NameIs (census v.store) n
-  fiber_name_stays fibers.root h = tt
-  fiber_name_stays (fibers.object f) h = role_stays w v e _ f h
 
   module _ (cs ds : List Scope) (p : Parents cs) (l : Later cs ds) where
     pub place_stays : (q : Place) → PlaceFits w cs q → PlaceFits v ds q
@@ -125,7 +97,7 @@ module _ (s : Source) (w v : World) (e : Extends w v) where
     items_stay q (eval.part x ∷ ks) lt h = (part_stays q.scope ks x lt h.0, h.1, items_stay q ks lt h.2)
     items_stay q (eval.activation a back ∷ ks) lt h = (h.0, place_stays back h.1, items_stay back ks h.1.scope h.2)
     items_stay q (eval.iteration a it back ∷ ks) lt h =
-        (h.0, state_stays it h.1, place_stays back h.2, items_stay back ks h.2.scope h.3)
+        (h.0, state_stays w v e it h.1, place_stays back h.2, items_stay back ks h.2.scope h.3)
     items_stay q (eval.ensuring o ∷ ks) lt h = (outgoing_stays ks o h.0, h.1, items_stay q ks lt h.2)
 
     kept_stays : (k : Kept) → KeptFits s w cs k → KeptFits s v ds k
@@ -134,22 +106,9 @@ module _ (s : Source) (w v : World) (e : Extends w v) where
       items = items_stay k.place k.items h.place.scope h.items;
     }
 
-    fiber_stays : (f : fibers.Fiber Kept) → FiberIs (census w.store) (KeptFits s w cs) f
-        → FiberIs (census v.store) (KeptFits s v ds) f
-    fiber_stays f h = record {
-      name = fiber_name_stays f.name h.name;
-      resumer = option_stays (NameIs (census w.store)) (NameIs (census v.store)) fiber_name_stays f.resumer h.resumer;
-      kept = kept_stays f.kept h.kept;
-    }
-
-    pub fibers_stay : (fs : fibers.Fibers Kept) → FibersAre (census w.store) (KeptFits s w cs) fs
+    pub memories_stay : (fs : Fibers Kept) → FibersAre (census w.store) (KeptFits s w cs) fs
         → FibersAre (census v.store) (KeptFits s v ds) fs
-    fibers_stay fs h = record {
-      running = fiber_name_stays fs.running h.running;
-      resumer = option_stays (NameIs (census w.store)) (NameIs (census v.store)) fiber_name_stays fs.resumer h.resumer;
-      others = all_stay (FiberIs (census w.store) (KeptFits s w cs)) (FiberIs (census v.store) (KeptFits s v ds))
-          fiber_stays fs.others h.others;
-    }
+    memories_stay fs h = fibers_stay w v e (KeptFits s w cs) (KeptFits s v ds) kept_stays fs h
 
 -- A name that has a symbol keeps it.
 
@@ -208,4 +167,3 @@ module _ (s : Source) (cs ds : List Scope) (p : Parents cs) (l : Later cs ds) (w
     enclosing = h.enclosing;
     activations = h.activations;
   }
-

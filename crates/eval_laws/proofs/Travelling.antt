@@ -1,5 +1,5 @@
 -- Where exits go fits: each leads to an item that is there, so none but an exception gets past the last.
-use Rattle.std.proofs.Common.{◌≡◌, ℕ, zero, suc, ◌+◌, List, [], ◌∷◌, Bool, true, false, nat_eq, refl, sym, ap, ◌∙◌, subst, true≢false}
+use Rattle.std.proofs.Common.{◌≡◌, ℕ, ◌+◌, List, [], ◌∷◌, Bool, true, false, nat_eq, refl, sym, ◌∙◌, subst, true≢false}
 use Rattle.std.specs.Prelude.{Option, Some, None, ◌||◌}
 use Rattle.std.proofs.lemmas.Bool.Decides.{Decides-eqb}
 use Rattle.rb_value.specs.declared.value.Value.{Value}
@@ -8,7 +8,6 @@ use Rattle.rb_value.specs.declared.kind.Sort.TheVariants as sort
 use Rattle.def_core.specs.Sound.{Census, census, IsValue, OptionIs}
 use Rattle.ir_core.specs.CoreForm.{CoreForm}
 use Rattle.ir_core.specs.Program.{Around, within_loop}
-use Rattle.def_calls.specs.World.{World}
 use Rattle.def_calls.specs.Calls.{Unrescued, unrescued, close}
 use Rattle.def_calls.specs.Plans.{Iteration, caught}
 use Rattle.def_calls.specs.Fibers.{Onward}
@@ -21,7 +20,7 @@ use Rattle.def_eval.specs.Scopes.{is_there}
 use Rattle.def_eval.specs.Forms.{is_loop, in_loop, is_under_way}
 use Rattle.def_eval.specs.Giving.{returned}
 use Rattle.def_eval.specs.Exits.{travel_loop, travel_rescue, travel_clause, travel_part, reach, travel_activation, travel_caught, travel_iteration, end_by, leave_fiber, travel_out, do_travel}
-use Rattle.world_laws.specs.Fine.{Bodies, Keeps, IsException}
+use Rattle.world_laws.specs.Fine.{IsException}
 use Rattle.world_laws.specs.Outcomes.{OnwardIs}
 use Rattle.world_laws.proofs.Growing.{sort_stays}
 use Rattle.world_laws.proofs.Changing.{has_any}
@@ -262,4 +261,3 @@ exit_done s x (eval.iteration a it back ∷ ks) m u h =
 exit_done s x (eval.ensuring o ∷ ks) m u h =
     goes s (eval.travel x) ks m (record { memory = u.memory; items = u.items.2 })
     (leads_behind (census m.world.store) ks o x u.items.1 h)
-

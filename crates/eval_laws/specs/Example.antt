@@ -12,7 +12,7 @@
 -- rescue
 --   retry
 -- end
-use Rattle.std.specs.Prelude.{List, [], ◌∷◌, pos, codes}
+use Rattle.std.specs.Prelude.{[], ◌∷◌, pos, codes}
 use Rattle.ir_core.specs.CoreForm.{Local, named, CoreForm, nil, int, str, local, set_local, seq, cond, call, yield_form, function, begin_form, retry, define, Body, body, absent, there, none, more, no_items, plain, no_branches, branch, no_clauses, clause, to, on_self, Parameters, no_parameters}
 use Rattle.def_eval.specs.Configuration.{leave_loop, travel, Memory, Config, Run}
 use Rattle.rb_value.specs.declared.value.Value.TheVariants.{Nil}

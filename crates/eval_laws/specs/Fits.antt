@@ -3,7 +3,6 @@
 use Rattle.std.specs.Prelude.{◌≡◌, ◌<◌, ◌≤◌, ℕ, ◌+◌, List, [], ◌∷◌, length, bytes_eq, Bool, true, false, ◌||◌, Option, is_some}
 use Rattle.std.specs.List.{list_any}
 use Rattle.std.proofs.Common.{arith, length-append}
-use Rattle.rb_value.specs.declared.value.Value.{Value}
 use Rattle.rb_value.specs.declared.value.ObjId.{ObjId}
 use Rattle.rb_value.specs.declared.procs.ProcContents.{ProcContents}
 use Rattle.rb_value.specs.declared.kind.Sort.TheVariants as sort
@@ -16,7 +15,7 @@ use Rattle.def_eval.specs.Configuration as eval
 use Rattle.def_eval.specs.Configuration.{Place, Scope, Exit, Action, Gathering, Rescue, Part, Stop, Outgoing, Item, Kept, Focus, Memory, Config, Run, Halt, stop_of}
 use Rattle.def_eval.specs.Scopes.{value_in, scope_at, scopes_around, first_with, last_or, shape_of, is_there}
 use Rattle.def_eval.specs.Forms.{in_loop, is_under_way}
-use Rattle.world_laws.specs.Fine.{Goes, Extends, Bodies, Fine, HasSort, IsException, IsActivation, IsClasses}
+use Rattle.world_laws.specs.Fine.{Goes, Bodies, Fine, HasSort, IsException, IsActivation, IsClasses}
 use Rattle.world_laws.specs.Outcomes.{SendingIs, StateIs, FibersAre}
 use Rattle.eval_laws.specs.Standing.{IsNamed, IsAsked, FormStands, MaybeStands, FormsStand, ItemsStand, PairsStand, BranchesStand, ClausesStand, BlockStands, MethodStands, ClassStands, past_items, past_branches}
 

@@ -1,9 +1,8 @@
 -- What a configuration that fits says of what is done in it.
-use Rattle.std.specs.Prelude.{◌≡◌, ◌<◌, List, length, true, is_some}
-use Rattle.rb_value.specs.declared.value.ObjId.{ObjId}
+use Rattle.std.specs.Prelude.{◌≡◌, ◌<◌, length, true, is_some}
 use Rattle.def_core.specs.Sound.{Sound}
 use Rattle.ir_core.specs.CoreForm.{Local}
-use Rattle.def_eval.specs.Configuration.{Exit, raise, Memory, Config, Run, Halt}
+use Rattle.def_eval.specs.Configuration.{Memory, Config, Run, Halt}
 use Rattle.def_eval.specs.Scopes.{value_in, scope_at, scopes_around, last_or, scope_of}
 use Rattle.eval_laws.specs.Fits.{is_outward}
 
