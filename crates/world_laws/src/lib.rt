@@ -1,0 +1,15 @@
+//! Every outcome keeps the world. There is no code here: the law binds the definitions of def_calls, by which both the
+//! evaluation of a source and the machine go on, to what a world has to be.
+#![tactic(auto)]
+
+ghost use Rattle.std.specs.Prelude.{◌≡◌, ◌≤◌, List};
+ghost use Rattle.def_calls.specs.World.{World};
+ghost use Rattle.world_laws.specs.Fine.{Extends};
+ghost use Rattle.world_laws.specs.Outcomes as outcomes;
+
+/// A world extends itself, and later worlds extend those before them.
+#[tactic(auto, using(crate::proofs::Growing::extends_itself, crate::proofs::Growing::extends_both))]
+pub fn later_worlds()
+    ensures itself { (w : World) → Extends w w }
+    ensures later { (w v u : World) → Extends w v → Extends v u → Extends w u }
+{}
