@@ -8,11 +8,12 @@ use Rattle.def_core.specs.declared.bound.Bound.TheVariants as bound
 use Rattle.def_core.specs.declared.found.Found.{Found}
 use Rattle.def_core.specs.Store.{Store, Done}
 use Rattle.def_core.specs.Bind.{Binding}
-use Rattle.def_core.specs.Sound.{Census, census, ClassOrModule, Proc, Fiber, Array, Is, IsSymbol, IsValue, IsFound, IsOutcome, OptionIs, AllAre}
+use Rattle.def_core.specs.Sound.{Census, census, ClassOrModule, Proc, Fiber, Array, Is, IsSymbol, IsValue, IsFound, IsOutcome, OptionIs, AllAre, SoundProc}
 use Rattle.class_model.specs.Given.{IsClass}
 use Rattle.rb_raise.specs.Causes.{SoundCause}
 use Rattle.run_values.specs.Raisable.{IsRaisable}
 use Rattle.def_calls.specs.World.{World, Activation, Result, gives, raises, Answer, with_store, with_activation}
+use Rattle.def_calls.specs.Views.{Callable, by_body, by_row}
 use Rattle.def_calls.specs.Values.{Splatted}
 use Rattle.def_calls.specs.Plans.{Iteration, begun, handing, putting, putting_text, printing, printing_text, inspecting, inspecting_text, raising, looping, visiting, counting, initializing, Plan, Planned}
 use Rattle.def_calls.specs.Plans as plan
@@ -56,12 +57,17 @@ pub record BindingIs (b : Bodies) (w : World) (x : Binding) : Type 0 where
   pub keeps : Keeps b w (with_store w x.store)
   pub bound : BoundIs (census x.store) x.bound
 
--- Methods.
+-- Methods and Procs.
 
 -- what a search finds, with the body of a method
 pub record FoundIs (b : Bodies) (w : World) (f : Found) : Type 0 where
   pub found : IsFound (census w.store) f
   pub method : MethodIs b w f.method
+
+-- what a Proc runs: a body, or a core method with a kept value
+abbrev pub CallableIs : Bodies → World → Callable → Type 0
+CallableIs b w (by_body c) = SoundProc (census w.store) c × b.ProcIs w c
+CallableIs b w (by_row r v) = IsValue (census w.store) v
 
 -- what a call calls is there
 abbrev pub SendingIs : Census → Sending → Type 0

@@ -3,13 +3,16 @@
 #![tactic(auto)]
 
 ghost use Rattle.std.specs.Prelude.{◌≡◌, ◌≤◌, List};
-ghost use Rattle.def_calls.specs.World.{World};
+ghost use Rattle.def_core.specs.Sound.{Census};
+ghost use Rattle.def_calls.specs.World.{World, gives};
+ghost use Rattle.rb_value.specs.declared.value.Value.TheVariants.{Nil};
 ghost use Rattle.world_laws.specs.Fine.{Extends};
-ghost use Rattle.world_laws.specs.Outcomes as outcomes;
+ghost use Rattle.world_laws.specs.Outcomes.{ResultIs};
 
 /// A world extends itself, and later worlds extend those before them.
-#[tactic(auto, using(crate::proofs::Growing::extends_itself, crate::proofs::Growing::extends_both))]
+#[tactic(auto, using(crate::proofs::Growing::extends_itself, crate::proofs::Growing::extends_both, crate::proofs::Worlds::keeps_enclosing, crate::proofs::Answers::fails_with, crate::proofs::Searching::find_for_is))]
 pub fn later_worlds()
     ensures itself { (w : World) → Extends w w }
     ensures later { (w v u : World) → Extends w v → Extends v u → Extends w u }
+    ensures nothing { (k : Census) → ResultIs k (gives Nil) }
 {}
