@@ -80,6 +80,9 @@ module _ (w v : World) (e : Extends w v) where
   pub symbol_stays : (s : SymId) → IsSymbol (census w.store) s → IsSymbol (census v.store) s
   symbol_stays s is = record { below = census_extends.names s.0 is.below }
 
+  pub name_stays : (n : ℕ) (x : List ℕ) → slice_get w.store.symbols n ≡ Some x → slice_get v.store.symbols n ≡ Some x
+  name_stays n x h = goes_there w.store.symbols v.store.symbols e.symbols n x h
+
   pub value_stays : (x : Value) → IsValue (census w.store) x → IsValue (census v.store) x
   value_stays x is = grows.value_grows (census w.store) (census v.store) census_extends x is
 

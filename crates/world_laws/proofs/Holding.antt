@@ -96,7 +96,7 @@ fiber_by k n (kind.Exception m d) is = tt
 fiber_by k n (kind.Enumerator e) is = tt
 fiber_by k n (kind.Yielder p) is = tt
 
-constants_by : (k : Census) (n : ℕ) (x : Kind) → SoundKind k n x → AllAre (SoundConstant k) (contents_of x).constants
+pub constants_by : (k : Census) (n : ℕ) (x : Kind) → SoundKind k n x → AllAre (SoundConstant k) (contents_of x).constants
 constants_by k n kind.Plain is = tt
 constants_by k n (kind.Class c) is = is.constants
 constants_by k n (kind.String s) is = tt
@@ -325,6 +325,13 @@ module _ (st : Store) (sound : Sound st) where
   exception_is (Sym s) is = tt
   exception_is (Obj id) is = option_stays _ (IsException (census st)) (λ i. sort_there sort.Exception id i is)
       (an_exception st.objects (Obj id)) (exception_by (object_at st.objects id).kind id)
+
+  -- an exception itself
+  pub exception_itself : (id : ObjId) → Is (census st) Any id
+      → OptionIs (λ _. IsException (census st) id) (an_exception st.objects (Obj id))
+  exception_itself id is = option_stays _ (λ _. IsException (census st) id)
+      (λ i p. sort_found st id (is_good st Any id is) ∙ ap Some p.1) (an_exception st.objects (Obj id))
+      (exception_by (object_at st.objects id).kind id)
 
   pub object_is : (v : Value) → IsValue (census st) v → OptionIs (Is (census st) Any) (object_in v)
   object_is Nil is = tt

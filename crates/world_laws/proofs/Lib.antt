@@ -5,3 +5,9 @@ pub mod Worlds
 pub mod Answers
 pub mod Holding
 pub mod Searching
+pub mod Changing
+pub mod Values
+pub mod Checking
+pub mod Tables
+pub mod PlainRows
+pub mod Plans

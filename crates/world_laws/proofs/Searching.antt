@@ -65,13 +65,13 @@ module _ (st : Store) (sound : Sound st) where
   nearest_is : (cs : List ObjId) (other : ObjId) → Is (census st) ClassOrModule other
       → Is (census st) ClassOrModule (nearest_singleton st.objects cs other)
   nearest_is [] other is = subst (Is (census st) ClassOrModule) (sym (nearest_end st.objects other)) is
-  nearest_is (c ∷ cs) other is = by (object_at st.objects c).singleton refl (singleton_held c)
+  nearest_is (c ∷ cs) other is = by (object_at st.objects c).singleton refl (singleton_held c) (nearest_is cs other is)
     where
       by : (o : Option ObjId) → (object_at st.objects c).singleton ≡ o → OptionIs (Is (census st) SingletonClass) o
+          → Is (census st) ClassOrModule (nearest_singleton st.objects cs other)
           → Is (census st) ClassOrModule (nearest_singleton st.objects (c ∷ cs) other)
-      by None e h = subst (Is (census st) ClassOrModule) (sym (nearest_none st.objects c cs other e))
-          (nearest_is cs other is)
-      by (Some s) e h = subst (Is (census st) ClassOrModule) (sym (nearest_some st.objects c cs other s e))
+      by None e h rest = subst (Is (census st) ClassOrModule) (sym (nearest_none st.objects c cs other e)) rest
+      by (Some s) e h rest = subst (Is (census st) ClassOrModule) (sym (nearest_some st.objects c cs other s e))
           (superclass_is_class st s (singleton_is_superclass st s h))
 
   pub plain_class_is : (v : Value) → IsValue (census st) v
