@@ -261,6 +261,11 @@ module_plays sort.Exception h = h
 module_plays sort.Enumerator h = h
 module_plays sort.Yielder h = h
 
+there_then : {A : Type 0} (o : Option A) (id : ObjId) (P : ObjId → Type 0) → OptionIs P (if_there o (Obj id))
+    → OptionIs (λ _. P id) o
+there_then None id P h = tt
+there_then (Some x) id P h = h
+
 module _ (st : Store) (sound : Sound st) where
   role_there : (r : Role) (s : Sort) (id i : ObjId) → plays r s ≡ true → Is (census st) Any id
       → (i ≡ id) × (sort_at st.objects id ≡ s) → Is (census st) r i
@@ -332,6 +337,11 @@ module _ (st : Store) (sound : Sound st) where
   exception_itself id is = option_stays _ (λ _. IsException (census st) id)
       (λ i p. sort_found st id (is_good st Any id is) ∙ ap Some p.1) (an_exception st.objects (Obj id))
       (exception_by (object_at st.objects id).kind id)
+
+  -- what can be called is a Proc
+  pub runs_proc : (id : ObjId) → Is (census st) Any id
+      → OptionIs (λ _. Is (census st) Proc id) (callable_of (kind_in st.objects (Obj id)))
+  runs_proc id is = there_then (callable_of (object_at st.objects id).kind) id (Is (census st) Proc) (proc_is (Obj id) is)
 
   pub object_is : (v : Value) → IsValue (census st) v → OptionIs (Is (census st) Any) (object_in v)
   object_is Nil is = tt

@@ -11,3 +11,6 @@ pub mod Checking
 pub mod Tables
 pub mod PlainRows
 pub mod Plans
+pub mod Causes
+pub mod Entering
+pub mod Calling

@@ -44,15 +44,15 @@ use Rattle.world_laws.proofs.Checking.{anything, counted_is, block_is, wanted_is
 -- What an iteration keeps is right in later worlds.
 
 module _ (w v : World) (e : Extends w v) where
-  values_stay : (xs : List Value) → AllAre (IsValue (census w.store)) xs → AllAre (IsValue (census v.store)) xs
+  pub values_stay : (xs : List Value) → AllAre (IsValue (census w.store)) xs → AllAre (IsValue (census v.store)) xs
   values_stay xs all = all_stay (IsValue (census w.store)) (IsValue (census v.store)) (value_stays w v e) xs all
 
-  proc_stays : (o : Option ObjId) → OptionIs (Is (census w.store) Proc) o → OptionIs (Is (census v.store) Proc) o
-  proc_stays o h = option_stays (Is (census w.store) Proc) (Is (census v.store) Proc) (role_stays w v e Proc) o h
+  pub block_stays : (o : Option ObjId) → OptionIs (Is (census w.store) Proc) o → OptionIs (Is (census v.store) Proc) o
+  block_stays o h = option_stays (Is (census w.store) Proc) (Is (census v.store) Proc) (role_stays w v e Proc) o h
 
   pub state_stays : (it : Iteration) → StateIs (census w.store) it → StateIs (census v.store) it
   state_stays (begun row recv args block) h =
-      (value_stays w v e recv h.0, values_stay args h.1, proc_stays block h.2)
+      (value_stays w v e recv h.0, values_stay args h.1, block_stays block h.2)
   state_stays handing h = tt
   state_stays (putting xs) h = values_stay xs h
   state_stays (putting_text xs) h = values_stay xs h
@@ -95,23 +95,28 @@ elements_or_none k (Some xs) h = h
 
 -- What an object of a new class is made with holds nothing.
 
+-- what the objects of new classes hold, by the core class above them
+abbrev new_kinds : List (CoreClass × Kind)
+new_kinds = (class.Exception, kind.Exception Nil Nil) ∷ (class.Array, kind.Array []) ∷ (class.String, kind.String [])
+    ∷ (class.Hash, kind.Hash no_pairs) ∷ []
+
 new_kind : (P : Kind → Type 0) → P kind.Plain → (ks : List (CoreClass × Kind)) → AllAre (λ x. P x.1) ks
     → (above : List ObjId) → P (kind_by ks above)
 new_kind P plain [] all above = plain
-new_kind P plain (x ∷ xs) all above = by (is_member above (core x.0))
+new_kind P plain (x ∷ xs) all above = by (is_member above (core x.0)) (new_kind P plain xs all.1 above)
   where
-    by : (c : Bool) → P (if c then x.1 else kind_by xs above)
-    by true = all.0
-    by false = new_kind P plain xs all.1 above
+    by : (c : Bool) → P (kind_by xs above) → P (if c then x.1 else kind_by xs above)
+    by true rest = all.0
+    by false rest = rest
 
 kind_for_sound : (k : Census) (n : ℕ) (w : World) (c : ObjId) → SoundKind k n (kind_for w.store.objects c)
 unfolding kind_for
-kind_for_sound k n w c = new_kind (SoundKind k n) tt _
+kind_for_sound k n w c = new_kind (SoundKind k n) tt new_kinds
     ((tt, tt), (tt, (tt, (record { pairs = tt; default = tt; block = tt }, tt)))) (lineage w.store.objects c)
 
 kind_for_is : (b : Bodies) (w : World) (c : ObjId) → KindIs b w (kind_for w.store.objects c)
 unfolding kind_for
-kind_for_is b w c = new_kind (KindIs b w) tt _ (tt, (tt, (tt, (tt, tt)))) (lineage w.store.objects c)
+kind_for_is b w c = new_kind (KindIs b w) tt new_kinds (tt, (tt, (tt, (tt, tt)))) (lineage w.store.objects c)
 
 module _ (b : Bodies) (w : World) (fine : Fine b w) where
   stays : (p : Plan) → PlanIs (census w.store) p → PlannedIs b w (plans w.store p)
@@ -135,7 +140,7 @@ module _ (b : Bodies) (w : World) (fine : Fine b w) where
           value_stays w v k.extends recv is,
           interned_symbol w.store name,
           values_stay w v k.extends args all,
-          proc_stays w v k.extends block proc,
+          block_stays w v k.extends block proc,
         );
       }
 
@@ -276,7 +281,7 @@ new_is_planned b w fine c args block is all proc =
     }) (kind_for_is b w c) in
     let there = new_is w.store (fresh c k) in
     let h = named_is b v made.fine (initializing (Obj (next_number w.store))) (Obj (next_number w.store)) args block
-    (codes "initialize") there there (values_stay w v made.extends args all) (proc_stays w v made.extends block proc) in
+    (codes "initialize") there there (values_stay w v made.extends args all) (block_stays w v made.extends block proc) in
     record { keeps = keeps_then b w v _ made h.keeps; plan = h.plan }
 
 module _ (b : Bodies) (w : World) (fine : Fine b w) where
