@@ -14,3 +14,6 @@ pub mod Plans
 pub mod Causes
 pub mod Entering
 pub mod Calling
+pub mod Ending
+pub mod Binding
+pub mod Fibers
