@@ -17,3 +17,6 @@ pub mod Calling
 pub mod Ending
 pub mod Binding
 pub mod Fibers
+pub mod Singletons
+pub mod Classes
+pub mod Constants
