@@ -163,7 +163,7 @@ entries_put b w (x ∷ xs) n e all new = elim (nat_eq n x.0) as
 
 module _ (b : Bodies) (w : World) (fine : Fine b w) where
   -- the store that has another object in the place of one is sound
-  keeps_put : (id : ObjId) (o : Object) → sort_of o.kind ≡ sort_at w.store.objects id → ObjectIs b w o
+  pub keeps_put : (id : ObjId) (o : Object) → sort_of o.kind ≡ sort_at w.store.objects id → ObjectIs b w o
       → Sound (with_objects w.store (set_object w.store.objects id o))
       → Keeps b w (with_store w (with_objects w.store (set_object w.store.objects id o)))
   keeps_put id o sort has sound =

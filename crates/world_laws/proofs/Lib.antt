@@ -20,3 +20,4 @@ pub mod Fibers
 pub mod Singletons
 pub mod Classes
 pub mod Constants
+pub mod Opening

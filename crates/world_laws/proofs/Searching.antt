@@ -58,7 +58,7 @@ module _ (st : Store) (sound : Sound st) where
       by true e = some id (record { there = record { holds = e } })
       by false e = subst P (sym (absent_where_none st id e)) none
 
-  singleton_held : (id : ObjId) → OptionIs (Is (census st) SingletonClass) (object_at st.objects id).singleton
+  pub singleton_held : (id : ObjId) → OptionIs (Is (census st) SingletonClass) (object_at st.objects id).singleton
   singleton_held id = if_good (λ o. OptionIs (Is (census st) SingletonClass) o.singleton) tt
       (λ i good. (good_object st sound i good).singleton) id
 

@@ -1,6 +1,7 @@
 -- Singleton classes that are made keep a world fine.
 use Rattle.std.proofs.Common.{◌≡◌, ℕ, zero, suc, ◌<◌, List, [], ◌∷◌, ◌++◌, length, Bool, true, false, refl, ap, sym, ◌∙◌, subst}
 use Rattle.std.specs.Prelude.{Option, Some, None, unwrap_or, not, is_some}
+use Rattle.std.proofs.lemmas.List.{set-append_left, get_or_append_left}
 use Rattle.rb_value.specs.declared.value.Value.{Value}
 use Rattle.rb_value.specs.declared.value.Value.TheVariants.{Nil, True, False, Int, Sym, Obj}
 use Rattle.rb_value.specs.declared.value.ObjId.{ObjId}
@@ -11,7 +12,7 @@ use Rattle.rb_value.specs.declared.kind.Sort.TheVariants as sort
 use Rattle.rb_value.specs.declared.core_class.CoreClass.TheVariants as class
 use Rattle.rb_value.specs.Object.{Object}
 use Rattle.def_core.specs.declared.cause.Cause.TheVariants as cause
-use Rattle.def_core.specs.Store.{Store, core, object_at, sort_at, set_object, next_number, with_object}
+use Rattle.def_core.specs.Store.{Store, core, absent, object_at, sort_at, set_object, next_number, with_object}
 use Rattle.def_core.specs.Classes.{class_at, lineage_within, lineage, singletons_from}
 use Rattle.def_core.specs.Changes.{attach, above_class, above, make_all, missing, with_singleton, give_singleton, singleton, fails}
 use Rattle.def_core.specs.Parts.{with_objects}
@@ -24,7 +25,6 @@ use Rattle.def_core.proofs.Attaching.{singleton_under}
 use Rattle.class_model.proofs.Attaching.{singleton_is_sound}
 use Rattle.class_model.proofs.Lineages.{any_of, core_is, above_is}
 use Rattle.class_model.proofs.Members.{all_filter}
-use Rattle.rb_store.proofs.Attached.{attached}
 use Rattle.def_calls.specs.World.{World, with_store}
 use Rattle.world_laws.specs.Fine.{Bodies, Fine, Keeps}
 use Rattle.world_laws.specs.Outcomes.{DoneIs}
@@ -111,6 +111,17 @@ module _ (st : Store) (sound : Sound st) where
 
 -- One singleton class, and several.
 
+-- the object among all, with the class after them, gets it
+attached : (st : Store) (id superclass : ObjId) → id.0 < length st.objects
+    → set_object (st.objects ++ singleton_under superclass ∷ []) id
+    (record (object_at (st.objects ++ singleton_under superclass ∷ []) id) { singleton = Some (next_number st) })
+    ≡ attach st.objects id superclass
+attached st id superclass within =
+    let last : List Object = singleton_under superclass ∷ [] in
+    ap (λ (o : Object). set_object (st.objects ++ last) id (record o { singleton = Some (next_number st) }))
+    (get_or_append_left st.objects last absent id.0 within)
+    ∙ set-append_left st.objects last id.0 (record (object_at st.objects id) { singleton = Some (next_number st) }) within
+
 attach_keeps : (b : Bodies) (w : World) → Fine b w → (id superclass : ObjId) → Is (census w.store) Any id
     → Is (census w.store) Superclass superclass
     → Keeps b w (with_store w (with_objects w.store (attach w.store.objects id superclass)))
@@ -124,7 +135,7 @@ attach_keeps b w fine id superclass is above_it =
     (sound_with_singleton v.store k.fine.store id (next_number w.store) (is_good v.store Any id still)
     (new_role w.store o SingletonClass refl)) in
     subst (λ (os : List Object). Keeps b w (with_store w (with_objects w.store os)))
-    (attached w.store.objects id o (good_within w.store id (is_good w.store Any id is)))
+    (attached w.store id superclass (good_within w.store id (is_good w.store Any id is)))
     (keeps_then b w v (with_store w (with_objects v.store (set_object v.store.objects id new))) k h)
 
 -- one more after others
