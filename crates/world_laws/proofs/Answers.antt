@@ -25,13 +25,15 @@ use Rattle.def_core.proofs.Grows.{core_is_class, new_role, value_grows, one_more
 use Rattle.def_core.proofs.Good.{sort_found}
 use Rattle.rb_raise.specs.Causes.{SoundCause}
 use Rattle.rb_raise.proofs.Details.{detail_is}
+use Rattle.class_model.specs.Given.{GivesClass}
+use Rattle.class_model.proofs.Belongs.{class_belongs}
 use Rattle.def_rows.specs.Answers.{text_object, items_object, makes}
 use Rattle.run_values.specs.Raisable.{IsRaisable}
 use Rattle.run_values.proofs.Causes.{fails_raisable}
 use Rattle.run_values.proofs.Made.{new_is, items_sound, text_sound, exception_sound}
 use Rattle.def_calls.specs.World.{World, Result, gives, raises, Answer, with_store, give, give_in, make, exception_object, answer_in, answer, fail}
 use Rattle.world_laws.specs.Fine.{Bodies, HasSort, IsException, ObjectIs, Fine, Keeps}
-use Rattle.world_laws.specs.Outcomes.{ResultIs, AnswerIs, DoneIs}
+use Rattle.world_laws.specs.Outcomes.{ResultIs, AnswerIs, GivesSpace, DoneIs, DefinesIs}
 use Rattle.world_laws.proofs.Standing.{keeps_itself, keeps_then}
 use Rattle.world_laws.proofs.Stores.{keeps_object}
 
@@ -40,6 +42,11 @@ pub new_sort : (st : Store) (o : Object) → HasSort (census (with_object st o))
 new_sort st o =
     sort_found (with_object st o) (next_number st) (good_added st o)
     ∙ ap (λ (x : Object). Some (sort_of x.kind)) (get_or_push st.objects o absent (length st.objects) refl)
+
+-- what fails raises
+pub fail_raises : (w : World) (c : Cause) → (e : ObjId) × ((fail w c).result ≡ raises e)
+unfolding fail fails
+fail_raises w c = (next_number (fails w.store c).store, refl)
 
 module _ (b : Bodies) where
   pub answer_then : (w v : World) (a : Answer) → Keeps b w v → AnswerIs b v a → AnswerIs b w a
@@ -120,3 +127,37 @@ module _ (b : Bodies) (w : World) (fine : Fine b w) where
   pub fails_with : (c : Cause) → SoundCause (census w.store) c → AnswerIs b w (fail w c)
   unfolding fail
   fails_with c is = answers_done (fails w.store c) (done_fails c is)
+
+  -- What defines a class or module.
+
+  pub defines_fails : (c : Cause) → SoundCause (census w.store) c → DefinesIs b w (fails w.store c)
+  unfolding fails
+  defines_fails c is = let h = done_fails c is in record {
+    keeps = h.keeps;
+    outcome = h.outcome;
+    raisable = h.raisable;
+  }
+
+  done_of : (d : Done) → DefinesIs b w d → DoneIs b w d
+  done_of d h = record {
+    keeps = h.keeps;
+    outcome = class_belongs d.store d.outcome h.outcome;
+    raisable = h.raisable;
+  }
+
+  pub answers_defined : (d : Done) → DefinesIs b w d → AnswerIs b w (answer w d)
+  answers_defined d h = answers_done d (done_of d h)
+
+  gives_by : (st : Store) (o : Outcome) → GivesClass (census st) o → AnswerIs b w (answer_in w st o)
+      → GivesSpace (census (answer_in w st o).world.store) (answer_in w st o).result
+  gives_by st (outcome.Value x) h a = h
+  gives_by st (outcome.Raise f) h a = a.result
+
+  pub defined_gives : (d : Done) → DefinesIs b w d
+      → GivesSpace (census (answer w d).world.store) (answer w d).result
+  defined_gives d h = gives_by d.store d.outcome h.outcome (answers_defined d h)
+
+  pub fail_gives : (c : Cause) → SoundCause (census w.store) c
+      → GivesSpace (census (fail w c).world.store) (fail w c).result
+  unfolding fail
+  fail_gives c is = defined_gives (fails w.store c) (defines_fails c is)

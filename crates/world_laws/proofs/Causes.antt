@@ -16,8 +16,11 @@ module _ (w v : World) (e : Extends w v) where
   cause_stays (cause.NoSuperMethod s c) h = (symbol_stays w v e s h.0, role_stays w v e ClassOrModule c h.1)
   cause_stays cause.SuperOutside h = tt
   cause_stays (cause.UndefinedName s c) h = (symbol_stays w v e s h.0, role_stays w v e ClassOrModule c h.1)
-  cause_stays (cause.UninitializedConstant o s) h = (option_stays (Is (census w.store) ClassOrModule) (Is (census v.store) ClassOrModule)
-      (role_stays w v e ClassOrModule) o h.0, symbol_stays w v e s h.1)
+  cause_stays (cause.UninitializedConstant o s) h = (
+    option_stays (Is (census w.store) ClassOrModule) (Is (census v.store) ClassOrModule)
+        (role_stays w v e ClassOrModule) o h.0,
+    symbol_stays w v e s h.1,
+  )
   cause_stays (cause.UndefinedInClass s c) h = (symbol_stays w v e s h.0, role_stays w v e ClassOrModule c h.1)
   cause_stays (cause.WrongCount g n m) h = tt
   cause_stays cause.NegativeExponent h = tt

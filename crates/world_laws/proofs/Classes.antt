@@ -26,7 +26,8 @@ use Rattle.def_core.specs.Changes.{gives as done, fails, intern, Interned, const
 use Rattle.def_core.specs.Sound.{Census, census, Any, Class, Module, Superclass, ClassOrModule, Is, IsSymbol, IsValue, OptionIs, AllAre}
 use Rattle.rb_store.proofs.Start.{interned_symbol}
 use Rattle.class_model.specs.Growth.{named_class}
-use Rattle.class_model.proofs.Naming.{named_is_sound}
+use Rattle.class_model.proofs.Naming.{named_is_sound, named_is_class}
+use Rattle.def_core.proofs.Roles.{class_is_superclass, superclass_is_class, module_is_class}
 use Rattle.class_model.proofs.Lineages.{any_of, parent_or_object}
 use Rattle.def_rows.specs.Answers.{text_object}
 use Rattle.run_values.proofs.Made.{new_is}
@@ -35,16 +36,16 @@ use Rattle.def_calls.specs.Constants.{find_constant}
 use Rattle.def_calls.specs.Values.{variables_of}
 use Rattle.def_calls.specs.Definitions.{space_in, define_method, with_space, singleton_class, open_class, open_module, alias_found, alias_method, undefine_found, undefine_method, text_if, has_method, constant_there, super_of, instance_variable_told, global_told, constant_told, constant_in_told, method_told, yield_told, super_told}
 use Rattle.world_laws.specs.Fine.{Bodies, Fine, Keeps}
-use Rattle.world_laws.specs.Outcomes.{AnswerIs, DoneIs, FoundIs}
+use Rattle.world_laws.specs.Outcomes.{AnswerIs, GivesSpace, DefinesIs, FoundIs}
 use Rattle.world_laws.proofs.Growing.{role_stays, value_stays, symbol_stays, option_stays}
 use Rattle.world_laws.proofs.Standing.{keeps_itself, keeps_then}
 use Rattle.world_laws.proofs.Stores.{keeps_object, keeps_interned}
-use Rattle.world_laws.proofs.Answers.{gives_value, gives_in, makes_text, done_gives, done_gives_in, done_fails, answers_done, fails_with}
+use Rattle.world_laws.proofs.Answers.{gives_value, gives_in, makes_text, fails_with, defines_fails, answers_defined, defined_gives}
 use Rattle.world_laws.proofs.Changing.{keeps_method, keeps_constant}
 use Rattle.world_laws.proofs.Holding.{space_is, class_is, module_is}
 use Rattle.world_laws.proofs.Searching.{find_is, constant_is}
 use Rattle.world_laws.proofs.Singletons.{singleton_is}
-use Rattle.world_laws.proofs.Values.{wrong_value_is}
+use Rattle.world_laws.proofs.Values.{wrong_value_is, wrong_value_gives}
 
 -- a name that is put into a world, and its symbol
 pub record NamedIs (b : Bodies) (w : World) (named : Interned) : Type 0 where
@@ -61,12 +62,17 @@ module _ (b : Bodies) (w : World) (fine : Fine b w) where
       by true = record { keeps = keeps_itself b w fine; symbol = symbol }
       by false = record { keeps = keeps_interned b w fine _; symbol = interned_symbol w.store _ }
 
+-- one that is there
+gives_space : (b : Bodies) (w : World) → Fine b w → (c : ObjId) → Is (census w.store) ClassOrModule c
+    → DefinesIs b w (done (Obj c) w.store)
+gives_space b w fine c is = record { keeps = keeps_itself b w fine; outcome = is; raisable = tt }
+
 -- a new class or module, and then the constant with it
 module _ (b : Bodies) (w : World) (fine : Fine b w) (scope : ObjId) (name : SymId)
     (is : Is (census w.store) ClassOrModule scope) (symbol : IsSymbol (census w.store) name) where
   made_is : (named : Interned) (c : CoreClass) (f : ClassForm) (superclass : Option ObjId) → NamedIs b w named
       → is_module c ≡ false → OptionIs (Is (census w.store) Superclass) superclass
-      → (f ≡ form.Module → superclass ≡ None) → DoneIs b w (make_named named scope name c f superclass)
+      → (f ≡ form.Module → superclass ≡ None) → DefinesIs b w (make_named named scope name c f superclass)
   made_is named c f superclass h plain above root =
       let v : World = with_store w named.store in
       let o : Object = named_class c f superclass named.symbol in
@@ -81,21 +87,26 @@ module _ (b : Bodies) (w : World) (fine : Fine b w) (scope : ObjId) (name : SymI
       (role_stays w u both.extends ClassOrModule scope is) (symbol_stays w u both.extends name symbol) there in
       let x : World = with_store u (with_objects u.store
       (with_constant u.store.objects scope name (Obj (next_number named.store)))) in
-      done_gives_in b w fine x.store (Obj (next_number named.store)) (keeps_then b w u x both set)
-      (value_stays u x set.extends (Obj (next_number named.store)) there)
+      record {
+        keeps = keeps_then b w u x both set;
+        outcome = role_stays u x set.extends ClassOrModule (next_number named.store)
+            (named_is_class named.store c f superclass named.symbol);
+        raisable = tt;
+      }
 
   reopened : (parent o : Option ObjId) → OptionIs (Is (census w.store) Class) o
-      → DoneIs b w (reopen_class w.store name parent o)
-  reopened parent None h = done_fails b w fine (cause.NotClass name) symbol
+      → DefinesIs b w (reopen_class w.store name parent o)
+  reopened parent None h = defines_fails b w fine (cause.NotClass name) symbol
   reopened parent (Some c) h = by (parent_agrees parent (class_at w.store.objects c).superclass)
     where
-      by : (x : Bool) → DoneIs b w
+      by : (x : Bool) → DefinesIs b w
           (if x then done (Obj c) w.store else fails w.store (cause.SuperclassMismatch name))
-      by true = done_gives b w fine (Obj c) (any_of w.store Class c h)
-      by false = done_fails b w fine (cause.SuperclassMismatch name) symbol
+      by true = gives_space b w fine c
+          (superclass_is_class w.store c (class_is_superclass w.store c h))
+      by false = defines_fails b w fine (cause.SuperclassMismatch name) symbol
 
   class_by : (parent : Option ObjId) (o : Option Value) → OptionIs (Is (census w.store) Class) parent
-      → OptionIs (IsValue (census w.store)) o → DoneIs b w (define_class_by w.store scope name parent o)
+      → OptionIs (IsValue (census w.store)) o → DefinesIs b w (define_class_by w.store scope name parent o)
   class_by parent None h there =
       made_is (full_name w.store scope name) class.Class form.Class (Some (unwrap_or parent (core class.Object)))
       (full_name_is b w fine scope name symbol) refl (parent_or_object w.store fine.store parent h) (λ e. cc)
@@ -106,15 +117,15 @@ module _ (b : Bodies) (w : World) (fine : Fine b w) (scope : ObjId) (name : SymI
   here = constant_is w.store fine.store scope name
 
   class_under : (parent : Option ObjId) → OptionIs (Is (census w.store) Class) parent
-      → DoneIs b w (define_class_under w.store scope name parent)
-  class_under None h = done_fails b w fine cause.SuperclassNotClass tt
+      → DefinesIs b w (define_class_under w.store scope name parent)
+  class_under None h = defines_fails b w fine cause.SuperclassNotClass tt
   class_under (Some p) h = class_by (Some p) (constant_in (class_at w.store.objects scope).constants name) h here
 
-  not_a_class : DoneIs b w (fails w.store cause.SuperclassNotClass)
-  not_a_class = done_fails b w fine cause.SuperclassNotClass tt
+  not_a_class : DefinesIs b w (fails w.store cause.SuperclassNotClass)
+  not_a_class = defines_fails b w fine cause.SuperclassNotClass tt
 
   pub class_defined : (parent : Value) → IsValue (census w.store) parent
-      → DoneIs b w (define_class w.store scope name parent)
+      → DefinesIs b w (define_class w.store scope name parent)
   unfolding define_class
   class_defined Nil h = class_by None (constant_in (class_at w.store.objects scope).constants name) tt here
   class_defined True h = not_a_class
@@ -125,18 +136,18 @@ module _ (b : Bodies) (w : World) (fine : Fine b w) (scope : ObjId) (name : SymI
       (class_is w.store fine.store (Obj id) h)
 
   module_reopened : (o : Option ObjId) → OptionIs (Is (census w.store) Module) o
-      → DoneIs b w (reopen_module w.store name o)
-  module_reopened None h = done_fails b w fine (cause.NotModule name) symbol
-  module_reopened (Some m) h = done_gives b w fine (Obj m) (any_of w.store Module m h)
+      → DefinesIs b w (reopen_module w.store name o)
+  module_reopened None h = defines_fails b w fine (cause.NotModule name) symbol
+  module_reopened (Some m) h = gives_space b w fine m (module_is_class w.store m h)
 
   module_by : (o : Option Value) → OptionIs (IsValue (census w.store)) o
-      → DoneIs b w (define_module_by w.store scope name o)
+      → DefinesIs b w (define_module_by w.store scope name o)
   module_by None there = made_is (full_name w.store scope name) class.Module form.Module None
       (full_name_is b w fine scope name symbol) refl tt (λ e. refl)
   module_by (Some v) there = module_reopened (object_of_sort is_module_sort w.store.objects v)
       (module_is w.store fine.store v there)
 
-  pub module_defined : DoneIs b w (define_module w.store scope name)
+  pub module_defined : DefinesIs b w (define_module w.store scope name)
   unfolding define_module
   module_defined = module_by (constant_in (class_at w.store.objects scope).constants name) here
 
@@ -148,6 +159,15 @@ module _ (b : Bodies) (w : World) (fine : Fine b w) where
   with_a_space instruction x None further is h = wrong_value_is b w fine instruction
   with_a_space instruction x (Some c) further is h = h c is
 
+  -- and where it is refused nothing is given
+  space_given : (instruction : List ℕ) (x : Value) (o : Option ObjId) (further : ObjId → Answer)
+      → OptionIs (Is (census w.store) ClassOrModule) o
+      → ((c : ObjId) → Is (census w.store) ClassOrModule c
+      → GivesSpace (census (further c).world.store) (further c).result)
+      → GivesSpace (census (with_space w instruction x o further).world.store) (with_space w instruction x o further).result
+  space_given instruction x None further is h = wrong_value_gives b w fine instruction
+  space_given instruction x (Some c) further is h = h c is
+
   pub define_method_is : (c : ObjId) (name : SymId) (body classes : ℕ) → Is (census w.store) ClassOrModule c
       → IsSymbol (census w.store) name → b.BodyIs w body classes → AnswerIs b w (define_method w c name body classes)
   unfolding define_method
@@ -158,21 +178,42 @@ module _ (b : Bodies) (w : World) (fine : Fine b w) where
 
   pub singleton_class_is : (x : Value) → IsValue (census w.store) x → AnswerIs b w (singleton_class w x)
   unfolding singleton_class
-  singleton_class_is x is = answers_done b w fine _ (singleton_is b w fine x is)
+  singleton_class_is x is = answers_defined b w fine _ (singleton_is b w fine x is)
+
+  pub singleton_class_gives : (x : Value) → IsValue (census w.store) x
+      → GivesSpace (census (singleton_class w x).world.store) (singleton_class w x).result
+  unfolding singleton_class
+  singleton_class_gives x is = defined_gives b w fine _ (singleton_is b w fine x is)
 
   pub open_class_is : (scope : Value) (name : SymId) (parent : Value) → IsValue (census w.store) scope
       → IsSymbol (census w.store) name → IsValue (census w.store) parent → AnswerIs b w (open_class w scope name parent)
   unfolding open_class
   open_class_is scope name parent is symbol above =
       with_a_space _ scope (space_in w.store.objects scope) _ (space_is w.store fine.store scope is)
-      (λ c space. answers_done b w fine _ (class_defined b w fine c name space symbol parent above))
+      (λ c space. answers_defined b w fine _ (class_defined b w fine c name space symbol parent above))
+
+  pub open_class_gives : (scope : Value) (name : SymId) (parent : Value) → IsValue (census w.store) scope
+      → IsSymbol (census w.store) name → IsValue (census w.store) parent
+      → GivesSpace (census (open_class w scope name parent).world.store) (open_class w scope name parent).result
+  unfolding open_class
+  open_class_gives scope name parent is symbol above =
+      space_given _ scope (space_in w.store.objects scope) _ (space_is w.store fine.store scope is)
+      (λ c space. defined_gives b w fine _ (class_defined b w fine c name space symbol parent above))
 
   pub open_module_is : (scope : Value) (name : SymId) → IsValue (census w.store) scope → IsSymbol (census w.store) name
       → AnswerIs b w (open_module w scope name)
   unfolding open_module
   open_module_is scope name is symbol =
       with_a_space _ scope (space_in w.store.objects scope) _ (space_is w.store fine.store scope is)
-      (λ c space. answers_done b w fine _ (module_defined b w fine c name space symbol))
+      (λ c space. answers_defined b w fine _ (module_defined b w fine c name space symbol))
+
+  pub open_module_gives : (scope : Value) (name : SymId) → IsValue (census w.store) scope
+      → IsSymbol (census w.store) name
+      → GivesSpace (census (open_module w scope name).world.store) (open_module w scope name).result
+  unfolding open_module
+  open_module_gives scope name is symbol =
+      space_given _ scope (space_in w.store.objects scope) _ (space_is w.store fine.store scope is)
+      (λ c space. defined_gives b w fine _ (module_defined b w fine c name space symbol))
 
   alias_found_is : (c : ObjId) (new old : SymId) (o : Option Found) → Is (census w.store) ClassOrModule c
       → IsSymbol (census w.store) new → IsSymbol (census w.store) old → OptionIs (FoundIs b w) o

@@ -160,7 +160,13 @@ module _ (b : Bodies) (w : World) (fine : Fine b w) where
         (λ id e. message_set id (get_or args 0 Nil) e first_is))
 
     fiber_is : DoneIs b w (outright rows.new_fiber w.store recv args block)
-    fiber_is = ?
+    fiber_is = count 0 (Some 0) _
+        (with_a_block _
+        (λ p run.
+        want (Is (census w.store) Class) class.Class recv (object_of_sort is_class_sort w.store.objects recv) _ is
+        (class_is w.store fine.store recv is)
+        (λ c plain. done_makes b w fine (fresh c (kind.Fiber p false))
+        (record { class = plain; singleton = tt; variables = tt; kind = run }) tt)))
 
     pub outright_is : (p : rows.PlainRow) → DoneIs b w (outright p w.store recv args block)
     outright_is rows.initialize_object = count 0 (Some 0) _ gives_nothing

@@ -240,10 +240,17 @@ module _ (b : Bodies) (w : World) (fine : Fine b w) where
           (if c then calls (visiting a (i + 1) p) p (get_or (elements (elements_in w.store.objects (Obj a))) i Nil ∷ [])
           None else finishes (Obj a)))
       by true = stays
-          (calls (visiting a (i + 1) p) p (get_or (elements (elements_in w.store.objects (Obj a))) i Nil ∷ []) None)
-          ((array, run), run, (value_at (census w.store) (elements (elements_in w.store.objects (Obj a))) i
-          (elements_or_none (census w.store) (elements_in w.store.objects (Obj a))
-          (elements_are w.store fine.store (Obj a) (any_of w.store Array a array))), tt), tt)
+          (calls (visiting a (i + 1) p) p (get_or (elements (elements_in w.store.objects (Obj a))) i Nil ∷ []) None) (
+            (array, run),
+            run,
+            (
+              value_at (census w.store) (elements (elements_in w.store.objects (Obj a))) i
+                  (elements_or_none (census w.store) (elements_in w.store.objects (Obj a))
+                  (elements_are w.store fine.store (Obj a) (any_of w.store Array a array))),
+              tt,
+            ),
+            tt,
+          )
       by false = stays (finishes (Obj a)) (any_of w.store Array a array)
 
   count_next_is : (z : ℤ) (i : ℕ) (p : ObjId) → Is (census w.store) Proc p → PlannedIs b w (count_next w.store z i p)

@@ -16,7 +16,7 @@ use Rattle.def_core.specs.Store.{Store, core, absent, object_at, sort_at, set_ob
 use Rattle.def_core.specs.Classes.{class_at, lineage_within, lineage, singletons_from}
 use Rattle.def_core.specs.Changes.{attach, above_class, above, make_all, missing, with_singleton, give_singleton, singleton, fails}
 use Rattle.def_core.specs.Parts.{with_objects}
-use Rattle.def_core.specs.Sound.{Census, census, Sound, Any, SingletonClass, Superclass, Is, IsValue, OptionIs, AllAre, IsSuperclass}
+use Rattle.def_core.specs.Sound.{Census, census, Sound, Any, SingletonClass, Superclass, ClassOrModule, Is, IsValue, OptionIs, AllAre, IsSuperclass}
 use Rattle.def_core.proofs.Good.{is_good, good_object, good_within}
 use Rattle.def_core.proofs.Roles.{class_is_superclass, singleton_is_superclass}
 use Rattle.def_core.proofs.Keeps.{sound_with_singleton}
@@ -24,14 +24,15 @@ use Rattle.def_core.proofs.Grows.{new_role}
 use Rattle.def_core.proofs.Attaching.{singleton_under}
 use Rattle.class_model.proofs.Attaching.{singleton_is_sound}
 use Rattle.class_model.proofs.Lineages.{any_of, core_is, above_is}
+use Rattle.class_model.proofs.Making.{made_is_class}
 use Rattle.class_model.proofs.Members.{all_filter}
 use Rattle.def_calls.specs.World.{World, with_store}
 use Rattle.world_laws.specs.Fine.{Bodies, Fine, Keeps}
-use Rattle.world_laws.specs.Outcomes.{DoneIs}
+use Rattle.world_laws.specs.Outcomes.{DefinesIs}
 use Rattle.world_laws.proofs.Growing.{role_stays}
 use Rattle.world_laws.proofs.Standing.{keeps_itself, keeps_then}
 use Rattle.world_laws.proofs.Stores.{keeps_object, kind_held}
-use Rattle.world_laws.proofs.Answers.{done_gives_in, done_fails}
+use Rattle.world_laws.proofs.Answers.{defines_fails}
 use Rattle.world_laws.proofs.Changing.{keeps_put}
 use Rattle.world_laws.proofs.Searching.{singleton_held}
 
@@ -160,19 +161,22 @@ module _ (b : Bodies) (w : World) (fine : Fine b w) where
   unfolding with_singleton
   with_singleton_keeps id is = make_all_keeps (missing w.store.objects id) (missing_there w.store fine.store id is)
 
-  -- what is given as the singleton class is an object of the store after it
-  own_or_itself : (id : ObjId) (st : Store) → Sound st → Is (census st) Any id
-      → Is (census st) Any (unwrap_or (object_at st.objects id).singleton id)
-  own_or_itself id st sound is = by (object_at st.objects id).singleton (singleton_held st sound id)
-    where
-      by : (o : Option ObjId) → OptionIs (Is (census st) SingletonClass) o → Is (census st) Any (unwrap_or o id)
-      by None h = is
-      by (Some s) h = any_of st SingletonClass s h
+  refused : DefinesIs b w (fails w.store cause.NoSingleton)
+  refused = defines_fails b w fine cause.NoSingleton tt
 
-  refused : DoneIs b w (fails w.store cause.NoSingleton)
-  refused = done_fails b w fine cause.NoSingleton tt
+  -- the object has a singleton class then
+  own_class : (id : ObjId) → Is (census w.store) Any id
+      → Is (census (with_objects w.store (with_singleton w.store.objects id))) ClassOrModule
+      (unwrap_or (object_at (with_singleton w.store.objects id) id).singleton id)
+  unfolding with_singleton
+  own_class id is =
+      let st : Store = with_objects w.store (make_all w.store.objects (missing w.store.objects id)) in
+      let all = missing_there w.store fine.store id is in
+      let k = make_all_keeps (missing w.store.objects id) all in
+      made_is_class w.store st fine.store k.fine.store id (missing w.store.objects id) is
+      (role_stays w (with_store w st) k.extends Any id is) refl all refl
 
-  pub singleton_is : (x : Value) → IsValue (census w.store) x → DoneIs b w (singleton w.store x)
+  pub singleton_is : (x : Value) → IsValue (census w.store) x → DefinesIs b w (singleton w.store x)
   unfolding singleton
   singleton_is Nil is = refused
   singleton_is True is = refused
@@ -180,7 +184,4 @@ module _ (b : Bodies) (w : World) (fine : Fine b w) where
   singleton_is (Int z) is = refused
   singleton_is (Sym s) is = refused
   singleton_is (Obj id) is =
-      let st : Store = with_objects w.store (with_singleton w.store.objects id) in
-      let k = with_singleton_keeps id is in
-      done_gives_in b w fine st (Obj (unwrap_or (object_at st.objects id).singleton id)) k
-      (own_or_itself id st k.fine.store (role_stays w (with_store w st) k.extends Any id is))
+      record { keeps = with_singleton_keeps id is; outcome = own_class id is; raisable = tt }

@@ -4,6 +4,7 @@ use Rattle.rb_value.specs.declared.method.Method.{Method}
 use Rattle.rb_value.specs.declared.method.Method.TheVariants as method
 use Rattle.rb_value.specs.declared.value.Value.{Value}
 use Rattle.rb_value.specs.declared.value.Value.TheVariants.{Nil, True, False, Int, Sym, Obj}
+use Rattle.rb_value.specs.declared.procs.ProcContents.{ProcContents}
 use Rattle.rb_value.specs.declared.kind.Kind.{Kind}
 use Rattle.rb_value.specs.declared.kind.Kind.TheVariants as kind
 use Rattle.rb_value.specs.Object.{Object}
@@ -96,4 +97,39 @@ module _ (b : Bodies) where
       activations = activations_stay w (with_store w st) e w.activations fine.activations;
     };
     extends = e;
+  }
+
+-- A world that is fine is fine with any other bodies that are right where these are.
+
+module _ (b c : Bodies) (w : World) (procs : (x : ProcContents) → b.ProcIs w x → c.ProcIs w x)
+    (bodies : (body classes : ℕ) → b.BodyIs w body classes → c.BodyIs w body classes) where
+  other_method : (m : Method) → MethodIs b w m → MethodIs c w m
+  other_method (method.Body body classes) h = bodies body classes h
+  other_method (method.Core r) h = tt
+  other_method (method.Reader n) h = tt
+  other_method (method.Writer n) h = tt
+  other_method (method.Block p) h = tt
+  other_method method.Undefined h = tt
+
+  other_kind : (k : Kind) → KindIs b w k → KindIs c w k
+  other_kind kind.Plain h = tt
+  other_kind (kind.Class x) h = all_stay (EntryHas b w) (EntryHas c w) (λ e. other_method e.1.method) x.methods h
+  other_kind (kind.String s) h = tt
+  other_kind (kind.Array a) h = tt
+  other_kind (kind.Hash x) h = tt
+  other_kind (kind.Range r) h = tt
+  other_kind (kind.Proc x) h = procs x h
+  other_kind (kind.CoreProc r x) h = tt
+  other_kind (kind.Fiber p x) h = tt
+  other_kind (kind.Exception m d) h = tt
+  other_kind (kind.Enumerator x) h = tt
+  other_kind (kind.Yielder p) h = tt
+
+  pub fine_with : Fine b w → Fine c w
+  fine_with fine = record {
+    store = fine.store;
+    objects = all_stay (ObjectIs b w) (ObjectIs c w) (λ o. other_kind o.kind) w.store.objects fine.objects;
+    globals = fine.globals;
+    enclosing = fine.enclosing;
+    activations = fine.activations;
   }

@@ -37,11 +37,11 @@ use Rattle.def_calls.specs.World.{World, Answer, with_store, give, give_in, make
 use Rattle.def_calls.specs.Views.{object_in, present, kind_in, string_of, hash_of}
 use Rattle.def_calls.specs.Values.{wrong_value, variables_by, variables_of, instance_variable, set_variable_of, set_instance_variable, elements_or_itself, element_at, element, elements_between, last_elements, Splatted, pairs_of, itself_or_none, splat_hash, splat_items, splat_range, splat_array, splat, pushed, push_splat, appended, intern_bytes, make_symbol, joined, all_parts, text_part, array_part, parts_of, key_of_parts, key_by, key_of, put_by_key, with_pair}
 use Rattle.world_laws.specs.Fine.{Bodies, HasSort, ObjectIs, Fine, Keeps}
-use Rattle.world_laws.specs.Outcomes.{AnswerIs, SplattedIs}
+use Rattle.world_laws.specs.Outcomes.{AnswerIs, GivesSpace, SplattedIs}
 use Rattle.world_laws.proofs.Growing.{value_stays, symbol_stays, role_stays, option_stays, all_stay}
 use Rattle.world_laws.proofs.Standing.{keeps_itself, keeps_then}
 use Rattle.world_laws.proofs.Stores.{keeps_object, keeps_objects, keeps_interned}
-use Rattle.world_laws.proofs.Answers.{answer_then, gives_value, gives_in, makes_items, fails_with}
+use Rattle.world_laws.proofs.Answers.{answer_then, gives_value, gives_in, makes_items, fails_with, fail_gives}
 use Rattle.world_laws.proofs.Changing.{has_any, keeps_more, keeps_text, keeps_pair, keeps_variable}
 use Rattle.world_laws.proofs.Holding.{object_is, present_is, elements_are, hash_of_is}
 
@@ -179,6 +179,16 @@ module _ (b : Bodies) (w : World) (fine : Fine b w) where
       let v : World = with_store w named.store in
       let k = keeps_interned b w fine instruction in
       answer_then b w v _ k (fails_with b v k.fine (cause.WrongValue named.symbol) (interned_symbol w.store instruction))
+
+  -- what it gives then is no value
+  pub wrong_value_gives : (instruction : List ℕ)
+      → GivesSpace (census (wrong_value w instruction).world.store) (wrong_value w instruction).result
+  unfolding wrong_value
+  wrong_value_gives instruction =
+      let named = intern w.store instruction in
+      let v : World = with_store w named.store in
+      fail_gives b v (keeps_interned b w fine instruction).fine (cause.WrongValue named.symbol)
+      (interned_symbol w.store instruction)
 
   pub instance_variable_is : (self : Value) (name : SymId) → IsValue (census w.store) self
       → IsValue (census w.store) (instance_variable w self name)

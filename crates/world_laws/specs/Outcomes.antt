@@ -9,7 +9,7 @@ use Rattle.def_core.specs.declared.found.Found.{Found}
 use Rattle.def_core.specs.Store.{Store, Done}
 use Rattle.def_core.specs.Bind.{Binding}
 use Rattle.def_core.specs.Sound.{Census, census, ClassOrModule, Proc, Fiber, Array, Is, IsSymbol, IsValue, IsFound, IsOutcome, OptionIs, AllAre, SoundProc}
-use Rattle.class_model.specs.Given.{IsClass}
+use Rattle.class_model.specs.Given.{IsClass, GivesClass}
 use Rattle.rb_raise.specs.Causes.{SoundCause}
 use Rattle.run_values.specs.Raisable.{IsRaisable}
 use Rattle.def_calls.specs.World.{World, Activation, Result, gives, raises, Answer, with_store, with_activation}
@@ -41,6 +41,12 @@ GivesSpace k (raises e) = IsException k e
 pub record DoneIs (b : Bodies) (w : World) (d : Done) : Type 0 where
   pub keeps : Keeps b w (with_store w d.store)
   pub outcome : IsOutcome (census d.store) d.outcome
+  pub raisable : IsRaisable d.outcome
+
+-- what defines a class or module gives one
+pub record DefinesIs (b : Bodies) (w : World) (d : Done) : Type 0 where
+  pub keeps : Keeps b w (with_store w d.store)
+  pub outcome : GivesClass (census d.store) d.outcome
   pub raisable : IsRaisable d.outcome
 
 pub record SplattedIs (b : Bodies) (w : World) (s : Splatted) : Type 0 where
