@@ -12,6 +12,7 @@ use Rattle.def_core.specs.Sound as sound
 use Rattle.def_core.proofs.Grows as grows
 use Rattle.def_core.proofs.Roles.{found}
 use Rattle.def_calls.specs.World.{World, Activation, Enclosing}
+use Rattle.world_laws.specs.Anywhere.{longer}
 use Rattle.world_laws.specs.Fine.{Goes, Extends, HasSort, IsActivation, IsClasses}
 
 -- Lists.
@@ -29,16 +30,11 @@ module _ {A : Type 0} where
     same = g.same ∙ ap (λ (l : List A). l ++ g.more) f.same ∙ append_assoc xs f.more g.more;
   }
 
-  pub goes_length : (xs ys : List A) → Goes xs ys → length xs ≤ length ys
-  goes_length xs ys g =
-      let e : length ys ≡ length xs + length g.more = ap length g.same ∙ length-append xs g.more in
-      omega (arith, e)
-
   pub goes_there : (xs ys : List A) → Goes xs ys → (n : ℕ) (x : A) → slice_get xs n ≡ Some x → slice_get ys n ≡ Some x
   goes_there xs ys g n x h =
       let within = slice_get_within xs n x h in
-      let longer : n < length (xs ++ g.more) = rw length-append (omega (arith, within)) in
-      ap (λ (l : List A). slice_get l n) g.same ∙ slice_get-get_or (xs ++ g.more) n x longer
+      let within_all : n < length (xs ++ g.more) = rw length-append (omega (arith, within)) in
+      ap (λ (l : List A). slice_get l n) g.same ∙ slice_get-get_or (xs ++ g.more) n x within_all
       ∙ ap Some (get_or_append_left xs g.more x n within ∙ get_or_from_slice_get xs n x x h)
 
 -- Worlds.
@@ -73,8 +69,8 @@ module _ (w v : World) (e : Extends w v) where
   census_extends = record {
     roles = role_stays;
     names = λ n h.
-        let longer = goes_length w.store.symbols v.store.symbols e.symbols in
-        omega (arith, h, longer);
+        let more = longer w.store.symbols v.store.symbols e.symbols in
+        omega (arith, h, more);
   }
 
   pub symbol_stays : (s : SymId) → IsSymbol (census w.store) s → IsSymbol (census v.store) s
@@ -88,11 +84,11 @@ module _ (w v : World) (e : Extends w v) where
 
   pub activation_number_stays : (a : ℕ) → IsActivation w a → IsActivation v a
   activation_number_stays a is =
-      let longer = goes_length w.activations v.activations e.activations in (is.0, omega (arith, is.1, longer))
+      let more = longer w.activations v.activations e.activations in (is.0, omega (arith, is.1, more))
 
   pub classes_number_stays : (n : ℕ) → IsClasses w n → IsClasses v n
   classes_number_stays n is =
-      let longer = goes_length w.enclosing v.enclosing e.enclosing in omega (arith, is, longer)
+      let more = longer w.enclosing v.enclosing e.enclosing in omega (arith, is, more)
 
 -- What holds of what is there, and of each, in a later world.
 

@@ -21,3 +21,4 @@ pub mod Singletons
 pub mod Classes
 pub mod Constants
 pub mod Opening
+pub mod Laws

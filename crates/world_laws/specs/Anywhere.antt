@@ -4,7 +4,7 @@ use Rattle.def_calls.specs.World.{World}
 use Rattle.world_laws.specs.Fine.{Goes, IsActivation, IsClasses, Bodies}
 
 -- a list that goes on is no shorter
-longer : {A : Type 0} (xs ys : List A) → Goes xs ys → length xs ≤ length ys
+pub longer : {A : Type 0} (xs ys : List A) → Goes xs ys → length xs ≤ length ys
 longer xs ys g =
     let e : length ys ≡ length xs + length g.more = ap length g.same ∙ length-append xs g.more in
     omega (arith, e)

@@ -31,7 +31,6 @@ ghost use Rattle.world_laws.specs.Fine.{Extends, IsClasses, ActivationIs, Fine, 
 ghost use Rattle.world_laws.specs.Outcomes.{AnswerIs, GivesSpace, SplattedIs, BindingIs, SendingIs, StateIs, EntryIs, BlockArgumentIs, PlannedIs};
 
 /// The world before the first step of a program is fine, whatever names the program has.
-#[tactic(auto, using(crate::proofs::Opening::opening_is))]
 pub fn first_world_is_fine()
     ensures fine { (names : List (List ℕ)) (input : List ℕ) → Fine anywhere (opening_world names input) }
 {}
@@ -44,7 +43,7 @@ pub fn worlds_go_on()
 {}
 
 /// What a call enters, or answers at once: of a form or an instruction, of a core method's own, of a Proc, of a row.
-#[tactic(auto, using(crate::proofs::Calling::call_is, crate::proofs::Calling::send_is, crate::proofs::Entering::proc_enters, crate::proofs::Entering::row_is))]
+#[tactic(auto, using(crate::proofs::Laws::call_law, crate::proofs::Laws::sent_law, crate::proofs::Laws::of_proc_law, crate::proofs::Laws::of_row_law))]
 pub fn calls_keep_the_world()
     ensures call { (w : World) (a : Activation) (s : Sending) (recv : Value) (args : List Value) (block : Option ObjId)
         → Fine anywhere w → ActivationIs w a → SendingIs (census w.store) s → IsValue (census w.store) recv
@@ -63,7 +62,7 @@ pub fn calls_keep_the_world()
 {}
 
 /// What a call begins and ends with: parameters, a block, the body of a class.
-#[tactic(auto, using(crate::proofs::Binding::bind_is, crate::proofs::Ending::block_argument_is, crate::proofs::Ending::settle_keeps, crate::proofs::Ending::class_body_keeps, crate::proofs::Ending::close_keeps))]
+#[tactic(auto, using(crate::proofs::Laws::block_law))]
 pub fn activations_keep_the_world()
     ensures parameters { (w : World) (s : Shape) (args : List Value) (k : BindKind) → Fine anywhere w
         → AllAre (IsValue (census w.store)) args → BindingIs anywhere w (bind w.store s args k) }
@@ -77,7 +76,7 @@ pub fn activations_keep_the_world()
 {}
 
 /// What an iteration wants next, and the value with which it ends where it stops an exception.
-#[tactic(auto, using(crate::proofs::Plans::next_is, crate::proofs::Plans::caught_is, crate::proofs::Ending::read_is))]
+#[tactic(auto, using(crate::proofs::Laws::next_law, crate::proofs::Laws::caught_law))]
 pub fn iterations_keep_the_world()
     ensures next { (w : World) (it : Iteration) (v : Value) → Fine anywhere w → StateIs (census w.store) it
         → IsValue (census w.store) v → PlannedIs anywhere w (next it v w.store) }
@@ -87,7 +86,7 @@ pub fn iterations_keep_the_world()
 {}
 
 /// Variables, constants and values.
-#[tactic(auto, using(crate::proofs::Worlds::keeps_global, crate::proofs::Values::set_instance_variable_is, crate::proofs::Constants::get_constant_is, crate::proofs::Constants::set_constant_is, crate::proofs::Values::splat_is, crate::proofs::Tables::make_range_is))]
+#[tactic(auto, using(crate::proofs::Laws::global_law, crate::proofs::Laws::splat_law))]
 pub fn values_keep_the_world()
     ensures global { (w : World) (name : SymId) (v : Value) → Fine anywhere w → IsSymbol (census w.store) name
         → IsValue (census w.store) v → Keeps anywhere w (with_global w name v) }
@@ -106,7 +105,7 @@ pub fn values_keep_the_world()
 {}
 
 /// Classes, modules and methods; what opens a class gives one.
-#[tactic(auto, using(crate::proofs::Classes::define_method_is, crate::proofs::Classes::alias_method_is, crate::proofs::Classes::undefine_method_is, crate::proofs::Classes::open_class_is, crate::proofs::Classes::open_class_gives, crate::proofs::Classes::open_module_is, crate::proofs::Classes::singleton_class_is))]
+#[tactic(auto, using(crate::proofs::Laws::class_given_law, crate::proofs::Laws::singleton_law))]
 pub fn definitions_keep_the_world()
     ensures method { (w : World) (c : ObjId) (name : SymId) (body classes : ℕ) → Fine anywhere w
         → Is (census w.store) ClassOrModule c → IsSymbol (census w.store) name → anywhere.BodyIs w body classes
