@@ -1,27 +1,22 @@
 -- Answers of fine worlds.
-use Rattle.std.proofs.Common.{◌≡◌, ℕ, List, [], ◌∷◌, ◌++◌, length, true, false, refl, ap, sym, ◌∙◌, arith, length-append}
-use Rattle.std.specs.Prelude.{Option, Some, None, slice_get}
+use Rattle.std.proofs.Common.{◌≡◌, ℕ, List, length, false, refl, ap, ◌∙◌}
+use Rattle.std.specs.Prelude.{Some}
 use Rattle.std.proofs.lemmas.List.{get_or_push}
-use Rattle.std.proofs.lemmas.Option.{slice_get-get_or}
 use Rattle.rb_value.specs.declared.value.Value.{Value}
-use Rattle.rb_value.specs.declared.value.Value.TheVariants.{Nil, True, False, Int, Sym, Obj}
 use Rattle.rb_value.specs.declared.value.ObjId.{ObjId}
 use Rattle.rb_value.specs.declared.outcome.Failure.{Failure}
 use Rattle.rb_value.specs.declared.outcome.Outcome.{Outcome}
 use Rattle.rb_value.specs.declared.outcome.Outcome.TheVariants as outcome
-use Rattle.rb_value.specs.declared.kind.Sort.{Sort}
-use Rattle.rb_value.specs.declared.kind.Sort.TheVariants as sort
-use Rattle.rb_value.specs.declared.core_class.CoreClass.TheVariants as class
 use Rattle.rb_value.specs.Object.{Object}
 use Rattle.rb_value.specs.Sort.{sort_of}
 use Rattle.rb_value.specs.CoreClass.{is_module}
 use Rattle.def_core.specs.declared.cause.Cause.{Cause}
-use Rattle.def_core.specs.Store.{Store, Done, absent, object_at, next_number, with_object}
+use Rattle.def_core.specs.Store.{Store, Done, absent, next_number, with_object}
 use Rattle.def_core.specs.Texts.{detail_of}
 use Rattle.def_core.specs.Changes.{gives as done, fails}
-use Rattle.def_core.specs.Sound.{Census, sorts_of, census, Sound, String, Is, IsValue, IsOutcome, SoundObject, AllAre}
+use Rattle.def_core.specs.Sound.{census, String, IsValue, IsOutcome, SoundObject, AllAre}
 use Rattle.def_core.proofs.Good.{good_added}
-use Rattle.def_core.proofs.Grows.{core_is_class, new_role, value_grows, one_more}
+use Rattle.def_core.proofs.Grows.{new_role, value_grows, one_more}
 use Rattle.def_core.proofs.Good.{sort_found}
 use Rattle.rb_raise.specs.Causes.{SoundCause}
 use Rattle.rb_raise.proofs.Details.{detail_is}
@@ -31,9 +26,9 @@ use Rattle.def_rows.specs.Answers.{text_object, items_object, makes}
 use Rattle.run_values.specs.Raisable.{IsRaisable}
 use Rattle.run_values.proofs.Causes.{fails_raisable}
 use Rattle.run_values.proofs.Made.{new_is, items_sound, text_sound, exception_sound}
-use Rattle.def_calls.specs.World.{World, Result, gives, raises, Answer, with_store, give, give_in, make, exception_object, answer_in, answer, fail}
-use Rattle.world_laws.specs.Fine.{Bodies, HasSort, IsException, ObjectIs, Fine, Keeps}
-use Rattle.world_laws.specs.Outcomes.{ResultIs, AnswerIs, GivesSpace, DoneIs, DefinesIs}
+use Rattle.def_calls.specs.World.{World, raises, Answer, with_store, give, give_in, make, exception_object, answer_in, answer, fail}
+use Rattle.world_laws.specs.Fine.{Bodies, HasSort, ObjectIs, Fine, Keeps}
+use Rattle.world_laws.specs.Outcomes.{AnswerIs, GivesSpace, DoneIs, DefinesIs}
 use Rattle.world_laws.proofs.Standing.{keeps_itself, keeps_then}
 use Rattle.world_laws.proofs.Stores.{keeps_object}
 

@@ -1,16 +1,14 @@
 -- What binding gives to parameters is of the store after it.
-use Rattle.std.proofs.Common.{◌≡◌, ℕ, ◌+◌, ◌-◌, ◌≤◌, List, [], ◌∷◌, ◌++◌, length, take, drop, replicate, get_or, Bool, true, false, refl, arith, if◌then◌else◌}
-use Rattle.std.specs.Prelude.{Option, Some, None, nat_eq, min}
+use Rattle.std.proofs.Common.{ℕ, ◌+◌, ◌-◌, ◌≤◌, List, [], ◌∷◌, ◌++◌, length, take, replicate, get_or, Bool, true, false, arith, if◌then◌else◌}
+use Rattle.std.specs.Prelude.{Option, Some, None, nat_eq}
 use Rattle.rb_value.specs.declared.value.Value.{Value}
 use Rattle.rb_value.specs.declared.value.Value.TheVariants.{Nil, Obj}
 use Rattle.rb_value.specs.declared.method.Shape.{Shape}
-use Rattle.rb_value.specs.declared.kind.Kind.TheVariants as kind
-use Rattle.rb_value.specs.declared.core_class.CoreClass.TheVariants as class
 use Rattle.def_core.specs.declared.bound.BindKind.{BindKind}
 use Rattle.def_core.specs.declared.bound.BindKind.TheVariants.{Method, Lambda, Proc}
-use Rattle.def_core.specs.declared.bound.Bound.TheVariants.{Values, Wrong}
-use Rattle.def_core.specs.Store.{Store, core, fresh, next_number, with_object}
-use Rattle.def_core.specs.Bind.{Binding, least, most, elements_in, elements_or, spreads, spread, padded, fitted, arguments, fits, filled, front, remaining, last, values, bind_fitting, bind}
+use Rattle.def_core.specs.declared.bound.Bound.TheVariants.{Wrong}
+use Rattle.def_core.specs.Store.{next_number, with_object}
+use Rattle.def_core.specs.Bind.{least, most, elements_in, elements_or, spreads, spread, padded, fitted, arguments, fits, filled, front, remaining, last, values, bind_fitting, bind}
 use Rattle.def_core.specs.Sound.{Census, census, IsValue, OptionIs, AllAre}
 use Rattle.def_core.proofs.PartsSound.{all_more, all_first, all_rest}
 use Rattle.def_rows.specs.Answers.{items_object}

@@ -1,8 +1,8 @@
 -- What a call by a name enters: what is found, or else method_missing.
-use Rattle.std.proofs.Common.{◌≡◌, ℕ, List, [], ◌∷◌, Bool, true, false, if◌then◌else◌}
+use Rattle.std.proofs.Common.{List, ◌∷◌, Bool, true, false, if◌then◌else◌}
 use Rattle.std.specs.Prelude.{Option, Some, None, nat_eq, codes}
 use Rattle.rb_value.specs.declared.value.Value.{Value}
-use Rattle.rb_value.specs.declared.value.Value.TheVariants.{Nil, True, False, Int, Sym, Obj}
+use Rattle.rb_value.specs.declared.value.Value.TheVariants.{Sym}
 use Rattle.rb_value.specs.declared.value.ObjId.{ObjId}
 use Rattle.rb_value.specs.declared.value.SymId.{SymId}
 use Rattle.rb_value.specs.declared.method.Method.{Method}
@@ -22,7 +22,7 @@ use Rattle.def_calls.specs.World.{World, Activation, with_store, fail}
 use Rattle.def_calls.specs.Views.{object_in}
 use Rattle.def_calls.specs.Definitions.{super_of}
 use Rattle.def_calls.specs.Rows.{method_missing_row}
-use Rattle.def_calls.specs.Calls.{Entry, answers, Sending, by_name, by_bare_name, to_proc, to_super, enter_row, enter_found, enter_missing, missing_by, missing_named, missing, forbidden, enter_allowed, find_for, enter_unchecked, is_public, enter_public, send_by_core, enter_super, enter_value, call}
+use Rattle.def_calls.specs.Calls.{answers, Sending, by_name, by_bare_name, to_proc, to_super, enter_row, enter_found, enter_missing, missing_by, missing, forbidden, enter_allowed, find_for, enter_unchecked, is_public, enter_public, send_by_core, enter_super, enter_value, call}
 use Rattle.world_laws.specs.Fine.{Bodies, ActivationIs, Fine}
 use Rattle.world_laws.specs.Outcomes.{FoundIs, SendingIs, EntryIs}
 use Rattle.world_laws.proofs.Growing.{symbol_stays, value_stays}

@@ -1,8 +1,7 @@
 -- A cause of a store is one of each later store.
-use Rattle.rb_value.specs.declared.value.ObjId.{ObjId}
 use Rattle.def_core.specs.declared.cause.Cause.{Cause}
 use Rattle.def_core.specs.declared.cause.Cause.TheVariants as cause
-use Rattle.def_core.specs.Sound.{census, ClassOrModule, String, Is, IsSymbol, IsValue, OptionIs}
+use Rattle.def_core.specs.Sound.{census, ClassOrModule, String, Is}
 use Rattle.rb_raise.specs.Causes.{SoundCause}
 use Rattle.def_calls.specs.World.{World}
 use Rattle.world_laws.specs.Fine.{Extends}

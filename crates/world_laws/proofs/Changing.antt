@@ -1,7 +1,7 @@
 -- Changes of one object that keep a world fine: its elements, bytes, pairs and variables, and the methods, constants and
 -- name of a class or module.
-use Rattle.std.proofs.Common.{◌≡◌, ℕ, ◌<◌, List, [], ◌∷◌, ◌++◌, length, get_or, true, false, cond, refl, ap, sym, ◌∙◌, subst}
-use Rattle.std.specs.Prelude.{Option, Some, None, nat_eq, slice_get}
+use Rattle.std.proofs.Common.{◌≡◌, ℕ, ◌<◌, List, [], ◌∷◌, ◌++◌, true, false, cond, refl, sym, ◌∙◌, subst}
+use Rattle.std.specs.Prelude.{Option, Some, nat_eq}
 use Rattle.std.proofs.lemmas.Option.{slice_get_within, get_or_from_slice_get}
 use Rattle.indexmap.specs.IndexMap.{insert_entry}
 use Rattle.rb_value.specs.declared.value.Value.{Value}
@@ -16,17 +16,16 @@ use Rattle.rb_value.specs.declared.kind.Kind.TheVariants as kind
 use Rattle.rb_value.specs.declared.kind.ClassContents.{ClassContents}
 use Rattle.rb_value.specs.declared.kind.Sort.{Sort}
 use Rattle.rb_value.specs.declared.kind.Sort.TheVariants as sort
-use Rattle.rb_value.specs.declared.procs.ProcContents.{ProcContents}
 use Rattle.rb_value.specs.Object.{Object}
 use Rattle.rb_value.specs.Sort.{sort_of}
 use Rattle.rb_value.specs.Hash as hash
 use Rattle.rb_value.specs.Sending.{sent_to}
 use Rattle.rb_value.specs.Variables as variables
-use Rattle.def_core.specs.Store.{Store, absent, object_at, sort_at, set_object}
+use Rattle.def_core.specs.Store.{Store, object_at, sort_at, set_object}
 use Rattle.def_core.specs.Classes.{class_at, with_class}
 use Rattle.def_core.specs.Changes.{with_method, with_default, with_constant, visibility_for}
-use Rattle.def_core.specs.Parts.{with_objects, with_kind, with_elements, with_more, elements_at, with_text, text_at, with_hash, hash_at, with_pair, with_variable, sent, with_sent, ended, with_ended}
-use Rattle.def_core.specs.Sound.{Census, sorts_of, census, Sound, Any, Array, Fiber, Proc, ClassOrModule, plays, Is, IsGood, IsSymbol, IsValue, AllAre, SoundMethod, SoundClass, SoundKey, SoundKind, SoundObject}
+use Rattle.def_core.specs.Parts.{with_objects, with_elements, with_more, elements_at, with_text, hash_at, with_pair, with_variable, sent, with_sent, ended, with_ended}
+use Rattle.def_core.specs.Sound.{Census, sorts_of, census, Sound, Any, Array, Fiber, Proc, ClassOrModule, plays, Is, IsSymbol, IsValue, AllAre, SoundMethod, SoundKey, SoundKind}
 use Rattle.def_core.proofs.Sorts.{sorts-set, sort_at-sorts, length-sorts, same_class_sort}
 use Rattle.def_core.proofs.Roles.{is_plays, sound_class}
 use Rattle.def_core.proofs.Good.{is_good, good_below, role_object}

@@ -1,5 +1,5 @@
 -- What defines classes, modules and methods keeps a world fine.
-use Rattle.std.proofs.Common.{◌≡◌, ℕ, ◌<◌, List, [], ◌∷◌, ◌++◌, length, Bool, true, false, refl, ap, sym, ◌∙◌, if◌then◌else◌}
+use Rattle.std.proofs.Common.{◌≡◌, ℕ, List, ◌++◌, Bool, true, false, refl, if◌then◌else◌}
 use Rattle.std.specs.Prelude.{Option, Some, None, unwrap_or, is_some, codes, nat_eq}
 use Rattle.std.specs.Map.{lookup}
 use Rattle.rb_value.specs.declared.value.Value.{Value}
@@ -9,7 +9,6 @@ use Rattle.rb_value.specs.declared.value.SymId.{SymId}
 use Rattle.rb_value.specs.declared.method.Method.TheVariants as method
 use Rattle.rb_value.specs.declared.kind.ClassForm.{ClassForm}
 use Rattle.rb_value.specs.declared.kind.ClassForm.TheVariants as form
-use Rattle.rb_value.specs.declared.kind.Kind.TheVariants as kind
 use Rattle.rb_value.specs.declared.core_class.CoreClass.{CoreClass}
 use Rattle.rb_value.specs.declared.core_class.CoreClass.TheVariants as class
 use Rattle.rb_value.specs.CoreClass.{is_module}
@@ -17,21 +16,20 @@ use Rattle.rb_value.specs.Object.{Object}
 use Rattle.rb_value.specs.Variables.{variable_of}
 use Rattle.def_core.specs.declared.cause.Cause.TheVariants as cause
 use Rattle.def_core.specs.declared.found.Found.{Found}
-use Rattle.def_core.specs.Store.{Store, Done, core, same_object, name_at, next_number, with_object}
+use Rattle.def_core.specs.Store.{core, same_object, name_at, next_number, with_object}
 use Rattle.def_core.specs.Classes.{class_at}
 use Rattle.def_core.specs.Find.{find}
 use Rattle.def_core.specs.Texts.{class_name}
 use Rattle.def_core.specs.Parts.{with_objects}
 use Rattle.def_core.specs.Changes.{gives as done, fails, intern, Interned, constant_in, full_name, with_constant, make_named, parent_agrees, reopen_class, define_class_by, define_class_under, define_class, reopen_module, define_module_by, define_module, object_of_sort, is_class_sort, is_module_sort}
-use Rattle.def_core.specs.Sound.{Census, census, Any, Class, Module, Superclass, ClassOrModule, Is, IsSymbol, IsValue, OptionIs, AllAre}
+use Rattle.def_core.specs.Sound.{census, Class, Module, Superclass, ClassOrModule, Is, IsSymbol, IsValue, OptionIs}
 use Rattle.rb_store.proofs.Start.{interned_symbol}
 use Rattle.class_model.specs.Growth.{named_class}
 use Rattle.class_model.proofs.Naming.{named_is_sound, named_is_class}
 use Rattle.def_core.proofs.Roles.{class_is_superclass, superclass_is_class, module_is_class}
-use Rattle.class_model.proofs.Lineages.{any_of, parent_or_object}
-use Rattle.def_rows.specs.Answers.{text_object}
+use Rattle.class_model.proofs.Lineages.{parent_or_object}
 use Rattle.run_values.proofs.Made.{new_is}
-use Rattle.def_calls.specs.World.{World, Activation, Answer, with_store, answer, give, make}
+use Rattle.def_calls.specs.World.{World, Activation, Answer, with_store}
 use Rattle.def_calls.specs.Constants.{find_constant}
 use Rattle.def_calls.specs.Values.{variables_of}
 use Rattle.def_calls.specs.Definitions.{space_in, define_method, with_space, singleton_class, open_class, open_module, alias_found, alias_method, undefine_found, undefine_method, text_if, has_method, constant_there, super_of, instance_variable_told, global_told, constant_told, constant_in_told, method_told, yield_told, super_told}

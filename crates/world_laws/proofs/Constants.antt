@@ -1,5 +1,5 @@
 -- Constants and global variables keep a world fine.
-use Rattle.std.proofs.Common.{◌≡◌, ℕ, zero, suc, ◌-◌, List, [], ◌∷◌, length, get_or, Bool, true, false, cond, refl}
+use Rattle.std.proofs.Common.{ℕ, zero, suc, ◌-◌, List, [], ◌∷◌, get_or, true, false, cond, refl}
 use Rattle.std.specs.Prelude.{Option, Some, None, unwrap_or, nat_eq}
 use Rattle.std.specs.Map.{lookup}
 use Rattle.rb_value.specs.declared.value.Value.{Value}
@@ -13,9 +13,9 @@ use Rattle.def_core.specs.Classes.{class_at, ancestors}
 use Rattle.def_core.specs.Changes.{Interned, full_name, object_of_sort}
 use Rattle.def_core.specs.Sound.{Census, census, ClassOrModule, Is, IsSymbol, IsValue, OptionIs, AllAre}
 use Rattle.class_model.proofs.Lineages.{core_is_class}
-use Rattle.def_calls.specs.World.{World, Enclosing, with_store, no_enclosing, enclosing_at, class_around, global}
+use Rattle.def_calls.specs.World.{World, Enclosing, with_store, no_enclosing, class_around, global}
 use Rattle.def_calls.specs.Constants.{is_space_sort, constant_path, find_constant, constant_or_fail, get_constant, constant_within, get_constant_in, name_class, name_if_nameless, with_name_of, with_constant_value, set_constant_in, set_constant}
-use Rattle.world_laws.specs.Fine.{Bodies, IsClasses, EnclosingAre, GlobalIs, Fine, Keeps}
+use Rattle.world_laws.specs.Fine.{Bodies, EnclosingAre, GlobalIs, Fine, Keeps}
 use Rattle.world_laws.specs.Outcomes.{AnswerIs}
 use Rattle.world_laws.proofs.Growing.{role_stays, value_stays, symbol_stays}
 use Rattle.world_laws.proofs.Standing.{keeps_itself, keeps_then}

@@ -1,6 +1,6 @@
 -- What begins and ends an activation keeps a world fine, and what is read.
-use Rattle.std.proofs.Common.{◌≡◌, ℕ, zero, suc, ◌+◌, ◌-◌, ◌<◌, ◌≤◌, List, [], ◌∷◌, ◌++◌, length, get_or, take, drop, Bool, true, false, refl, arith, length-append, if◌then◌else◌, ◌^◌}
-use Rattle.std.specs.Prelude.{Option, Some, None, nat_lt, nat_eq, codes}
+use Rattle.std.proofs.Common.{◌≡◌, ℕ, zero, suc, ◌+◌, ◌-◌, ◌<◌, List, [], ◌∷◌, length, get_or, take, drop, Bool, true, false, refl, arith, length-append, if◌then◌else◌, ◌^◌}
+use Rattle.std.specs.Prelude.{Option, Some, None, nat_lt, nat_eq}
 use Rattle.rb_value.specs.declared.value.Value.{Value}
 use Rattle.rb_value.specs.declared.value.Value.TheVariants.{Nil, True, False, Int, Sym, Obj}
 use Rattle.rb_value.specs.declared.value.ObjId.{ObjId}
@@ -9,18 +9,18 @@ use Rattle.rb_value.specs.declared.kind.Kind.TheVariants as kind
 use Rattle.rb_value.specs.declared.core_class.CoreClass.TheVariants as class
 use Rattle.rb_value.specs.Value.{truth}
 use Rattle.def_core.specs.declared.cause.Cause.TheVariants as cause
-use Rattle.def_core.specs.Store.{Store, core, fresh, next_number, with_object}
+use Rattle.def_core.specs.Store.{core, fresh}
 use Rattle.def_core.specs.Classes.{class_of, chain, is_member}
-use Rattle.def_core.specs.Sound.{Census, census, Any, ClassOrModule, Proc, Fiber, Is, IsSymbol, IsValue, OptionIs, AllAre}
+use Rattle.def_core.specs.Sound.{census, ClassOrModule, Proc, Is, IsValue, OptionIs, AllAre}
 use Rattle.def_core.proofs.Grows.{core_is_class, new_role}
 use Rattle.class_model.proofs.Lineages.{any_of}
-use Rattle.def_rows.specs.Answers.{items_object, text_object}
-use Rattle.def_calls.specs.World.{World, Activation, Runs, main_program, method_body, block_body, lambda_body, class_body, core_method, with_store, give, make, fail, no_activation, activation_at, next_activation, with_activation, next_classes, with_enclosing}
+use Rattle.def_rows.specs.Answers.{text_object}
+use Rattle.def_calls.specs.World.{World, Activation, Runs, main_program, method_body, block_body, lambda_body, class_body, core_method, give, make, fail, no_activation, activation_at, with_activation, with_enclosing}
 use Rattle.def_calls.specs.Views.{object_in, Callable, kind_in, callable_of}
 use Rattle.def_calls.specs.Definitions.{space_in, with_public_default}
 use Rattle.def_calls.specs.Rows.{send_kept_row}
 use Rattle.def_calls.specs.Plans.{line_length}
-use Rattle.def_calls.specs.Calls.{BlockArgument, proc_or_not, block_argument, settle, is_of_space, is_of, class_activation, with_class_body, close_space, close_run, close, one_of, read_line, read_limit, read}
+use Rattle.def_calls.specs.Calls.{proc_or_not, block_argument, settle, is_of_space, is_of, class_activation, with_class_body, close_space, close_run, close, one_of, read_line, read_limit, read}
 use Rattle.world_laws.specs.Fine.{Bodies, Extends, IsActivation, RunIs, ActivationIs, Fine, Keeps}
 use Rattle.world_laws.specs.Outcomes.{AnswerIs, OpensIn, BlockArgumentIs}
 use Rattle.world_laws.proofs.Growing.{role_stays, activation_number_stays}
@@ -29,7 +29,7 @@ use Rattle.world_laws.proofs.Stores.{keeps_object}
 use Rattle.world_laws.proofs.Worlds.{keeps_io, keeps_activation, keeps_enclosing, extends_activation}
 use Rattle.world_laws.proofs.Answers.{answer_then, gives_value, makes_items, makes_text, fails_with}
 use Rattle.world_laws.proofs.Changing.{keeps_default, keeps_sent}
-use Rattle.world_laws.proofs.Holding.{space_is, runs_proc}
+use Rattle.world_laws.proofs.Holding.{runs_proc}
 use Rattle.world_laws.proofs.Checking.{truth_is}
 
 -- Activations by their numbers.

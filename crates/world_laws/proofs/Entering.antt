@@ -1,8 +1,8 @@
 -- What a call of a Proc or of a method enters.
-use Rattle.std.proofs.Common.{◌≡◌, ℕ, ◌+◌, ◌<◌, ◌≤◌, List, [], ◌∷◌, ◌++◌, length, get_or, Bool, true, false, refl, ap, sym, ◌∙◌, arith, length-append, inl, inr, ◌⊎◌, if◌then◌else◌}
+use Rattle.std.proofs.Common.{◌≡◌, ℕ, ◌+◌, List, [], ◌∷◌, ◌++◌, length, get_or, Bool, true, false, refl, arith, length-append, inl, inr, if◌then◌else◌}
 use Rattle.std.specs.Prelude.{Option, Some, None, nat_eq}
 use Rattle.rb_value.specs.declared.value.Value.{Value}
-use Rattle.rb_value.specs.declared.value.Value.TheVariants.{Nil, True, False, Int, Sym, Obj}
+use Rattle.rb_value.specs.declared.value.Value.TheVariants.{Nil, Obj}
 use Rattle.rb_value.specs.declared.value.ObjId.{ObjId}
 use Rattle.rb_value.specs.declared.value.SymId.{SymId}
 use Rattle.rb_value.specs.declared.method.Method.{Method}
@@ -11,19 +11,18 @@ use Rattle.rb_value.specs.declared.procs.ProcContents.{ProcContents}
 use Rattle.def_core.specs.declared.cause.Cause.TheVariants as cause
 use Rattle.def_core.specs.Store.{Store}
 use Rattle.def_core.specs.Classes.{plain_class_of}
-use Rattle.def_core.specs.Sound.{Census, census, Any, ClassOrModule, Proc, Is, IsSymbol, IsValue, OptionIs, AllAre, SoundMethod, SoundProc}
+use Rattle.def_core.specs.Sound.{Census, census, Any, ClassOrModule, Proc, Is, IsSymbol, IsValue, OptionIs, AllAre, SoundMethod}
 use Rattle.class_model.proofs.Lineages.{any_of}
 use Rattle.def_rows.specs.Rows.{prim}
-use Rattle.def_calls.specs.World.{World, Activation, Answer, Runs, with_store, give, fail, with_activation, next_activation}
+use Rattle.def_calls.specs.World.{World, Activation, Answer, with_store, give, fail, with_activation, next_activation}
 use Rattle.def_calls.specs.Views.{Callable, by_body, by_row, kind_in, callable_of}
 use Rattle.def_calls.specs.Values.{instance_variable, set_instance_variable}
 use Rattle.def_calls.specs.Rows as rows
 use Rattle.def_calls.specs.Plain.{outright}
-use Rattle.def_calls.specs.Plans.{begun}
 use Rattle.def_calls.specs.Calls.{Opening, Entry, answers, enters, begins, core_activation, enter_kind, enter_row, proc_runs, proc_home, proc_activation, enter_callable, enter_proc, as_method, enter_block, method_activation, counted, enter_method}
 use Rattle.world_laws.specs.Fine.{Bodies, Extends, IsActivation, MethodIs, RunIs, Fine, Keeps}
-use Rattle.world_laws.specs.Outcomes.{AnswerIs, CallableIs, OpensBody, OpensIn, OpeningIs, EntersIs, BeginsIs, EntryIs}
-use Rattle.world_laws.proofs.Growing.{extends_itself, role_stays, value_stays, symbol_stays, option_stays, activation_number_stays, classes_number_stays}
+use Rattle.world_laws.specs.Outcomes.{AnswerIs, CallableIs, OpensBody, OpensIn, OpeningIs, EntryIs}
+use Rattle.world_laws.proofs.Growing.{extends_itself, activation_number_stays}
 use Rattle.world_laws.proofs.Standing.{activation_stays, keeps_itself, keeps_then}
 use Rattle.world_laws.proofs.Worlds.{extends_activation}
 use Rattle.world_laws.proofs.Answers.{answer_then, answers_done, gives_value, fails_with}

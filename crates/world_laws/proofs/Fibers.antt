@@ -1,15 +1,15 @@
 -- Moves between fibers: each that is named is one, whatever they keep.
-use Rattle.std.proofs.Common.{◌≡◌, List, [], ◌∷◌, Bool, true, false, if◌then◌else◌}
+use Rattle.std.proofs.Common.{List, [], ◌∷◌, Bool, true, false, if◌then◌else◌}
 use Rattle.std.specs.Prelude.{Option, Some, None}
 use Rattle.rb_value.specs.declared.value.Value.TheVariants.{Obj}
 use Rattle.rb_value.specs.declared.value.ObjId.{ObjId}
 use Rattle.def_core.specs.declared.cause.Cause.TheVariants as cause
 use Rattle.def_core.specs.Store.{Store}
-use Rattle.def_core.specs.Sound.{Census, census, Sound, Any, Proc, Fiber, Is, OptionIs, AllAre}
+use Rattle.def_core.specs.Sound.{Census, census, Sound, Proc, Fiber, Is, OptionIs, AllAre}
 use Rattle.class_model.proofs.Lineages.{any_of}
 use Rattle.def_calls.specs.World.{World, with_store}
 use Rattle.def_calls.specs.Views.{kind_in, fiber_of}
-use Rattle.def_calls.specs.Fibers.{Name, root, object, Wait, resuming, suspended, Fiber as Waiting, Fibers, same_name, fiber_named, without, put_aside, Onward, Resumed, refused, resume_by, wait_of, resume_fiber, resume, back_in, back_to, yield, finish, with_ended}
+use Rattle.def_calls.specs.Fibers.{Name, root, object, Wait, resuming, suspended, Fiber as Waiting, Fibers, same_name, fiber_named, without, put_aside, refused, resume_by, wait_of, resume_fiber, resume, back_in, back_to, yield, finish, with_ended}
 use Rattle.world_laws.specs.Fine.{Bodies, Extends, Fine, Keeps}
 use Rattle.world_laws.specs.Outcomes.{NameIs, FiberIs, FibersAre, OnwardIs, ResumedIs}
 use Rattle.world_laws.proofs.Growing.{role_stays, option_stays, all_stay}

@@ -1,5 +1,5 @@
 -- Later worlds: what was there is there.
-use Rattle.std.proofs.Common.{◌≡◌, ℕ, ◌+◌, ◌<◌, ◌≤◌, List, [], ◌∷◌, ◌++◌, length, refl, ap, sym, ◌∙◌, subst, arith, length-append, append_assoc, append-nil}
+use Rattle.std.proofs.Common.{◌≡◌, ℕ, ◌<◌, List, [], ◌∷◌, ◌++◌, length, refl, ap, sym, ◌∙◌, arith, length-append, append_assoc, append-nil}
 use Rattle.std.specs.Prelude.{Option, Some, None, slice_get}
 use Rattle.std.proofs.lemmas.Option.{slice_get_within, slice_get-get_or, get_or_from_slice_get}
 use Rattle.std.proofs.lemmas.List.{get_or_append_left}
@@ -11,7 +11,7 @@ use Rattle.def_core.specs.Sound.{Census, sorts_of, census, Role, Is, IsSymbol, I
 use Rattle.def_core.specs.Sound as sound
 use Rattle.def_core.proofs.Grows as grows
 use Rattle.def_core.proofs.Roles.{found}
-use Rattle.def_calls.specs.World.{World, Activation, Enclosing}
+use Rattle.def_calls.specs.World.{World}
 use Rattle.world_laws.specs.Anywhere.{longer}
 use Rattle.world_laws.specs.Fine.{Goes, Extends, HasSort, IsActivation, IsClasses}
 

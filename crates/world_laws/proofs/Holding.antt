@@ -1,5 +1,5 @@
 -- What values of a fine world hold.
-use Rattle.std.proofs.Common.{◌≡◌, ℕ, zero, suc, ◌<◌, List, [], ◌∷◌, length, get_or, Bool, true, false, refl, ap, sym, ◌∙◌, subst, if◌then◌else◌}
+use Rattle.std.proofs.Common.{◌≡◌, ℕ, Bool, true, false, refl, ap, sym, ◌∙◌, subst, if◌then◌else◌}
 use Rattle.std.specs.Prelude.{Option, Some, None}
 use Rattle.rb_value.specs.declared.value.Value.{Value}
 use Rattle.rb_value.specs.declared.value.Value.TheVariants.{Nil, True, False, Int, Sym, Obj}
@@ -13,10 +13,10 @@ use Rattle.def_core.specs.Store.{Store, object_at, sort_at}
 use Rattle.def_core.specs.Classes.{contents_of, class_at}
 use Rattle.def_core.specs.Bind.{elements_of, elements_in}
 use Rattle.def_core.specs.Changes.{object_of_sort, is_class_sort, is_module_sort}
-use Rattle.def_core.specs.Sound.{Census, census, Sound, Role, Any, Class, Module, ClassOrModule, Proc, Array, Fiber, plays, Is, IsSymbol, IsValue, OptionIs, AllAre, SoundConstant, SoundHash, SoundKind, SoundProc}
+use Rattle.def_core.specs.Sound.{Census, census, Sound, Role, Any, Class, Module, ClassOrModule, Proc, Array, Fiber, plays, Is, IsSymbol, IsValue, OptionIs, AllAre, SoundConstant, SoundHash, SoundKind}
 use Rattle.def_core.proofs.Good.{is_good, has_role, role_object, sort_found}
 use Rattle.def_calls.specs.World.{World}
-use Rattle.def_calls.specs.Views.{object_in, symbol_in, present, kind_in, Callable, by_body, by_row, string_of, hash_of, callable_of, exception_of, message_of, detail_of, fiber_of, if_there, an_array, a_string, a_hash, a_proc, a_fiber, an_exception}
+use Rattle.def_calls.specs.Views.{object_in, symbol_in, present, kind_in, string_of, hash_of, callable_of, exception_of, message_of, detail_of, fiber_of, if_there, an_array, a_string, a_hash, a_proc, a_fiber, an_exception}
 use Rattle.def_calls.specs.Constants.{is_space_sort}
 use Rattle.def_calls.specs.Definitions.{space_in}
 use Rattle.world_laws.specs.Fine.{Bodies, HasSort, IsException, EntryHas, KindIs, Fine}

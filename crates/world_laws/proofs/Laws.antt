@@ -4,10 +4,9 @@ use Rattle.rb_value.specs.declared.value.Value.{Value}
 use Rattle.rb_value.specs.declared.value.ObjId.{ObjId}
 use Rattle.rb_value.specs.declared.value.SymId.{SymId}
 use Rattle.def_core.specs.declared.bound.BindKind.{BindKind}
-use Rattle.def_core.specs.declared.cause.Cause.{Cause}
 use Rattle.rb_value.specs.declared.method.Shape.{Shape}
 use Rattle.def_core.specs.Bind.{bind}
-use Rattle.def_core.specs.Sound.{census, Any, Array, ClassOrModule, Proc, Is, IsSymbol, IsValue, OptionIs, AllAre}
+use Rattle.def_core.specs.Sound.{census, Any, ClassOrModule, Proc, Is, IsSymbol, IsValue, OptionIs, AllAre}
 use Rattle.def_calls.specs.World.{World, Activation, with_global}
 use Rattle.def_calls.specs.Calls.{Sending, enter_row, enter_proc, call, send_by_core, block_argument, settle, with_class_body, close, read, opening_world}
 use Rattle.def_calls.specs.Constants.{get_constant, set_constant}
@@ -15,7 +14,7 @@ use Rattle.def_calls.specs.Definitions.{define_method, singleton_class, open_cla
 use Rattle.def_calls.specs.Plans.{Iteration, next, caught}
 use Rattle.def_calls.specs.Values.{set_instance_variable, splat, make_range}
 use Rattle.world_laws.specs.Anywhere.{anywhere}
-use Rattle.world_laws.specs.Fine.{Extends, IsClasses, ActivationIs, Fine, Keeps}
+use Rattle.world_laws.specs.Fine.{ActivationIs, Fine, Keeps}
 use Rattle.world_laws.specs.Outcomes.{AnswerIs, GivesSpace, SplattedIs, BindingIs, SendingIs, StateIs, EntryIs, BlockArgumentIs, PlannedIs}
 use Rattle.world_laws.proofs.Worlds.{keeps_global}
 use Rattle.world_laws.proofs.Values.{set_instance_variable_is, splat_is}

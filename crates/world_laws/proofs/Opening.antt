@@ -1,5 +1,5 @@
 -- The world before the first step of a program is fine.
-use Rattle.std.proofs.Common.{◌≡◌, ℕ, ◌+◌, ◌*◌, ◌≤◌, ◌<◌, List, [], ◌∷◌, ◌++◌, length, map, Bool, true, false, ◌&&◌, refl, ap, sym, ◌∙◌, subst, arith, true≢false, if◌then◌else◌}
+use Rattle.std.proofs.Common.{◌≡◌, ℕ, ◌+◌, ◌*◌, List, [], ◌∷◌, length, map, Bool, true, false, ◌&&◌, refl, sym, arith, true≢false, if◌then◌else◌}
 use Rattle.std.specs.Prelude.{slice_get}
 use Rattle.rb_value.specs.declared.value.Value.TheVariants.{Obj}
 use Rattle.rb_value.specs.declared.value.ObjId.{ObjId}
@@ -12,17 +12,17 @@ use Rattle.rb_value.specs.declared.kind.Kind.TheVariants as kind
 use Rattle.rb_value.specs.declared.core_class.CoreClass.{CoreClass}
 use Rattle.rb_value.specs.CoreClass.{core_classes}
 use Rattle.rb_value.specs.Object.{Object}
-use Rattle.def_core.specs.Store.{Store, core}
+use Rattle.def_core.specs.Store.{core}
 use Rattle.def_core.specs.Classes.{class_of}
 use Rattle.def_core.specs.Changes.{intern, with_method, with_singleton}
 use Rattle.def_core.specs.Parts.{with_objects}
-use Rattle.def_core.specs.Sound.{census, sorts_of, Sound, Any, ClassOrModule, plays_at, Is, AllAre}
+use Rattle.def_core.specs.Sound.{census, sorts_of, Any, ClassOrModule, plays_at, Is, AllAre}
 use Rattle.row_table.specs.Names.{integer_names, nil_names, truth_names, string_names, string_class_names, symbol_names, range_names, range_class_names, names as names_of}
 use Rattle.rb_store.specs.Opening.{bare, nameless, core_object, core_contents, main_object, with_names, with_row, with_rows, with_segments as with_table, opening as table}
 use Rattle.rb_store.proofs.Start.{opening_sound, interned_symbol}
 use Rattle.core_rows.proofs.Checked.{core_is}
 use Rattle.class_model.proofs.Lineages.{any_of}
-use Rattle.def_calls.specs.World.{World, with_store, with_activation}
+use Rattle.def_calls.specs.World.{World, with_store}
 use Rattle.def_calls.specs.Rows.{Segment, number_in, segments, holder, with_holder, with_segment, with_segments, opening}
 use Rattle.def_calls.specs.Calls.{main_activation, opening_world}
 use Rattle.world_laws.specs.Fine.{Bodies, MethodIs, EntryHas, KindIs, ObjectIs, Fine, Keeps}

@@ -1,10 +1,9 @@
 -- The core methods that open no activation keep a world fine.
-use Rattle.std.proofs.Common.{◌≡◌, ℕ, ℤ, List, [], ◌∷◌, ◌++◌, length, get_or, Bool, true, false, refl, sym, if◌then◌else◌}
+use Rattle.std.proofs.Common.{ℕ, ℤ, List, length, get_or, Bool, true, false, refl, sym, if◌then◌else◌}
 use Rattle.std.specs.Prelude.{Option, Some, None, pos, negsuc, nat_lt, not}
 use Rattle.rb_value.specs.declared.value.Value.{Value}
-use Rattle.rb_value.specs.declared.value.Value.TheVariants.{Nil, True, False, Int, Sym, Obj}
+use Rattle.rb_value.specs.declared.value.Value.TheVariants.{Nil, True, Int, Sym, Obj}
 use Rattle.rb_value.specs.declared.value.ObjId.{ObjId}
-use Rattle.rb_value.specs.declared.value.SymId.{SymId}
 use Rattle.rb_value.specs.declared.method.Method.TheVariants as method
 use Rattle.rb_value.specs.declared.kind.Kind.TheVariants as kind
 use Rattle.rb_value.specs.declared.kind.Sort.TheVariants as sort
@@ -13,24 +12,24 @@ use Rattle.rb_value.specs.declared.core_class.CoreClass.TheVariants as class
 use Rattle.rb_value.specs.Value.{truth, is_true}
 use Rattle.def_core.specs.declared.cause.Cause.{Cause}
 use Rattle.def_core.specs.declared.cause.Cause.TheVariants as cause
-use Rattle.def_core.specs.Store.{Store, Done, core, fresh, object_at}
+use Rattle.def_core.specs.Store.{Done, core, fresh, object_at}
 use Rattle.def_core.specs.Classes.{class_at, class_of, plain_class_of, chain, is_member}
 use Rattle.def_core.specs.Find.{same_value}
 use Rattle.def_core.specs.Bind.{elements_in}
 use Rattle.def_core.specs.Changes.{gives as done, fails, object_of_sort, is_class_sort}
 use Rattle.def_core.specs.Texts.{class_name}
 use Rattle.def_core.specs.Parts.{with_objects}
-use Rattle.def_core.specs.Sound.{Census, census, Class, ClassOrModule, Proc, Array, Is, IsSymbol, IsValue, OptionIs, AllAre}
+use Rattle.def_core.specs.Sound.{census, Class, ClassOrModule, Proc, Array, Is, IsSymbol, IsValue, OptionIs, AllAre}
 use Rattle.def_core.proofs.Grows.{core_is_class}
 use Rattle.rb_raise.specs.Causes.{SoundCause}
 use Rattle.class_model.proofs.Lineages.{any_of}
 use Rattle.def_rows.specs.Answers.{makes, text_object}
-use Rattle.def_calls.specs.World.{World, with_store}
+use Rattle.def_calls.specs.World.{World}
 use Rattle.def_calls.specs.Views.{Callable, by_body, by_row, integer_in, symbol_in, present, kind_in, callable_of, message_of, detail_of, fiber_of, an_array, an_exception}
 use Rattle.def_calls.specs.Checks.{counted, with_block, wanted}
-use Rattle.def_calls.specs.Values.{element_at, pushed}
+use Rattle.def_calls.specs.Values.{element_at}
 use Rattle.def_calls.specs.Rows as rows
-use Rattle.def_calls.specs.Plain.{shown_object, exits_with, status_in, as_lambda, message_or_class, with_message, with_block_method, a_space, outright}
+use Rattle.def_calls.specs.Plain.{shown_object, exits_with, status_in, as_lambda, message_or_class, with_message, a_space, outright}
 use Rattle.world_laws.specs.Fine.{Bodies, IsException, Fine}
 use Rattle.world_laws.specs.Outcomes.{DoneIs, CallableIs}
 use Rattle.world_laws.proofs.Growing.{value_stays}

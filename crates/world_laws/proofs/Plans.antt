@@ -1,22 +1,20 @@
 -- What an iteration wants next keeps a world fine.
-use Rattle.std.proofs.Common.{◌≡◌, ℕ, ℤ, zero, suc, ◌+◌, List, [], ◌∷◌, ◌++◌, length, get_or, drop, Bool, true, false, refl, if◌then◌else◌}
-use Rattle.std.specs.Prelude.{Option, Some, None, pos, negsuc, nat_lt, codes}
+use Rattle.std.proofs.Common.{ℕ, ℤ, zero, suc, ◌+◌, List, [], ◌∷◌, ◌++◌, length, get_or, drop, Bool, true, false, refl, if◌then◌else◌}
+use Rattle.std.specs.Prelude.{Option, Some, None, pos, nat_lt, codes}
 use Rattle.rb_value.specs.declared.value.Value.{Value}
-use Rattle.rb_value.specs.declared.value.Value.TheVariants.{Nil, True, False, Int, Sym, Obj}
+use Rattle.rb_value.specs.declared.value.Value.TheVariants.{Nil, Int, Obj}
 use Rattle.rb_value.specs.declared.value.ObjId.{ObjId}
-use Rattle.rb_value.specs.declared.value.SymId.{SymId}
 use Rattle.rb_value.specs.declared.kind.Kind.{Kind}
 use Rattle.rb_value.specs.declared.kind.Kind.TheVariants as kind
-use Rattle.rb_value.specs.declared.kind.Sort.TheVariants as sort
 use Rattle.rb_value.specs.declared.core_class.CoreClass.{CoreClass}
 use Rattle.rb_value.specs.declared.core_class.CoreClass.TheVariants as class
 use Rattle.def_core.specs.declared.cause.Cause.{Cause}
 use Rattle.def_core.specs.declared.cause.Cause.TheVariants as cause
-use Rattle.def_core.specs.Store.{Store, core, fresh, next_number, with_object}
+use Rattle.def_core.specs.Store.{core, fresh, next_number, with_object}
 use Rattle.def_core.specs.Classes.{lineage, is_member, plain_class_of}
 use Rattle.def_core.specs.Bind.{elements_in}
 use Rattle.def_core.specs.Parts.{no_pairs}
-use Rattle.def_core.specs.Changes.{intern, Interned, is_class_sort, object_of_sort}
+use Rattle.def_core.specs.Changes.{intern, is_class_sort, object_of_sort}
 use Rattle.def_core.specs.Sound.{Census, census, Any, Class, Array, Proc, Fiber, Is, IsSymbol, IsValue, OptionIs, AllAre, SoundKind}
 use Rattle.def_core.proofs.Grows.{core_is_class}
 use Rattle.def_core.proofs.PartsSound.{all_more, all_rest}
@@ -30,8 +28,8 @@ use Rattle.def_calls.specs.Views.{object_in, integer_in, symbol_in, present, kin
 use Rattle.def_calls.specs.Checks.{counted, with_block, wanted}
 use Rattle.def_calls.specs.Values.{text_of_value}
 use Rattle.def_calls.specs.Rows as rows
-use Rattle.def_calls.specs.Plans.{Iteration, begun, handing, putting, putting_text, printing, printing_text, inspecting, inspecting_text, raising, looping, visiting, counting, initializing, Plan, finishes, fails, raises, sends, calls, writes, reads, resumes, yields, Planned, plans, refuse, sends_named, both, all_flat, flat_by, flattened, line, puts_value, puts_next, puts_flat, puts_all, print_next, gives_all, inspect_next, raise_text, raise_by, raise_value, raise_all, raise_made, visit, elements, visit_next, steps_up, count_next, kind_by, kind_for, initialize_new, send_to, start, next, result_if_stop, caught}
-use Rattle.world_laws.specs.Fine.{Bodies, Extends, IsException, KindIs, Fine, Keeps}
+use Rattle.def_calls.specs.Plans.{Iteration, begun, handing, putting, putting_text, printing, printing_text, inspecting, inspecting_text, raising, looping, visiting, counting, initializing, Plan, finishes, fails, raises, sends, calls, writes, reads, resumes, yields, Planned, plans, refuse, sends_named, both, all_flat, flat_by, flattened, line, puts_value, puts_next, puts_flat, puts_all, print_next, gives_all, inspect_next, raise_text, raise_by, raise_value, raise_all, raise_made, elements, visit_next, steps_up, count_next, kind_by, kind_for, initialize_new, send_to, start, next, result_if_stop, caught}
+use Rattle.world_laws.specs.Fine.{Bodies, Extends, IsException, KindIs, Fine}
 use Rattle.world_laws.specs.Outcomes.{StateIs, PlanIs, PlannedIs}
 use Rattle.world_laws.proofs.Growing.{role_stays, value_stays, option_stays, all_stay}
 use Rattle.world_laws.proofs.Standing.{keeps_itself, keeps_then}

@@ -1,6 +1,6 @@
 -- What a search for a method or a constant finds in a fine world.
-use Rattle.std.proofs.Common.{◌≡◌, ℕ, zero, suc, List, [], ◌∷◌, ◌++◌, get_or, Bool, true, false, cond, refl, ap, sym, ◌∙◌, subst, if◌then◌else◌}
-use Rattle.std.specs.Prelude.{Option, Some, None, nat_eq, filter, not}
+use Rattle.std.proofs.Common.{◌≡◌, ℕ, List, [], ◌∷◌, Bool, true, false, cond, refl, sym, subst}
+use Rattle.std.specs.Prelude.{Option, Some, None, nat_eq}
 use Rattle.std.specs.Map.{lookup}
 use Rattle.rb_value.specs.declared.value.Value.{Value}
 use Rattle.rb_value.specs.declared.value.Value.TheVariants.{Nil, True, False, Int, Sym, Obj}
@@ -13,18 +13,18 @@ use Rattle.rb_value.specs.declared.method.MethodEntry.{MethodEntry}
 use Rattle.rb_value.specs.Object.{Object}
 use Rattle.rb_value.specs.declared.core_class.CoreClass.TheVariants as class
 use Rattle.def_core.specs.declared.found.Found.{Found}
-use Rattle.def_core.specs.Store.{Store, absent, core, object_at, sort_at, same_object}
-use Rattle.def_core.specs.Classes.{contents_of, class_at, chain, lineage, nearest_singleton, singletons_from, class_of, plain_class_of, ancestors}
+use Rattle.def_core.specs.Store.{Store, absent, object_at, sort_at}
+use Rattle.def_core.specs.Classes.{contents_of, class_at, chain, nearest_singleton, singletons_from, class_of, plain_class_of}
 use Rattle.def_core.specs.Find.{entry_of, found_as, found_or, first_of, find, behind, find_super}
 use Rattle.def_core.specs.Changes.{constant_in}
-use Rattle.def_core.specs.Sound.{Census, census, Sound, Any, Class, SingletonClass, ClassOrModule, has_object, Is, IsGood, IsSymbol, IsValue, IsFound, OptionIs, AllAre, SoundConstant}
-use Rattle.def_core.proofs.Good.{is_good, good_object, absent_where_none, role_object}
+use Rattle.def_core.specs.Sound.{Census, census, Sound, Any, SingletonClass, ClassOrModule, has_object, Is, IsGood, IsValue, IsFound, OptionIs, AllAre, SoundConstant}
+use Rattle.def_core.proofs.Good.{good_object, absent_where_none, role_object}
 use Rattle.def_core.proofs.Roles.{singleton_is_superclass, superclass_is_class, class_is_superclass}
 use Rattle.class_model.proofs.Found.{found_is_sound}
 use Rattle.class_model.proofs.Lineages.{core_is_class}
 use Rattle.method_lookup.proofs.Supers.{super_is_sound}
 use Rattle.def_calls.specs.World.{World}
-use Rattle.def_calls.specs.Constants.{option_or, first_constant, find_constant, constant_within}
+use Rattle.def_calls.specs.Constants.{option_or, first_constant}
 use Rattle.def_calls.specs.Definitions.{super_of}
 use Rattle.def_calls.specs.Calls.{find_for}
 use Rattle.world_laws.specs.Fine.{Bodies, MethodIs, EntryHas, Fine}

@@ -1,12 +1,10 @@
 -- Singleton classes that are made keep a world fine.
-use Rattle.std.proofs.Common.{◌≡◌, ℕ, zero, suc, ◌<◌, List, [], ◌∷◌, ◌++◌, length, Bool, true, false, refl, ap, sym, ◌∙◌, subst}
+use Rattle.std.proofs.Common.{◌≡◌, ℕ, zero, suc, ◌<◌, List, [], ◌∷◌, ◌++◌, length, refl, ap, ◌∙◌, subst}
 use Rattle.std.specs.Prelude.{Option, Some, None, unwrap_or, not, is_some}
 use Rattle.std.proofs.lemmas.List.{set-append_left, get_or_append_left}
 use Rattle.rb_value.specs.declared.value.Value.{Value}
 use Rattle.rb_value.specs.declared.value.Value.TheVariants.{Nil, True, False, Int, Sym, Obj}
 use Rattle.rb_value.specs.declared.value.ObjId.{ObjId}
-use Rattle.rb_value.specs.declared.kind.ClassForm.TheVariants as form
-use Rattle.rb_value.specs.declared.kind.Kind.TheVariants as kind
 use Rattle.rb_value.specs.declared.kind.Sort.{Sort}
 use Rattle.rb_value.specs.declared.kind.Sort.TheVariants as sort
 use Rattle.rb_value.specs.declared.core_class.CoreClass.TheVariants as class
@@ -14,9 +12,9 @@ use Rattle.rb_value.specs.Object.{Object}
 use Rattle.def_core.specs.declared.cause.Cause.TheVariants as cause
 use Rattle.def_core.specs.Store.{Store, core, absent, object_at, sort_at, set_object, next_number, with_object}
 use Rattle.def_core.specs.Classes.{class_at, lineage_within, lineage, singletons_from}
-use Rattle.def_core.specs.Changes.{attach, above_class, above, make_all, missing, with_singleton, give_singleton, singleton, fails}
+use Rattle.def_core.specs.Changes.{attach, above_class, above, make_all, missing, with_singleton, singleton, fails}
 use Rattle.def_core.specs.Parts.{with_objects}
-use Rattle.def_core.specs.Sound.{Census, census, Sound, Any, SingletonClass, Superclass, ClassOrModule, Is, IsValue, OptionIs, AllAre, IsSuperclass}
+use Rattle.def_core.specs.Sound.{census, Sound, Any, SingletonClass, Superclass, ClassOrModule, Is, IsValue, OptionIs, AllAre, IsSuperclass}
 use Rattle.def_core.proofs.Good.{is_good, good_object, good_within}
 use Rattle.def_core.proofs.Roles.{class_is_superclass, singleton_is_superclass}
 use Rattle.def_core.proofs.Keeps.{sound_with_singleton}

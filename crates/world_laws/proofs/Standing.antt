@@ -1,15 +1,14 @@
 -- What is right in a fine world is right in each later one.
-use Rattle.std.proofs.Common.{◌≡◌, ℕ, suc, List, [], ◌∷◌}
+use Rattle.std.proofs.Common.{ℕ, suc, List, [], ◌∷◌}
 use Rattle.rb_value.specs.declared.method.Method.{Method}
 use Rattle.rb_value.specs.declared.method.Method.TheVariants as method
 use Rattle.rb_value.specs.declared.value.Value.{Value}
-use Rattle.rb_value.specs.declared.value.Value.TheVariants.{Nil, True, False, Int, Sym, Obj}
 use Rattle.rb_value.specs.declared.procs.ProcContents.{ProcContents}
 use Rattle.rb_value.specs.declared.kind.Kind.{Kind}
 use Rattle.rb_value.specs.declared.kind.Kind.TheVariants as kind
 use Rattle.rb_value.specs.Object.{Object}
 use Rattle.def_core.specs.Store.{Store}
-use Rattle.def_core.specs.Sound.{census, Sound, ClassOrModule, Proc, Is, IsSymbol, IsValue, OptionIs, AllAre}
+use Rattle.def_core.specs.Sound.{census, Sound, ClassOrModule, Proc, Is, IsSymbol, AllAre}
 use Rattle.def_calls.specs.World.{World, Activation, Enclosing, Runs, main_program, method_body, block_body, lambda_body, class_body, core_method, with_store}
 use Rattle.def_calls.specs.Views.{object_in}
 use Rattle.world_laws.specs.Fine.{Bodies, Extends, MethodIs, EntryHas, KindIs, ObjectIs, RunIs, ActivationIs, EnclosingAre, GlobalIs, Fine, Keeps}

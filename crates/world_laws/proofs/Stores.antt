@@ -1,21 +1,18 @@
 -- Changes of the store that keep a world fine: more objects and names, and an object of the same sort in the place of
 -- another.
-use Rattle.std.proofs.Common.{◌≡◌, ℕ, zero, suc, List, [], ◌∷◌, ◌++◌, length, get_or, true, false, cond, refl, ap, sym, ◌∙◌, append-nil}
-use Rattle.std.specs.Prelude.{Option, Some, None, nat_eq}
+use Rattle.std.proofs.Common.{◌≡◌, ℕ, zero, suc, List, [], ◌∷◌, ◌++◌, length, get_or, sym, ◌∙◌, append-nil}
+use Rattle.std.specs.Prelude.{Option, Some, None}
 use Rattle.std.specs.List.{position}
 use Rattle.std.specs.Str.{bytes_eq}
 use Rattle.std.proofs.lemmas.List.{map-append}
-use Rattle.indexmap.specs.IndexMap.{insert_entry}
 use Rattle.rb_value.specs.declared.value.ObjId.{ObjId}
 use Rattle.rb_value.specs.declared.kind.Kind.{Kind}
-use Rattle.rb_value.specs.declared.kind.Kind.TheVariants as kind
-use Rattle.rb_value.specs.declared.kind.Sort.{Sort}
 use Rattle.rb_value.specs.Object.{Object}
 use Rattle.rb_value.specs.Sort.{sort_of}
 use Rattle.def_core.specs.Store.{Store, absent, object_at, sort_at, set_object, with_object}
 use Rattle.def_core.specs.Parts.{with_objects, with_kind}
 use Rattle.def_core.specs.Changes.{intern, intern_at}
-use Rattle.def_core.specs.Sound.{Census, sorts_of, census, Sound, Any, Is, IsGood, SoundKind, SoundObject, SoundFrom, AllAre}
+use Rattle.def_core.specs.Sound.{sorts_of, census, Any, Is, SoundKind, SoundObject, SoundFrom, AllAre}
 use Rattle.def_core.proofs.Sorts.{sorts-set}
 use Rattle.def_core.proofs.Good.{is_good, good_object}
 use Rattle.def_core.proofs.Keeps.{sound_with_set}
@@ -24,7 +21,7 @@ use Rattle.def_core.proofs.More.{sound_with_all}
 use Rattle.def_core.proofs.PartsSound.{all_more, all_set}
 use Rattle.def_calls.specs.World.{World, with_store}
 use Rattle.world_laws.specs.Fine.{Bodies, Goes, Extends, KindIs, ObjectIs, Fine, Keeps}
-use Rattle.world_laws.proofs.Growing.{goes_itself, goes_more, extends_itself}
+use Rattle.world_laws.proofs.Growing.{goes_itself, goes_more}
 use Rattle.world_laws.proofs.Standing.{kind_stays, objects_stay, keeps_itself, keeps_store}
 
 pub goes_same : {A : Type 0} (xs ys : List A) → ys ≡ xs → Goes xs ys

@@ -1,9 +1,9 @@
 -- The rows of the table keep a world fine.
-use Rattle.std.proofs.Common.{◌≡◌, ℕ, ℤ, ◌≤◌, List, [], ◌∷◌, ◌++◌, length, map, Bool, true, false, refl, ap, sym, ◌∙◌, subst, arith}
+use Rattle.std.proofs.Common.{◌≡◌, ℕ, ◌≤◌, List, length, map, Bool, true, refl, ap, ◌∙◌, arith}
 use Rattle.std.specs.Prelude.{Option, Some, None, IfSome}
 use Rattle.std.proofs.lemmas.List.{length-map}
 use Rattle.rb_value.specs.declared.value.Value.{Value}
-use Rattle.rb_value.specs.declared.value.Value.TheVariants.{Nil, True, False, Int, Sym, Obj}
+use Rattle.rb_value.specs.declared.value.Value.TheVariants.{Nil, Int, Sym}
 use Rattle.rb_value.specs.declared.value.ObjId.{ObjId}
 use Rattle.rb_value.specs.declared.kind.Kind.TheVariants as kind
 use Rattle.rb_value.specs.declared.kind.Sort.{Sort}
@@ -11,10 +11,9 @@ use Rattle.rb_value.specs.declared.kind.Sort.TheVariants as sort
 use Rattle.rb_value.specs.contracts.kind.SortPartialEq.TheImpl as sorts
 use Rattle.rb_value.specs.Value.{truth}
 use Rattle.def_core.specs.declared.cause.Cause.{Cause}
-use Rattle.def_core.specs.Store.{Store, Done, core, fresh, sort_at, with_object}
+use Rattle.def_core.specs.Store.{Store, Done, fresh, sort_at}
 use Rattle.def_core.specs.Changes.{gives as done, intern}
-use Rattle.def_core.specs.Parts.{with_objects}
-use Rattle.def_core.specs.Sound.{Census, census, Sound, Any, Array, Is, IsValue, AllAre, plays}
+use Rattle.def_core.specs.Sound.{Census, census, Any, Array, Is, IsValue, AllAre, plays}
 use Rattle.def_core.proofs.Good.{is_good, has_role, sort_found}
 use Rattle.rb_store.proofs.Start.{interned_symbol}
 use Rattle.rb_raise.specs.Causes.{SoundCause}
@@ -28,7 +27,7 @@ use Rattle.def_rows.specs.declared.answer.Answer.{Answer}
 use Rattle.def_rows.specs.declared.answer.Answer.TheVariants as answer
 use Rattle.def_rows.specs.Operands.{place_of}
 use Rattle.def_rows.specs.Checking.{check}
-use Rattle.def_rows.specs.Answers.{cause_of, text_object, items_object, numbered, with_texts, makes_texts, appended, rewritten, appends, finish_plain, pushed, replaced, pushes, finish, answer_of, called}
+use Rattle.def_rows.specs.Answers.{cause_of, text_object, numbered, with_texts, makes_texts, appended, rewritten, appends, finish_plain, pushed, replaced, pushes, finish, answer_of, called}
 use Rattle.def_rows.specs.Rows.{gives as row_gives, by_line, prim}
 use Rattle.core_rows.specs.Belonging.{SoundAnswer}
 use Rattle.core_rows.proofs.Places.{by_place}
@@ -37,11 +36,10 @@ use Rattle.core_rows.proofs.Texts.{numbered_are}
 use Rattle.core_methods.proofs.Belongs.{gives_belongs}
 use Rattle.run_values.proofs.Splatting as splatting
 use Rattle.run_values.proofs.RangeMade.{made_sound}
-use Rattle.rb_value.specs.declared.core_class.CoreClass.TheVariants as class
-use Rattle.def_rows.specs.RangeRows.{item_of, kept_ends, made}
+use Rattle.def_rows.specs.RangeRows.{item_of, kept_ends}
 use Rattle.def_calls.specs.World.{World, with_store}
 use Rattle.def_calls.specs.Values.{make_range}
-use Rattle.world_laws.specs.Fine.{Bodies, HasSort, ObjectIs, Fine, Keeps}
+use Rattle.world_laws.specs.Fine.{Bodies, HasSort, Fine, Keeps}
 use Rattle.world_laws.specs.Outcomes.{AnswerIs, DoneIs}
 use Rattle.world_laws.proofs.Growing.{value_stays}
 use Rattle.world_laws.proofs.Standing.{keeps_then}

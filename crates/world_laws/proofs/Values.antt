@@ -1,5 +1,5 @@
 -- What forms and instructions do with values keeps a world fine.
-use Rattle.std.proofs.Common.{◌≡◌, ℕ, ℤ, zero, suc, ◌-◌, ◌≤◌, List, [], ◌∷◌, ◌++◌, length, get_or, take, drop, map, Bool, true, false, refl, ap, sym, ◌∙◌, subst, if◌then◌else◌}
+use Rattle.std.proofs.Common.{ℕ, ℤ, zero, suc, ◌-◌, List, [], ◌∷◌, ◌++◌, length, get_or, take, drop, map, Bool, true, false, refl, sym, subst, if◌then◌else◌}
 use Rattle.std.specs.Prelude.{Option, Some, None, unwrap_or, nat_lt, pos, negsuc, max}
 use Rattle.std.specs.List.{position}
 use Rattle.rb_value.specs.declared.value.Value.{Value}
@@ -9,18 +9,16 @@ use Rattle.rb_value.specs.declared.value.SymId.{SymId}
 use Rattle.rb_value.specs.declared.key.KeyPart.{KeyPart}
 use Rattle.rb_value.specs.declared.key.KeyPart.TheVariants as part
 use Rattle.rb_value.specs.declared.key.Key.{Key}
-use Rattle.rb_value.specs.declared.key.Key.TheVariants as key
 use Rattle.rb_value.specs.declared.hash.HashItem.{HashItem}
 use Rattle.rb_value.specs.declared.hash.HashContents.{HashContents}
 use Rattle.rb_value.specs.declared.kind.Sort.TheVariants as sort
 use Rattle.rb_value.specs.declared.variables.Variable.{Variable}
 use Rattle.rb_value.specs.Variables as variables
-use Rattle.rb_value.specs.Object.{Object}
 use Rattle.def_core.specs.declared.cause.Cause.TheVariants as cause
-use Rattle.def_core.specs.Store.{Store, next_number, object_at, with_object}
+use Rattle.def_core.specs.Store.{Store, next_number, with_object}
 use Rattle.def_core.specs.Bind.{elements_in}
-use Rattle.def_core.specs.Parts.{with_objects, with_more, with_text, text_at, with_pair as put_pair}
-use Rattle.def_core.specs.Changes.{intern, Interned}
+use Rattle.def_core.specs.Parts.{text_at}
+use Rattle.def_core.specs.Changes.{intern}
 use Rattle.def_core.specs.Sound.{Census, census, Sound, Any, Array, Is, IsSymbol, IsValue, OptionIs, AllAre, SoundVariable, SoundPair, SoundPart, SoundKey, SoundHash}
 use Rattle.def_core.proofs.Good.{role_object}
 use Rattle.def_core.proofs.PartsSound.{all_more, all_first, all_rest}
@@ -29,21 +27,21 @@ use Rattle.rb_integer.specs.declared.ends.Bounds.{Bounds}
 use Rattle.rb_integer.specs.declared.ends.Bounds.TheVariants.{Integers, Bytes}
 use Rattle.rb_integer.specs.declared.ends.Ends.{Ends}
 use Rattle.rb_integer.specs.Ends as ends
-use Rattle.def_rows.specs.Answers.{items_object, text_object, numbered, with_texts}
+use Rattle.def_rows.specs.Answers.{items_object, text_object, with_texts}
 use Rattle.def_rows.specs.RangeRows.{range_of, items, integers_of, texts_of}
 use Rattle.run_values.proofs.Made.{new_is, items_sound}
 use Rattle.run_values.proofs.Splatting as splatting
-use Rattle.def_calls.specs.World.{World, Answer, with_store, give, give_in, make, fail}
-use Rattle.def_calls.specs.Views.{object_in, present, kind_in, string_of, hash_of}
-use Rattle.def_calls.specs.Values.{wrong_value, variables_by, variables_of, instance_variable, set_variable_of, set_instance_variable, elements_or_itself, element_at, element, elements_between, last_elements, Splatted, pairs_of, itself_or_none, splat_hash, splat_items, splat_range, splat_array, splat, pushed, push_splat, appended, intern_bytes, make_symbol, joined, all_parts, text_part, array_part, parts_of, key_of_parts, key_by, key_of, put_by_key, with_pair}
+use Rattle.def_calls.specs.World.{World, with_store}
+use Rattle.def_calls.specs.Views.{object_in, kind_in, string_of, hash_of}
+use Rattle.def_calls.specs.Values.{wrong_value, variables_of, instance_variable, set_variable_of, set_instance_variable, elements_or_itself, element_at, element, elements_between, last_elements, pairs_of, splat_hash, splat_items, splat_range, splat_array, splat, pushed, push_splat, appended, intern_bytes, make_symbol, joined, all_parts, text_part, array_part, parts_of, key_of_parts, key_by, key_of, put_by_key, with_pair}
 use Rattle.world_laws.specs.Fine.{Bodies, HasSort, ObjectIs, Fine, Keeps}
 use Rattle.world_laws.specs.Outcomes.{AnswerIs, GivesSpace, SplattedIs}
-use Rattle.world_laws.proofs.Growing.{value_stays, symbol_stays, role_stays, option_stays, all_stay}
+use Rattle.world_laws.proofs.Growing.{value_stays, role_stays, all_stay}
 use Rattle.world_laws.proofs.Standing.{keeps_itself, keeps_then}
 use Rattle.world_laws.proofs.Stores.{keeps_object, keeps_objects, keeps_interned}
 use Rattle.world_laws.proofs.Answers.{answer_then, gives_value, gives_in, makes_items, fails_with, fail_gives}
 use Rattle.world_laws.proofs.Changing.{has_any, keeps_more, keeps_text, keeps_pair, keeps_variable}
-use Rattle.world_laws.proofs.Holding.{object_is, present_is, elements_are, hash_of_is}
+use Rattle.world_laws.proofs.Holding.{object_is, elements_are, hash_of_is}
 
 -- Lists of values.
 

@@ -1,5 +1,5 @@
 -- Changes of what is beside the store that keep a world fine.
-use Rattle.std.proofs.Common.{◌≡◌, ℕ, suc, ◌+◌, ◌<◌, ◌≤◌, List, [], ◌∷◌, ◌++◌, length, true, false, cond, refl, arith, length-append}
+use Rattle.std.proofs.Common.{ℕ, suc, ◌+◌, ◌<◌, List, [], ◌∷◌, ◌++◌, length, arith}
 use Rattle.std.specs.Prelude.{nat_eq}
 use Rattle.indexmap.specs.IndexMap.{insert_entry}
 use Rattle.rb_value.specs.declared.value.Value.{Value}
@@ -9,10 +9,10 @@ use Rattle.def_core.specs.Sound.{Census, sorts_of, census, ClassOrModule, Is, Is
 use Rattle.def_core.proofs.Keeps.{named_kept}
 use Rattle.def_core.proofs.PartsSound.{all_more}
 use Rattle.def_calls.specs.World.{World, Activation, Enclosing, with_global, with_activation, with_enclosing}
-use Rattle.world_laws.specs.Fine.{Bodies, Extends, IsActivation, IsClasses, ObjectIs, ActivationIs, EnclosingAre, GlobalIs, Fine, Keeps}
+use Rattle.world_laws.specs.Fine.{Bodies, Extends, IsClasses, ActivationIs, EnclosingAre, GlobalIs, Fine, Keeps}
 use Rattle.world_laws.specs.Outcomes.{OpensIn}
 use Rattle.world_laws.proofs.Growing.{goes_itself, goes_more}
-use Rattle.world_laws.proofs.Standing.{objects_stay, activations_stay, enclosing_stay, globals_stay}
+use Rattle.world_laws.proofs.Standing.{objects_stay, activations_stay}
 
 -- with other input and output, or global variables
 abbrev pub beside : World → List (ℕ × Value) → List ℕ → List ℕ → World

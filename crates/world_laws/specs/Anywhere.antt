@@ -1,6 +1,5 @@
 -- The least that can be asked of Procs and of the bodies of methods: that the numbers of the world in them are there.
-use Rattle.std.proofs.Common.{◌≡◌, ◌≤◌, ◌+◌, ℕ, List, ◌++◌, length, ap, ◌∙◌, arith, length-append}
-use Rattle.def_calls.specs.World.{World}
+use Rattle.std.proofs.Common.{◌≡◌, ◌≤◌, ◌+◌, List, length, ap, ◌∙◌, arith, length-append}
 use Rattle.world_laws.specs.Fine.{Goes, IsActivation, IsClasses, Bodies}
 
 -- a list that goes on is no shorter

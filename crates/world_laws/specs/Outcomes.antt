@@ -1,14 +1,12 @@
 -- What each outcome of a form, an instruction, a call or an iteration is in a fine world.
-use Rattle.std.specs.Prelude.{◌≡◌, ◌⊎◌, ℕ, List, [], Option}
-use Rattle.rb_value.specs.declared.value.Value.{Value}
-use Rattle.rb_value.specs.declared.value.ObjId.{ObjId}
+use Rattle.std.specs.Prelude.{◌≡◌, ◌⊎◌, ℕ, List, []}
 use Rattle.rb_value.specs.declared.procs.ProcContents.{ProcContents}
 use Rattle.def_core.specs.declared.bound.Bound.{Bound}
 use Rattle.def_core.specs.declared.bound.Bound.TheVariants as bound
 use Rattle.def_core.specs.declared.found.Found.{Found}
-use Rattle.def_core.specs.Store.{Store, Done}
+use Rattle.def_core.specs.Store.{Done}
 use Rattle.def_core.specs.Bind.{Binding}
-use Rattle.def_core.specs.Sound.{Census, census, ClassOrModule, Proc, Fiber, Array, Is, IsSymbol, IsValue, IsFound, IsOutcome, OptionIs, AllAre, SoundProc}
+use Rattle.def_core.specs.Sound.{Census, census, Proc, Fiber, Array, Is, IsSymbol, IsValue, IsFound, IsOutcome, OptionIs, AllAre, SoundProc}
 use Rattle.class_model.specs.Given.{IsClass, GivesClass}
 use Rattle.rb_raise.specs.Causes.{SoundCause}
 use Rattle.run_values.specs.Raisable.{IsRaisable}
