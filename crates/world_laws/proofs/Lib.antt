@@ -21,4 +21,3 @@ pub mod Singletons
 pub mod Classes
 pub mod Constants
 pub mod Opening
-pub mod Laws

@@ -11,28 +11,31 @@
 //! another thing than the evaluation. The lemmas in proofs are about any such; the laws here about the least of them.
 #![tactic(auto)]
 
-ghost use Rattle.std.specs.Prelude.{◌≡◌, ℕ, List, Option, Bool};
+ghost use Rattle.std.specs.Prelude.{ℕ, ℤ, List, Option, Bool};
 ghost use Rattle.rb_value.specs.declared.value.Value.{Value};
 ghost use Rattle.rb_value.specs.declared.value.ObjId.{ObjId};
 ghost use Rattle.rb_value.specs.declared.value.SymId.{SymId};
-ghost use Rattle.def_core.specs.declared.bound.BindKind.{BindKind};
-ghost use Rattle.def_core.specs.declared.cause.Cause.{Cause};
 ghost use Rattle.rb_value.specs.declared.method.Shape.{Shape};
+ghost use Rattle.rb_value.specs.declared.kind.Sort.TheVariants as sort;
+ghost use Rattle.def_core.specs.declared.bound.BindKind.{BindKind};
 ghost use Rattle.def_core.specs.Bind.{bind};
-ghost use Rattle.def_core.specs.Sound.{census, Any, Array, ClassOrModule, Proc, Is, IsSymbol, IsValue, OptionIs, AllAre};
-ghost use Rattle.def_calls.specs.World.{World, Activation, with_global};
-ghost use Rattle.def_calls.specs.Calls.{Sending, enter_row, enter_proc, call, send_by_core, block_argument, settle, with_class_body, close, read, opening_world};
+ghost use Rattle.def_core.specs.Sound.{census, Any, ClassOrModule, Proc, Is, IsSymbol, IsValue, OptionIs, AllAre};
+ghost use Rattle.def_calls.specs.World.{World, Activation, with_store, with_global};
+ghost use Rattle.def_calls.specs.Calls.{Sending, enter_row, enter_proc, call, send_by_core, block_argument, settle, is_of, with_class_body, close, one_of, read, main_activation, opening_world};
 ghost use Rattle.def_calls.specs.Constants.{get_constant, set_constant};
-ghost use Rattle.def_calls.specs.Definitions.{define_method, singleton_class, open_class, open_module, alias_method, undefine_method};
+ghost use Rattle.def_calls.specs.Definitions.{define_method, singleton_class, open_class, open_module, alias_method, undefine_method, constant_told, method_told};
+ghost use Rattle.def_calls.specs.Fibers.{Name, with_ended};
 ghost use Rattle.def_calls.specs.Plans.{Iteration, next, caught};
-ghost use Rattle.def_calls.specs.Values.{set_instance_variable, splat, make_range};
+ghost use Rattle.def_calls.specs.Values.{set_instance_variable, element, splat, make_symbol, make_range, with_pair};
 ghost use Rattle.world_laws.specs.Anywhere.{anywhere};
-ghost use Rattle.world_laws.specs.Fine.{Extends, IsClasses, ActivationIs, Fine, Keeps};
-ghost use Rattle.world_laws.specs.Outcomes.{AnswerIs, GivesSpace, SplattedIs, BindingIs, SendingIs, StateIs, EntryIs, BlockArgumentIs, PlannedIs};
+ghost use Rattle.world_laws.specs.Fine.{Extends, HasSort, ActivationIs, Fine, Keeps};
+ghost use Rattle.world_laws.specs.Outcomes.{AnswerIs, GivesSpace, SplattedIs, BindingIs, SendingIs, StateIs, EntryIs, BlockArgumentIs, PlannedIs, NameIs};
 
-/// The world before the first step of a program is fine, whatever names the program has.
+/// The world before the first step of a program is fine, whatever names the program has, and so is its activation.
 pub fn first_world_is_fine()
     ensures fine { (names : List (List ℕ)) (input : List ℕ) → Fine anywhere (opening_world names input) }
+    ensures main { (names : List (List ℕ)) (input : List ℕ)
+        → ActivationIs (opening_world names input) main_activation }
 {}
 
 /// A later world extends each before it.
@@ -43,7 +46,6 @@ pub fn worlds_go_on()
 {}
 
 /// What a call enters, or answers at once: of a form or an instruction, of a core method's own, of a Proc, of a row.
-#[tactic(auto, using(crate::proofs::Laws::call_law, crate::proofs::Laws::sent_law, crate::proofs::Laws::of_proc_law, crate::proofs::Laws::of_row_law))]
 pub fn calls_keep_the_world()
     ensures call { (w : World) (a : Activation) (s : Sending) (recv : Value) (args : List Value) (block : Option ObjId)
         → Fine anywhere w → ActivationIs w a → SendingIs (census w.store) s → IsValue (census w.store) recv
@@ -61,8 +63,8 @@ pub fn calls_keep_the_world()
         → OptionIs (Is (census w.store) Proc) block → EntryIs anywhere w (enter_row w row recv args block) }
 {}
 
-/// What a call begins and ends with: parameters, a block, the body of a class.
-#[tactic(auto, using(crate::proofs::Laws::block_law))]
+/// What a call begins and ends with: parameters, a block, the body of a class; the end of a fiber; whether a clause takes
+/// an exception.
 pub fn activations_keep_the_world()
     ensures parameters { (w : World) (s : Shape) (args : List Value) (k : BindKind) → Fine anywhere w
         → AllAre (IsValue (census w.store)) args → BindingIs anywhere w (bind w.store s args k) }
@@ -72,21 +74,25 @@ pub fn activations_keep_the_world()
         → OptionIs (Is (census w.store) Proc) block → Keeps anywhere w (settle w block target) }
     ensures class_body { (w : World) (a : Activation) (c : ObjId) → Fine anywhere w → ActivationIs w a
         → Is (census w.store) ClassOrModule c → Keeps anywhere w (with_class_body w a c) }
+    ensures ended { (w : World) (n : Name) → Fine anywhere w → NameIs (census w.store) n
+        → Keeps anywhere w (with_store w (with_ended w.store n)) }
+    ensures taken { (w : World) (v class : Value) → Fine anywhere w → AnswerIs anywhere w (is_of w v class) }
     ensures closed { (w : World) (a : ℕ) → Fine anywhere w → Keeps anywhere w (close w a) }
 {}
 
-/// What an iteration wants next, and the value with which it ends where it stops an exception.
-#[tactic(auto, using(crate::proofs::Laws::next_law, crate::proofs::Laws::caught_law))]
+/// What an iteration wants next, and the value with which it ends where it stops an exception; what a resume and a read
+/// give it.
 pub fn iterations_keep_the_world()
     ensures next { (w : World) (it : Iteration) (v : Value) → Fine anywhere w → StateIs (census w.store) it
         → IsValue (census w.store) v → PlannedIs anywhere w (next it v w.store) }
     ensures caught { (w : World) (it : Iteration) (e : ObjId) → Fine anywhere w → Is (census w.store) Any e
         → OptionIs (IsValue (census w.store)) (caught it e w.store) }
+    ensures resumed { (w : World) (vs : List Value) → Fine anywhere w → AllAre (IsValue (census w.store)) vs
+        → AnswerIs anywhere w (one_of w vs) }
     ensures read { (w : World) → Fine anywhere w → AnswerIs anywhere w (read w) }
 {}
 
-/// Variables, constants and values.
-#[tactic(auto, using(crate::proofs::Laws::global_law, crate::proofs::Laws::splat_law))]
+/// Variables, constants, elements, splats, symbols, Ranges and pairs of Hashes.
 pub fn values_keep_the_world()
     ensures global { (w : World) (name : SymId) (v : Value) → Fine anywhere w → IsSymbol (census w.store) name
         → IsValue (census w.store) v → Keeps anywhere w (with_global w name v) }
@@ -98,14 +104,19 @@ pub fn values_keep_the_world()
     ensures constant_set { (w : World) (classes : ℕ) (name : SymId) (v : Value) → Fine anywhere w
         → IsSymbol (census w.store) name → IsValue (census w.store) v
         → AnswerIs anywhere w (set_constant w classes name v) }
+    ensures element { (w : World) (v : Value) (place : ℤ) → Fine anywhere w → IsValue (census w.store) v
+        → AnswerIs anywhere w (element w v place) }
     ensures splat { (w : World) (v : Value) → Fine anywhere w → IsValue (census w.store) v
         → SplattedIs anywhere w (splat w.store v) }
+    ensures symbol { (w : World) (v : Value) → Fine anywhere w → AnswerIs anywhere w (make_symbol w v) }
     ensures range { (w : World) (a b : Value) (exclusive : Bool) → Fine anywhere w
         → AnswerIs anywhere w (make_range w a b exclusive) }
+    ensures pair { (w : World) (hash : ObjId) (shown v : Value) → Fine anywhere w
+        → HasSort (census w.store) sort.Hash hash → IsValue (census w.store) shown → IsValue (census w.store) v
+        → AnswerIs anywhere w (with_pair w hash shown v) }
 {}
 
-/// Classes, modules and methods; what opens a class gives one.
-#[tactic(auto, using(crate::proofs::Laws::class_given_law, crate::proofs::Laws::singleton_law))]
+/// Classes, modules and methods, and what `defined?` tells of them; what opens a class or module gives one.
 pub fn definitions_keep_the_world()
     ensures method { (w : World) (c : ObjId) (name : SymId) (body classes : ℕ) → Fine anywhere w
         → Is (census w.store) ClassOrModule c → IsSymbol (census w.store) name → anywhere.BodyIs w body classes
@@ -123,6 +134,15 @@ pub fn definitions_keep_the_world()
         → GivesSpace (census (open_class w scope name parent).world.store) (open_class w scope name parent).result }
     ensures module { (w : World) (scope : Value) (name : SymId) → Fine anywhere w → IsValue (census w.store) scope
         → IsSymbol (census w.store) name → AnswerIs anywhere w (open_module w scope name) }
+    ensures module_given { (w : World) (scope : Value) (name : SymId) → Fine anywhere w
+        → IsValue (census w.store) scope → IsSymbol (census w.store) name
+        → GivesSpace (census (open_module w scope name).world.store) (open_module w scope name).result }
     ensures singleton { (w : World) (v : Value) → Fine anywhere w → IsValue (census w.store) v
         → AnswerIs anywhere w (singleton_class w v) }
+    ensures singleton_given { (w : World) (v : Value) → Fine anywhere w → IsValue (census w.store) v
+        → GivesSpace (census (singleton_class w v).world.store) (singleton_class w v).result }
+    ensures constant_told { (w : World) (classes : ℕ) (name : SymId) → Fine anywhere w
+        → AnswerIs anywhere w (constant_told w classes name) }
+    ensures method_told { (w : World) (caller recv : Value) (name : SymId) → Fine anywhere w
+        → AnswerIs anywhere w (method_told w caller recv name) }
 {}
