@@ -4,14 +4,14 @@
 //! Scopes mirror bodies (specs/Mirrors.antt) where each has the variables, but for hidden ones, that its body has slots of.
 #![tactic(auto)]
 
-ghost use Rattle.std.specs.Prelude.{◌≡◌, ◌≤◌, ℕ, ◌+◌, List, [], length, true, slice_get, Option, None, Some};
+ghost use Rattle.std.specs.Prelude.{◌≡◌, ◌<◌, ◌≤◌, ℕ, ◌+◌, List, [], ◌∷◌, ◌++◌, All, length, true, is_some, slice_get, Option, None, Some};
 ghost use Rattle.rb_value.specs.declared.value.Value.{Value};
 ghost use Rattle.rb_value.specs.declared.value.ObjId.{ObjId};
 ghost use Rattle.ir_core.specs.CoreForm.{Local, hidden, Parameters, CoreForm, body, no_parameters};
 ghost use Rattle.scope_resolver.specs.declared.body_kind.BodyKind.TheVariants as kind;
 ghost use Rattle.scope_resolver.specs.Layout.{Slots, Scopes, slots_of};
-ghost use Rattle.def_eval.specs.Configuration.{Memory, all_nil};
-ghost use Rattle.def_eval.specs.Scopes.{put_value, scopes_around, scope_of, last_or, first_variables};
+ghost use Rattle.def_eval.specs.Configuration.{Scope, Memory, all_nil};
+ghost use Rattle.def_eval.specs.Scopes.{value_in, scope_at, put_value, put_in, scopes_around, scope_of, last_or, first_variables};
 ghost use Rattle.code_laws.specs.Bound.{IsSeen, IsBound};
 ghost use Rattle.local_laws.specs.Mirrors.{has_slot, Mirrors, AreMirrored};
 
@@ -43,4 +43,17 @@ pub fn laws_of_variables()
         → length p.block ≤ 1 → Mirrors (first_variables p ls values b) (slots_of kind.Block (body p ls f)) }
     ensures kept { (vs : List (Local × Value)) (ss : Slots) (x : Local) (v : Value) → Mirrors vs ss
         → (IsSeen x → has_slot x ss ≡ true) → Mirrors (put_value vs x v) ss }
+{}
+
+/// Scopes go on mirroring bodies where one is added and where a local is assigned that the scope has, or that is hidden; and
+/// a new one whose variables mirror the slots of a body does so before those around it.
+pub fn laws_of_scopes()
+    ensures kept { (cs : List Scope) (c : Scope) (ns : List ℕ) (scopes : Scopes) → All (λ n. n < length cs) ns
+        → AreMirrored cs ns scopes → AreMirrored (cs ++ c ∷ []) ns scopes }
+    ensures opened { (cs : List Scope) (c : Scope) (ns : List ℕ) (ss : Slots) (scopes : Scopes)
+        → All (λ n. n < length cs) ns → AreMirrored cs ns scopes → Mirrors c.variables ss
+        → AreMirrored (cs ++ c ∷ []) (length cs ∷ ns) (ss ∷ scopes) }
+    ensures assigned { (cs : List Scope) (n : ℕ) (x : Local) (v : Value) → n < length cs
+        → (IsSeen x → is_some (value_in (scope_at cs n).variables x) ≡ true)
+        → (ns : List ℕ) (scopes : Scopes) → AreMirrored cs ns scopes → AreMirrored (put_in cs n x v) ns scopes }
 {}
