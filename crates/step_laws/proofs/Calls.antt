@@ -1,0 +1,362 @@
+-- Calls of a value and of self, by the parts of their code.
+use Rattle.std.proofs.Common.{◌≡◌, ℕ, ◌+◌, ◌<◌, ◌≤◌, List, [], ◌∷◌, ◌++◌, refl, sym, ap, ◌∙◌, subst, arith, length, length-append, Bool, true, false, true≢false}
+use Rattle.std.specs.Prelude.{if◌then◌else◌, Option, Some, None, nat_lt}
+use Rattle.rb_value.specs.declared.value.Value.{Value}
+use Rattle.rb_value.specs.declared.exit.Slot.TheVariants.{V}
+use Rattle.rite_code.specs.declared.operation.Operation.{Operation}
+use Rattle.rite_code.specs.declared.operation.Operation.TheVariants as op
+use Rattle.ir_counts.specs.Tables.{item_count}
+use Rattle.ir_walk.specs.Width.{has_splat}
+use Rattle.ir_core.specs.CoreForm.{Name, CoreForm, call, Maybe, absent, there, Items, no_items, plain, splat, Receiver, to, on_self, bare}
+use Rattle.gen_parts.specs.declared.line.Line.TheVariants as line
+use Rattle.gen_parts.specs.declared.emitter.Spot.{Spot}
+use Rattle.gen_parts.specs.Pieces.{Piece, past, does, nothing, ◌⊕◌}
+use Rattle.gen_forms.specs.declared.context.Loop.{Loop}
+use Rattle.gen_forms.specs.declared.calls.Passing.{Passing}
+use Rattle.gen_forms.specs.declared.calls.Passing.TheVariants as passed
+use Rattle.gen_forms.specs.Gen.{Code, Context, gen, gen_receiver, gen_maybe, gather, pass_in_registers, passing, passed_by, registers_of, called_by, operates as operation_of, operator, is_one_plain, send, symbol as entry_of}
+use Rattle.def_calls.specs.Calls.{Sending, by_name}
+use Rattle.def_eval.specs.Source.{span}
+use Rattle.def_eval.specs.Configuration as source
+use Rattle.def_eval.specs.Configuration.{arguments_of, Part, receiver, items, Item, part, perform, give, Config, Run}
+use Rattle.def_eval.specs.Entering.{symbol}
+use Rattle.def_eval.specs.Forms.{self_of, next_item, do_call, gather as gather_all, has_splat as has_splats, do_form}
+use Rattle.def_eval.specs.Giving.{give_part, do_give}
+use Rattle.def_eval.specs.Transition.{go}
+use Rattle.def_machine.specs.State as machine
+use Rattle.def_machine.specs.State.{Registers, Level, frame, slot_at}
+use Rattle.step_laws.specs.Site.{Site, within, place_in, LineAt, Room, IsThere, Named, number}
+use Rattle.step_laws.specs.Covered.{CoveredItems, IsNamed}
+use Rattle.step_laws.specs.Calm.{IsSteady, Quiet}
+use Rattle.step_laws.specs.Measure.{measure}
+use Rattle.step_laws.proofs.Placed.{high, high-both, high-puts, high-nothing, heights, line-past, Stands, moved, left, right, the_line, Rest, frame_at}
+use Rattle.step_laws.proofs.Relation.{Static, Holds, HoldsCall, CallBy, operates, sends, sends_self, InFrame, Same, Common, Doing, GivesIn, Related, Step}
+use Rattle.step_laws.proofs.Matching.{by_none, going, state_at}
+use Rattle.step_laws.proofs.Calling.{From}
+use Rattle.step_laws.proofs.Literals.{aligned, self_is}
+use Rattle.step_laws.proofs.Sends.{CallSite, items_on}
+
+no_splat : (h : Site) (r : ℕ) (is : Items) → CoveredItems h r is → has_splats is ≡ false
+no_splat h r no_items c = refl
+no_splat h r (plain e is) c = no_splat h (r + 1) is c.1
+no_splat h r (splat e is) c = absurd c
+
+none_spread : (h : Site) (r : ℕ) (is : Items) → CoveredItems h r is → has_splat is ≡ false
+none_spread h r no_items c = refl
+none_spread h r (plain e is) c = none_spread h (r + 1) is c.1
+none_spread h r (splat e is) c = absurd c
+
+passing_is : (is : Items) → has_splat is ≡ false → nat_lt 253 (item_count is) ≡ false
+    → passing is ≡ passed.InRegisters (item_count is)
+passing_is is e f =
+    ap (λ (b : Bool). if b then passed.InArray
+    else (if nat_lt 253 (item_count is) then passed.InArrayOf (item_count is) else passed.InRegisters (item_count is))) e
+    ∙ ap (λ (b : Bool). if b then passed.InArrayOf (item_count is) else passed.InRegisters (item_count is)) f
+
+-- The parts of a call: the receiver, the items, and the instruction.
+record Parts (h : Site) (n : ℕ) (p q : Piece) (o : Operation) (whole : Piece) : Type 0 where
+  pub receiver : Stands h n p
+  pub items : Stands h (n + high p) q
+  pub calls : LineAt h (n + high p + high q) (line.Does o)
+  pub ends : n + high p + high q + 1 ≡ n + high whole
+
+operator_parts : (h : Site) (n : ℕ) (p q : Piece) (o : Operation) → Stands h n (p ⊕ q ⊕ does o)
+    → Parts h n p q o (p ⊕ q ⊕ does o)
+operator_parts h n p q o s =
+    let rest = right h n p (q ⊕ does o) s in
+    record {
+      receiver = left h n p (q ⊕ does o) s;
+      items = left h (n + high p) q (does o) rest;
+      calls = the_line h (n + high p + high q) (line.Does o) (right h (n + high p) q (does o) rest);
+      ends = omega (arith, high-both p (q ⊕ does o), high-both q (does o), high-puts (line.Does o));
+    }
+
+send_parts : (h : Site) (n : ℕ) (p q : Piece) (o : Operation) → Stands h n ((p ⊕ q) ⊕ nothing ⊕ does o)
+    → Parts h n p q o ((p ⊕ q) ⊕ nothing ⊕ does o)
+send_parts h n p q o s =
+    let first = left h n (p ⊕ q) (nothing ⊕ does o) s in
+    let rest = right h n (p ⊕ q) (nothing ⊕ does o) s in
+    let last = right h (n + high (p ⊕ q)) nothing (does o) rest in
+    record {
+      receiver = left h n p q first;
+      items = right h n p q first;
+      calls = the_line h (n + high p + high q) (line.Does o)
+          (moved h (n + high (p ⊕ q) + high nothing) (n + high p + high q) (does o)
+          (omega (arith, high-both p q, high-nothing)) last);
+      ends = omega (
+        arith,
+        high-both (p ⊕ q) (nothing ⊕ does o),
+        high-both p q,
+        high-both nothing (does o),
+        high-nothing,
+        high-puts (line.Does o),
+      );
+    }
+
+-- the operation of a call of a value, and how it calls
+record Called (h : Site) (n r : ℕ) (loop : Option Loop) (s : Spot) (p : Piece) (own : Bool) (x : Name) (is : Items)
+    (end : ℕ) : Type 0 where
+  pub o : Operation
+  pub by : CallBy h r x (item_count is) own o
+  pub receiver : Stands h n p
+  pub items : Stands h (n + high p) (pass_in_registers (within h loop) (past s p) (r + 1) is)
+  pub calls : LineAt h (n + high p + high (pass_in_registers (within h loop) (past s p) (r + 1) is)) (line.Does o)
+  pub ends : n + high p + high (pass_in_registers (within h loop) (past s p) (r + 1) is) + 1 ≡ end
+
+one_item : (is : Items) → is_one_plain is ≡ true → item_count is ≡ 1
+one_item no_items e = absurd (true≢false (sym e))
+one_item (plain a no_items) e = omega arith
+one_item (plain a (plain b is)) e = absurd (true≢false (sym e))
+one_item (plain a (splat b is)) e = absurd (true≢false (sym e))
+one_item (splat a is) e = absurd (true≢false (sym e))
+
+-- an operator has one operand
+operator_is : (is : Items) (x : Name) (r : ℕ) (o : Operation) (b : Bool) → is_one_plain is ≡ b
+    → (if b then operator x r else None) ≡ Some o → (operator x r ≡ Some o) × (item_count is ≡ 1)
+operator_is is x r o true e f = (f, one_item is e)
+operator_is is x r o false e f = absurd (cc f)
+
+module _ (h : Site) (n r : ℕ) (loop : Option Loop) (s : Spot) (x : Name) (is : Items)
+    (covered : CoveredItems h (r + 1) is) (few : nat_lt 253 (item_count is) ≡ false) where
+  abbrev each : Code
+  each = λ d t i. pass_in_registers d t i is
+
+  abbrev spread : Code
+  spread = λ d t i. gather d t i is
+
+  abbrev no_block : Code
+  no_block = λ d t i. gen_maybe d t i absent
+
+  abbrev whole : Receiver → Option Operation → Passing → Piece
+  whole e o g = called_by o (λ d t i. gen_receiver d t i e) each (passed_by g each spread) no_block (registers_of g)
+      (send false e g r (entry_of h.context x)) (within h loop) s r
+
+  abbrev passes_few : passing is ≡ passed.InRegisters (item_count is)
+  passes_few = passing_is is (none_spread h (r + 1) is covered) few
+
+  value_called : (e : CoreForm) (o : Option Operation) → operation_of absent (to e) x is r ≡ o → IsNamed h x o
+      → Stands h n (whole (to e) o (passing is))
+      → Called h n r loop s (gen (within h loop) s r e) false x is (n + high (whole (to e) o (passing is)))
+  value_called e (Some o) is_it named code =
+      let p = gen (within h loop) s r e in
+      let parts = operator_parts h n p (each (within h loop) (past s p) (r + 1)) o code in
+      let found = operator_is is x r o (is_one_plain is) refl is_it in
+      record {
+        o = o;
+        by = operates found.0 found.1 refl named;
+        receiver = parts.receiver;
+        items = parts.items;
+        calls = parts.calls;
+        ends = parts.ends;
+      }
+  value_called e None is_it named code =
+      let p = gen (within h loop) s r e in
+      let o = op.Send r (entry_of h.context x) (item_count is) in
+      let parts = send_parts h n p (each (within h loop) (past s p) (r + 1)) o
+      (subst (λ (g : Passing). Stands h n (whole (to e) None g)) passes_few code) in
+      record {
+        o = o;
+        by = sends refl few refl named;
+        receiver = parts.receiver;
+        items = parts.items;
+        calls = parts.calls;
+        ends = parts.ends ∙ ap (λ (g : Passing). n + high (whole (to e) None g)) (sym passes_few);
+      }
+
+  self_called : Named h x → Stands h n (whole on_self None (passing is))
+      → Called h n r loop s nothing true x is (n + high (whole on_self None (passing is)))
+  self_called named code =
+      let o = op.SSend r (entry_of h.context x) (item_count is) in
+      let parts = send_parts h n nothing (each (within h loop) (past s nothing) (r + 1)) o
+      (subst (λ (g : Passing). Stands h n (whole on_self None g)) passes_few code) in
+      record {
+        o = o;
+        by = sends_self refl few refl named;
+        receiver = parts.receiver;
+        items = parts.items;
+        calls = parts.calls;
+        ends = parts.ends ∙ ap (λ (g : Passing). n + high (whole on_self None g)) (sym passes_few);
+      }
+
+there_of : (h : Site) (r : ℕ) (x : Name) (count : ℕ) (own : Bool) (o : Operation) → CallBy h r x count own o
+    → IsThere h.source x
+there_of h r x count own o (operates e one not_own is_there) = is_there
+there_of h r x count own o (sends e n not_own named) = named.there
+there_of h r x count own o (sends_self e n is_own named) = named.there
+
+holds_more : (l : List Registers) (n low r : ℕ) (vs : List Value) (v : Value) → Holds l n low vs → low + length vs ≡ r
+    → slot_at l n r ≡ V v → Holds l n low (vs ++ v ∷ [])
+holds_more l n low r [] v s e q = let e' : low ≡ r = omega (arith, e) in (ap (slot_at l n) e' ∙ q, tt)
+holds_more l n low r (u ∷ vs) v s e q = (s.0, holds_more l n (low + 1) r vs v s.1 (omega (arith, e)) q)
+
+holds_call : (h : Site) (l : List Registers) (own : Bool) (low r : ℕ) (recv : Value) (vs : List Value) (v : Value)
+    → HoldsCall h l own low recv vs → low + 1 + length vs ≡ r → slot_at l h.list r ≡ V v
+    → HoldsCall h l own low recv (vs ++ v ∷ [])
+holds_call h l false low r recv vs v s e q = (s.0, holds_more l h.list (low + 1) r vs v s.1 e q)
+holds_call h l true low r recv vs v s e q = (s.0, holds_more l h.list (low + 1) r vs v s.1 e q)
+
+module _ (h : Site) (static : Static h) (ks : List Item) (m : source.Memory) (ls : List Level)
+    (k : machine.Memory) (both : Common h m (aligned k m)) (steady : IsSteady h.source m.world) where
+  -- the receiver is done first
+  pub do_call_to : (j : ℕ) (e : CoreForm) (x : Name) (is : Items)
+      (d : Doing h (call (to e) x is absent) ks m.place ls k.lists)
+      → Step h (Run (perform j (call (to e) x is absent)) ks m) (state_at h d.x d.n (aligned k m))
+  unfolding do_form
+  do_call_to j e x is d =
+      let c = value_called h d.n d.r d.loop d.s x is d.covered.2 d.covered.3 e
+      (operation_of absent (to e) x is d.r) refl d.covered.4 d.code in
+      let p = gen (within h d.loop) d.s d.r e in
+      by_none h (Run (perform j (call (to e) x is absent)) ks m) (state_at h d.x d.n (aligned k m)) (omega arith) (
+        both,
+        record {
+          x = d.x;
+          n = d.n;
+          r = d.r;
+          is = refl;
+          there = d.there;
+          loop = d.loop;
+          s = d.s;
+          here = d.here;
+          covered = d.covered.1;
+          above = d.above;
+          code = c.receiver;
+          next = record {
+            low = d.r;
+            end = d.n + high (gen (within h d.loop) d.s d.r (call (to e) x is absent));
+            above = d.above;
+            below = omega arith;
+            behind = record {
+              at = refl;
+              loop = d.loop;
+              s = past d.s p;
+              here = line-past d.s p ∙ ap (λ (i : ℕ). i + high p) d.here;
+              plain = refl;
+              room = d.covered.0;
+              covered = d.covered.2;
+              o = c.o;
+              by = c.by;
+              code = c.items;
+              calls = c.calls;
+              ends = c.ends;
+            };
+            next = d.next;
+          };
+        },
+      )
+
+  -- the evaluation goes on with the items
+  plain_call : (j : ℕ) (x : Name) (recv : Value) (is : Items) (b : Maybe) → b ≡ absent → has_splats is ≡ false
+      → do_call h.source j (by_name (symbol m x)) recv is b ks m
+      ≡ next_item h.source j (by_name (symbol m x)) recv [] is absent ks m
+  plain_call j x recv is b e f =
+      ap (λ (q : Maybe). do_call h.source j (by_name (symbol m x)) recv is q ks m) e
+      ∙ ap (λ (t : Bool). if t
+      then gather_all h.source j (arguments_of (by_name (symbol m x)) recv absent) is ks m
+      else next_item h.source j (by_name (symbol m x)) recv [] is absent ks m) f
+
+  pub do_call_self : (j : ℕ) (x : Name) (is : Items) (d : Doing h (call on_self x is absent) ks m.place ls k.lists)
+      → Quiet m (go h.source (Run (perform j (call on_self x is absent)) ks m))
+      → Step h (Run (perform j (call on_self x is absent)) ks m) (state_at h d.x d.n (aligned k m))
+  unfolding do_form
+  do_call_self j x is d quiet =
+      let c = self_called h d.n d.r d.loop d.s x is d.covered.1 d.covered.2 d.covered.3 d.code in
+      let conf = Run (perform j (call on_self x is absent)) ks m in
+      let none : d.n + high nothing ≡ d.n = omega (arith, high-nothing) in
+      let q = pass_in_registers (within h d.loop) (past d.s nothing) (d.r + 1) is in
+      items_on h static ks m k both steady d.there conf d.x d.n j (by_name (symbol m x)) (self_of m) [] is (record {
+        low = d.r;
+        own = true;
+        loop = d.loop;
+        s = past d.s nothing;
+        here = omega (arith, line-past d.s nothing, high-nothing, d.here);
+        r = d.r + 1;
+        row = omega arith;
+        room = d.covered.0;
+        covered = d.covered.1;
+        name = x;
+        held = (self_is h static m k.lists steady d.there both.same ∙ both.same.self, tt);
+        o = c.o;
+        by = subst (λ (i : ℕ). CallBy h d.r x i true c.o) (omega arith) c.by;
+        code = moved h (d.n + high nothing) d.n q none c.items;
+        calls = subst (λ (i : ℕ). LineAt h (i + high q) (line.Does c.o)) none c.calls;
+        end = d.n + high (gen (within h d.loop) d.s d.r (call on_self x is absent));
+        ends = omega (arith, none, c.ends);
+        next = d.next;
+      }) (record {
+        alike = going (perform j (call on_self x is absent)) ks m (frame (frame_at h d.x d.n) ∷ []) (aligned k m) refl;
+        out = refl;
+        quiet = quiet;
+      }) (plain_call j x (self_of m) is absent refl (no_splat h (d.r + 1) is d.covered.1))
+      (ap by_name (steady.names x d.covered.3.there)) (omega arith)
+
+  pub give_receiver : (v : Value) (j : ℕ) (x : Name) (is : Items) (b : Maybe)
+      (d : GivesIn h v (part (receiver j x is b) ∷ ks) m.place ls k.lists)
+      → Quiet m (go h.source (Run (give v) (part (receiver j x is b) ∷ ks) m))
+      → Step h (Run (give v) (part (receiver j x is b) ∷ ks) m) (state_at h d.x d.n (aligned k m))
+  unfolding do_give give_part
+  give_receiver v j x is b d quiet =
+      let y = d.next.behind in
+      let low = d.next.low in
+      items_on h static ks m k both steady d.there (Run (give v) (part (receiver j x is b) ∷ ks) m) d.x d.n j
+      (by_name (symbol m x)) v [] is (record {
+        low = low;
+        own = false;
+        loop = y.loop;
+        s = y.s;
+        here = y.here;
+        r = low + 1;
+        row = omega arith;
+        room = y.room;
+        covered = y.covered;
+        name = x;
+        held = (subst (λ (i : ℕ). slot_at k.lists h.list i ≡ V v) (sym y.at) d.stands, tt);
+        o = y.o;
+        by = subst (λ (i : ℕ). CallBy h low x i false y.o) (omega arith) y.by;
+        code = y.code;
+        calls = y.calls;
+        end = d.next.end;
+        ends = y.ends;
+        next = d.next.next;
+      }) (record {
+        alike = going (give v) (part (receiver j x is b) ∷ ks) m (frame (frame_at h d.x d.n) ∷ []) (aligned k m) refl;
+        out = refl;
+        quiet = quiet;
+      }) (plain_call j x v is b y.plain (no_splat h (low + 1) is y.covered))
+      (ap by_name (steady.names x (there_of h low x (item_count is) false y.o y.by))) (omega arith)
+
+  pub give_item : (v : Value) (j : ℕ) (sender : Sending) (recv : Value) (vs : List Value) (is : Items) (b : Maybe)
+      (d : GivesIn h v (part (items j sender recv vs is b) ∷ ks) m.place ls k.lists)
+      → Quiet m (go h.source (Run (give v) (part (items j sender recv vs is b) ∷ ks) m))
+      → Step h (Run (give v) (part (items j sender recv vs is b) ∷ ks) m) (state_at h d.x d.n (aligned k m))
+  unfolding do_give give_part
+  give_item v j sender recv vs is b d quiet =
+      let y = d.next.behind in
+      let low = d.next.low in
+      let all : length vs + 1 + item_count is ≡ length (vs ++ v ∷ []) + item_count is =
+      omega (arith, length-append vs (v ∷ [])) in
+      items_on h static ks m k both steady d.there (Run (give v) (part (items j sender recv vs is b) ∷ ks) m) d.x d.n j
+      sender recv (vs ++ v ∷ []) is (record {
+        low = low;
+        own = y.own;
+        loop = y.loop;
+        s = y.s;
+        here = y.here;
+        r = d.r + 1;
+        row = omega (arith, y.at, length-append vs (v ∷ []));
+        room = y.room;
+        covered = y.covered;
+        name = y.name;
+        held = holds_call h k.lists y.own low d.r recv vs v y.held y.at d.stands;
+        o = y.o;
+        by = subst (λ (i : ℕ). CallBy h low y.name i y.own y.o) all y.by;
+        code = y.code;
+        calls = y.calls;
+        end = d.next.end;
+        ends = y.ends;
+        next = d.next.next;
+      }) (record {
+        alike = going (give v) (part (items j sender recv vs is b) ∷ ks) m (frame (frame_at h d.x d.n) ∷ []) (aligned k m)
+            refl;
+        out = refl;
+        quiet = quiet;
+      }) (ap (λ (q : Maybe). next_item h.source j sender recv (vs ++ v ∷ []) is q ks m) y.plain) y.sending (omega arith)

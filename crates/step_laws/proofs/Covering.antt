@@ -1,0 +1,240 @@
+-- Simple forms of a body within the limits are covered: their registers, locals and tables are there.
+use Rattle.std.proofs.Common.{◌≡◌, ◌≤◌, ◌<◌, ℕ, zero, suc, ◌+◌, ℤ, pos, negsuc, max, List, [], ◌∷◌, ◌++◌, length, map, get_or, arith, refl, sym, ap, ◌∙◌, subst, Bool, true, false, true≢false}
+use Rattle.std.specs.Prelude.{◌&&◌, nat_lt, bytes_eq, codes, position, slice_get, if◌then◌else◌, Option, Some, None}
+use Rattle.std.specs.Ordering.{int_eq}
+use Rattle.std.proofs.lemmas.List.{length-map}
+use Rattle.rite_code.specs.declared.code.PoolItem.{PoolItem}
+use Rattle.rite_code.specs.declared.code.PoolItem.TheVariants as pool
+use Rattle.rite_code.specs.declared.operation.Operation.{Operation}
+use Rattle.text_set.specs.Sets.{is_among}
+use Rattle.integer_set.specs.Sets as integers
+use Rattle.ir_core.specs.CoreForm as form
+use Rattle.ir_core.specs.CoreForm.{Name, Local, CoreForm, Forms, Items, Branches}
+use Rattle.ir_core.specs.Program.{Around, within_loop, is_known, is_form, are_forms, are_items, are_branches}
+use Rattle.ir_walk.specs.Width.{greatest, in_order, in_turn, of_call, has_splat, width, widths, item_widths, branch_widths}
+use Rattle.ir_counts.specs.declared.tally.Tally.{Tally}
+use Rattle.ir_counts.specs.Tables.{is_wide, item_count}
+use Rattle.scope_resolver.specs.declared.place.Place.{Place}
+use Rattle.scope_resolver.specs.Layout.{Slots, Scopes, place_of}
+use Rattle.gen_forms.specs.Gen.{Context, place_or, is_within, integer_entry, symbol, operates}
+use Rattle.code_laws.proofs.Shares.{Listed, Numbered, Adds, Noted, Noted_all, Noted_items, Noted_branches}
+use Rattle.code_laws.proofs.Widths.{Under, InOrder, under_left, under_right, under_greatest, order_within, order_room, turn_within}
+use Rattle.def_machine.specs.State.{body_at}
+use Rattle.step_laws.specs.Site.{Site, Room, register, Known, IsThere, Named}
+use Rattle.step_laws.specs.Covered.{IsLocal, IsNamed, Covered, CoveredForms, CoveredItems, CoveredBranches}
+use Rattle.step_laws.specs.Simple.{IsNamedLocal, IsSimple, AreSimple, AreSimpleItems, AreSimpleBranches}
+use Rattle.step_laws.proofs.Symbols.{IsCoreName}
+use Rattle.step_laws.proofs.Found.{operator_known, both_true}
+use Rattle.step_laws.proofs.Naming.{puts_known}
+use Rattle.step_laws.proofs.Listing.{name_there, integer_there, wide_is, local_there}
+
+-- What a body of locals and a tally has.
+pub record Has (h : Site) (ls : List Local) (t : Tally) (size : ℕ) : Type 0 where
+  pub scopes : h.context.scopes ≡ map Some ls ∷ []
+  pub symbols : h.context.symbols ≡ t.symbols
+  pub integers : h.context.integers ≡ t.integers
+  pub own_symbols : (body_at h.program h.body).symbols ≡ t.symbols
+  pub own_pool : (body_at h.program h.body).pool ≡ map pool.Int t.integers ++ map pool.Text t.texts
+  pub registers : (body_at h.program h.body).registers ≡ size
+  pub first : length ls < h.first
+  pub there : (x : Name) → IsCoreName x → IsThere h.source x
+
+module _ (h : Site) (ls : List Local) (t : Tally) (registers : ℕ) (has : Has h ls t registers) where
+  room : (r : ℕ) → h.first ≤ r → r < registers → Room h r
+  room r low high = record { within = omega (arith, high, has.registers); above = low }
+
+  known : (x : Name) → is_known (form.named x) ls ≡ true → Known h x
+  known x e =
+      let l = local_there x ls e in
+      let is : place_of h.context.scopes (form.named x) ≡ record { levels = 0; register = l.place } =
+      ap (λ (c : Scopes). place_of c (form.named x)) has.scopes ∙ l.is in
+      let at : register h x ≡ l.place = ap (λ (p : Place). p.register) is in
+      record {
+        level = ap (λ (p : Place). p.levels) is;
+        behind_self = omega (arith, at, l.low);
+        low = omega (arith, at, l.high, has.first);
+      }
+
+  named : (x : Name) → IsCoreName x → is_among x t.symbols ≡ true → Named h x
+  named x c e = record {
+    there = has.there x c;
+    listed = ap (λ (xs : List Name). get_or xs (symbol h.context x) []) has.own_symbols
+        ∙ ap (λ (xs : List Name). get_or t.symbols (place_or (position (bytes_eq x) xs) (length xs)) []) has.symbols
+        ∙ name_there x t.symbols e;
+  }
+
+  pooled : (z : ℤ) → Numbered t.integers (if is_wide z then Some z else None)
+      → is_within (negsuc 2147483647) z (pos 2147483647) ≡ false
+      → slice_get (body_at h.program h.body).pool (integer_entry h.context z) ≡ Some (pool.Int z)
+  pooled z n e =
+      let there = subst (λ (b : Bool). Numbered t.integers (if b then Some z else None)) (wide_is z e) n in
+      ap (λ (i : List PoolItem). slice_get i (integer_entry h.context z)) has.own_pool
+      ∙ ap (λ (zs : List ℤ). slice_get (map pool.Int t.integers ++ map pool.Text t.texts)
+      (place_or (position (int_eq z) zs) (length zs))) has.integers
+      ∙ integer_there z t.integers t.texts there
+
+  -- an operator with an instruction of its own, and another one
+  operator_named : (x : Name) (o : Option Operation) → IsCoreName x → is_among x t.symbols ≡ true → IsNamed h x o
+  operator_named x None c e = named x c e
+  operator_named x (Some o) c e = has.there x c
+
+  none_spread : (is' : Items) → AreSimpleItems is' → has_splat is' ≡ false
+  none_spread form.no_items is = refl
+  none_spread (form.plain e is') is = none_spread is' is.1
+  none_spread (form.splat e is') is = absurd is
+
+  local_known : (x : Local) → IsNamedLocal x → is_known x ls ≡ true → IsLocal h x
+  local_known (form.named x) is e = known x e
+  local_known (form.hidden d) is e = absurd is
+  local_known (form.pattern k) is e = absurd is
+  local_known form.rest is e = absurd is
+
+  mutual
+    cover : (e : CoreForm) (r : ℕ) (a : Around) → a.known ≡ ls → IsSimple e → Noted t e → is_form a e ≡ true
+        → h.first ≤ r → r + width e ≤ registers → Covered h r e
+    cover form.nil r a k is n f low w = room r low (omega (arith, w))
+    cover form.truth r a k is n f low w = room r low (omega (arith, w))
+    cover form.falsehood r a k is n f low w = room r low (omega (arith, w))
+    cover form.self_ref r a k is n f low w = absurd is
+    cover (form.int z) r a k is n f low w = (room r low (omega (arith, w)), pooled z n.integer)
+    cover (form.str t) r a k is n f low w = absurd is
+    cover (form.sym x) r a k is n f low w = absurd is
+    cover (form.local x) r a k is n f low w = (room r low (omega (arith, w)), local_known x is (subst (λ (xs : List Local). is_known x xs ≡ true) k f))
+    cover (form.own x) r a k is n f low w = absurd is
+    cover form.exception r a k is n f low w = absurd is
+    cover (form.set_local x e) r a k is n f low w =
+        let both = both_true (is_known x a.known) (is_form a e) f in
+        let part = order_within registers r (width e ∷ []) w in (
+          cover e r a k is.0 n.1 both.1 low part.0,
+          local_known x is.1 (subst (λ (xs : List Local). is_known x xs ≡ true) k both.0),
+        )
+    cover (form.ivar x) r a k is n f low w = absurd is
+    cover (form.set_ivar x e) r a k is n f low w = absurd is
+    cover (form.gvar x) r a k is n f low w = absurd is
+    cover (form.set_gvar x e) r a k is n f low w = absurd is
+    cover (form.constant x) r a k is n f low w = absurd is
+    cover (form.top_constant x) r a k is n f low w = absurd is
+    cover (form.in_constant e x) r a k is n f low w = absurd is
+    cover (form.set_constant x e) r a k is n f low w = absurd is
+    cover (form.set_in_constant e x v) r a k is n f low w = absurd is
+    cover (form.array is') r a k is n f low w = absurd is
+    cover (form.hash ps) r a k is n f low w = absurd is
+    cover (form.range b c x) r a k is n f low w = absurd is
+    cover (form.text es) r a k is n f low w = absurd is
+    cover (form.intern e) r a k is n f low w = absurd is
+    cover (form.seq es) r a k is n f low w =
+        let part = turn_within registers r (widths es) w in (
+          room r low (omega (arith, part.1)),
+          cover_forms es r (greatest (widths es)) a k is n.1 f low (under_greatest 0 (widths es)) (omega (arith, part.0)),
+        )
+    cover (form.cond bs o) r a k is n f low w =
+        let ws = branch_widths bs ++ width o ∷ [] in
+        let part = turn_within registers r ws w in
+        let under = under_greatest 0 ws in
+        let last = under_right (greatest ws) (branch_widths bs) (width o ∷ []) under in
+        let both = both_true (are_branches a bs) (is_form a o) f in (
+          cover_branches bs r (greatest ws) a k is.0 n.1 both.0 low
+              (under_left (greatest ws) (branch_widths bs) (width o ∷ []) under) (omega (arith, part.0)),
+          cover o r a k is.1 n.2 both.1 low (omega (arith, part.0, last.0)),
+        )
+    cover (form.and_form b c) r a k is n f low w =
+        let both = both_true (is_form a b) (is_form a c) f in
+        let part = order_within registers r (width b ∷ width c ∷ []) w in
+        (cover b r a k is.0 n.1 both.0 low part.0, cover c r a k is.1 n.2 both.1 low (omega (arith, part.1.0)))
+    cover (form.or_form b c) r a k is n f low w =
+        let both = both_true (is_form a b) (is_form a c) f in
+        let part = order_within registers r (width b ∷ width c ∷ []) w in
+        (cover b r a k is.0 n.1 both.0 low part.0, cover c r a k is.1 n.2 both.1 low (omega (arith, part.1.0)))
+    cover (form.while_form first b c) r a k is n f low w =
+        let both = both_true (is_form (within_loop a) b) (is_form (within_loop a) c) f in
+        let ws = width b ∷ width c ∷ [] in
+        let part = turn_within registers r ws w in
+        let under = under_greatest 0 ws in (
+          room r low (omega (arith, part.1)),
+          cover b r (within_loop a) k is.0 n.1 both.0 low (omega (arith, part.0, under.0)),
+          cover c r (within_loop a) k is.1 n.2 both.1 low (omega (arith, part.0, under.1.0)),
+        )
+    cover (form.call (form.to e) x is' form.absent) r a k is n f low w =
+        let first = both_true (is_form a e) (are_items a is' && true) f in
+        let second = both_true (are_items a is') true first.1 in
+        let ws = (width e ∷ item_widths is') ++ [] in
+        let wide : r + in_order ws ≤ registers =
+        subst (λ (b : Bool). r + of_call b ws ≤ registers) (none_spread is' is.1) w in
+        let parts = order_within registers r ws wide in
+        let some = order_room registers r ws wide in (
+          room r low (omega (arith, some)),
+          cover e r a k is.0 n.1 first.0 low parts.0,
+          cover_items is' (r + 1) a k is.1 n.2 second.0 (omega (arith, low)) parts.1,
+          is.3,
+          operator_named x (operates form.absent (form.to e) x is' r) (operator_known x is.2) n.0.name,
+        )
+    cover (form.call (form.to e) x is' (form.there b)) r a k is n f low w = absurd is
+    cover (form.call form.on_self x is' form.absent) r a k is n f low w =
+        let second = both_true (are_items a is') true f in
+        let ws = (3 ∷ item_widths is') ++ [] in
+        let wide : r + in_order ws ≤ registers =
+        subst (λ (b : Bool). r + of_call b ws ≤ registers) (none_spread is' is.0) w in
+        let parts = order_within registers r ws wide in
+        let some = order_room registers r ws wide in (
+          room r low (omega (arith, some)),
+          cover_items is' (r + 1) a k is.0 n.2 second.0 (omega (arith, low)) parts.1,
+          is.2,
+          named x (subst IsCoreName (sym is.1) puts_known) n.0.name,
+        )
+    cover (form.call form.on_self x is' (form.there b)) r a k is n f low w = absurd is
+    cover (form.call form.bare x is' b) r a k is n f low w = absurd is
+    cover (form.yield_form is') r a k is n f low w = absurd is
+    cover (form.super_form is' b) r a k is n f low w = absurd is
+    cover (form.function g) r a k is n f low w = absurd is
+    cover (form.lambda g) r a k is n f low w = absurd is
+    cover (form.begin_form b cs o e) r a k is n f low w = absurd is
+    cover (form.return_form e) r a k is n f low w = absurd is
+    cover (form.break_form e) r a k is n f low w = absurd is
+    cover (form.next_form e) r a k is n f low w = absurd is
+    cover form.retry r a k is n f low w = absurd is
+    cover (form.define x g) r a k is n f low w = absurd is
+    cover (form.define_on e x g) r a k is n f low w = absurd is
+    cover (form.class_form c x p g) r a k is n f low w = absurd is
+    cover (form.module_form c x g) r a k is n f low w = absurd is
+    cover (form.singleton_class e g) r a k is n f low w = absurd is
+    cover (form.alias_form x y) r a k is n f low w = absurd is
+    cover (form.undef_form x) r a k is n f low w = absurd is
+    cover (form.defined q x e) r a k is n f low w = absurd is
+    cover (form.item e q) r a k is n f low w = absurd is
+    cover (form.rest_of e from post) r a k is n f low w = absurd is
+    cover (form.tail_of e from count) r a k is n f low w = absurd is
+
+    cover_forms : (es : Forms) (r g : ℕ) (a : Around) → a.known ≡ ls → AreSimple es → Noted_all t es
+        → are_forms a es ≡ true → h.first ≤ r → Under g (widths es) → r + 2 + g ≤ registers → CoveredForms h r es
+    cover_forms form.none r g a k is n f low u w = tt
+    cover_forms (form.more e es) r g a k is n f low u w =
+        let both = both_true (is_form a e) (are_forms a es) f in (
+          cover e r a k is.0 n.0 both.0 low (omega (arith, u.0, w)),
+          cover_forms es r g a k is.1 n.1 both.1 low u.1 w,
+        )
+
+    cover_items : (is' : Items) (r : ℕ) (a : Around) → a.known ≡ ls → AreSimpleItems is' → Noted_items t is'
+        → are_items a is' ≡ true → h.first ≤ r → InOrder registers r (item_widths is' ++ []) → CoveredItems h r is'
+    cover_items form.no_items r a k is n f low w = tt
+    cover_items (form.plain e is') r a k is n f low w =
+        let both = both_true (is_form a e) (are_items a is') f in (
+          cover e r a k is.0 n.0 both.0 low w.0,
+          cover_items is' (r + 1) a k is.1 n.1 both.1 (omega (arith, low)) w.1,
+        )
+    cover_items (form.splat e is') r a k is n f low w = absurd is
+
+    cover_branches : (bs : Branches) (r g : ℕ) (a : Around) → a.known ≡ ls → AreSimpleBranches bs
+        → Noted_branches t bs → are_branches a bs ≡ true → h.first ≤ r → Under g (branch_widths bs)
+        → r + 2 + g ≤ registers → CoveredBranches h r bs
+    cover_branches form.no_branches r g a k is n f low u w = tt
+    cover_branches (form.branch b c bs) r g a k is n f low u w =
+        let first = both_true (is_form a b) (is_form a c && are_branches a bs) f in
+        let second = both_true (is_form a c) (are_branches a bs) first.1 in (
+          cover b r a k is.0 n.0 first.0 low (omega (arith, u.0, w)),
+          cover c r a k is.1 n.1 second.0 low (omega (arith, u.0, w)),
+          cover_branches bs r g a k is.2 n.2 second.1 low u.1 w,
+        )
+
+  pub covered : (e : CoreForm) (r : ℕ) (a : Around) → a.known ≡ ls → IsSimple e → Noted t e → is_form a e ≡ true
+      → h.first ≤ r → r + width e ≤ registers → Covered h r e
+  covered e r a k is n f low w = cover e r a k is n f low w

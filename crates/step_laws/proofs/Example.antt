@@ -1,0 +1,20 @@
+-- The program that counts down, and its two runs.
+use Rattle.std.proofs.Common.{refl}
+use Rattle.rite_code.specs.Spelling.{encoding, decode_wide_at, front, wide_front, narrow_front}
+use Rattle.rite_code.specs.Table.{opcodes, opcode_of}
+use Rattle.gen_parts.specs.Pieces.{past, behind, nothing, both, puts}
+use Rattle.gen_parts.specs.Assembly.{assembled, instruction_before}
+use Rattle.gen_forms.specs.Open.{coded}
+use Rattle.def_eval.proofs.Running.{run as run_source}
+use Rattle.def_machine.proofs.Running.{run as run_code}
+use Rattle.step_laws.specs.Example.{countdown, IsWitness}
+
+pub witness : IsWitness countdown
+unfolding coded assembled both puts past behind nothing instruction_before run_source run_code
+witness = record {
+  program = refl;
+  within = refl;
+  simple = ((tt, tt), (((tt, (tt, tt), refl, refl), (((tt, tt), refl, refl), (((tt, (tt, tt), refl, refl), tt), tt))), tt));
+  evaluates = refl;
+  runs = refl;
+}

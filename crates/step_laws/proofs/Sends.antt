@@ -1,0 +1,245 @@
+-- Calls: the receiver, the items one after the other, and the call.
+use Rattle.std.proofs.Common.{◌≡◌, ℕ, ◌+◌, ◌<◌, ◌≤◌, List, [], ◌∷◌, ◌++◌, refl, sym, ap, ◌∙◌, subst, arith, length, length-append, Bool, true, false}
+use Rattle.std.specs.Prelude.{if◌then◌else◌, Option, Some, None, nat_lt}
+use Rattle.rb_value.specs.declared.value.Value.{Value}
+use Rattle.rb_value.specs.declared.exit.Slot.TheVariants.{V}
+use Rattle.rb_value.specs.Slot.{read}
+use Rattle.rb_value.specs.declared.value.SymId.{SymId}
+use Rattle.rite_code.specs.declared.operation.Operation.{Operation}
+use Rattle.rite_code.specs.declared.operation.Operation.TheVariants as op
+use Rattle.ir_counts.specs.Tables.{item_count}
+use Rattle.ir_core.specs.CoreForm.{Name, CoreForm, call as call_form, Maybe, absent, there, Items, no_items, plain, splat, Receiver, to, on_self, bare}
+use Rattle.gen_parts.specs.declared.line.Line.TheVariants as line
+use Rattle.gen_parts.specs.declared.emitter.Spot.{Spot}
+use Rattle.gen_parts.specs.Pieces.{past, does, nothing, ◌⊕◌}
+use Rattle.gen_forms.specs.declared.context.Loop.{Loop}
+use Rattle.gen_forms.specs.Gen.{Context, gen, pass_in_registers}
+use Rattle.def_core.specs.Store.{with_object}
+use Rattle.def_rows.specs.Answers.{items_object}
+use Rattle.def_calls.specs.World.{World, with_store, Activation, activation_at}
+use Rattle.def_calls.specs.Calls.{Sending, by_name, Entry}
+use Rattle.def_calls.specs.Calls as calls
+use Rattle.def_eval.specs.Source.{span}
+use Rattle.def_eval.specs.Configuration as source
+use Rattle.def_eval.specs.Configuration.{Place, receiver, items, Item, part, perform, give, Config, Run}
+use Rattle.def_eval.specs.Entering.{enter}
+use Rattle.def_eval.specs.Forms.{perform_call, own_block, with_arguments, packed, next_item}
+use Rattle.def_eval.specs.Transition.{go}
+use Rattle.def_machine.specs.State as machine
+use Rattle.def_machine.specs.State.{Registers, Frame, Level, frame, State, On, slot_at, value_at, put, list_at}
+use Rattle.def_machine.specs.Entering.{enter as enter_machine}
+use Rattle.def_machine.specs.Turn.{turn, call as call_machine, arguments, self_first}
+use Rattle.step_laws.specs.Site.{Site, within, place_in, at_line, LineAt, Room, number}
+use Rattle.step_laws.specs.Covered.{Covered, CoveredItems}
+use Rattle.step_laws.specs.Calm.{IsSteady}
+use Rattle.step_laws.specs.Measure.{size, size_items, weights, measure}
+use Rattle.step_laws.proofs.Placed.{high, high-both, high-puts, high-nothing, heights, line-past, Stands, moved, left, right, the_line, Rest, frame_at, turned}
+use Rattle.step_laws.proofs.Relation.{Static, Holds, HoldsCall, CallBy, InFrame, WaitsIn, Waits, Same, Common, Doing, GivesIn, Related, Step}
+use Rattle.step_laws.proofs.Registers.{Keeps, keeps_above, frame_kept, same_above, slot_same, slot_other}
+use Rattle.step_laws.proofs.Matching.{by_none, going, state_at, written}
+use Rattle.step_laws.proofs.Calling.{From, waits_in, entered}
+use Rattle.step_laws.proofs.Literals.{aligned}
+use Rattle.step_laws.proofs.Operators.{few, arguments_are, calls_value, calls_self}
+
+-- A call some of whose items have their values, at line n.
+pub record CallSite (h : Site) (l : List Registers) (recv : Value) (vs : List Value) (is : Items) (ks : List Item)
+    (n : ℕ) : Type 0 where
+  pub low : ℕ
+  pub own : Bool
+  pub loop : Option Loop
+  pub s : Spot
+  pub here : s.line ≡ n
+  pub r : ℕ
+  pub row : low + 1 + length vs ≡ r
+  pub room : Room h low
+  pub covered : CoveredItems h r is
+  pub name : Name
+  pub held : HoldsCall h l own low recv vs
+  pub o : Operation
+  pub by : CallBy h low name (length vs + item_count is) own o
+  pub code : Stands h n (pass_in_registers (within h loop) s r is)
+  pub calls : LineAt h (n + high (pass_in_registers (within h loop) s r is)) (line.Does o)
+  pub end : ℕ
+  pub ends : n + high (pass_in_registers (within h loop) s r is) + 1 ≡ end
+  pub next : InFrame h l ks end low
+
+-- a frame that waits in a register for what its instruction calls
+abbrev asking : Site → Rest → ℕ → ℕ → Rest
+asking h x n r = record x { after = at_line h (n + 1); waits = r }
+
+-- other registers keep the items
+items_kept : (h : Site) (l : List Registers) (r i : ℕ) (v : Value) (vs : List Value) → h.list < length l → i < r
+    → Holds l h.list r vs → Holds (put l h.list i (V v)) h.list r vs
+items_kept h l r i v [] lt below s = tt
+items_kept h l r i v (u ∷ vs) lt below s =
+    (slot_other l h.list i r (V v) lt (omega arith) ∙ s.0, items_kept h l (r + 1) i v vs lt (omega arith) s.1)
+
+module _ (h : Site) (static : Static h) (ks : List Item) (m : source.Memory)
+    (k : machine.Memory) (both : Common h m (aligned k m)) (steady : IsSteady h.source m.world)
+    (at_home : m.place ≡ place_in h) where
+  abbrev the_entry : Name → Value → List Value → Entry
+  the_entry y recv vs = calls.call m.world (activation_at m.world h.activation) (by_name (number h.source y)) recv vs None
+
+  -- the evaluation enters what the name calls
+  goes_in : (j : ℕ) (sender : Sending) (recv : Value) (vs : List Value) (y : Name)
+      → sender ≡ by_name (number h.source y) → nat_lt 253 (length vs) ≡ false
+      → next_item h.source j sender recv vs no_items absent ks m ≡ enter h.source (the_entry y recv vs) None ks m
+  goes_in j sender recv vs y e n =
+      ap (λ (b : Bool). with_arguments h.source j sender recv vs absent ks (if b
+      then source.with_world m (with_store m.world (with_object m.world.store (items_object vs))) else m)) n
+      ∙ ap (λ (q : Sending). perform_call h.source q recv vs (own_block q m) ks m) e
+      ∙ ap (λ (p : Place). enter h.source
+      (calls.call m.world (activation_at m.world p.activation) (by_name (number h.source y)) recv vs None) None ks m)
+      at_home
+
+  -- the turn of a call enters the same
+  turns_in : (x : Rest) (n r count : ℕ) (k' : machine.Memory) (recv : Value) (vs : List Value) (y : Name)
+      → value_at k'.lists h.list r ≡ recv → Holds k'.lists h.list (r + 1) vs → count ≡ length vs
+      → nat_lt 253 count ≡ false → k'.world ≡ m.world
+      → call_machine h.program (by_name (number h.source y)) r count None (at_line h (n + 1)) (frame_at h x n) [] k'
+      ≡ enter_machine h.program (the_entry y recv vs) None (frame (frame_at h (asking h x n r) n) ∷ []) k'
+  turns_in x n r count k' recv vs y is_recv held all n253 same =
+      ap (λ (v : Value). enter_machine h.program (calls.call k'.world (activation_at k'.world h.activation)
+      (by_name (number h.source y)) v (arguments (frame_at h x n) k' r count) None) None
+      (frame (frame_at h (asking h x n r) n) ∷ []) k') is_recv
+      ∙ ap (λ (us : List Value). enter_machine h.program (calls.call k'.world (activation_at k'.world h.activation)
+      (by_name (number h.source y)) recv us None) None (frame (frame_at h (asking h x n r) n) ∷ []) k')
+      (arguments_are (frame_at h x n) k' r count vs held all n253)
+      ∙ ap (λ (w : World). enter_machine h.program (calls.call w (activation_at w h.activation)
+      (by_name (number h.source y)) recv vs None) None (frame (frame_at h (asking h x n r) n) ∷ []) k') same
+
+  -- all items have their values
+  call_now : (c : Config) (x : Rest) (n j : ℕ) (sender : Sending) (recv : Value) (vs : List Value)
+      (b : CallSite h k.lists recv vs no_items ks n)
+      → From h c (frame (frame_at h x n) ∷ []) (aligned k m) m
+      → go h.source c ≡ next_item h.source j sender recv vs no_items absent ks m
+      → sender ≡ by_name (number h.source b.name) → weights ks < measure c
+      → Step h c (state_at h x n (aligned k m))
+  call_now c x n j sender recv vs b from goes e less =
+      let count : length vs + item_count no_items ≡ length vs = omega arith in
+      let n253 = few h b.low b.name (length vs + item_count no_items) b.own b.o b.by in
+      let goes' = goes ∙ goes_in j sender recv vs b.name e (ap (nat_lt 253) (sym count) ∙ n253) in
+      let here : n + high (pass_in_registers (within h b.loop) b.s b.r no_items) ≡ n =
+      omega (arith, high-nothing) in
+      let at : LineAt h n (line.Does b.o) = subst (λ (i : ℕ). LineAt h i (line.Does b.o)) here b.calls in
+      let ends : b.end ≡ n + 1 = omega (arith, here, b.ends) in
+      let next : InFrame h k.lists ks (n + 1) b.low = subst (λ (i : ℕ). InFrame h k.lists ks i b.low) ends b.next in
+      by b.own b.by b.held at next goes' count n253
+    where
+      by : (own : Bool) → CallBy h b.low b.name (length vs + item_count no_items) own b.o
+          → HoldsCall h k.lists own b.low recv vs → LineAt h n (line.Does b.o) → InFrame h k.lists ks (n + 1) b.low
+          → go h.source c ≡ enter h.source (the_entry b.name recv vs) None ks m
+          → length vs + item_count no_items ≡ length vs → nat_lt 253 (length vs + item_count no_items) ≡ false
+          → Step h c (state_at h x n (aligned k m))
+      by false by_that held at next goes' count n253 =
+          let turns = turned h x n b.o [] (aligned k m) at
+          ∙ calls_value h x n b.low (at_line h (n + 1)) (aligned k m) b.name (length vs + item_count no_items) b.o steady
+          by_that
+          ∙ turns_in x n b.low (length vs + item_count no_items) (aligned k m) recv vs b.name (ap read held.0) held.1
+          count n253 refl in
+          let waiting : WaitsIn h k.lists ks m.place (frame (frame_at h (asking h x n b.low) n) ∷ []) = record {
+            x = asking h x n b.low;
+            at = n;
+            n = n + 1;
+            is = refl;
+            after = refl;
+            room = b.room;
+            there = at_home;
+            next = next;
+          } in
+          entered h static c (frame (frame_at h x n) ∷ []) (aligned k m) m from (the_entry b.name recv vs) ks m
+          (frame (frame_at h (asking h x n b.low) n) ∷ []) (aligned k m) goes' turns less refl
+          (λ w. record { world = refl; alone = both.alone; alone_too = both.alone_too; same = both.same })
+          (waits_in h k.lists ks (n + 1) b.low m.place (frame (frame_at h (asking h x n b.low) n) ∷ []) next waiting)
+      by true by_that held at next goes' count n253 =
+          let s = both.same in
+          let v = value_at k.lists h.list 0 in
+          let k' = written h (aligned k m) b.low v in
+          let first : value_at k'.lists h.list b.low ≡ recv =
+          ap read (slot_same k.lists h.list b.low (V v) s.present (omega (arith, s.long, b.room.within)))
+          ∙ s.self ∙ sym held.0 in
+          let turns = turned h x n b.o [] (aligned k m) at
+          ∙ calls_self h x n b.low (at_line h (n + 1)) (aligned k m) b.name (length vs + item_count no_items) b.o steady
+          by_that
+          ∙ turns_in x n b.low (length vs + item_count no_items) k' recv vs b.name first
+          (items_kept h k.lists (b.low + 1) b.low v vs s.present (omega arith) held.1) count n253 refl in
+          let next' = frame_kept h k.lists k'.lists ks (n + 1) b.low
+          (keeps_above h k.lists b.low b.low (V v) s.present (omega arith)) next in
+          let waiting : WaitsIn h k'.lists ks m.place (frame (frame_at h (asking h x n b.low) n) ∷ []) = record {
+            x = asking h x n b.low;
+            at = n;
+            n = n + 1;
+            is = refl;
+            after = refl;
+            room = b.room;
+            there = at_home;
+            next = next';
+          } in
+          entered h static c (frame (frame_at h x n) ∷ []) (aligned k m) m from (the_entry b.name recv vs) ks m
+          (frame (frame_at h (asking h x n b.low) n) ∷ []) k' goes' turns less refl
+          (λ w. record {
+            world = refl;
+            alone = both.alone;
+            alone_too = both.alone_too;
+            same = same_above h m.scopes k.lists b.low v static b.room.above s;
+          })
+          (waits_in h k'.lists ks (n + 1) b.low m.place (frame (frame_at h (asking h x n b.low) n) ∷ []) next' waiting)
+
+  -- the next item, or the call
+  pub items_on : (c : Config) (x : Rest) (n j : ℕ) (sender : Sending) (recv : Value) (vs : List Value) (is : Items)
+      (b : CallSite h k.lists recv vs is ks n)
+      → From h c (frame (frame_at h x n) ∷ []) (aligned k m) m
+      → go h.source c ≡ next_item h.source j sender recv vs is absent ks m
+      → sender ≡ by_name (number h.source b.name) → size_items is + weights ks < measure c
+      → Step h c (state_at h x n (aligned k m))
+  items_on c x n j sender recv vs no_items b from goes e less =
+      call_now c x n j sender recv vs b from goes e (omega (arith, less))
+  items_on c x n j sender recv vs (splat i is) b from goes e less = absurd b.covered
+  items_on c x n j sender recv vs (plain i is) b from goes e less =
+      let r = b.r in
+      let p = gen (within h b.loop) b.s r i in
+      let q = pass_in_registers (within h b.loop) (past b.s p) (r + 1) is in
+      let more : length vs + (1 + item_count is) ≡ length vs + 1 + item_count is = omega arith in
+      by_none h c (state_at h x n (aligned k m))
+      (subst (λ (d : Config). measure d < measure c) (sym goes) (omega (arith, less)))
+      (subst (λ (d : Config). Related h d (state_at h x n (aligned k m))) (sym goes) (
+        both,
+        record {
+          x = x;
+          n = n;
+          r = r;
+          is = refl;
+          there = at_home;
+          loop = b.loop;
+          s = b.s;
+          here = b.here;
+          covered = b.covered.0;
+          above = omega (arith, b.room.above, b.row);
+          code = left h n p q b.code;
+          next = record {
+            low = b.low;
+            end = b.end;
+            above = b.room.above;
+            below = omega (arith, b.row);
+            behind = record {
+              own = b.own;
+              at = b.row;
+              loop = b.loop;
+              s = past b.s p;
+              here = line-past b.s p ∙ ap (λ (l : ℕ). l + high p) b.here;
+              plain = refl;
+              room = b.room;
+              covered = b.covered.1;
+              name = b.name;
+              sending = e;
+              held = b.held;
+              o = b.o;
+              by = subst (λ (l : ℕ). CallBy h b.low b.name l b.own b.o) more b.by;
+              code = right h n p q b.code;
+              calls = subst (λ (l : ℕ). LineAt h l (line.Does b.o)) (omega (arith, high-both p q)) b.calls;
+              ends = omega (arith, high-both p q, b.ends);
+            };
+            next = b.next;
+          };
+        },
+      ))

@@ -1,0 +1,115 @@
+-- What falls in a transition that no turn of the machine matches.
+use Rattle.std.specs.Prelude.{ℕ, ◌+◌, List, [], ◌∷◌}
+use Rattle.ir_core.specs.CoreForm.{CoreForm, nil, truth, falsehood, self_ref, int, str, sym, local, own, exception, set_local, ivar, set_ivar, gvar, set_gvar, constant, top_constant, in_constant, set_constant, set_in_constant, array, hash, range, text, intern, seq, cond, and_form, or_form, while_form, call, yield_form, super_form, function, lambda, begin_form, return_form, break_form, next_form, retry, define, define_on, class_form, module_form, singleton_class, alias_form, undef_form, defined, item, rest_of, tail_of, Forms, none, more, Items, no_items, plain, splat, Branches, no_branches, branch, Receiver, to, on_self, bare}
+use Rattle.def_eval.specs.Configuration.{Part, operands, receiver, items, block, elements, hash_key, hash_value, pieces, rest, test, chosen, and_then, or_else, loop_test, loop_body, rescued, clause_class, clause_target, clause_body, ensured, Item, part, activation, iteration, ensuring, Focus, perform, give, travel, Config, Run, Halt}
+
+-- forms with no part that is done before a turn count one
+abbrev mutual
+  pub size : CoreForm → ℕ
+  size nil = 1
+  size truth = 1
+  size falsehood = 1
+  size self_ref = 1
+  size (int z) = 1
+  size (str t) = 1
+  size (sym x) = 1
+  size (local x) = 1
+  size (own x) = 1
+  size exception = 1
+  size (set_local x e) = 3 + size e
+  size (ivar x) = 1
+  size (set_ivar x e) = 1
+  size (gvar x) = 1
+  size (set_gvar x e) = 1
+  size (constant x) = 1
+  size (top_constant x) = 1
+  size (in_constant e x) = 1
+  size (set_constant x e) = 1
+  size (set_in_constant e x v) = 1
+  size (array is) = 1
+  size (hash ps) = 1
+  size (range a b x) = 1
+  size (text es) = 1
+  size (intern e) = 1
+  size (seq es) = 3 + sizes es
+  size (cond bs o) = 3 + size_first bs + size o
+  size (and_form a b) = 3 + size a
+  size (or_form a b) = 3 + size a
+  size (while_form first t b) = 1
+  size (call r x is b) = 5 + size_receiver r + size_items is
+  size (yield_form is) = 1
+  size (super_form is b) = 1
+  size (function f) = 1
+  size (lambda f) = 1
+  size (begin_form b cs o e) = 1
+  size (return_form e) = 1
+  size (break_form e) = 1
+  size (next_form e) = 1
+  size retry = 1
+  size (define x f) = 1
+  size (define_on e x f) = 1
+  size (class_form s x p f) = 1
+  size (module_form s x f) = 1
+  size (singleton_class e f) = 1
+  size (alias_form x y) = 1
+  size (undef_form x) = 1
+  size (defined k x e) = 1
+  size (item e k) = 1
+  size (rest_of e from post) = 1
+  size (tail_of e from count) = 1
+
+  pub sizes : Forms → ℕ
+  sizes none = 0
+  sizes (more e es) = 3 + size e + sizes es
+
+  pub size_items : Items → ℕ
+  size_items no_items = 0
+  size_items (plain e is) = 3 + size e + size_items is
+  size_items (splat e is) = 3 + size e + size_items is
+
+  pub size_first : Branches → ℕ
+  size_first no_branches = 0
+  size_first (branch t b bs) = size t
+
+  pub size_receiver : Receiver → ℕ
+  size_receiver (to e) = size e
+  size_receiver on_self = 0
+  size_receiver bare = 0
+
+abbrev pub weight : Part → ℕ
+weight (operands n a vs es) = 1 + sizes es
+weight (receiver n x is b) = 3 + size_items is
+weight (items n k r vs is b) = 1 + size_items is
+weight (block k r vs) = 1
+weight (elements n g o s is) = 1
+weight (hash_key n o v ps) = 1
+weight (hash_value n o k ps) = 1
+weight (pieces n o es) = 1
+weight (rest n es) = 1 + sizes es
+weight (test n b bs o) = 1
+weight chosen = 1
+weight (and_then n e) = 1
+weight (or_else n e) = 1
+weight (loop_test n t b) = 1
+weight (loop_body n t b) = 2 + size t
+weight (rescued n b cs o) = 1
+weight (clause_class n e es t b cs r) = 1
+weight (clause_target n e b r) = 1
+weight (clause_body r) = 1
+weight (ensured n e) = 1
+
+abbrev pub weights : List Item → ℕ
+weights [] = 0
+weights (part k ∷ ks) = weight k + weights ks
+weights (activation a place ∷ ks) = 1 + weights ks
+weights (iteration a it place ∷ ks) = 1 + weights ks
+weights (ensuring o ∷ ks) = 1 + weights ks
+
+abbrev pub focus_size : Focus → ℕ
+focus_size (perform n e) = 1 + size e
+focus_size (give v) = 1
+focus_size (travel x) = 0
+
+abbrev pub measure : Config → ℕ
+measure (Halt e) = 0
+measure (Run f ks m) = focus_size f + weights ks

@@ -1,0 +1,61 @@
+//! The step law of the six first forms, over the whole definitions: the code that gen_forms gives for a form goes with the
+//! evaluation of the form, transition by transition. There is no code here.
+//!
+//! - `specs::Covered`: the forms whose code is followed: nil, true, false, self, integers, locals, sequences, branches,
+//!   `and` and `or`, loops, calls of a value and of self with plain items and no block. Operators are calls by look-up and
+//!   row, and `puts` is the iteration that it is, plan by plan.
+//! - `specs::Simple`: those over nil, true, false and integers, with operators and `puts`, whose evaluation calls no body
+//! - `specs::Calm`: what is asked of an evaluation otherwise: it calls no body of the source, and leaves its fiber for no
+//!   other one
+//! - `specs::Implements`: code of a source, and what it means that code implements a source
+//!
+//! The relation of the two sides stands in proofs/Relation.antt: the same world on both, a list of registers for the
+//! scope, the frame for the items inside the activation, a level for each iteration. A form of more adds a case to it, to
+//! proofs/Whole.antt, and a file of its own.
+#![tactic(auto)]
+
+ghost use Rattle.std.specs.Prelude.{◌≡◌, List, ℕ, None};
+ghost use Rattle.rite_code.specs.Code.{Program, program};
+ghost use Rattle.ir_core.specs.CoreForm as form;
+ghost use Rattle.ir_core.specs.CoreForm.{Body};
+ghost use Rattle.ir_core.specs.Program.{IsProgram};
+ghost use Rattle.ir_counts.specs.Counts.{need};
+ghost use Rattle.ir_counts.specs.Limits.{first_excess};
+ghost use Rattle.gen_forms.specs.Making.{coded_program};
+ghost use Rattle.def_eval.specs.Source.{Source, body_at, form_of, source_of};
+ghost use Rattle.def_eval.specs.Configuration.{opening};
+ghost use Rattle.step_laws.specs.Calm.{StaysCalm};
+ghost use Rattle.step_laws.specs.Simple.{IsSimple};
+ghost use Rattle.step_laws.specs.Implements.{IsCodeOf, Implements};
+ghost use Rattle.step_laws.specs.Example.{countdown, IsWitness};
+
+/// Code of a source implements it, for each input with which the evaluation calls no body of the source.
+#[tactic(auto, using(crate::proofs::Whole::implements))]
+pub fn code_implements()
+    ensures { (s : Source) (p : Program) (input : List ℕ) → IsCodeOf s p → StaysCalm s (opening s input)
+        → Implements s p input }
+{}
+
+/// The evaluation of simple forms calls none, so code of a main program of them implements it, for every input.
+#[tactic(auto, using(crate::proofs::Calms::stays_calm, crate::proofs::Simply::simply))]
+pub fn simple_code_implements()
+    ensures calm { (s : Source) (input : List ℕ) → IsSimple (form_of (body_at s 0)) → StaysCalm s (opening s input) }
+    ensures implemented { (s : Source) (p : Program) (input : List ℕ) → IsSimple (form_of (body_at s 0)) → IsCodeOf s p
+        → Implements s p input }
+{}
+
+/// The code that gen_forms gives for a program of simple forms within the limits is code of it, so it implements it.
+#[tactic(auto, using(crate::proofs::Coded::program_is_code, crate::proofs::Coded::program_implements))]
+pub fn simple_programs_are_implemented()
+    ensures coded { (b : Body) → IsProgram b → first_excess (need b) ≡ None → IsSimple (form.form_of b)
+        → IsCodeOf (source_of b) (program 2 (coded_program b)) }
+    ensures implemented { (b : Body) (input : List ℕ) → IsProgram b → first_excess (need b) ≡ None
+        → IsSimple (form.form_of b) → Implements (source_of b) (program 2 (coded_program b)) input }
+{}
+
+/// There is such a program, with a loop, operators and `puts`; its evaluation and its code come to the same end with an
+/// output.
+#[tactic(auto, using(crate::proofs::Example::witness))]
+pub fn a_program_counts_down()
+    ensures { IsWitness countdown }
+{}
