@@ -26,4 +26,5 @@ pub mod Classes
 pub mod Asking
 pub mod Turns
 pub mod Reaching
+pub mod Indexing
 pub mod Laws

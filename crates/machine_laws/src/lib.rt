@@ -14,7 +14,7 @@ ghost use Rattle.code_verifier.specs.Verified.{IsVerified};
 ghost use Rattle.def_machine.specs.Fits.{Fits};
 ghost use Rattle.def_machine.specs.State.{Frame, Level, Memory, On, State, Stuck, frame, start};
 ghost use Rattle.def_machine.specs.Turn.{turn, turns};
-ghost use Rattle.machine_laws.specs.Standing.{StandsAt};
+ghost use Rattle.machine_laws.specs.Standing.{StandsAt, StandsAtIndex};
 ghost use Rattle.rite_code.specs.Code.{IsWhole, Program};
 
 /// A turn of a whole and verified program leaves a state that fits where it was in one, and so do any number of turns.
@@ -34,9 +34,11 @@ pub fn verified_code_is_never_stuck()
 {}
 
 /// Where a frame runs in a state that fits, it stands at an instruction that can be read, whose registers are there, and
-/// which reaches its variable further out.
-#[tactic(auto, using(crate::proofs::Reaching::stands_at))]
+/// which reaches its variable further out; by its index, all is known of it that the verifier shows.
+#[tactic(auto, using(crate::proofs::Reaching::stands_at, crate::proofs::Indexing::stands_at_index))]
 pub fn laws_of_frames()
     ensures stands { (p : Program) (f : Frame) (ls : List Level) (m : Memory) → IsWhole p → IsVerified p
         → Fits p (On (frame f ∷ ls) m) → StandsAt p m f }
+    ensures indexed { (p : Program) (f : Frame) (ls : List Level) (m : Memory) → IsWhole p → IsVerified p
+        → Fits p (On (frame f ∷ ls) m) → StandsAtIndex p f }
 {}
