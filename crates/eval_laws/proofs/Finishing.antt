@@ -1,5 +1,5 @@
 -- What a form does once its parts have their values fits.
-use Rattle.std.proofs.Common.{◌≡◌, ℕ, ◌+◌, List, Bool, true, false, refl}
+use Rattle.std.proofs.Common.{◌≡◌, ◌≤◌, ℕ, ◌+◌, List, length, arith, Bool, true, false, refl}
 use Rattle.std.specs.Prelude.{Option, Some, None, codes, get_or}
 use Rattle.rb_value.specs.declared.value.Value.{Value}
 use Rattle.rb_value.specs.declared.value.Value.TheVariants.{Nil, True, False, Int, Sym, Obj}
@@ -35,7 +35,7 @@ use Rattle.world_laws.proofs.Classes.{singleton_class_gives, open_class_gives, o
 use Rattle.world_laws.proofs.Constants.{set_constant_is, set_constant_in_is, get_constant_in_is}
 use Rattle.world_laws.proofs.Values.{value_at, wrong_value_is, set_instance_variable_is, element_is, elements_between_is, last_elements_is, make_symbol_is}
 use Rattle.eval_laws.specs.Standing.{IsNamed, FormsStand, MethodStands, ClassStands}
-use Rattle.eval_laws.specs.Fits.{ActionFits, ExitFits, Fits, bodies}
+use Rattle.eval_laws.specs.Fits.{wanted, count, ActionFits, ExitFits, Fits, bodies}
 use Rattle.eval_laws.proofs.Tests.{tested}
 use Rattle.eval_laws.proofs.Going.{Under, Text, under_then, under_variable, running_is, symbol_is, goes, after_fits, does_part}
 use Rattle.eval_laws.proofs.Entered.{class_fits}
@@ -231,9 +231,10 @@ module _ (s : Source) (ks : List Item) (m : Memory) (a : Around) (t : Text s ks 
       after_fits s (tell_of k x v m) ks m t.under (told s ks m t.under k x v)
 
   -- the operands of an action, left to right
-  pub operands_done : (n : ℕ) (action : Action) (vs : List Value) (es : Forms) → ActionFits s action
-      → AllAre (IsValue (census m.world.store)) vs → FormsStand s a n es → Fits s (next_operand s n action vs es ks m)
-  operands_done n action vs none h all stands = finished action (get_or vs 0 Nil) (get_or vs 1 Nil) h
+  pub operands_done : (n : ℕ) (action : Action) (vs : List Value) (es : Forms) → wanted action ≤ length vs + count es
+      → ActionFits s action → AllAre (IsValue (census m.world.store)) vs → FormsStand s a n es → Fits s (next_operand s n action vs es ks m)
+  operands_done n action vs none enough h all stands = finished action (get_or vs 0 Nil) (get_or vs 1 Nil) h
       (value_at (census m.world.store) vs 0 all) (value_at (census m.world.store) vs 1 all)
-  operands_done n action vs (more e es) h all stands =
-      does_part s (eval.operands (n + span e) action vs es) n e ks m a t (h, all, stands.1) stands.0
+  operands_done n action vs (more e es) enough h all stands =
+      does_part s (eval.operands (n + span e) action vs es) n e ks m a t
+      (h, all, stands.1, omega (arith, enough)) stands.0

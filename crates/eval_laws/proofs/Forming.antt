@@ -1,5 +1,5 @@
 -- What each form does first fits.
-use Rattle.std.proofs.Common.{◌≡◌, ℕ, ◌+◌, List, [], ◌∷◌, Bool, true, false, refl, sym, ap, subst, arith}
+use Rattle.std.proofs.Common.{◌≡◌, ◌≤◌, ℕ, ◌+◌, List, [], ◌∷◌, Bool, true, false, refl, sym, ap, subst, arith}
 use Rattle.std.specs.Prelude.{Some, slice_get}
 use Rattle.std.proofs.lemmas.Option.{get_or_from_slice_get}
 use Rattle.rb_syntax.specs.declared.core_form.DefinedKind.{DefinedKind}
@@ -34,7 +34,7 @@ use Rattle.world_laws.proofs.Values.{instance_variable_is}
 use Rattle.world_laws.proofs.Classes.{define_method_is, alias_method_is, undefine_method_is}
 use Rattle.world_laws.proofs.Constants.{global_is, class_around_is, get_constant_is, get_constant_in_is}
 use Rattle.eval_laws.specs.Standing.{IsAsked, FormStands, MaybeStands, FormsStand, PairsStand, BranchesStand, BlockStands, MethodStands, ClassStands, past_branches}
-use Rattle.eval_laws.specs.Fits.{IsHash, IsText, PartFits, ItemsFit, ActionFits, BeginStands, Fits, bodies}
+use Rattle.eval_laws.specs.Fits.{wanted, IsHash, IsText, PartFits, ItemsFit, ActionFits, BeginStands, Fits, bodies}
 use Rattle.eval_laws.proofs.Going.{Text, text_then, running_is, symbol_is, variable_is, own_is, goes, after_fits, does, over_part, does_part}
 use Rattle.eval_laws.proofs.Entered.{all_done}
 use Rattle.eval_laws.proofs.Finishing.{operands_done, told_alone}
@@ -189,17 +189,17 @@ module _ (s : Source) where
       })
 
   scoped : (n : ℕ) (action : Action) (c : Maybe) (es : Forms) (ks : List Item) (m : Memory) (a : Around) → Text s ks m a
-      → ActionFits s action → MaybeStands s a n c → FormsStand s a (n + span_maybe c) es
+      → wanted action ≤ 1 → ActionFits s action → MaybeStands s a n c → FormsStand s a (n + span_maybe c) es
       → Fits s (in_scope s n action c es ks m)
-  scoped n action absent es ks m a t h stands others =
-      operands_done s ks m a t n action (Obj (class_around m.world (running m).classes) ∷ []) es h (
+  scoped n action absent es ks m a t enough h stands others =
+      operands_done s ks m a t n action (Obj (class_around m.world (running m).classes) ∷ []) es (omega (arith, enough)) h (
         (is_good m.world.store ClassOrModule _
             (class_around_is (bodies s m.scopes) m.world t.under.memory.world (running m).classes)).there,
         tt,
       )
       (behind_absent s n (λ i. FormsStand s a i es) others)
-  scoped n action (there e) es ks m a t h stands others =
-      operands_done s ks m a t n action [] (more e es) h tt (stands, others)
+  scoped n action (there e) es ks m a t enough h stands others =
+      operands_done s ks m a t n action [] (more e es) (omega (arith, enough)) h tt (stands, others)
 
   any_stand : (n : ℕ) (e : Maybe) (a : Around) → MaybeStands s a n e → FormsStand s a n (any e)
   any_stand n absent a h = tt
@@ -209,7 +209,7 @@ module _ (s : Source) where
       → Text s ks m a → IsAsked s k x → MaybeStands s a n e → Fits s (do_defined s n k x e ks m)
   defined_done n k x absent ks m a t h stands =
       after_fits s (tell_alone k x m) ks m t.under (told_alone s ks m t.under k x)
-  defined_done n k x (there e) ks m a t h stands = operands_done s ks m a t n (eval.tell k x) [] (one e) h tt (stands, tt)
+  defined_done n k x (there e) ks m a t h stands = operands_done s ks m a t n (eval.tell k x) [] (one e) (omega arith) h tt (stands, tt)
 
   -- a new Hash and a new String
   new_hash_done : (n : ℕ) (ps : Pairs) (ks : List Item) (m : Memory) (a : Around) → Text s ks m a → PairsStand s a n ps
@@ -261,17 +261,17 @@ module _ (s : Source) where
   form_done n form.exception ks m a t h =
       goes s (eval.give (exception_in ks)) ks m t.under
       (exception_is s m.world m.scopes m.place ks t.under.items)
-  form_done n (form.set_local x e) ks m a t h = operands_done s ks m a t n (eval.assign x) [] (one e) tt tt (h.1, tt)
+  form_done n (form.set_local x e) ks m a t h = operands_done s ks m a t n (eval.assign x) [] (one e) (omega arith) tt tt (h.1, tt)
   form_done n (form.ivar x) ks m a t h =
       goes s (eval.give _) ks m t.under
       (instance_variable_is (bodies s m.scopes) m.world t.under.memory.world (self_of m) (symbol m x)
       (running_is s m t.under.memory).self)
   form_done n (form.set_ivar x e) ks m a t h =
-      operands_done s ks m a t n (eval.assign_ivar x) [] (one e) h.0 tt (h.1, tt)
+      operands_done s ks m a t n (eval.assign_ivar x) [] (one e) (omega arith) h.0 tt (h.1, tt)
   form_done n (form.gvar x) ks m a t h =
       goes s (eval.give _) ks m t.under (global_is (bodies s m.scopes) m.world t.under.memory.world (symbol m x))
   form_done n (form.set_gvar x e) ks m a t h =
-      operands_done s ks m a t n (eval.assign_gvar x) [] (one e) h.0 tt (h.1, tt)
+      operands_done s ks m a t n (eval.assign_gvar x) [] (one e) (omega arith) h.0 tt (h.1, tt)
   form_done n (form.constant x) ks m a t h =
       after_fits s _ ks m t.under (get_constant_is (bodies s m.scopes) m.world t.under.memory.world
       (running m).classes (symbol m x) (symbol_is s m t.under.memory x h))
@@ -280,17 +280,17 @@ module _ (s : Source) where
       (core class.Object) (symbol m x) (class_around_is (bodies s m.scopes) m.world t.under.memory.world 0)
       (symbol_is s m t.under.memory x h))
   form_done n (form.in_constant e x) ks m a t h =
-      operands_done s ks m a t n (eval.constant_in x) [] (one e) h.0 tt (h.1, tt)
+      operands_done s ks m a t n (eval.constant_in x) [] (one e) (omega arith) h.0 tt (h.1, tt)
   form_done n (form.set_constant x e) ks m a t h =
-      operands_done s ks m a t n (eval.assign_constant x) [] (one e) h.0 tt (h.1, tt)
+      operands_done s ks m a t n (eval.assign_constant x) [] (one e) (omega arith) h.0 tt (h.1, tt)
   form_done n (form.set_in_constant c x e) ks m a t h =
-      operands_done s ks m a t n (eval.assign_constant_in x) [] (two c e) h.0 tt (h.1, (h.2, tt))
+      operands_done s ks m a t n (eval.assign_constant_in x) [] (two c e) (omega arith) h.0 tt (h.1, (h.2, tt))
   form_done n (form.array is) ks m a t h = gather_done s n eval.an_array is ks m a t tt h
   form_done n (form.hash ps) ks m a t h = new_hash_done n ps ks m a t h
   form_done n (form.range e f x) ks m a t h =
-      operands_done s ks m a t n (eval.make_range x) [] (two e f) tt tt (h.0, (h.1, tt))
+      operands_done s ks m a t n (eval.make_range x) [] (two e f) (omega arith) tt tt (h.0, (h.1, tt))
   form_done n (form.text es) ks m a t h = new_text_done n es ks m a t h
-  form_done n (form.intern e) ks m a t h = operands_done s ks m a t n eval.make_symbol [] (one e) tt tt (h, tt)
+  form_done n (form.intern e) ks m a t h = operands_done s ks m a t n eval.make_symbol [] (one e) (omega arith) tt tt (h, tt)
   form_done n (form.seq es) ks m a t h = all_done s n es ks m a t h
   form_done n (form.cond bs o) ks m a t h = branches_done n bs o ks m a t h.0 h.1
   form_done n (form.and_form e f) ks m a t h = does_part s (eval.and_then (n + span e) f) n e ks m a t h.1 h.0
@@ -306,9 +306,9 @@ module _ (s : Source) where
   form_done n (form.lambda f) ks m a t h =
       after_fits s (make_proc m n f true) ks m t.under (proc_made n f true ks m a t h)
   form_done n (form.begin_form b cs o e) ks m a t h = begin_done n b cs o e ks m a t (h.0, h.1, h.2) h.3
-  form_done n (form.return_form e) ks m a t h = operands_done s ks m a t n eval.leave_method [] (one e) tt tt (h, tt)
-  form_done n (form.break_form e) ks m a t h = operands_done s ks m a t n eval.leave_call [] (one e) tt tt (h, tt)
-  form_done n (form.next_form e) ks m a t h = operands_done s ks m a t n eval.leave_round [] (one e) tt tt (h, tt)
+  form_done n (form.return_form e) ks m a t h = operands_done s ks m a t n eval.leave_method [] (one e) (omega arith) tt tt (h, tt)
+  form_done n (form.break_form e) ks m a t h = operands_done s ks m a t n eval.leave_call [] (one e) (omega arith) tt tt (h, tt)
+  form_done n (form.next_form e) ks m a t h = operands_done s ks m a t n eval.leave_round [] (one e) (omega arith) tt tt (h, tt)
   form_done n form.retry ks m a t h = goes s (eval.travel eval.begin_anew) ks m t.under (t.around.clause h)
   form_done n (form.define x f) ks m a t h =
       let own = running_is s m t.under.memory in
@@ -318,16 +318,16 @@ module _ (s : Source) where
       (class_around_is (bodies s m.scopes) m.world t.under.memory.world (running m).classes)
       (symbol_is s m t.under.memory x h.0) (record { body = method_at s n f h.1; classes = own.classes }))
   form_done n (form.define_on e x f) ks m a t h =
-      operands_done s ks m a t n (eval.define_on x (n + span e)) [] (one e) (h.0, method_at s (n + span e) f h.2) tt
+      operands_done s ks m a t n (eval.define_on x (n + span e)) [] (one e) (omega arith) (h.0, method_at s (n + span e) f h.2) tt
       (h.1, tt)
   form_done n (form.class_form c x p f) ks m a t h =
       let i = n + span_maybe c + span_maybe p in
-      scoped n (eval.open_class x i) c (any p) ks m a t (h.0, class_at s i f h.3) h.1
+      scoped n (eval.open_class x i) c (any p) ks m a t (omega arith) (h.0, class_at s i f h.3) h.1
       (any_stand (n + span_maybe c) p a h.2)
   form_done n (form.module_form c x f) ks m a t h =
-      scoped n (eval.open_module x (n + span_maybe c)) c none ks m a t (h.0, class_at s (n + span_maybe c) f h.2) h.1 tt
+      scoped n (eval.open_module x (n + span_maybe c)) c none ks m a t (omega arith) (h.0, class_at s (n + span_maybe c) f h.2) h.1 tt
   form_done n (form.singleton_class e f) ks m a t h =
-      operands_done s ks m a t n (eval.open_singleton (n + span e)) [] (one e) (class_at s (n + span e) f h.1) tt
+      operands_done s ks m a t n (eval.open_singleton (n + span e)) [] (one e) (omega arith) (class_at s (n + span e) f h.1) tt
       (h.0, tt)
   form_done n (form.alias_form new old) ks m a t h =
       after_fits s _ ks m t.under
@@ -341,8 +341,8 @@ module _ (s : Source) where
       (symbol m x) (class_around_is (bodies s m.scopes) m.world t.under.memory.world (running m).classes)
       (symbol_is s m t.under.memory x h))
   form_done n (form.defined k x e) ks m a t h = defined_done n k x e ks m a t h.0 h.1
-  form_done n (form.item e k) ks m a t h = operands_done s ks m a t n (eval.element k) [] (one e) tt tt (h, tt)
+  form_done n (form.item e k) ks m a t h = operands_done s ks m a t n (eval.element k) [] (one e) (omega arith) tt tt (h, tt)
   form_done n (form.rest_of e from post) ks m a t h =
-      operands_done s ks m a t n (eval.elements_between from post) [] (one e) tt tt (h, tt)
+      operands_done s ks m a t n (eval.elements_between from post) [] (one e) (omega arith) tt tt (h, tt)
   form_done n (form.tail_of e from count) ks m a t h =
-      operands_done s ks m a t n (eval.last_elements from count) [] (one e) tt tt (h, tt)
+      operands_done s ks m a t n (eval.last_elements from count) [] (one e) (omega arith) tt tt (h, tt)

@@ -1,5 +1,5 @@
 -- What goes on with a value fits: each part of a form.
-use Rattle.std.proofs.Common.{ℕ, ◌+◌, List, [], ◌∷◌, ◌++◌, Bool, true, false, refl}
+use Rattle.std.proofs.Common.{ℕ, ◌+◌, arith, length-append, List, [], ◌∷◌, ◌++◌, Bool, true, false, refl}
 use Rattle.std.specs.Prelude.{Some, None}
 use Rattle.rb_value.specs.declared.value.Value.{Value}
 use Rattle.rb_value.specs.declared.value.Value.TheVariants.{Nil}
@@ -126,7 +126,7 @@ module _ (s : Source) (ks : List Item) (m : Memory) (a : Around) (t : Text s ks 
       → PartStands s (census m.world.store) a p → Fits s (give_part s v p ks m)
   unfolding give_part
   part_given v (eval.operands n action vs es) is h =
-      operands_done s ks m a t n action (vs ++ v ∷ []) es h.0
+      operands_done s ks m a t n action (vs ++ v ∷ []) es (rw length-append (omega (arith, h.3))) h.0
       (all_behind (IsValue (census m.world.store)) vs v h.1 is) h.2
   part_given v (eval.receiver n x items b) is h =
       call_done s n (by_name (symbol m x)) v items b ks m a t (symbol_is s m t.under.memory x h.0) is h.1 h.2

@@ -1,17 +1,17 @@
 -- What is read in a configuration that fits is there.
-use Rattle.std.proofs.Common.{◌≡◌, ℕ, List, [], true, refl, sym, subst, true≢false}
+use Rattle.std.proofs.Common.{◌≤◌, ◌∷◌, ◌++◌, length, arith, length-append, ◌≡◌, ℕ, List, [], true, refl, sym, subst, true≢false}
 use Rattle.std.specs.Prelude.{Option, Some, None, is_some, unwrap_or}
 use Rattle.rb_value.specs.declared.value.Value.{Value}
 use Rattle.rb_value.specs.declared.value.ObjId.{ObjId}
 use Rattle.def_core.specs.Sound.{census, IsValue, OptionIs}
 use Rattle.ir_core.specs.CoreForm as form
-use Rattle.ir_core.specs.CoreForm.{Local, named, hidden, pattern, rest, CoreForm, Body}
+use Rattle.ir_core.specs.CoreForm.{none, Local, named, hidden, pattern, rest, CoreForm, Body}
 use Rattle.ir_core.specs.Program.{Around, is_known, is_bound}
 use Rattle.def_eval.specs.Source.{Source, body_at}
 use Rattle.def_eval.specs.Configuration as eval
-use Rattle.def_eval.specs.Configuration.{Scope, Exit, Item, Focus, Memory, Config, Run, Halt}
+use Rattle.def_eval.specs.Configuration.{Action, Scope, Exit, Item, Focus, Memory, Config, Run, Halt}
 use Rattle.def_eval.specs.Scopes.{value_in, scope_at, scopes_around, first_with, scope_of}
-use Rattle.eval_laws.specs.Fits.{Fits, is_outward, has_exception}
+use Rattle.eval_laws.specs.Fits.{wanted, Fits, is_outward, has_exception}
 use Rattle.eval_laws.specs.Example.{lost}
 use Rattle.eval_laws.specs.Reached.{SoundStore, IsFound, IsOwn}
 use Rattle.eval_laws.proofs.Scopes.{is_in, first_has}
@@ -77,6 +77,12 @@ module _ (s : Source) (n : ℕ) (ks : List Item) (m : Memory) where
 
   pub block_found : (f : Body) → Fits s (Run (eval.perform n (form.function f)) ks m) → body_at s n ≡ f
   block_found f h = let g = h.focus.1 in block_there s g.0 n f g.2
+
+-- an action has as many values as it wants
+pub values_enough : (s : Source) (n : ℕ) (action : Action) (vs : List Value) (v : Value) (ks : List Item) (m : Memory)
+    → Fits s (Run (eval.give v) (eval.part (eval.operands n action vs none) ∷ ks) m)
+    → wanted action ≤ length (vs ++ v ∷ [])
+values_enough s n action vs v ks m h = let g = h.items.0 in rw length-append (omega (arith, g.2.3))
 
 -- nothing but an exception gets past the last item
 pub leaves_last : (s : Source) (x : Exit) (m : Memory) → Fits s (Run (eval.travel x) [] m)

@@ -52,7 +52,7 @@ module _ (s : Source) (w v : World) (e : Extends w v) where
   gathering_stays a n (eval.arguments_of k recv b) h = (sending_stays k h.0, value_stays w v e recv h.1, h.2)
 
   stands_still : (a : Around) (p : Part) → PartStands s (census w.store) a p → PartStands s (census v.store) a p
-  stands_still a (eval.operands n action vs es) h = (h.0, values_stay w v e vs h.1, h.2)
+  stands_still a (eval.operands n action vs es) h = (h.0, values_stay w v e vs h.1, h.2, h.3)
   stands_still a (eval.receiver n x is b) h = h
   stands_still a (eval.items n k recv vs is b) h =
       (sending_stays k h.0, value_stays w v e recv h.1, values_stay w v e vs h.2, h.3, h.4)

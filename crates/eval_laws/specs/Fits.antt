@@ -7,7 +7,7 @@ use Rattle.rb_value.specs.declared.value.ObjId.{ObjId}
 use Rattle.rb_value.specs.declared.procs.ProcContents.{ProcContents}
 use Rattle.rb_value.specs.declared.kind.Sort.TheVariants as sort
 use Rattle.def_core.specs.Sound.{Census, census, Array, Is, IsValue, OptionIs, AllAre}
-use Rattle.ir_core.specs.CoreForm.{Name, Local, named, hidden, pattern, rest, CoreForm, Maybe, Clauses, Parameters}
+use Rattle.ir_core.specs.CoreForm.{Name, Local, named, hidden, pattern, rest, CoreForm, Maybe, Forms, none, more, Clauses, Parameters}
 use Rattle.ir_core.specs.Program.{Around, within_loop, within_clause, within_target, is_bound, is_own}
 use Rattle.def_calls.specs.World.{World}
 use Rattle.def_eval.specs.Source.{Source, body_at, parameters_of, span, span_maybe, span_forms, span_clauses}
@@ -135,6 +135,32 @@ ActionFits s (eval.open_module x n) = IsNamed s x × ClassStands s n (body_at s 
 ActionFits s (eval.open_singleton n) = ClassStands s n (body_at s n)
 ActionFits s (eval.tell k x) = IsAsked s k x
 
+-- how many values an action wants; a parent may be absent
+abbrev pub wanted : Action → ℕ
+wanted (eval.assign x) = 1
+wanted (eval.assign_ivar x) = 1
+wanted (eval.assign_gvar x) = 1
+wanted (eval.constant_in x) = 1
+wanted (eval.assign_constant x) = 1
+wanted (eval.assign_constant_in x) = 2
+wanted (eval.make_range x) = 2
+wanted eval.make_symbol = 1
+wanted (eval.element k) = 1
+wanted (eval.elements_between from post) = 1
+wanted (eval.last_elements from count) = 1
+wanted eval.leave_method = 1
+wanted eval.leave_call = 1
+wanted eval.leave_round = 1
+wanted (eval.define_on x n) = 1
+wanted (eval.open_class x n) = 1
+wanted (eval.open_module x n) = 1
+wanted (eval.open_singleton n) = 1
+wanted (eval.tell k x) = 1
+
+abbrev pub count : Forms → ℕ
+count none = 0
+count (more e es) = count es + 1
+
 -- the elements of an Array are gathered for this; the number is that behind the items
 abbrev pub GatheringFits : Source → Around → Census → ℕ → Gathering → Type 0
 GatheringFits s a k n eval.an_array = Unit {0}
@@ -151,6 +177,7 @@ RescueStands s a r = BeginStands s a r.number r.body r.clauses r.otherwise
 -- what a part has still to do stands in the source, and what it keeps is of the store
 abbrev pub PartStands : Source → Census → Around → Part → Type 0
 PartStands s k a (eval.operands n action vs es) = ActionFits s action × AllAre (IsValue k) vs × FormsStand s a n es
+    × (wanted action ≤ length vs + 1 + count es)
 PartStands s k a (eval.receiver n x is b) =
     IsNamed s x × ItemsStand s a n is × MaybeStands s a (past_items n is) b
 PartStands s k a (eval.items n sending recv vs is b) = SendingIs k sending × IsValue k recv × AllAre (IsValue k) vs

@@ -11,16 +11,16 @@
 //! What is said of a world stands in world_laws, which proves it of every call and every change of a store.
 #![tactic(auto)]
 
-ghost use Rattle.std.specs.Prelude.{◌≡◌, ℕ, List, [], true, false};
+ghost use Rattle.std.specs.Prelude.{◌≡◌, ◌≤◌, ℕ, List, [], ◌∷◌, ◌++◌, length, true, false};
 ghost use Rattle.rb_value.specs.declared.value.Value.{Value};
 ghost use Rattle.rb_value.specs.declared.value.ObjId.{ObjId};
 ghost use Rattle.def_core.specs.Sound.{census, IsValue};
-ghost use Rattle.ir_core.specs.CoreForm.{Local, CoreForm, local, own, exception, set_local, function, Body};
+ghost use Rattle.ir_core.specs.CoreForm.{Local, CoreForm, none, local, own, exception, set_local, function, Body};
 ghost use Rattle.ir_core.specs.Program.{IsProgram, is_program};
 ghost use Rattle.def_eval.specs.Source.{Source, source_of, body_at};
-ghost use Rattle.def_eval.specs.Configuration.{Exit, raise, Item, perform, give, travel, Memory, Config, Run, opening};
+ghost use Rattle.def_eval.specs.Configuration.{Exit, raise, Action, operands, part, Item, perform, give, travel, Memory, Config, Run, opening};
 ghost use Rattle.def_eval.specs.Transition.{go, go_times};
-ghost use Rattle.eval_laws.specs.Fits.{Fits, has_exception};
+ghost use Rattle.eval_laws.specs.Fits.{Fits, has_exception, wanted};
 ghost use Rattle.eval_laws.specs.Reached.{SoundStore, IsFound, IsOwn};
 ghost use Rattle.eval_laws.specs.Example as example;
 
@@ -43,7 +43,8 @@ pub fn the_store_is_sound()
 {}
 
 /// Where a configuration fits, what is sought is there: a local that is read or set in the scope that is found for it, a
-/// parameter of the method around a text, the exception of a clause, the body of a block at its number.
+/// parameter of the method around a text, the exception of a clause, as many values as an action wants, the body of a
+/// block at its number.
 pub fn what_is_sought_is_there()
     ensures local { (s : Source) (n : ℕ) (ks : List Item) (m : Memory) (x : Local)
         → Fits s (Run (perform n (local x)) ks m) → IsFound m x }
@@ -53,6 +54,8 @@ pub fn what_is_sought_is_there()
         → Fits s (Run (perform n (own x)) ks m) → IsOwn m x }
     ensures exception { (s : Source) (n : ℕ) (ks : List Item) (m : Memory)
         → Fits s (Run (perform n exception) ks m) → has_exception ks ≡ true }
+    ensures operands { (s : Source) (n : ℕ) (action : Action) (vs : List Value) (v : Value) (ks : List Item) (m : Memory)
+        → Fits s (Run (give v) (part (operands n action vs none) ∷ ks) m) → wanted action ≤ length (vs ++ v ∷ []) }
     ensures block { (s : Source) (n : ℕ) (ks : List Item) (m : Memory) (f : Body)
         → Fits s (Run (perform n (function f)) ks m) → body_at s n ≡ f }
 {}
