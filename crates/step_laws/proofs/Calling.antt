@@ -86,7 +86,7 @@ passed h l (clause_target j e t q) low n r end b = absurd b
 passed h l (clause_body q) low n r end b = absurd b
 passed h l (ensured j e) low n r end b = absurd b
 
-leaves_frame : (h : Site) (l : List Registers) (ks : List Item) (n r : ℕ) (x : Rest) (at : ℕ) (ls : List Level)
+pub leaves_frame : (h : Site) (l : List Registers) (ks : List Item) (n r : ℕ) (x : Rest) (at : ℕ) (ls : List Level)
     → ls ≡ frame (frame_at h x at) ∷ [] → InFrame h l ks n r → Leaving h l ks ls
 leaves_frame h l [] n r x at ls e a = absurd a
 leaves_frame h l (part p ∷ ks) n r x at ls e a =

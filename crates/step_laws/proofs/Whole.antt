@@ -35,6 +35,7 @@ use Rattle.step_laws.proofs.Relation.{Static, Same, Common, Doing, GivesIn, Givi
 use Rattle.step_laws.proofs.Placed.{high, Stands, Rest, frame_at}
 use Rattle.step_laws.proofs.Matching.{state_at}
 use Rattle.step_laws.proofs.Literals.{aligned, do_nil, do_truth, do_falsehood, do_self, do_int}
+use Rattle.step_laws.proofs.Answers.{do_symbol, do_gvar, do_ivar, do_str, do_constant}
 use Rattle.step_laws.proofs.Locals.{do_local, do_set_local, give_operand}
 use Rattle.step_laws.proofs.Sequences.{do_seq, give_rest}
 use Rattle.step_laws.proofs.Branches.{do_cond, give_test, give_chosen, do_and, do_or, give_and, give_or}
@@ -53,17 +54,17 @@ module _ (h : Site) (static : Static h) (ks : List Item) (m : source.Memory) (ls
   form_matched j form.falsehood c d = do_falsehood h static j ks m ls k both d
   form_matched j form.self_ref c d = do_self h static j ks m ls k both c.0 d
   form_matched j (form.int z) c d = do_int h static j ks m ls k both z d
-  form_matched j (form.str t) c d = absurd d.covered
-  form_matched j (form.sym x) c d = absurd d.covered
+  form_matched j (form.str t) c d = do_str h static j ks m ls k both t d c.3
+  form_matched j (form.sym x) c d = do_symbol h static j ks m ls k both x d
   form_matched j (form.local x) c d = do_local h static ks m ls k both j x d
   form_matched j (form.own x) c d = absurd d.covered
   form_matched j form.exception c d = absurd d.covered
   form_matched j (form.set_local x e) c d = do_set_local h static ks m ls k both j x e d
-  form_matched j (form.ivar x) c d = absurd d.covered
+  form_matched j (form.ivar x) c d = do_ivar h static j ks m ls k both c.0 x d
   form_matched j (form.set_ivar x e) c d = absurd d.covered
-  form_matched j (form.gvar x) c d = absurd d.covered
+  form_matched j (form.gvar x) c d = do_gvar h static j ks m ls k both x d
   form_matched j (form.set_gvar x e) c d = absurd d.covered
-  form_matched j (form.constant x) c d = absurd d.covered
+  form_matched j (form.constant x) c d = do_constant h static j ks m ls k both x d c.3
   form_matched j (form.top_constant x) c d = absurd d.covered
   form_matched j (form.in_constant e x) c d = absurd d.covered
   form_matched j (form.set_constant x e) c d = absurd d.covered
