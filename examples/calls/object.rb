@@ -498,3 +498,4 @@ row(379) { raise Told, "own kept" }
 row(380) { raise Told.new("own kept"), "own new" }
 row(381) { nope? } # not Ruby's: text of a missing method
 row(382) { nope! } # not Ruby's: text of a missing method
+row(383) { f = Fiber.new { 1 }; class << f; def again; singleton_class.new { 2 }; end; end; f.again } # not Ruby's: text of a singleton class

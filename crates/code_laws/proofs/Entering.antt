@@ -3,6 +3,7 @@ use Rattle.std.proofs.Common.{◌≡◌, ◌<◌, ◌≤◌, ℕ, zero, suc, ◌
 use Rattle.std.specs.Prelude.{None, ◌||◌, ◌&&◌}
 use Rattle.std.proofs.lemmas.Bool.{lt-ltb, ltb-false, and_from}
 use Rattle.std.proofs.lemmas.List.{append-nil, length-map}
+use Rattle.rite_code.specs.declared.code.Irep.{Irep}
 use Rattle.rite_code.specs.declared.code.PoolItem.TheVariants as pool
 use Rattle.rite_code.specs.declared.operation.Operation.{Operation}
 use Rattle.rite_code.specs.declared.operation.Operation.TheVariants as op
@@ -30,6 +31,9 @@ use Rattle.code_laws.proofs.Shares.{Fits, cost, many}
 use Rattle.code_laws.proofs.Sums.{tallied_bytes, cost_is}
 use Rattle.code_laws.proofs.Lines.{Own, tall, lower, joined, puts_well, lines_append, lines_farther, weights_append, made_append, tall-both, line-past}
 use Rattle.code_laws.proofs.Widths.{Under}
+use Rattle.code_laws.proofs.Starts.{starts_length}
+use Rattle.code_laws.proofs.Apart.{tally_apart, pool_apart, pool_short, symbols_short}
+use Rattle.code_laws.proofs.Taking.{FirstFew, entries_few, first_few}
 use Rattle.code_laws.proofs.Operating.{AreShort, Site, own, Ready}
 use Rattle.code_laws.proofs.Scenes.{Scene}
 use Rattle.code_laws.proofs.Bodied.{Coded, named-length, block-length, slots_length, first, site}
@@ -83,15 +87,6 @@ follow_more (suc n) (l ∷ ls) ks h = (h.0, follow_more n ls ks h.1)
 under_replicate : (e n x : ℕ) → x ≤ e → Under e (replicate n x)
 under_replicate e zero x h = tt
 under_replicate e (suc n) x h = (h, under_replicate e n x h)
-
-length_replicate : (n x : ℕ) → length (replicate n x) ≡ n
-length_replicate zero x = refl
-length_replicate (suc n) x = omega (arith, length_replicate n x)
-
-starts_length : (es : Forms) (c : Context) (s : Spot) (r n : ℕ) → length (starts c s r n es) ≡ n
-starts_length form.none c s r n = length_replicate n s.line
-starts_length (form.more e es) c s r zero = refl
-starts_length (form.more e es) c s r (suc n) = omega (arith, starts_length es c (past s (gen c s r e)) r n)
 
 starts_under : (es : Forms) (c : Context) (s : Spot) (r n e : ℕ) → s.line + tall (others_in_turn c s r es) ≤ e
     → Under e (starts c s r n es)
@@ -253,6 +248,18 @@ module _ (k : BodyKind) (around : Scopes) (p : Parameters) (ls : List Local) (f 
           catches = subst (λ (n : ℕ). FineCatches n (q.catches ++ [])) (sym long)
               (subst (λ (cs : List _). FineCatches (length q.lines) cs) (sym (append-nil q.catches))
               i.caught);
+          few_catches = omega (
+            arith,
+            limits.code,
+            code_is,
+            first_few (layout k (form.body p ls f) t).head (pool_of t)
+                t.symbols (both q (does o)) (cost f)
+                (subst (λ (bs : List Irep). FirstFew bs (cost f)) is (entries_few p ls f k around m)),
+          );
+          fine_items = pool_short (code_of (form.body p ls f) t) t limits.bytes;
+          items_apart = pool_apart t (tally_apart (form.body p ls f));
+          fine_names = symbols_short (code_of (form.body p ls f) t) t limits.bytes;
+          names_apart = (tally_apart (form.body p ls f)).symbols;
           small = omega (arith, heavy, ready.light, i.light, code_is, limits.code);
           narrow = λ e.
               let parts = either_false (nat_lt 32767 (code_of (form.body p ls f) (tally (form.body p ls f))))

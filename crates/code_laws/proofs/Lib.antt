@@ -23,6 +23,11 @@ pub mod Looping
 pub mod Guarding
 pub mod Defining
 pub mod Wides
+pub mod Amounts
+pub mod Records
+pub mod Starts
+pub mod Taking
+pub mod Apart
 pub mod Entering
 pub mod Forms
 pub mod Assembled
@@ -34,5 +39,8 @@ pub mod Descending
 pub mod Limits
 pub mod Counting
 pub mod Trees
+pub mod Filing
+pub mod Binding
+pub mod Knowing
 pub mod Programs
 pub mod Witness

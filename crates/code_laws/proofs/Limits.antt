@@ -26,8 +26,9 @@ within w n limit next h = by (nat_lt limit n) refl h
     by true e f = absurd (cc f)
     by false e f = (ltb-false limit n e, f)
 
-body_within : (c : Counts) (next : Option Excess) → of_body c next ≡ None → Limited c × (next ≡ None)
-body_within c next h =
+body_within : (c : Counts) (next : Option Excess) → c.bytes ≤ 4294967295 → of_body c next ≡ None
+    → Limited c × (next ≡ None)
+body_within c next small h =
     let h1 = within what.Parameters c.parameters 127 _ h in
     let h2 = within what.Registers c.registers 65535 _ h1.1 in
     let h3 = within what.Pool c.pool 65535 _ h2.1 in
@@ -41,20 +42,39 @@ body_within c next h =
         symbols = h4.0;
         children = h5.0;
         code = h6.0;
+        bytes = small;
       },
       h6.1,
     )
+
+-- where no count of a body is past its limit the next ones are asked for
+next_asked : (c : Counts) (next : Option Excess) → of_body c next ≡ None → next ≡ None
+next_asked c next h =
+    let h1 = within what.Parameters c.parameters 127 _ h in
+    let h2 = within what.Registers c.registers 65535 _ h1.1 in
+    let h3 = within what.Pool c.pool 65535 _ h2.1 in
+    let h4 = within what.Symbols c.symbols 65535 _ h3.1 in
+    let h5 = within what.Children c.children 65535 _ h4.1 in
+    (within what.Code c.code 4194303 next h5.1).1
+
+last_asked : (cs : List Counts) (next : Option Excess) → of_bodies cs next ≡ None → next ≡ None
+last_asked [] next h = h
+last_asked (c ∷ cs) next h = last_asked cs next (next_asked c (of_bodies cs next) h)
 
 abbrev AllLimited : List Counts → Type 0
 AllLimited [] = Unit
 AllLimited (c ∷ cs) = Limited c × AllLimited cs
 
-bodies_within : (cs : List Counts) (next : Option Excess) → of_bodies cs next ≡ None → AllLimited cs × (next ≡ None)
-bodies_within [] next h = (tt, h)
-bodies_within (c ∷ cs) next h =
-    let p = body_within c (of_bodies cs next) h in
-    let q = bodies_within cs next p.1 in
-    ((p.0, q.0), q.1)
+bytes_least : (n : ℕ) (cs : List Counts) → n ≤ bytes n cs
+bytes_least n [] = omega arith
+bytes_least n (c ∷ cs) = omega (arith, bytes_least (n + c.bytes) cs)
+
+bodies_within : (n : ℕ) (cs : List Counts) (next : Option Excess) → bytes n cs ≤ 4294967295 → of_bodies cs next ≡ None
+    → AllLimited cs
+bodies_within n [] next few h = tt
+bodies_within n (c ∷ cs) next few h =
+    let p = body_within c (of_bodies cs next) (omega (arith, few, bytes_least (n + c.bytes) cs)) h in
+    (p.0, bodies_within (n + c.bytes) cs next few p.1)
 
 few_bodies : (n size : ℕ) → file_of n size ≤ 4294967295 → n ≤ 65536
 few_bodies n size h = by (nat_lt 65536 n) refl h
@@ -62,6 +82,21 @@ few_bodies n size h = by (nat_lt 65536 n) refl h
     by : (b : Bool) → nat_lt 65536 n ≡ b → (if b then 4294967296 else size) ≤ 4294967295 → n ≤ 65536
     by true e f = absurd (omega (arith, f))
     by false e f = ltb-false 65536 n e
+
+small_file : (n size : ℕ) → file_of n size ≤ 4294967295 → size ≤ 4294967295
+small_file n size h = by (nat_lt 65536 n) refl h
+  where
+    by : (b : Bool) → nat_lt 65536 n ≡ b → (if b then 4294967296 else size) ≤ 4294967295 → size ≤ 4294967295
+    by true e f = absurd (omega (arith, f))
+    by false e f = f
+
+-- the bytes of a program's file, and its number of bodies, within their limits
+file_passes : (program : Body) → first_excess (need program) ≡ None → file (need program) ≤ 4294967295
+file_passes program h =
+    (within what.File (file (need program)) 4294967295 None (last_asked (need program) _ h)).0
+
+pub file_within : (program : Body) → first_excess (need program) ≡ None → bytes 64 (need program) ≤ 4294967295
+file_within program h = small_file (length (need program)) (bytes 64 (need program)) (file_passes program h)
 
 -- a body that steps begin is among those that are counted
 begun_limited : (ss ts : List Step) (b : Body) → AllLimited (map counts (begun ((ss ++ enter b ∷ []) ++ ts)))
@@ -82,15 +117,14 @@ pub record Counted (program : Body) : Type 0 where
 
 pub within_limits : (program : Body) → first_excess (need program) ≡ None → Counted program
 within_limits program h =
-    let p = bodies_within (need program) _ h in
-    let q = within what.File (file (need program)) 4294967295 None p.1 in
-    let few = few_bodies (length (need program)) (bytes 64 (need program)) q.0 in
+    let p = bodies_within 64 (need program) _ (file_within program h) h in
+    let few = few_bodies (length (need program)) (bytes 64 (need program)) (file_passes program h) in
     let long = length-map (bodies program) counts in
     let begun_so = begun_length (steps_of program) in
     let number = many_is (form_of program) [] in
     record {
-      main = p.0.0;
+      main = p.0;
       each = λ b s f. begun_limited s f.others b
-          (subst (λ (xs : List Step). AllLimited (map counts (begun xs))) f.are p.0.1);
+          (subst (λ (xs : List Step). AllLimited (map counts (begun xs))) f.are p.1);
       few = omega (arith, few, long, begun_so, number);
     }

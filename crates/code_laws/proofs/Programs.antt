@@ -1,9 +1,9 @@
--- The code of every program within the limits passes the verifier.
-use Rattle.std.proofs.Common.{◌≡◌, true, ◌≤◌, ℕ, suc, ◌+◌, List, [], ◌∷◌, ◌++◌, length, arith, refl, sym, ap, ◌∙◌, subst, inl}
+-- The code of every program within the limits passes the verifier, and a file can hold it.
+use Rattle.std.proofs.Common.{◌≡◌, true, ◌≤◌, ℕ, suc, ◌+◌, List, [], ◌∷◌, ◌++◌, length, arith, refl, sym, ap, ◌∙◌, subst, inl, inr}
 use Rattle.std.specs.Prelude.{Option, Some, None, slice_get}
 use Rattle.std.specs.List.{All}
 use Rattle.rite_code.specs.declared.code.Irep.{Irep}
-use Rattle.rite_code.specs.Code.{Program, program, IsForest}
+use Rattle.rite_code.specs.Code.{Program, program, IsBody, IsForest, IsWhole}
 use Rattle.ir_core.specs.CoreForm as form
 use Rattle.ir_core.specs.CoreForm.{Body, form_of}
 use Rattle.ir_core.specs.Program.{IsProgram}
@@ -31,7 +31,7 @@ use Rattle.code_laws.proofs.Forms.{body_well}
 use Rattle.code_laws.proofs.Checking.{Stood}
 use Rattle.code_laws.proofs.Numbers.{mades, mades_none, none_both}
 use Rattle.code_laws.proofs.Bodywise.{body_of, body_passes}
-use Rattle.code_laws.proofs.Counting.{program_counted}
+use Rattle.code_laws.proofs.Counting.{program_counted, program_bodies}
 use Rattle.code_laws.proofs.Lines.{assembled_length}
 use Rattle.code_laws.proofs.Trees.{program_tree}
 use Rattle.code_laws.proofs.Descending.{Done, Stand, descend, lines_made, from_none, seat_by}
@@ -142,37 +142,55 @@ coded_verified b c few =
 few_within : (b : Body) (c : Coded kind.Main [] 0 b) → 1 + many (form_of b) ≤ 65536 → length c.piece.bodies ≤ 65535
 few_within (form.body p ls f) c h = omega (arith, h, c.count)
 
--- no check of the verifier fails in the code of a program within the limits
+-- the code of a program within the limits
+main_code : (b : Body) → IsProgram b → first_excess (need b) ≡ None → Coded kind.Main [] 0 b
+main_code b h limits = body_well b kind.Main [] 0 no_scopes (fits_program b (within_limits b limits)) (program_formed b h)
+
+main_few : (b : Body) (h : IsProgram b) (limits : first_excess (need b) ≡ None)
+    → length (main_code b h limits).piece.bodies ≤ 65535
+main_few b h limits = few_within b (main_code b h limits) (within_limits b limits).few
+
+-- no check of the verifier fails in it
 pub program_verified : (b : Body) → IsProgram b → first_excess (need b) ≡ None
     → IsVerified (program 2 (coded_program b))
-program_verified b h limits =
-    let counted = within_limits b limits in
-    let c = body_well b kind.Main [] 0 no_scopes (fits_program b counted) (program_formed b h) in
-    coded_verified b c (few_within b c counted.few)
+program_verified b h limits = coded_verified b (main_code b h limits) (main_few b h limits)
 
 -- and it is within the limits, body by body
 pub program_within : (b : Body) → IsProgram b → first_excess (need b) ≡ None → All IsCounted (coded_program b)
 unfolding coded
 program_within b h limits =
-    let counted = within_limits b limits in
-    let c = body_well b kind.Main [] 0 no_scopes (fits_program b counted) (program_formed b h) in
+    let c = main_code b h limits in
     subst (All IsCounted) (sym c.is) (program_counted kind.Main c.slots [] c.head c.pool c.symbols c.piece c.sound
-    c.made
-    (few_within b c counted.few))
+    c.made (main_few b h limits))
 
 -- its bodies are one tree, of no more than a file can hold
 pub program_is_tree : (b : Body) → IsProgram b → first_excess (need b) ≡ None → IsForest 0 (coded_program b) (0 ∷ [])
 unfolding coded
 program_is_tree b h limits =
-    let counted = within_limits b limits in
-    let c = body_well b kind.Main [] 0 no_scopes (fits_program b counted) (program_formed b h) in
+    let c = main_code b h limits in
     subst (λ (bs : List Irep). IsForest 0 bs (0 ∷ [])) (sym c.is) (program_tree c.head c.pool c.symbols c.piece c.made)
 
 pub program_is_small : (b : Body) → IsProgram b → first_excess (need b) ≡ None → length (coded_program b) ≤ 65536
 unfolding coded
 program_is_small b h limits =
-    let counted = within_limits b limits in
-    let c = body_well b kind.Main [] 0 no_scopes (fits_program b counted) (program_formed b h) in
+    let c = main_code b h limits in
     let size = assembled_length c.head c.pool c.symbols c.piece in
-    let few = few_within b c counted.few in
+    let few = main_few b h limits in
     omega (arith, ap length c.is, size, few)
+
+-- each of them is fit for a file
+program_is_fit : (b : Body) → IsProgram b → first_excess (need b) ≡ None → All (IsBody 2) (coded_program b)
+unfolding coded
+program_is_fit b h limits =
+    let c = main_code b h limits in
+    subst (All (IsBody 2)) (sym c.is) (program_bodies kind.Main c.slots [] c.head c.pool c.symbols c.piece c.sound
+    c.made (main_few b h limits))
+
+pub program_is_whole : (b : Body) → IsProgram b → first_excess (need b) ≡ None
+    → IsWhole (program 2 (coded_program b))
+program_is_whole b h limits = record {
+  version = inr refl;
+  count = program_is_small b h limits;
+  each = program_is_fit b h limits;
+  tree = program_is_tree b h limits;
+}

@@ -6,6 +6,7 @@ use Rattle.scope_resolver.specs.declared.place.Place.{Place}
 use Rattle.scope_resolver.specs.declared.seek.Search.{Search}
 use Rattle.scope_resolver.specs.declared.seek.Search.TheVariants.{Found, Past}
 use Rattle.scope_resolver.specs.Layout.{Slots, Scopes, is_at, seek, place_at, place_from, place_in, place_or_self, innermost_count, place_of, own_place}
+use Rattle.code_laws.specs.Bound.{IsSeen}
 
 -- the place is one of the locals of a body that is seen, or self
 pub record Reached (scopes : Scopes) (p : Place) : Type 0 where
@@ -82,13 +83,6 @@ lies_reached scopes p (n, ss, level, is, some, within) = record {
 or_self_reached : (scopes : Scopes) (p : Option Place) → Lies scopes 0 p → Reached scopes (place_or_self p)
 or_self_reached scopes None h = self_reached scopes
 or_self_reached scopes (Some p) h = lies_reached scopes p h
-
--- a local that isn't hidden
-abbrev pub IsSeen : Local → Type 0
-IsSeen (named x) = Unit
-IsSeen (hidden d) = ⊥
-IsSeen (pattern k) = Unit
-IsSeen rest = Unit
 
 pub place_reached : (scopes : Scopes) (x : Local) → IsSeen x → Reached scopes (place_of scopes x)
 place_reached scopes (named x) h =

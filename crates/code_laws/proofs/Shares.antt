@@ -35,6 +35,7 @@ pub record Limited (c : Counts) : Type 0 where
   pub symbols : c.symbols ≤ 65535
   pub children : c.children ≤ 65535
   pub code : c.code ≤ 4194303
+  pub bytes : c.bytes ≤ 4294967295
 
 -- The tally has what a form and its parts add; the bodies within have tallies of their own, and are within the limits.
 abbrev mutual

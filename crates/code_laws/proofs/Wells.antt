@@ -1,10 +1,12 @@
 -- Pieces of the code of a body in which nothing is wrong by itself.
 use Rattle.std.specs.Prelude.{◌≡◌, ◌<◌, ◌≤◌, ℕ, zero, suc, ◌+◌, ◌-◌, List, [], ◌∷◌, ◌++◌, length, Bool, true, false, Option, Some, None}
+use Rattle.std.specs.List.{All}
 use Rattle.rite_code.specs.declared.code.Irep.{Irep}
 use Rattle.rite_code.specs.declared.code.PoolItem.{PoolItem}
 use Rattle.rite_code.specs.declared.operation.Parameters.{Parameters}
 use Rattle.rite_code.specs.declared.operation.Operation.{Operation}
 use Rattle.rite_code.specs.declared.operation.Operation.TheVariants as op
+use Rattle.rite_code.specs.Code.{AreDistinct, IsText, IsItem}
 use Rattle.rite_code.specs.Operation.{opcode_in}
 use Rattle.rite_code.specs.Table.{shape_of}
 use Rattle.rite_code.specs.Shape.{operand_size, are_counts}
@@ -126,6 +128,11 @@ pub record Sound (k : BodyKind) (own : Slots) (around : Scopes) (h : Head) (pool
   pub entered : Entered (has_parameters k) h.locals room (length q.lines - 1) q.lines
   pub ends : Ends q.lines
   pub catches : FineCatches (length q.lines - 1) q.catches
+  pub few_catches : length q.catches ≤ 65535
+  pub fine_items : All IsItem pool
+  pub items_apart : AreDistinct pool
+  pub fine_names : All IsText symbols
+  pub names_apart : AreDistinct symbols
   pub small : weights q.lines ≤ 4194303
   pub narrow : h.wide ≡ false → (weights q.lines ≤ 32767) × (h.registers ≤ 256)
 

@@ -1,2 +1,3 @@
+pub mod Bound
 pub mod Counted
 pub mod Example

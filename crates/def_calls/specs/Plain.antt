@@ -14,7 +14,7 @@ use Rattle.def_core.specs.Store.{Store, Done, core, fresh, object_at}
 use Rattle.def_core.specs.Classes.{class_at, class_of, plain_class_of, chain, is_member}
 use Rattle.def_core.specs.Find.{same_value}
 use Rattle.def_core.specs.Bind.{elements_in}
-use Rattle.def_core.specs.Changes.{gives, fails, with_method, object_of_sort}
+use Rattle.def_core.specs.Changes.{gives, fails, with_method, is_class_sort, object_of_sort}
 use Rattle.def_core.specs.Texts.{class_name}
 use Rattle.def_core.specs.Parts.{with_objects, with_kind}
 use Rattle.rb_store.specs.Opening.{main_object}
@@ -132,7 +132,7 @@ outright Rows.exception_message st recv args block =
 -- Fiber, an addition
 outright Rows.new_fiber st recv args block =
     counted (fails st) 0 (Some 0) args (with_block (fails st) block
-    (λ p. wanted (fails st) st.objects class.Class recv (a_space st.objects recv)
+    (λ p. wanted (fails st) st.objects class.Class recv (object_of_sort is_class_sort st.objects recv)
     (λ c. makes st (fresh c (kind.Fiber p false)))))
 outright Rows.is_alive st recv args block =
     counted (fails st) 0 (Some 0) args (wanted (fails st) st.objects class.Fiber recv

@@ -52,6 +52,33 @@ retrying_runs : evaluation retrying [] 250 ≡ Over (Ended (codes "3\n") 0)
 unfolding run
 retrying_runs = refl
 
+-- n = 0
+-- begin
+--   n = n + 1
+--   raise "x" if n < 3
+--   puts n
+-- rescue (n < 2 ? (retry) : StandardError) => [][(retry if n < 3)]
+--   puts "no"
+-- end
+-- puts "end"
+abbrev pub retrying_early : Source
+retrying_early = source_of (body no_parameters ((named (codes "n")) ∷ [])
+    (seq (more (set_local (named (codes "n")) (int (pos 0)))
+    (more (begin_form (seq (more (set_local (named (codes "n"))
+    (on (local (named (codes "n"))) (codes "+") (int (pos 1))))
+    (more (cond (branch (on (local (named (codes "n"))) (codes "<") (int (pos 3)))
+    (call on_self (codes "raise") (plain (str (codes "x")) no_items) absent) no_branches) nil)
+    (more (puts (local (named (codes "n")))) none))))
+    (clause (more (cond (branch (on (local (named (codes "n"))) (codes "<") (int (pos 2))) retry no_branches)
+    (constant (codes "StandardError"))) none)
+    (there (call (to (array no_items)) (codes "[]=") (plain (cond (branch (on (local (named (codes "n"))) (codes "<") (int (pos 3)))
+    retry no_branches) nil) (plain exception no_items)) absent))
+    (puts (str (codes "no"))) no_clauses) absent absent) (more (puts (str (codes "end"))) none)))))
+
+retrying_early_runs : evaluation retrying_early [] 250 ≡ Over (Ended (codes "3\nend\n") 0)
+unfolding run
+retrying_early_runs = refl
+
 -- x = while true
 --   begin
 --     break 5

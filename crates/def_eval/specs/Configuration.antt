@@ -114,9 +114,9 @@ pub data Stop : Type 0 where
   loops : ℕ → CoreForm → CoreForm → Stop
   -- clauses, with their number
   rescues : ℕ → Rescue → Stop
-  -- the assignment of an exception
-  assigns : ObjId → Stop
-  -- a clause, whose begin form may be begun anew
+  -- the assignment of an exception, in its clause
+  assigns : ObjId → Rescue → Stop
+  -- a clause, whose begin form may be begun anew: its classes and its body
   retries : Rescue → Stop
   ensures : ℕ → CoreForm → Stop
 
@@ -137,8 +137,8 @@ stop_of (or_else n e) = passes
 stop_of (loop_test n t b) = loops n t b
 stop_of (loop_body n t b) = loops n t b
 stop_of (rescued n b cs o) = rescues (n + span b) (record { number = n; body = b; clauses = cs; otherwise = o })
-stop_of (clause_class n e es t b cs r) = passes
-stop_of (clause_target n e b r) = assigns e
+stop_of (clause_class n e es t b cs r) = retries r
+stop_of (clause_target n e b r) = assigns e r
 stop_of (clause_body r) = retries r
 stop_of (ensured n e) = ensures n e
 

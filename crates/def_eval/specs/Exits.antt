@@ -41,7 +41,7 @@ abbrev pub travel_part : Exit → Stop → List Item → Memory → Config
 travel_part x passes ks m = Run (travel x) ks m
 travel_part x (loops n t b) ks m = travel_loop x n t b ks m
 travel_part x (rescues n r) ks m = travel_rescue x n r ks m
-travel_part x (assigns e) ks m = Run (travel x) ks m
+travel_part x (assigns e r) ks m = travel_clause x r ks m
 travel_part x (retries r) ks m = travel_clause x r ks m
 travel_part x (ensures n e) ks m = Run (perform n e) (ensuring (exit x) ∷ ks) m
 

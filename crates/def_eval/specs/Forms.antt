@@ -35,7 +35,7 @@ abbrev pub is_loop : Stop → Bool
 is_loop passes = false
 is_loop (loops n t b) = true
 is_loop (rescues n r) = false
-is_loop (assigns e) = false
+is_loop (assigns e r) = false
 is_loop (retries r) = false
 is_loop (ensures n e) = false
 
@@ -162,7 +162,7 @@ abbrev pub exception_or : Stop → Value → Value
 exception_or passes v = v
 exception_or (loops n t b) v = v
 exception_or (rescues n r) v = v
-exception_or (assigns e) v = Obj e
+exception_or (assigns e r) v = Obj e
 exception_or (retries r) v = v
 exception_or (ensures n e) v = v
 

@@ -1,10 +1,12 @@
 -- The opening state of verified code fits, where its store is sound.
-use Rattle.std.proofs.Common.{◌≡◌, ◌≤◌, ◌<◌, ℕ, zero, suc, ◌+◌, List, [], ◌∷◌, length, Bool, true, false, refl, sym, ap, ◌∙◌, subst, arith, true≢false}
-use Rattle.std.specs.Prelude.{Option, Some, None, replicate, set, slice_get, All, ◌&&◌}
+use Rattle.std.proofs.Common.{◌≡◌, ◌≤◌, ◌<◌, ℕ, zero, suc, ◌+◌, List, [], ◌∷◌, ◌++◌, length, get_or, length-append, Bool, true, false, refl, sym, ap, ◌∙◌, subst, arith, true≢false}
+use Rattle.std.specs.Prelude.{Option, Some, None, is_some, nat_eq, if◌then◌else◌, replicate, set, slice_get, All, ◌&&◌}
 use Rattle.std.specs.List.{position}
 use Rattle.std.specs.Str.{bytes_eq}
-use Rattle.std.proofs.lemmas.List.{length-set, length-replicate}
-use Rattle.std.proofs.lemmas.Option.{slice_get_within, get_or_from_slice_get}
+use Rattle.std.proofs.lemmas.List.{length-set, length-replicate, get_or_append_left}
+use Rattle.std.proofs.lemmas.List.Quantifiers.{position-Some}
+use Rattle.std.proofs.lemmas.Slice.Eq.{bytes_eq-Decides}
+use Rattle.std.proofs.lemmas.Option.{slice_get_within, get_or_from_slice_get, slice_get-get_or}
 use Rattle.def_core.proofs.PartsSound.{all_set}
 use Rattle.rb_value.specs.declared.value.Value.{Value}
 use Rattle.rb_value.specs.declared.value.Value.TheVariants.{Nil, Obj}
@@ -33,8 +35,8 @@ use Rattle.code_outline.proofs.Kept.{nests}
 use Rattle.def_calls.specs.World.{World}
 use Rattle.def_calls.specs.Calls.{opening_world}
 use Rattle.def_calls.specs.Rows as rows
-use Rattle.def_machine.specs.State.{Registers, frame, State, On, body_at, fresh_registers, all_symbols, main_frame, start}
-use Rattle.def_machine.specs.Fits.{ListFits, IsStart, SlotFits, KeptFits, MethodFits, EntryFits, KindFits, ObjectFits, ActivationFits, WorldFits, FrameFits, RunsWell, Fits}
+use Rattle.def_machine.specs.State.{Registers, Frame, frame, State, On, body_at, fresh_registers, all_symbols, main_frame, start}
+use Rattle.def_machine.specs.Fits.{ListFits, IsStart, SlotFits, KeptFits, MethodFits, EntryFits, KindFits, ObjectFits, ActivationFits, WorldFits, FrameFits, IsName, operators, NamesFit, AreApart, MemoryFits, RunsWell, Fits}
 use Rattle.def_machine.proofs.Running.{run}
 
 -- Registers: each holds a value.
@@ -69,7 +71,7 @@ starts version code lt e = first_at version code (length code) lt lt e
 
 -- The main program is a body, and stands in no other.
 
-has_main : (p : Program) → IsWhole p → 0 < length p.bodies
+pub has_main : (p : Program) → IsWhole p → 0 < length p.bodies
 has_main p w = let h = (roots-within w.tree) 0 0 (omega arith) in omega (arith, h.1)
 
 not_made : (p : Program) (m : Maker) → IsWhole p → Makes p m 0 → ⊥
@@ -181,6 +183,79 @@ main_is names = record {
   holds = ap (λ os. plays_at Any (slice_get (sorts_of os) main_object.0)) (names_keep rows.opening names) ∙ main_there;
 }
 
+-- The names of a program are symbols, and so are those of the operators.
+
+name_at : (symbols : List (List ℕ)) (name : List ℕ) (place : Option ℕ) → position (bytes_eq name) symbols ≡ place
+    → is_some place ≡ true → IsName symbols name
+name_at symbols name None e h = absurd (true≢false (sym h))
+name_at symbols name (Some i) e h =
+    let found = position-Some (bytes_eq name) symbols i [] e in
+    let same : name ≡ get_or symbols i [] = (bytes_eq-Decides name (get_or symbols i [])).0 found.1 in
+    (i, slice_get-get_or symbols i [] found.0 ∙ ap Some (sym same))
+
+kept_at : (xs ys : List (List ℕ)) (n : ℕ) (x : List ℕ) → slice_get xs n ≡ Some x → slice_get (xs ++ ys) n ≡ Some x
+kept_at xs ys n x h =
+    let within = slice_get_within xs n x h in
+    let longer : n < length (xs ++ ys) = rw length-append (omega (arith, within)) in
+    slice_get-get_or (xs ++ ys) n x longer ∙ ap Some
+    (get_or_append_left xs ys x n within ∙ get_or_from_slice_get xs n x x h)
+
+still_named : (st : Store) (name x : List ℕ) (place : Option ℕ) → IsName st.symbols x
+    → IsName (intern_at st name place).store.symbols x
+still_named st name x None h = (h.0, kept_at st.symbols (name ∷ []) h.0 x h.1)
+still_named st name x (Some i) h = h
+
+now_named : (st : Store) (name : List ℕ) (place : Option ℕ) → position (bytes_eq name) st.symbols ≡ place
+    → IsName (intern_at st name place).store.symbols name
+now_named st name None e = (length st.symbols, at_end st.symbols)
+  where
+    at_end : (xs : List (List ℕ)) → slice_get (xs ++ name ∷ []) (length xs) ≡ Some name
+    at_end [] = refl
+    at_end (x ∷ xs) = at_end xs
+now_named st name (Some i) e = name_at st.symbols name (Some i) e refl
+
+named_still : (st : Store) (names : List (List ℕ)) (x : List ℕ) → IsName st.symbols x
+    → IsName (with_names st names).symbols x
+unfolding with_names intern
+named_still st [] x h = h
+named_still st (name ∷ names) x h = named_still (intern st name).store names x
+    (still_named st name x (position (bytes_eq name) st.symbols) h)
+
+all_named : (st : Store) (names : List (List ℕ)) → AllAre (IsName (with_names st names).symbols) names
+unfolding with_names intern
+all_named st [] = tt
+all_named st (name ∷ names) = (
+  named_still (intern st name).store names name (now_named st name (position (bytes_eq name) st.symbols) refl),
+  all_named (intern st name).store names,
+)
+
+abbrev are_symbols : List (List ℕ) → List (List ℕ) → Bool
+are_symbols symbols [] = true
+are_symbols symbols (name ∷ names) = is_some (position (bytes_eq name) symbols) && are_symbols symbols names
+
+operators_there : are_symbols rows.opening.symbols operators ≡ true
+unfolding run
+operators_there = refl
+
+operators_named : (more names : List (List ℕ)) → are_symbols rows.opening.symbols names ≡ true
+    → AllAre (IsName (with_names rows.opening more).symbols) names
+operators_named more [] h = tt
+operators_named more (name ∷ names) h =
+    let both = and_true (is_some (position (bytes_eq name) rows.opening.symbols))
+    (are_symbols rows.opening.symbols names) h in (
+      named_still rows.opening more name
+          (name_at rows.opening.symbols name (position (bytes_eq name) rows.opening.symbols) refl both.0),
+      operators_named more names both.1,
+    )
+
+-- one frame is apart from all others
+alone : (f : Frame) → AreApart (frame f ∷ []) []
+alone f = record { once = λ n. one (nat_eq f.list n) }
+  where
+    one : (b : Bool) → (if b then 1 else 0) + 0 + 0 ≤ 1
+    one true = omega arith
+    one false = omega arith
+
 -- the opening state, as far as a body 0 that begins with an instruction goes
 pub opening_fits : (p : Program) (input : List ℕ) → IsWhole p → IsStart p 0 0
     → Sound (with_names rows.opening (all_symbols p.bodies)) → Fits p (start p input)
@@ -191,30 +266,39 @@ opening_fits p input w at sound =
     let r = fresh_registers (body_at p 0) None (Obj main_object) in
     let world = opening_world (all_symbols p.bodies) input in
     record {
-      world = record {
-        store = sound;
-        objects = subst (AllAre (ObjectFits p world (r ∷ []))) (sym (names_keep rows.opening (all_symbols p.bodies)))
-            (objects_fit p world (r ∷ []) rows.opening.objects opening_bodiless);
-        globals = tt;
-        enclosing = tt;
-        activations = (
-          record {
-            runs = tt;
-            self = self;
-            owner = tt;
-            name = tt;
-            home = (omega arith, omega arith);
-            classes = omega arith;
-            block = tt;
-          },
+      memory = record {
+        world = record {
+          store = sound;
+          objects = subst (AllAre (ObjectFits p world (r ∷ []))) (sym (names_keep rows.opening (all_symbols p.bodies)))
+              (objects_fit p world (r ∷ []) rows.opening.objects opening_bodiless);
+          globals = tt;
+          enclosing = tt;
+          activations = (
+            record {
+              runs = tt;
+              self = self;
+              owner = tt;
+              name = tt;
+              home = (omega arith, omega arith);
+              classes = omega arith;
+              block = tt;
+            },
+            tt,
+          );
+        };
+        names = record {
+          symbols = all_named rows.opening (all_symbols p.bodies);
+          operators = operators_named (all_symbols p.bodies) operators operators_there;
+        };
+        registers = (
+          all_set (SlotFits k) (replicate (body_at p 0).registers (V Nil)) 0 (V (Obj main_object))
+              (all-replicate (SlotFits k) (body_at p 0).registers (V Nil) tt) self,
           tt,
         );
+        running = tt;
+        resumer = tt;
+        waiting = tt;
       };
-      registers = (
-        all_set (SlotFits k) (replicate (body_at p 0).registers (V Nil)) 0 (V (Obj main_object))
-            (all-replicate (SlotFits k) (body_at p 0).registers (V Nil) tt) self,
-        tt,
-      );
       levels = (
         record {
           activation = (omega arith, omega arith);
@@ -223,6 +307,7 @@ opening_fits p input w at sound =
             omega arith,
             has_main p w,
             main_length (body_at p 0) (Obj main_object),
+            tt,
             subst (ListFits 0 p (r ∷ []) None) (sym (outermost p w)) tt,
           );
           place = at;
@@ -234,7 +319,5 @@ opening_fits p input w at sound =
         },
         tt,
       );
-      running = tt;
-      resumer = tt;
-      waiting = tt;
+      apart = alone main_frame;
     }

@@ -1,5 +1,5 @@
 -- When a state is one that verified code can be in: each number in it is of what it has to be.
-use Rattle.std.specs.Prelude.{◌≡◌, ◌<◌, ◌≤◌, ◌⊎◌, ℕ, zero, suc, List, [], ◌∷◌, length, slice_get, Option, Some, None, true}
+use Rattle.std.specs.Prelude.{◌≡◌, ◌<◌, ◌≤◌, ◌⊎◌, ℕ, zero, suc, ◌+◌, List, [], ◌∷◌, length, slice_get, codes, nat_eq, if◌then◌else◌, Option, Some, None, true}
 use Rattle.rb_value.specs.declared.value.Value.{Value}
 use Rattle.rb_value.specs.declared.value.ObjId.{ObjId}
 use Rattle.rb_value.specs.declared.method.Method.{Method}
@@ -14,26 +14,34 @@ use Rattle.rb_value.specs.declared.exit.Slot.{Slot}
 use Rattle.rb_value.specs.declared.exit.Slot.TheVariants.{V, E}
 use Rattle.rb_value.specs.declared.kind.Sort.TheVariants as sort
 use Rattle.rb_value.specs.Object.{Object}
+use Rattle.def_core.specs.Store.{Store}
 use Rattle.def_core.specs.Sound.{Census, census, Sound, ClassOrModule, Proc, Fiber, Array, Is, IsSymbol, IsValue, OptionIs, AllAre}
 use Rattle.rite_code.specs.Code.{Program}
 use Rattle.code_outline.specs.Layout.{layout, is_start}
 use Rattle.code_outline.specs.Makers.{outer}
 use Rattle.def_calls.specs.World.{World, Activation, Enclosing, Runs, main_program, method_body, block_body, lambda_body, class_body, core_method}
+use Rattle.def_calls.specs.Views.{object_in}
 use Rattle.def_calls.specs.Plans.{Iteration, begun, handing, putting, putting_text, printing, printing_text, inspecting, inspecting_text, raising, looping, visiting, counting, initializing}
 use Rattle.def_calls.specs.Fibers as fibers
-use Rattle.def_machine.specs.State.{Registers, Frame, Level, frame, iteration, Memory, State, On, Off, Stuck, body_at, list_at}
+use Rattle.def_machine.specs.State.{Registers, Frame, Level, frame, iteration, Memory, State, On, Off, Stuck, body_at, list_at, all_symbols}
 use Rattle.def_machine.specs.Entering.{first_of}
 use Rattle.def_machine.specs.Turn.{lists_around, fetch, shape_by}
 
--- Lists of registers. A list is that of a body where it has the body's length and the list around it is that of the
--- body around; a body that reaches no other has no list around. Each has a greater number than the one around it.
+-- Lists of registers.
+
+abbrev pub IsBelow : ℕ → ℕ → Type 0
+IsBelow n k = k < n
+
+-- A list is that of a body where it has the body's length and the list around it is that of the body around; a body
+-- that reaches no other has no list around. Each has a greater number than the one around it.
 abbrev pub ListFits : ℕ → Program → List Registers → Option ℕ → Option ℕ → Type 0
 ListFits most p ls None None = Unit {0}
 ListFits most p ls None (Some k) = ⊥
 ListFits most p ls (Some n) None = ⊥
 ListFits zero p ls (Some n) (Some k) = ⊥
 ListFits (suc most) p ls (Some n) (Some k) = (n < length ls) × (k < length p.bodies)
-    × (length (list_at ls n).slots ≡ (body_at p k).registers) × ListFits most p ls (list_at ls n).outer (outer p k)
+    × (length (list_at ls n).slots ≡ (body_at p k).registers) × OptionIs (IsBelow n) (list_at ls n).outer
+    × ListFits most p ls (list_at ls n).outer (outer p k)
 
 -- the list of body k
 abbrev pub IsListOf : Program → List Registers → Option ℕ → Option ℕ → Type 0
@@ -141,7 +149,9 @@ abbrev pub NameFits : Census → fibers.Name → Type 0
 NameFits k fibers.root = Unit {0}
 NameFits k (fibers.object f) = Is k Fiber f
 
+-- a fiber that waits has a level
 pub record FiberFits (p : Program) (m : Memory) (f : fibers.Fiber (List Level)) : Type 0 where
+  pub some : 0 < length f.kept
   pub name : NameFits (census m.world.store) f.name
   pub resumer : OptionIs (NameFits (census m.world.store)) f.resumer
   pub levels : LevelsWait p m f.kept
@@ -187,16 +197,17 @@ ObjectFits p w ls o = KindFits p w ls o.kind
 
 -- The world.
 
-abbrev pub RunFits : Census → Runs → Type 0
-RunFits k main_program = Unit {0}
-RunFits k method_body = Unit {0}
-RunFits k (block_body b) = Is k Proc b
-RunFits k lambda_body = Unit {0}
-RunFits k class_body = Unit {0}
-RunFits k core_method = Unit {0}
+-- the body of a class has a class or module as its self
+abbrev pub RunFits : Census → Value → Runs → Type 0
+RunFits k self main_program = Unit {0}
+RunFits k self method_body = Unit {0}
+RunFits k self (block_body b) = Is k Proc b
+RunFits k self lambda_body = Unit {0}
+RunFits k self class_body = OptionIs (Is k ClassOrModule) (object_in self)
+RunFits k self core_method = Unit {0}
 
 pub record ActivationFits (w : World) (a : Activation) : Type 0 where
-  pub runs : RunFits (census w.store) a.runs
+  pub runs : RunFits (census w.store) a.self a.runs
   pub self : IsValue (census w.store) a.self
   pub owner : OptionIs (Is (census w.store) ClassOrModule) a.owner
   pub name : OptionIs (IsSymbol (census w.store)) a.name
@@ -219,13 +230,50 @@ pub record WorldFits (p : Program) (ls : List Registers) (w : World) : Type 0 wh
   pub enclosing : EnclosingFits (census w.store) 1 w.enclosing
   pub activations : AllAre (ActivationFits w) w.activations
 
-pub record RunsWell (p : Program) (ls : List Level) (m : Memory) : Type 0 where
+-- The names that code calls by are symbols of the store: those of its bodies, and those of the operators.
+
+abbrev pub IsName : List (List ℕ) → List ℕ → Type 0
+IsName symbols name = (n : ℕ) × (slice_get symbols n ≡ Some name)
+
+abbrev pub operators : List (List ℕ)
+operators = codes "+" ∷ codes "-" ∷ codes "*" ∷ codes "/" ∷ codes "==" ∷ codes "<" ∷ codes "<=" ∷ codes ">"
+    ∷ codes ">=" ∷ []
+
+pub record NamesFit (p : Program) (st : Store) : Type 0 where
+  pub symbols : AllAre (IsName st.symbols) (all_symbols p.bodies)
+  pub operators : AllAre (IsName st.symbols) operators
+
+-- Each list of registers is that of one frame at most, of all fibers.
+
+abbrev pub holder : ℕ → Level → ℕ
+holder n (frame f) = if nat_eq f.list n then 1 else 0
+holder n (iteration a it v) = 0
+
+abbrev pub holders : ℕ → List Level → ℕ
+holders n [] = 0
+holders n (l ∷ ls) = holder n l + holders n ls
+
+abbrev pub waiting_holders : ℕ → List (fibers.Fiber (List Level)) → ℕ
+waiting_holders n [] = 0
+waiting_holders n (f ∷ fs) = holders n f.kept + waiting_holders n fs
+
+pub record AreApart (ls : List Level) (fs : List (fibers.Fiber (List Level))) : Type 0 where
+  pub once : (n : ℕ) → holders n ls + waiting_holders n fs ≤ 1
+
+-- what a state keeps beside the levels of the running fiber
+pub record MemoryFits (p : Program) (m : Memory) : Type 0 where
   pub world : WorldFits p m.lists m.world
+  pub names : NamesFit p m.world.store
   pub registers : AllAre (RegistersFit (census m.world.store)) m.lists
-  pub levels : LevelsFit p m ls
   pub running : NameFits (census m.world.store) m.fibers.running
   pub resumer : OptionIs (NameFits (census m.world.store)) m.fibers.resumer
   pub waiting : AllAre (FiberFits p m) m.fibers.others
+
+-- the running fiber has levels that fit in such a memory
+pub record RunsWell (p : Program) (ls : List Level) (m : Memory) : Type 0 where
+  pub memory : MemoryFits p m
+  pub levels : LevelsFit p m ls
+  pub apart : AreApart ls m.fibers.others
 
 abbrev pub Fits : Program → State → Type 0
 Fits p (On levels m) = RunsWell p levels m

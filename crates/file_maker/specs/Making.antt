@@ -1,5 +1,5 @@
 -- What becomes of a text, and of the bytes of a file.
-use Rattle.std.specs.Prelude.{◌≡◌, ◌≢◌, ◌⊎◌, ℕ, List, Bool, true, is_some, Option, Some, None, Result, Ok, Err}
+use Rattle.std.specs.Prelude.{◌≡◌, ◌≢◌, ◌⊎◌, ℕ, List, true, is_some, Option, Some, None, Result, Ok, Err}
 use Rattle.rb_refusal.specs.declared.refusal.Refusal.{Refusal}
 use Rattle.rb_refusal.specs.declared.refusal.Refusal.TheVariants as refusals
 use Rattle.ir_core.specs.CoreForm.{Body}
@@ -36,28 +36,33 @@ abbrev pub IsChecked : List ℕ → Result Program Refusal → Type 0
 IsChecked bytes (Ok code) = (loaded bytes ≡ Ok code) × IsVerified code
 IsChecked bytes (Err cause) = refusal_of_file (loaded bytes) ≡ Some cause
 
--- the file of a core: the one of the program of its bodies, of version 2
+-- the program of a core: its bodies, of version 2; and the file of it
+abbrev pub code_of : Body → Program
+code_of c = of_bodies 2 (coded_program c)
+
 abbrev pub file_of : Body → List ℕ
-file_of c = canonical (of_bodies 2 (coded_program c))
+file_of c = canonical (code_of c)
 
--- why a core has no file: its first count past the limit; or its file is refused
-abbrev pub refusal_past : Option Excess → Body → Option Refusal
-refusal_past (Some e) c = Some (refusals.TooLarge e.what e.count)
-refusal_past None c = refusal_of_file (loaded (file_of c))
+-- a core is refused for its first count past the limit, and for nothing else
+abbrev pub IsPastLimit : Body → Refusal → Type 0
+IsPastLimit c cause = (e : Excess) × (first_excess (need c) ≡ Some e) × (cause ≡ refusals.TooLarge e.what e.count)
 
-abbrev pub refusal_of_core : Body → Option Refusal
-refusal_of_core c = refusal_past (first_excess (need c)) c
-
--- the bytes are the file of the core, and spell that verified code
+-- the bytes are the file of the core, which spells its code, and that is verified
 abbrev pub IsFileOf : Body → List ℕ → Program → Type 0
 IsFileOf c bytes code = (code_built c ≡ None) × (first_excess (need c) ≡ None) × (bytes ≡ file_of c)
-    × (loaded (file_of c) ≡ Ok code) × IsVerified code
+    × (code ≡ code_of c) × (loaded (file_of c) ≡ Ok code) × IsVerified code
 
 -- what becomes of a core: it has no form beyond those of the first path; it is refused; or it has its file
 abbrev pub IsMadeOf : Body → Made → Type 0
 IsMadeOf c FirstPath = is_some (code_built c) ≡ true
-IsMadeOf c (Refused cause) = (code_built c ≡ None) × (refusal_of_core c ≡ Some cause)
+IsMadeOf c (Refused cause) = (code_built c ≡ None) × IsPastLimit c cause
 IsMadeOf c (File bytes code) = IsFileOf c bytes.items code
+
+-- a file that is made
+abbrev pub HasFile : Body → Made → Type 0
+HasFile c FirstPath = ⊥
+HasFile c (Refused cause) = ⊥
+HasFile c (File bytes code) = IsFileOf c bytes.items code
 
 abbrev pub HasCore : List ℕ → Made → Type 0
 HasCore text made = (c : Body) × (core_of text ≡ Some c) × IsMadeOf c made

@@ -151,7 +151,8 @@ fn obey<F: Files, S: Source, O: Sink + Drop, E: Sink + Drop>(
 
 /// Does what the words ask, and tells of it, where it is for the general path. Nothing is done for other words and other
 /// sources. `build` ends with 0, and `exec` runs, only where the file holds the file of the source, whose code is
-/// verified; every other file is as before, and that file too where the source is refused. `run` changes no file.
+/// verified; every other file is as before, and that file too where the source is refused, which it is exactly for its
+/// first count past the limit. `run` changes no file.
 #[tactic(auto, using(crate::proofs::Alone::alone))]
 pub fn play<F: Files, S: Source, O: Sink + Drop, E: Sink + Drop>(
     alloc: Global,

@@ -18,7 +18,7 @@ use Rattle.rb_compile.specs.Compiled.{Refuses}
 use Rattle.rb_compile.specs.Causes.{OneCause, NoProgram}
 use Rattle.rb_compile.specs.declared.error.CompileError.{CompileError}
 use Rattle.rb_compile.specs.declared.error.CompileError.TheVariants.{TooLarge, Syntax, TooDeep, Outside, NoMemory}
-use Rattle.rb_compile.proofs.Front.{refused_core, one_front}
+use Rattle.rb_front.proofs.Refusals.{refused_core, one_front}
 
 -- a cause of the front
 record OfFront (text : List ℕ) (e : CompileError) : Type 0 where
@@ -108,3 +108,19 @@ without text e (inr g) = some_core text g.form g.is ∙ unmade_none g.form e g.u
 
 pub no_program : NoProgram
 no_program text e p h = without text e (parted text e p h)
+
+never_both : {A : Type 0} (o : Option A) (x : A) → o ≡ None → o ≡ Some x → ⊥
+never_both o x none some = absurd (cc (sym none ∙ some))
+
+-- where there is a program no error has a cause but that memory ran out
+pub only_memory : (text : List ℕ) (f : Form) (e : CompileError) → program_of text ≡ Some f → Refuses text e
+    → e ≡ NoMemory
+only_memory text f (TooLarge what count) is h =
+    absurd (never_both (program_of text) f (no_program text (TooLarge what count) (λ p. cc p) h) is)
+only_memory text f (Syntax at) is h =
+    absurd (never_both (program_of text) f (no_program text (Syntax at) (λ p. cc p) h) is)
+only_memory text f TooDeep is h =
+    absurd (never_both (program_of text) f (no_program text TooDeep (λ p. cc p) h) is)
+only_memory text f (Outside what at) is h =
+    absurd (never_both (program_of text) f (no_program text (Outside what at) (λ p. cc p) h) is)
+only_memory text f NoMemory is h = refl

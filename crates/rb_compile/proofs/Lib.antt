@@ -1,5 +1,3 @@
 pub mod Compiled
 pub mod Coded
-pub mod Misplaced
-pub mod Front
 pub mod Causes

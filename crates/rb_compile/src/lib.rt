@@ -4,6 +4,7 @@
 #![tactic(auto)]
 
 ghost use Rattle.std.specs.Prelude.{◌≡◌, ◌<◌, ◌^◌, Some, length, IfOk, IfErr, MatchOption};
+ghost use Rattle.path_core.specs.Form.{Form};
 ghost use Rattle.ir_core.specs.View.{body_view};
 ghost use Rattle.rb_front.specs.Front.{core_of};
 ghost use Rattle.rite_file.specs.File.{canonical};
@@ -13,6 +14,7 @@ ghost use Rattle.code_generator.specs.Implements.{Implements};
 ghost use Rattle.rb_compile.specs.Language.{program_of};
 ghost use Rattle.rb_compile.specs.Compiled.{IsCodeOf, Refuses};
 ghost use Rattle.rb_compile.specs.Causes.{OneCause, NoProgram};
+ghost use Rattle.rb_compile.specs.declared.error.CompileError.TheVariants.{NoMemory};
 
 pub mod error;
 
@@ -62,7 +64,9 @@ fn generate_code(alloc: Global, text: &[u8], core: &Program) -> Result<Code, Com
 /// than 16,777,216 bytes, whatever they are. `Syntax`: it has no tokens. `TooDeep`: these are more than 256 deep.
 /// `Syntax`: they have no tree, or a word stands where it may not. `Outside`: the tree has a construct outside the
 /// language; the one with the least place is told. `Outside` with `Unbuilt` at 0: the generator doesn't build the core.
-/// `TooLarge` of a count: the first that exceeds its limit.
+/// `TooLarge` of a count: the first that exceeds its limit. A text that has a program is compiled, unless memory runs
+/// out.
+#[tactic(auto, using(crate::proofs::Causes::only_memory))]
 pub fn compile(alloc: Global, text: &[u8]) -> Result<Code, CompileError>
     ensures implements { IfOk result (λ code. MatchOption (program_of text.now) ⊥ (Implements code)) }
     ensures whole { IfOk result IsWhole }
@@ -70,6 +74,7 @@ pub fn compile(alloc: Global, text: &[u8]) -> Result<Code, CompileError>
     ensures verified { IfOk result IsVerified }
     ensures fits { IfOk result (λ code. length (canonical code) < 2 ^ 32) }
     ensures refused { IfErr result (Refuses text.now) }
+    ensures complete { (f : Form) → program_of text.now ≡ Some f → IfErr result (λ e. e ≡ NoMemory) }
 {
     let core = read_core(alloc, text)?;
     let code = generate_code(alloc, text, &core)?;

@@ -10,8 +10,8 @@ use Rattle.rb_exec.specs.declared.running.Played.TheVariants.{Ended, Uncaught, S
 abbrev pub HasFile : Disk → Disk → List ℕ → List ℕ → Type 0
 HasFile before after source file = (code : Program) × IsStored before after source file code
 
--- The text of the source is refused; the store failed; memory ran out; or the file holds the code of the text. It comes
--- out in no other way.
+-- The text of the source is refused, for a count past its limit; the store failed; memory ran out; or the file holds the
+-- code of the text. It comes out in no other way.
 abbrev pub IsBuilt : Disk → Disk → List ℕ → List ℕ → Played → Type 0
 IsBuilt before after source file (Ended status) = (status ≡ 0) × HasFile before after source file
 IsBuilt before after source file (Refused cause) = IsRefused before after source cause

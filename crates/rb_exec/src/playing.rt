@@ -21,8 +21,9 @@ fn without_code(cause: NotMade) -> Played
 }
 
 /// Compiles the source in the file `source` and puts its code into the file `file`. Nothing is done where the source
-/// goes the first path: it can't be read, the front refuses it, or it has no form beyond those of that path. Every
-/// other file is as before, and `file` too where nothing is stored.
+/// goes the first path: it can't be read, the front refuses it, or it has no form beyond those of that path. It is
+/// refused for its first count past the limit and for nothing else. Every other file is as before, and `file` too where
+/// nothing is stored.
 pub fn build<F: Files>(alloc: Global, files: &mut F, source: &str, file: &str) -> Option<Played>
     ensures { Builds (⟦<F as OfFiles>⟧.told files.old) (⟦<F as OfFiles>⟧.told files.new) source.now file.now result }
 {

@@ -3,16 +3,16 @@ ghost use Rattle.rows_object.specs.Answered.{Answered};
 ghost use Rattle.rows_object.specs.Rows as rows;
 
 use core_calls::heap::{Given, Heap};
-use rb_value::{CoreClass, ObjId, Value};
+use rb_value::{CoreClass, ObjId, Sort, Value};
 use std::alloc::AllocError;
 
-/// `new` of Fiber: a fiber that runs a block.
+/// `new` of Fiber: a fiber that runs a block. A singleton class has no other objects.
 pub(crate) fn of_block(
     heap: &mut Heap,
     receiver: Value,
     block: ObjId,
 ) -> Result<Given, AllocError> {
-    let Some(class) = heap.space_in(receiver) else {
+    let (Some(Sort::Class), Value::Obj(class)) = (heap.sort(receiver), receiver) else {
         return heap.unexpected(CoreClass::Class, receiver);
     };
     match heap.make_fiber(class, block)? {

@@ -115,7 +115,7 @@ passes_part : (x : ObjId) (p : Stop) (ks : List Item) (m : source.Memory) → Is
 passes_part x passes ks m g = refl
 passes_part x (loops n t b) ks m g = refl
 passes_part x (rescues n r) ks m g = absurd g
-passes_part x (assigns e) ks m g = refl
+passes_part x (assigns e r) ks m g = refl
 passes_part x (retries r) ks m g = refl
 passes_part x (ensures n e) ks m g = absurd g
 

@@ -237,7 +237,7 @@ abbrev pub IsPassed : Stop → Type 0
 IsPassed passes = Unit {0}
 IsPassed (loops n t b) = Unit {0}
 IsPassed (rescues n r) = ⊥
-IsPassed (assigns e) = Unit {0}
+IsPassed (assigns e r) = Unit {0}
 IsPassed (retries r) = Unit {0}
 IsPassed (ensures n e) = ⊥
 

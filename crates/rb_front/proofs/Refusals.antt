@@ -1,4 +1,4 @@
--- The causes of the front exclude each other.
+-- The causes of the front exclude each other, and a text that is refused has no core.
 use Rattle.std.proofs.Common.{min, ◌≡◌, ◌≢◌, ℕ, ◌≤◌, ◌<◌, nat_le, true, false, List, length, Option, Some, None, Result, Ok, Err, refl, sym, ◌∙◌, ap, arith}
 use Rattle.std.proofs.lemmas.Bool.Decides.{nat_tests}
 use Rattle.rb_syntax.specs.declared.token.Token.{Token}
@@ -13,7 +13,7 @@ use Rattle.lower_outside.specs.declared.construct.Found.{Found}
 use Rattle.rb_front.specs.Front.{IsTree, IsNoProgram, IsTooDeep, Refuses, core_within, core_of_tree, core_of_tokens, core_of}
 use Rattle.rb_front.specs.declared.error.FrontError.{FrontError}
 use Rattle.rb_front.specs.declared.error.FrontError.TheVariants.{TooLong, Syntax, TooDeep, Outside, NoMemory}
-use Rattle.rb_compile.proofs.Misplaced.{one_place, not_missed}
+use Rattle.rb_front.proofs.Misplaced.{one_place, not_missed}
 
 missed_within : (o : Option ℕ) (f : ℕ → ℕ) (at : ℕ) (c : Option Found) (n : PlainNode) → option_map f o ≡ Some at
     → core_within o c n ≡ None

@@ -1,0 +1,4 @@
+pub mod Standing
+pub mod Fits
+pub mod Reached
+pub mod Example

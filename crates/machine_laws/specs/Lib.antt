@@ -1,0 +1,3 @@
+pub mod Levels
+pub mod Growth
+pub mod Standing
