@@ -1,6 +1,6 @@
 -- Leaves whose value is looked up or made: an instruction gives what the form gives, or throws what it raises.
-use Rattle.std.proofs.Common.{◌≡◌, ℕ, ◌+◌, ◌<◌, List, [], ◌∷◌, refl, sym, ap, ◌∙◌, subst, arith, get_or}
-use Rattle.std.specs.Prelude.{Option, Some, slice_get}
+use Rattle.std.proofs.Common.{◌≡◌, ℕ, ◌+◌, ◌<◌, List, [], ◌∷◌, refl, sym, ap, ◌∙◌, subst, arith}
+use Rattle.std.specs.Prelude.{Option}
 use Rattle.rb_value.specs.declared.value.Value.{Value}
 use Rattle.rb_value.specs.declared.value.Value.TheVariants as value
 use Rattle.rb_value.specs.declared.value.SymId.{SymId}
@@ -9,27 +9,27 @@ use Rattle.rite_code.specs.declared.operation.Operation.{Operation}
 use Rattle.rite_code.specs.declared.operation.Operation.TheVariants as op
 use Rattle.def_core.specs.Changes.{intern}
 use Rattle.def_rows.specs.Answers.{text_object}
-use Rattle.ir_core.specs.CoreForm.{Name, CoreForm, str, sym as symbol_form, ivar, gvar, constant}
+use Rattle.ir_core.specs.CoreForm.{Name, str, sym as symbol_form, ivar, gvar, constant}
 use Rattle.gen_parts.specs.declared.line.Line.TheVariants as line
 use Rattle.gen_parts.specs.Pieces.{does}
 use Rattle.gen_forms.specs.Gen.{text_entry, symbol as entry_of}
-use Rattle.def_calls.specs.World.{World, Activation, activation_at, Answer, Result as Given, gives, raises, make, global}
+use Rattle.def_calls.specs.World.{World, activation_at, Answer, Result as Given, gives, raises, make, global}
 use Rattle.def_calls.specs.Constants.{get_constant}
 use Rattle.def_calls.specs.Values.{instance_variable}
 use Rattle.def_eval.specs.Configuration as source
-use Rattle.def_eval.specs.Configuration.{Place, Item, perform, give, Config, Run}
+use Rattle.def_eval.specs.Configuration.{Place, Item, perform, Config, Run}
 use Rattle.def_eval.specs.Entering.{symbol, after_result}
 use Rattle.def_eval.specs.Forms.{self_of, do_form}
 use Rattle.def_eval.specs.Transition.{go}
 use Rattle.def_machine.specs.State as machine
-use Rattle.def_machine.specs.State.{Level, frame, State, On, body_at, value_at}
+use Rattle.def_machine.specs.State.{Level, frame, State, value_at}
 use Rattle.def_machine.specs.Unwind.{after_result as after_machine}
-use Rattle.def_machine.specs.Turn.{turn, act, new_text, symbol as symbol_machine}
-use Rattle.step_laws.specs.Site.{Site, within, place_in, at_line, LineAt, Room, Named}
+use Rattle.def_machine.specs.Turn.{act, new_text, symbol as symbol_machine}
+use Rattle.step_laws.specs.Site.{Site, place_in, at_line, LineAt, Room, Named}
 use Rattle.step_laws.specs.Calm.{IsSteady, Quiet}
 use Rattle.step_laws.specs.Measure.{weights, measure}
-use Rattle.step_laws.proofs.Placed.{high, high-puts, Stands, the_line, Rest, frame_at, turned}
-use Rattle.step_laws.proofs.Relation.{Static, InFrame, Same, Common, Doing, Related, Step}
+use Rattle.step_laws.proofs.Placed.{high, high-puts, the_line, Rest, frame_at, turned}
+use Rattle.step_laws.proofs.Relation.{Static, InFrame, Common, Doing, Related, Step}
 use Rattle.step_laws.proofs.Matching.{by_none, by_one, going, state_at, written, writes}
 use Rattle.step_laws.proofs.Calling.{From, leaves_frame}
 use Rattle.step_laws.proofs.Literals.{aligned, written_by, self_is}
