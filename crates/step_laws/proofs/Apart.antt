@@ -1,12 +1,11 @@
 -- Two names of a body have two registers.
-use Rattle.std.proofs.Common.{◌≡◌, ◌≢◌, ℕ, zero, suc, ◌+◌, ◌-◌, ◌≤◌, ◌<◌, List, [], ◌∷◌, refl, sym, ap, ◌∙◌, subst, arith, get_or, Bool, true, false, true≢false}
-use Rattle.std.specs.Prelude.{bytes_eq, if◌then◌else◌, Option, Some, None, unwrap_or}
+use Rattle.std.proofs.Common.{◌≡◌, ◌≢◌, ℕ, zero, suc, ◌+◌, ◌-◌, ◌≤◌, [], ◌∷◌, refl, sym, ap, ◌∙◌, subst, arith, get_or, Bool, true, false, true≢false}
+use Rattle.std.specs.Prelude.{bytes_eq, if◌then◌else◌, Option, Some, None}
 use Rattle.std.proofs.lemmas.Slice.Eq.{bytes_eq-Decides}
 use Rattle.ir_core.specs.CoreForm.{Name, Local, named, hidden, pattern, rest}
-use Rattle.scope_resolver.specs.declared.place.Place.{Place}
 use Rattle.scope_resolver.specs.declared.seek.Search.{Search}
 use Rattle.scope_resolver.specs.declared.seek.Search.TheVariants.{Found, Past}
-use Rattle.scope_resolver.specs.Layout.{Slots, Scopes, is_at, at_slot, seek, place_at, place_or_self, place_of}
+use Rattle.scope_resolver.specs.Layout.{Slots, Scopes, is_at, seek, place_at, place_or_self, place_of}
 use Rattle.step_laws.specs.Site.{Site, register, Known}
 
 -- what is found stays

@@ -12,23 +12,22 @@ use Rattle.gen_parts.specs.declared.line.Line.{Line}
 use Rattle.gen_parts.specs.declared.line.Line.TheVariants as line
 use Rattle.gen_parts.specs.declared.emitter.Spot.{Spot}
 use Rattle.gen_parts.specs.declared.emitter.Held.TheVariants as held
-use Rattle.gen_parts.specs.Pieces.{Piece, past, behind, puts, ◌⊕◌, jump, jump_not}
+use Rattle.gen_parts.specs.Pieces.{past, behind, puts, ◌⊕◌, jump, jump_not}
 use Rattle.gen_parts.specs.Assembly.{instruction_before}
 use Rattle.gen_forms.specs.declared.context.Loop.{Loop}
 use Rattle.gen_forms.specs.Gen.{Context, gen, choose as chosen_code, over}
 use Rattle.def_eval.specs.Source.{span}
 use Rattle.def_eval.specs.Configuration as source
-use Rattle.def_eval.specs.Configuration.{test, chosen, and_then, or_else, Item, part, perform, give, Config, Run}
+use Rattle.def_eval.specs.Configuration.{test, chosen, and_then, or_else, Item, part, perform, give, Run}
 use Rattle.def_eval.specs.Forms.{next_branch, do_form}
 use Rattle.def_eval.specs.Giving.{choose, go_right, go_left, give_part, do_give}
-use Rattle.def_eval.specs.Transition.{go}
 use Rattle.def_machine.specs.State as machine
-use Rattle.def_machine.specs.State.{Frame, Level, frame, State, On, slot_at, value_at}
+use Rattle.def_machine.specs.State.{Level, frame, On, slot_at}
 use Rattle.def_machine.specs.Turn.{turn, target, act_at}
 use Rattle.step_laws.specs.Site.{Site, within, place_in, at_line, LineAt}
 use Rattle.step_laws.specs.Covered.{Covered, CoveredBranches}
 use Rattle.step_laws.specs.Measure.{measure}
-use Rattle.step_laws.proofs.Placed.{high, high-both, high-puts, heights, line-past, line-behind, Stands, moved, left, right, the_line, Rest, frame_at, leads, jumped}
+use Rattle.step_laws.proofs.Placed.{high, high-both, high-puts, line-past, line-behind, Stands, moved, left, right, the_line, Rest, frame_at, leads, jumped}
 use Rattle.step_laws.proofs.Relation.{Static, after_test, InFrame, Common, Doing, GivesIn, Related, Step}
 use Rattle.step_laws.proofs.Matching.{by_none, by_one, going, state_at, stays}
 use Rattle.step_laws.proofs.Literals.{aligned}

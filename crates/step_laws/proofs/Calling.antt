@@ -1,35 +1,31 @@
 -- What a call enters, on both sides, and how its answer goes back.
-use Rattle.std.proofs.Common.{◌≡◌, ◌⊎◌, ℕ, zero, suc, ◌+◌, ◌<◌, ◌≤◌, List, [], ◌∷◌, ◌++◌, refl, sym, ap, ◌∙◌, subst, inl, inr, arith, length, length-append, Bool, true, false}
-use Rattle.std.specs.Prelude.{if◌then◌else◌, Option, Some, None}
+use Rattle.std.proofs.Common.{◌≡◌, ℕ, zero, suc, ◌+◌, ◌<◌, List, [], ◌∷◌, refl, sym, ap, ◌∙◌, subst, arith, length, length-append, Bool, true, false}
+use Rattle.std.specs.Prelude.{if◌then◌else◌, None}
 use Rattle.rb_value.specs.declared.value.Value.{Value}
 use Rattle.rb_value.specs.declared.value.Value.TheVariants.{Nil}
-use Rattle.rb_value.specs.declared.value.ObjId.{ObjId}
-use Rattle.rb_value.specs.declared.exit.Exit.TheVariants.{Raise}
-use Rattle.rb_value.specs.declared.exit.Slot.TheVariants.{V}
 use Rattle.def_core.specs.declared.bound.Bound.{Bound}
 use Rattle.def_core.specs.declared.bound.Bound.TheVariants.{Values, Wrong}
 use Rattle.def_core.specs.declared.cause.Cause.TheVariants as cause
 use Rattle.def_core.specs.Bind.{bind}
 use Rattle.ir_core.specs.CoreForm.{CoreForm, Forms, none, more, Body}
-use Rattle.def_calls.specs.World.{World, Answer, Result, gives, raises, Activation, fail, next_activation, with_activation, with_store}
+use Rattle.def_calls.specs.World.{World, Answer, Result, gives, raises, fail, next_activation, with_activation, with_store}
 use Rattle.def_calls.specs.Calls.{Entry, answers, enters, begins, Opening, is_full, settle}
-use Rattle.def_calls.specs.Plans.{Iteration}
 use Rattle.def_eval.specs.Source.{Source, span, parameters_of, locals_of, body_at, form_of}
 use Rattle.def_eval.specs.Configuration as source
-use Rattle.def_eval.specs.Configuration.{Place, raise, Part, operands, receiver, items, block, elements, hash_key, hash_value, pieces, rest, test, chosen, and_then, or_else, loop_test, loop_body, rescued, clause_class, clause_target, clause_body, ensured, passes, stop_of, Item, part, activation, iteration, ensuring, Focus, perform, give, travel, Config, Run, Halt, seen}
+use Rattle.def_eval.specs.Configuration.{Place, Part, operands, receiver, items, block, elements, hash_key, hash_value, pieces, rest, test, chosen, and_then, or_else, loop_test, loop_body, rescued, clause_class, clause_target, clause_body, ensured, stop_of, Item, part, activation, iteration, ensuring, give, Config, Run, seen}
 use Rattle.def_eval.specs.Scopes.{shape_of, first_variables}
-use Rattle.def_eval.specs.Entering.{after_result, depth, do_all, do_from, forms_in, begin_body, first_of, count_failure, begin_bound, in_new_scope, open_body, open_bound, open_iteration, enter}
+use Rattle.def_eval.specs.Entering.{after_result, depth, do_all, do_from, forms_in, begin_body, first_of, count_failure, begin_bound, in_new_scope, open_body, open_iteration, enter}
 use Rattle.def_eval.specs.Transition.{go}
 use Rattle.def_machine.specs.State as machine
-use Rattle.def_machine.specs.State.{Registers, Level, frame, State, On, shown}
-use Rattle.def_machine.specs.Unwind.{receive, throw}
+use Rattle.def_machine.specs.State.{Registers, Level, frame, On, shown}
+use Rattle.def_machine.specs.Unwind.{receive}
 use Rattle.def_machine.specs.Entering.{answer_result, open_frame, enter as enter_machine}
 use Rattle.def_machine.specs.Turn.{turn}
-use Rattle.step_laws.specs.Site.{Site, place_in, Room}
+use Rattle.step_laws.specs.Site.{Site}
 use Rattle.step_laws.specs.Calm.{Quiet}
 use Rattle.step_laws.specs.Measure.{weights, measure}
 use Rattle.step_laws.proofs.Placed.{Rest, frame_at}
-use Rattle.step_laws.proofs.Relation.{Static, Behind, InFrame, WaitsIn, Waits, IsPassed, Leaving, Same, Common, Agree, Related, Step}
+use Rattle.step_laws.proofs.Relation.{Static, Behind, InFrame, WaitsIn, Waits, IsPassed, Leaving, Common, Related, Step}
 use Rattle.step_laws.proofs.Matching.{by_none, by_one, written, writes}
 
 -- both sides have the same number of activations under way
@@ -86,7 +82,7 @@ passed h l (clause_target j e t q) low n r end b = absurd b
 passed h l (clause_body q) low n r end b = absurd b
 passed h l (ensured j e) low n r end b = absurd b
 
-leaves_frame : (h : Site) (l : List Registers) (ks : List Item) (n r : ℕ) (x : Rest) (at : ℕ) (ls : List Level)
+pub leaves_frame : (h : Site) (l : List Registers) (ks : List Item) (n r : ℕ) (x : Rest) (at : ℕ) (ls : List Level)
     → ls ≡ frame (frame_at h x at) ∷ [] → InFrame h l ks n r → Leaving h l ks ls
 leaves_frame h l [] n r x at ls e a = absurd a
 leaves_frame h l (part p ∷ ks) n r x at ls e a =

@@ -1,5 +1,5 @@
 -- Calls of a value and of self, by the parts of their code.
-use Rattle.std.proofs.Common.{◌≡◌, ℕ, ◌+◌, ◌<◌, ◌≤◌, List, [], ◌∷◌, ◌++◌, refl, sym, ap, ◌∙◌, subst, arith, length, length-append, Bool, true, false, true≢false}
+use Rattle.std.proofs.Common.{◌≡◌, ℕ, ◌+◌, List, [], ◌∷◌, ◌++◌, refl, sym, ap, ◌∙◌, subst, arith, length, length-append, Bool, true, false, true≢false}
 use Rattle.std.specs.Prelude.{if◌then◌else◌, Option, Some, None, nat_lt}
 use Rattle.rb_value.specs.declared.value.Value.{Value}
 use Rattle.rb_value.specs.declared.exit.Slot.TheVariants.{V}
@@ -7,34 +7,31 @@ use Rattle.rite_code.specs.declared.operation.Operation.{Operation}
 use Rattle.rite_code.specs.declared.operation.Operation.TheVariants as op
 use Rattle.ir_counts.specs.Tables.{item_count}
 use Rattle.ir_walk.specs.Width.{has_splat}
-use Rattle.ir_core.specs.CoreForm.{Name, CoreForm, call, Maybe, absent, there, Items, no_items, plain, splat, Receiver, to, on_self, bare}
+use Rattle.ir_core.specs.CoreForm.{Name, CoreForm, call, Maybe, absent, there, Items, no_items, plain, splat, Receiver, to, on_self}
 use Rattle.gen_parts.specs.declared.line.Line.TheVariants as line
 use Rattle.gen_parts.specs.declared.emitter.Spot.{Spot}
 use Rattle.gen_parts.specs.Pieces.{Piece, past, does, nothing, ◌⊕◌}
 use Rattle.gen_forms.specs.declared.context.Loop.{Loop}
 use Rattle.gen_forms.specs.declared.calls.Passing.{Passing}
 use Rattle.gen_forms.specs.declared.calls.Passing.TheVariants as passed
-use Rattle.gen_forms.specs.Gen.{Code, Context, gen, gen_receiver, gen_maybe, gather, pass_in_registers, passing, passed_by, registers_of, called_by, operates as operation_of, operator, is_one_plain, send, symbol as entry_of}
+use Rattle.gen_forms.specs.Gen.{Code, gen, gen_receiver, gen_maybe, gather, pass_in_registers, passing, passed_by, registers_of, called_by, operates as operation_of, operator, is_one_plain, send, symbol as entry_of}
 use Rattle.def_calls.specs.Calls.{Sending, by_name}
-use Rattle.def_eval.specs.Source.{span}
 use Rattle.def_eval.specs.Configuration as source
-use Rattle.def_eval.specs.Configuration.{arguments_of, Part, receiver, items, Item, part, perform, give, Config, Run}
+use Rattle.def_eval.specs.Configuration.{arguments_of, receiver, items, Item, part, perform, give, Run}
 use Rattle.def_eval.specs.Entering.{symbol}
 use Rattle.def_eval.specs.Forms.{self_of, next_item, do_call, gather as gather_all, has_splat as has_splats, do_form}
 use Rattle.def_eval.specs.Giving.{give_part, do_give}
 use Rattle.def_eval.specs.Transition.{go}
 use Rattle.def_machine.specs.State as machine
 use Rattle.def_machine.specs.State.{Registers, Level, frame, slot_at}
-use Rattle.step_laws.specs.Site.{Site, within, place_in, LineAt, Room, IsThere, Named, number}
+use Rattle.step_laws.specs.Site.{Site, within, LineAt, IsThere, Named}
 use Rattle.step_laws.specs.Covered.{CoveredItems, IsNamed}
 use Rattle.step_laws.specs.Calm.{IsSteady, Quiet}
-use Rattle.step_laws.specs.Measure.{measure}
-use Rattle.step_laws.proofs.Placed.{high, high-both, high-puts, high-nothing, heights, line-past, Stands, moved, left, right, the_line, Rest, frame_at}
-use Rattle.step_laws.proofs.Relation.{Static, Holds, HoldsCall, CallBy, operates, sends, sends_self, InFrame, Same, Common, Doing, GivesIn, Related, Step}
+use Rattle.step_laws.proofs.Placed.{high, high-both, high-puts, high-nothing, line-past, Stands, moved, left, right, the_line, frame_at}
+use Rattle.step_laws.proofs.Relation.{Static, Holds, HoldsCall, CallBy, operates, sends, sends_self, Common, Doing, GivesIn, Step}
 use Rattle.step_laws.proofs.Matching.{by_none, going, state_at}
-use Rattle.step_laws.proofs.Calling.{From}
 use Rattle.step_laws.proofs.Literals.{aligned, self_is}
-use Rattle.step_laws.proofs.Sends.{CallSite, items_on}
+use Rattle.step_laws.proofs.Sends.{items_on}
 
 no_splat : (h : Site) (r : ℕ) (is : Items) → CoveredItems h r is → has_splats is ≡ false
 no_splat h r no_items c = refl

@@ -1,6 +1,6 @@
 -- The code of a program of simple forms within the limits is code of it.
-use Rattle.std.proofs.Common.{◌≡◌, ◌≤◌, ◌<◌, ℕ, zero, suc, ◌+◌, List, [], ◌∷◌, ◌++◌, length, map, get_or, arith, refl, sym, ap, ◌∙◌, subst, Bool, true, false}
-use Rattle.std.specs.Prelude.{is_some, position, bytes_eq, Option, Some, None}
+use Rattle.std.proofs.Common.{◌≡◌, ◌≤◌, ℕ, ◌+◌, List, [], ◌∷◌, ◌++◌, length, map, arith, refl, sym, ap, ◌∙◌, subst, Bool, true}
+use Rattle.std.specs.Prelude.{is_some, Option, Some, None}
 use Rattle.std.proofs.lemmas.List.{append-nil, length-map}
 use Rattle.rite_code.specs.Code.{program}
 use Rattle.rite_code.specs.declared.code.Irep.{Irep}
@@ -29,7 +29,7 @@ use Rattle.rb_store.specs.Opening.{with_names}
 use Rattle.def_calls.specs.Rows
 use Rattle.def_eval.specs.Source.{Source, body_at as source_body, source_of, all_names}
 use Rattle.def_machine.specs.State.{all_symbols}
-use Rattle.step_laws.specs.Site.{Site, LineAt, Lines, IsThere, opening_store}
+use Rattle.step_laws.specs.Site.{Site, LineAt, Lines, IsThere}
 use Rattle.step_laws.specs.Simple.{IsSimple}
 use Rattle.step_laws.specs.Implements.{main_site, IsCodeOf, Implements}
 use Rattle.step_laws.proofs.Placed.{high, Stands, left, right, the_line}
@@ -37,7 +37,7 @@ use Rattle.step_laws.proofs.Apart.{apart}
 use Rattle.step_laws.proofs.Simply.{simply}
 use Rattle.step_laws.proofs.Found.{both_true}
 use Rattle.step_laws.proofs.Symbols.{IsCoreName, core_has, opening_has}
-use Rattle.step_laws.proofs.Naming.{AllCore, nothing_new, source_core, symbols_core, none_many}
+use Rattle.step_laws.proofs.Naming.{nothing_new, source_core, symbols_core, none_many}
 use Rattle.step_laws.proofs.Catchless.{IsBare, bare}
 use Rattle.step_laws.proofs.Laid.{first_place}
 use Rattle.step_laws.proofs.Fitting as fitting

@@ -1,8 +1,7 @@
 -- Simple forms of a body within the limits are covered: their registers, locals and tables are there.
-use Rattle.std.proofs.Common.{◌≡◌, ◌≤◌, ◌<◌, ℕ, zero, suc, ◌+◌, ℤ, pos, negsuc, max, List, [], ◌∷◌, ◌++◌, length, map, get_or, arith, refl, sym, ap, ◌∙◌, subst, Bool, true, false, true≢false}
-use Rattle.std.specs.Prelude.{◌&&◌, nat_lt, bytes_eq, codes, position, slice_get, if◌then◌else◌, Option, Some, None}
+use Rattle.std.proofs.Common.{◌≡◌, ◌≤◌, ◌<◌, ℕ, ◌+◌, ℤ, pos, negsuc, List, [], ◌∷◌, ◌++◌, length, map, get_or, arith, refl, sym, ap, ◌∙◌, subst, Bool, true, false}
+use Rattle.std.specs.Prelude.{◌&&◌, bytes_eq, position, slice_get, if◌then◌else◌, Option, Some, None}
 use Rattle.std.specs.Ordering.{int_eq}
-use Rattle.std.proofs.lemmas.List.{length-map}
 use Rattle.rite_code.specs.declared.code.PoolItem.{PoolItem}
 use Rattle.rite_code.specs.declared.code.PoolItem.TheVariants as pool
 use Rattle.rite_code.specs.declared.operation.Operation.{Operation}
@@ -11,13 +10,13 @@ use Rattle.integer_set.specs.Sets as integers
 use Rattle.ir_core.specs.CoreForm as form
 use Rattle.ir_core.specs.CoreForm.{Name, Local, CoreForm, Forms, Items, Branches}
 use Rattle.ir_core.specs.Program.{Around, within_loop, is_known, is_form, are_forms, are_items, are_branches}
-use Rattle.ir_walk.specs.Width.{greatest, in_order, in_turn, of_call, has_splat, width, widths, item_widths, branch_widths}
+use Rattle.ir_walk.specs.Width.{greatest, in_order, of_call, has_splat, width, widths, item_widths, branch_widths}
 use Rattle.ir_counts.specs.declared.tally.Tally.{Tally}
-use Rattle.ir_counts.specs.Tables.{is_wide, item_count}
+use Rattle.ir_counts.specs.Tables.{is_wide}
 use Rattle.scope_resolver.specs.declared.place.Place.{Place}
-use Rattle.scope_resolver.specs.Layout.{Slots, Scopes, place_of}
-use Rattle.gen_forms.specs.Gen.{Context, place_or, is_within, integer_entry, symbol, operates}
-use Rattle.code_laws.proofs.Shares.{Listed, Numbered, Adds, Noted, Noted_all, Noted_items, Noted_branches}
+use Rattle.scope_resolver.specs.Layout.{Scopes, place_of}
+use Rattle.gen_forms.specs.Gen.{place_or, is_within, integer_entry, symbol, operates}
+use Rattle.code_laws.proofs.Shares.{Numbered, Noted, Noted_all, Noted_items, Noted_branches}
 use Rattle.code_laws.proofs.Widths.{Under, InOrder, under_left, under_right, under_greatest, order_within, order_room, turn_within}
 use Rattle.def_machine.specs.State.{body_at}
 use Rattle.step_laws.specs.Site.{Site, Room, register, Known, IsThere, Named}

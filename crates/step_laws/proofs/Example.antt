@@ -1,7 +1,5 @@
 -- The program that counts down, and its two runs.
 use Rattle.std.proofs.Common.{refl}
-use Rattle.rite_code.specs.Spelling.{encoding, decode_wide_at, front, wide_front, narrow_front}
-use Rattle.rite_code.specs.Table.{opcodes, opcode_of}
 use Rattle.gen_parts.specs.Pieces.{past, behind, nothing, both, puts}
 use Rattle.gen_parts.specs.Assembly.{assembled, instruction_before}
 use Rattle.gen_forms.specs.Open.{coded}

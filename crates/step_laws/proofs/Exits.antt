@@ -1,5 +1,5 @@
 -- The end of the main program, and exceptions that leave items.
-use Rattle.std.proofs.Common.{◌≡◌, ◌⊎◌, ℕ, zero, suc, ◌+◌, ◌<◌, ◌≤◌, List, [], ◌∷◌, refl, sym, ap, ◌∙◌, subst, arith, length, Bool, true, false, reverse}
+use Rattle.std.proofs.Common.{◌≡◌, ℕ, ◌<◌, ◌≤◌, List, [], ◌∷◌, refl, sym, ap, ◌∙◌, subst, arith, length, Bool, true, false, reverse}
 use Rattle.std.specs.List.{filter}
 use Rattle.std.specs.Prelude.{if◌then◌else◌, Option, Some, None}
 use Rattle.rb_value.specs.declared.value.Value.{Value}
@@ -7,25 +7,25 @@ use Rattle.rb_value.specs.declared.value.ObjId.{ObjId}
 use Rattle.rb_value.specs.declared.exit.Exit.TheVariants.{Raise}
 use Rattle.rite_code.specs.declared.code.CatchEntry.{CatchEntry}
 use Rattle.rite_code.specs.declared.operation.Operation.TheVariants as op
-use Rattle.def_calls.specs.Seen.{Going, Ended, Uncaught}
-use Rattle.def_calls.specs.World.{World, Activation, activation_at, Runs, main_program}
+use Rattle.def_calls.specs.Seen.{Ended, Uncaught}
+use Rattle.def_calls.specs.World.{World, Activation, activation_at}
 use Rattle.def_calls.specs.Calls.{close, close_run, unrescued, Unrescued}
 use Rattle.def_calls.specs.Plans.{Iteration, caught}
-use Rattle.def_calls.specs.Fibers.{Fibers, Fiber, Name as FiberName, Onward, back_to, finish}
+use Rattle.def_calls.specs.Fibers.{Fibers, Onward, back_to, finish}
 use Rattle.def_eval.specs.Configuration as source
-use Rattle.def_eval.specs.Configuration.{Place, Exit, raise, Part, Stop, passes, loops, rescues, assigns, retries, ensures, stop_of, Item, part, activation, iteration, ensuring, Kept, give, travel, Config, Run, Halt, seen}
+use Rattle.def_eval.specs.Configuration.{Place, Exit, raise, Part, Stop, passes, loops, rescues, assigns, retries, ensures, stop_of, Item, part, activation, iteration, Kept, give, travel, Config, Run, Halt}
 use Rattle.def_eval.specs.Giving.{returned, end_fiber, do_give}
 use Rattle.def_eval.specs.Exits.{travel_part, travel_caught, end_by, leave_fiber, do_travel}
 use Rattle.def_eval.specs.Transition.{go}
 use Rattle.def_machine.specs.State as machine
-use Rattle.def_machine.specs.State.{Registers, Level, frame, State, On, Off, body_at, shown}
-use Rattle.def_machine.specs.Unwind.{covers, covering, handler, at_frame, Landing, lands, unwind, closed, receive, end_program, fallen, land, throw_within, throw, end_by as end_by_machine}
+use Rattle.def_machine.specs.State.{Level, frame, State, On, Off}
+use Rattle.def_machine.specs.Unwind.{covers, covering, handler, at_frame, unwind, closed, receive, end_program, fallen, land, throw_within, throw, end_by as end_by_machine}
 use Rattle.def_machine.specs.Turn.{turn}
-use Rattle.step_laws.specs.Site.{Site, place_in, at_line}
+use Rattle.step_laws.specs.Site.{Site, at_line}
 use Rattle.step_laws.specs.Calm.{IsSteady, Quiet}
-use Rattle.step_laws.specs.Measure.{weight, weights, measure}
+use Rattle.step_laws.specs.Measure.{weight, measure}
 use Rattle.step_laws.proofs.Placed.{Rest, frame_at, turned}
-use Rattle.step_laws.proofs.Relation.{Static, IsPassed, Waits, Leaving, Same, Common, GivesIn, Giving, Throwing, Related, Step}
+use Rattle.step_laws.proofs.Relation.{Static, IsPassed, Waits, Common, GivesIn, Giving, Throwing, Related, Step}
 use Rattle.step_laws.proofs.Matching.{by_none, by_one, going, going_out, state_at}
 use Rattle.step_laws.proofs.Calling.{leaves, received}
 use Rattle.step_laws.proofs.Literals.{aligned}

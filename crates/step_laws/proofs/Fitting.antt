@@ -1,31 +1,26 @@
 -- The lines of the code of a main program stand where they are placed.
-use Rattle.std.proofs.Common.{◌≡◌, ◌≤◌, ◌<◌, ℕ, zero, suc, ◌+◌, ◌-◌, List, [], ◌∷◌, ◌++◌, length, get_or, arith, refl, sym, ap, ◌∙◌, subst, length-append, Bool, true, false, nat_lt}
-use Rattle.std.specs.Prelude.{◌||◌, Option, Some, None}
+use Rattle.std.proofs.Common.{◌≡◌, ◌≤◌, ℕ, ◌+◌, ◌-◌, List, [], ◌∷◌, ◌++◌, length, arith, refl, sym, ap, ◌∙◌, subst, length-append, Bool, true, false, nat_lt}
+use Rattle.std.specs.Prelude.{◌||◌}
 use Rattle.std.proofs.lemmas.Bool.{ltb-false}
-use Rattle.rite_code.specs.Code.{Program, program}
+use Rattle.rite_code.specs.Code.{program}
 use Rattle.rite_code.specs.Spelling.{encodings}
 use Rattle.rite_code.specs.declared.operation.Operation.TheVariants as op
 use Rattle.ir_core.specs.CoreForm as form
 use Rattle.ir_core.specs.CoreForm.{Local, Parameters, CoreForm, Body}
 use Rattle.ir_core.specs.Program.{Around, is_form}
-use Rattle.ir_walk.specs.Width.{width}
 use Rattle.ir_walk.specs.Walk.{walked}
 use Rattle.ir_walk.specs.declared.extent.Extent.TheVariants as extent
-use Rattle.ir_counts.specs.declared.tally.Tally.{Tally}
 use Rattle.ir_counts.specs.Counts.{tally, code_of}
 use Rattle.ir_counts.specs.Tally.{no_form}
-use Rattle.scope_resolver.specs.Layout.{Slots}
 use Rattle.scope_resolver.specs.declared.body_kind.BodyKind.TheVariants as kind
 use Rattle.gen_parts.specs.declared.line.Line.{Line}
 use Rattle.gen_parts.specs.declared.line.Line.TheVariants as line
-use Rattle.gen_parts.specs.declared.emitter.Spot.{Spot}
-use Rattle.gen_parts.specs.Pieces.{Piece, both, puts, does, ◌⊕◌}
-use Rattle.gen_parts.specs.Assembly.{size, places, place_of, instructions, assembled}
+use Rattle.gen_parts.specs.Pieces.{Piece, both, puts}
+use Rattle.gen_parts.specs.Assembly.{places, place_of, instructions, assembled}
 use Rattle.gen_forms.specs.Gen.{Context, gen, first_spot, opening, layout}
 use Rattle.gen_forms.specs.Open.{coded}
 use Rattle.gen_forms.specs.Making.{coded_program}
-use Rattle.code_laws.proofs.Serves.{Room, context}
-use Rattle.code_laws.proofs.Wells.{FineLine, FineLines, weights, use_of, IsMade, Well}
+use Rattle.code_laws.proofs.Wells.{FineLines, weights}
 use Rattle.code_laws.proofs.Shares.{Fits, cost, many}
 use Rattle.code_laws.proofs.Sums.{tallied_bytes, cost_is}
 use Rattle.code_laws.proofs.Lines.{Own, tall, lines_append, weights_append}
@@ -37,7 +32,6 @@ use Rattle.code_laws.proofs.Forms.{gen_well}
 use Rattle.code_laws.proofs.Assembled.{AllFit, sizes, sizes_weights, place_most}
 use Rattle.code_laws.proofs.Encoding.{AllFew, all_few, lines_fit}
 use Rattle.def_eval.specs.Source.{Source}
-use Rattle.def_machine.specs.State.{body_at}
 use Rattle.step_laws.specs.Site as laws
 use Rattle.step_laws.specs.Site.{at_line, Lines}
 use Rattle.step_laws.specs.Implements.{main_site}

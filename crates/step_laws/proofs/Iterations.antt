@@ -1,27 +1,25 @@
 -- Iterations: one plan is one transition and one turn.
-use Rattle.std.proofs.Common.{◌≡◌, ℕ, ◌+◌, ◌<◌, List, [], ◌∷◌, refl, sym, ap, ◌∙◌, subst, arith, length}
-use Rattle.std.specs.Prelude.{Option, None}
+use Rattle.std.proofs.Common.{◌≡◌, ℕ, ◌<◌, List, [], ◌∷◌, refl, sym, subst, arith}
 use Rattle.rb_value.specs.declared.value.Value.{Value}
 use Rattle.rb_value.specs.declared.value.Value.TheVariants.{Nil}
-use Rattle.rb_value.specs.declared.exit.Exit.TheVariants.{Raise}
 use Rattle.def_core.specs.Store.{Store}
-use Rattle.def_calls.specs.World.{World, Answer, fail, with_store, write}
-use Rattle.def_calls.specs.Calls.{Entry, close, send_by_core, enter_proc, read}
+use Rattle.def_calls.specs.World.{World, fail, with_store, write}
+use Rattle.def_calls.specs.Calls.{close, send_by_core, enter_proc, read}
 use Rattle.def_calls.specs.Plans.{Iteration, Plan, finishes, fails, raises, sends, calls, writes, reads, resumes, yields}
 use Rattle.def_calls.specs.Plans as plans
 use Rattle.def_eval.specs.Configuration as source
-use Rattle.def_eval.specs.Configuration.{Place, raise, Item, iteration, give, travel, Config, Run}
-use Rattle.def_eval.specs.Giving.{returned, carry_out, do_give}
+use Rattle.def_eval.specs.Configuration.{Place, Item, iteration, give, Config, Run}
+use Rattle.def_eval.specs.Giving.{carry_out, do_give}
 use Rattle.def_eval.specs.Transition.{go}
 use Rattle.def_machine.specs.State as machine
-use Rattle.def_machine.specs.State.{Registers, Level, State, On, shown}
-use Rattle.def_machine.specs.Unwind.{receive, throw, closed}
+use Rattle.def_machine.specs.State.{Level, On}
+use Rattle.def_machine.specs.Unwind.{receive}
 use Rattle.def_machine.specs.Entering.{carry_out as carry_out_machine, iterate}
 use Rattle.def_machine.specs.Turn.{turn}
 use Rattle.step_laws.specs.Site.{Site}
 use Rattle.step_laws.specs.Calm.{IsOwn, Quiet}
-use Rattle.step_laws.specs.Measure.{weights, measure}
-use Rattle.step_laws.proofs.Relation.{Static, Waits, Same, Common, Giving, Related, Step}
+use Rattle.step_laws.specs.Measure.{measure}
+use Rattle.step_laws.proofs.Relation.{Static, Waits, Common, Related, Step}
 use Rattle.step_laws.proofs.Matching.{by_none, by_one, going}
 use Rattle.step_laws.proofs.Calling.{From, leaves, received, answered, entered}
 use Rattle.step_laws.proofs.Literals.{aligned}

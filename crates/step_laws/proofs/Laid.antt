@@ -1,14 +1,13 @@
 -- Lines of assembled code stand where they are placed.
-use Rattle.std.proofs.Common.{◌≡◌, ◌≤◌, ◌<◌, ℕ, zero, suc, ◌+◌, List, [], ◌∷◌, ◌++◌, length, get_or, arith, refl, sym, ap, ◌∙◌, subst, length-append, append_assoc, Bool, true}
-use Rattle.std.specs.Prelude.{Option, Some}
-use Rattle.rite_code.specs.Code.{Program}
+use Rattle.std.proofs.Common.{◌≡◌, ◌≤◌, ℕ, suc, ◌+◌, List, [], ◌∷◌, ◌++◌, length, get_or, arith, refl, sym, ap, ◌∙◌, length-append, append_assoc, Bool, true}
+use Rattle.std.specs.Prelude.{Some}
 use Rattle.rite_code.specs.Instruction.{Instruction}
 use Rattle.rite_code.specs.Shape.{fits}
 use Rattle.rite_code.specs.Spelling.{encoding, encodings, decode, decode_wide_at}
 use Rattle.rite_code.proofs.RoundTrip.{decode_encoded}
 use Rattle.gen_parts.specs.declared.line.Line.{Line}
 use Rattle.gen_parts.specs.Assembly.{size_of, size, places, instruction_before, instructions}
-use Rattle.code_laws.proofs.Assembled.{AllFit, total, length_encodings, same_size}
+use Rattle.code_laws.proofs.Assembled.{AllFit, length_encodings, same_size}
 use Rattle.def_machine.specs.State.{body_at}
 use Rattle.def_machine.specs.Turn.{fetch}
 use Rattle.step_laws.specs.Site.{Site, at_line, LineAt, Lines}

@@ -4,6 +4,7 @@ pub mod Registers
 pub mod Matching
 pub mod Calling
 pub mod Literals
+pub mod Answers
 pub mod Locals
 pub mod Sequences
 pub mod Branches

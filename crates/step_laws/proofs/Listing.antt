@@ -1,23 +1,20 @@
 -- What the tables of a body have: the entry of a name, of an integer, and the register of a local.
-use Rattle.std.proofs.Common.{◌≡◌, ◌≤◌, ◌<◌, ℕ, zero, suc, ◌+◌, ℤ, pos, negsuc, List, [], ◌∷◌, ◌++◌, length, map, get_or, arith, refl, sym, ap, ◌∙◌, subst, Bool, true, false, true≢false}
-use Rattle.std.specs.Prelude.{◌||◌, not, nat_lt, bytes_eq, position, slice_get, if◌then◌else◌, Option, Some, None}
+use Rattle.std.proofs.Common.{◌≡◌, ◌≤◌, ◌<◌, ℕ, suc, ◌+◌, ℤ, pos, negsuc, List, [], ◌∷◌, ◌++◌, length, map, get_or, arith, refl, sym, ap, ◌∙◌, subst, Bool, true, false, true≢false}
+use Rattle.std.specs.Prelude.{◌||◌, not, bytes_eq, position, slice_get, if◌then◌else◌, Some, None}
 use Rattle.std.specs.List.{position_or_len, list_any}
 use Rattle.std.specs.Ordering.{int_eq}
 use Rattle.std.proofs.lemmas.Bool.{lt-ltb}
 use Rattle.std.proofs.lemmas.Bool.Decides.{nat_tests, Decides-int_eq}
-use Rattle.std.proofs.lemmas.List.{length-map}
 use Rattle.std.proofs.lemmas.Slice.Eq.{bytes_eq-Decides}
-use Rattle.rite_code.specs.declared.code.PoolItem.{PoolItem}
 use Rattle.rite_code.specs.declared.code.PoolItem.TheVariants as pool
 use Rattle.text_set.specs.Sets.{is_among}
 use Rattle.integer_set.specs.Sets as integers
-use Rattle.ir_core.specs.CoreForm.{Name, Local, named, hidden, pattern, rest}
+use Rattle.ir_core.specs.CoreForm.{Name, Local, named}
 use Rattle.ir_core.specs.Program.{are_same, is_bound}
 use Rattle.ir_counts.specs.Tables.{is_wide}
-use Rattle.scope_resolver.specs.declared.place.Place.{Place}
 use Rattle.scope_resolver.specs.declared.seek.Search.{Search}
 use Rattle.scope_resolver.specs.declared.seek.Search.TheVariants.{Found, Past}
-use Rattle.scope_resolver.specs.Layout.{Slots, at_slot, seek, place_at, place_or_self}
+use Rattle.scope_resolver.specs.Layout.{seek, place_at, place_or_self}
 use Rattle.gen_forms.specs.Gen.{place_or, is_within}
 use Rattle.step_laws.proofs.Apart.{stays_found}
 

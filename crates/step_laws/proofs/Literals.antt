@@ -1,8 +1,8 @@
 -- Literals and self: a turn loads the value.
-use Rattle.std.proofs.Common.{◌≡◌, ℕ, ◌+◌, ℤ, pos, negsuc, List, [], ◌∷◌, refl, sym, ap, ◌∙◌, subst, arith, Bool, true, false}
+use Rattle.std.proofs.Common.{◌≡◌, ℕ, ◌+◌, ℤ, pos, negsuc, List, [], ◌∷◌, refl, sym, ap, ◌∙◌, subst, Bool, true, false}
 use Rattle.std.specs.Prelude.{if◌then◌else◌, Option, Some, slice_get}
 use Rattle.rb_value.specs.declared.value.Value.{Value}
-use Rattle.rb_value.specs.declared.value.Value.TheVariants.{Nil, True, False, Int, Obj}
+use Rattle.rb_value.specs.declared.value.Value.TheVariants.{Nil, True, False, Int}
 use Rattle.rite_code.specs.declared.code.PoolItem.{PoolItem}
 use Rattle.rite_code.specs.declared.code.PoolItem.TheVariants as pool
 use Rattle.rite_code.specs.declared.operation.Operation.{Operation}
@@ -12,18 +12,17 @@ use Rattle.gen_parts.specs.declared.line.Line.TheVariants as line
 use Rattle.gen_parts.specs.Pieces.{does}
 use Rattle.gen_forms.specs.declared.context.Loop.{Loop}
 use Rattle.gen_forms.specs.Gen.{is_within, load_integer as load, integer_entry}
-use Rattle.def_calls.specs.Seen.{Going}
 use Rattle.def_calls.specs.World.{Activation, activation_at}
 use Rattle.def_eval.specs.Configuration as source
 use Rattle.def_eval.specs.Configuration.{Place, Item, perform, give, Config, Run, seen}
 use Rattle.def_eval.specs.Forms.{do_form, self_of}
 use Rattle.def_eval.specs.Transition.{go}
 use Rattle.def_machine.specs.State as machine
-use Rattle.def_machine.specs.State.{Registers, Frame, Level, frame, State, On, body_at, value_at, put, shown}
+use Rattle.def_machine.specs.State.{Registers, Frame, Level, frame, On, body_at, value_at, shown}
 use Rattle.def_machine.specs.Turn.{act, load_integer}
 use Rattle.step_laws.specs.Site.{Site, within, place_in, at_line, LineAt, Room}
 use Rattle.step_laws.specs.Calm.{IsSteady}
-use Rattle.step_laws.proofs.Placed.{high, high-puts, Stands, the_line, Rest, frame_at, turned}
+use Rattle.step_laws.proofs.Placed.{high, high-puts, the_line, Rest, frame_at, turned}
 use Rattle.step_laws.proofs.Relation.{Static, InFrame, Same, Common, Doing, Related, Step}
 use Rattle.step_laws.proofs.Matching.{by_one, going, state_at, written, writes}
 

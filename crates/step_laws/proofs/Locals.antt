@@ -1,28 +1,28 @@
 -- Local variables.
-use Rattle.std.proofs.Common.{◌≡◌, ◌≢◌, ℕ, ◌+◌, ◌-◌, ◌<◌, List, [], ◌∷◌, ◌++◌, refl, sym, ap, ◌∙◌, subst, arith}
+use Rattle.std.proofs.Common.{◌≡◌, ◌≢◌, ℕ, ◌+◌, ◌-◌, List, [], ◌∷◌, ◌++◌, refl, sym, ap, ◌∙◌, subst, arith}
 use Rattle.std.specs.Prelude.{nat_eq, if◌then◌else◌}
 use Rattle.rb_value.specs.declared.value.Value.{Value}
 use Rattle.rb_value.specs.declared.exit.Slot.TheVariants.{V}
 use Rattle.rb_value.specs.Slot.{read as read_slot}
 use Rattle.rite_code.specs.declared.operation.Operation.{Operation}
 use Rattle.rite_code.specs.declared.operation.Operation.TheVariants as op
-use Rattle.ir_core.specs.CoreForm.{Name, Local, named, hidden, pattern, rest, CoreForm, local, set_local, Forms, none}
+use Rattle.ir_core.specs.CoreForm.{Name, Local, named, hidden, pattern, rest, CoreForm, local, set_local, Forms}
 use Rattle.scope_resolver.specs.Layout.{place_of}
 use Rattle.gen_parts.specs.declared.line.Line.TheVariants as line
 use Rattle.gen_parts.specs.Pieces.{does, ◌⊕◌}
 use Rattle.gen_forms.specs.Gen.{gen, read, write}
 use Rattle.def_eval.specs.Configuration as source
-use Rattle.def_eval.specs.Configuration.{Place, Action, assign, operands, Item, part, perform, give, Config, Run}
+use Rattle.def_eval.specs.Configuration.{Action, assign, operands, Item, part, perform, give, Config, Run}
 use Rattle.def_eval.specs.Scopes.{variable, with_variable}
 use Rattle.def_eval.specs.Forms.{finish, next_operand, do_form}
 use Rattle.def_eval.specs.Giving.{give_part, do_give}
 use Rattle.def_eval.specs.Transition.{go}
 use Rattle.def_machine.specs.State as machine
-use Rattle.def_machine.specs.State.{Registers, Level, frame, body_at, slot_at, value_at, put}
+use Rattle.def_machine.specs.State.{Level, frame, slot_at, value_at}
 use Rattle.def_machine.specs.Turn.{act}
-use Rattle.step_laws.specs.Site.{Site, within, place_in, at_line, LineAt, register, Known}
-use Rattle.step_laws.proofs.Placed.{high, high-puts, heights, Stands, left, right, the_line, Rest, frame_at, turned}
-use Rattle.step_laws.proofs.Relation.{Static, InFrame, Same, Common, Doing, GivesIn, Related, Step}
+use Rattle.step_laws.specs.Site.{Site, within, at_line, LineAt, register, Known}
+use Rattle.step_laws.proofs.Placed.{high, high-puts, heights, left, right, the_line, frame_at, turned}
+use Rattle.step_laws.proofs.Relation.{Static, InFrame, Common, Doing, GivesIn, Related, Step}
 use Rattle.step_laws.proofs.Registers.{slot_other, keeps_local, frame_kept, named_is, same_local_put}
 use Rattle.step_laws.proofs.Matching.{by_none, by_one, going, state_at, written, stays}
 use Rattle.step_laws.proofs.Literals.{aligned, written_by}

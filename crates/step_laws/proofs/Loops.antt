@@ -1,5 +1,5 @@
 -- Loops.
-use Rattle.std.proofs.Common.{◌≡◌, ◌⊎◌, ℕ, ◌+◌, ◌<◌, List, [], ◌∷◌, refl, sym, ap, ◌∙◌, subst, inl, inr, arith, Bool, true, false}
+use Rattle.std.proofs.Common.{◌≡◌, ◌⊎◌, ℕ, ◌+◌, List, [], ◌∷◌, refl, sym, ap, ◌∙◌, subst, inl, inr, arith, Bool, true, false}
 use Rattle.std.specs.Prelude.{if◌then◌else◌, Option, Some}
 use Rattle.rb_value.specs.declared.value.Value.{Value}
 use Rattle.rb_value.specs.declared.value.Value.TheVariants.{Nil}
@@ -12,18 +12,18 @@ use Rattle.gen_parts.specs.declared.emitter.Spot.{Spot}
 use Rattle.gen_parts.specs.declared.emitter.Held.TheVariants as held
 use Rattle.gen_parts.specs.Pieces.{past, behind, puts, does, ◌⊕◌, jump, jump_if}
 use Rattle.gen_forms.specs.declared.context.Loop.{Loop}
-use Rattle.gen_forms.specs.Gen.{gen, loop as loop_code, over}
+use Rattle.gen_forms.specs.Gen.{gen, loop as loop_code}
 use Rattle.def_eval.specs.Source.{span}
 use Rattle.def_eval.specs.Configuration as source
-use Rattle.def_eval.specs.Configuration.{loop_test, loop_body, Item, part, perform, give, Config, Run}
+use Rattle.def_eval.specs.Configuration.{loop_test, loop_body, Item, part, perform, give, Run}
 use Rattle.def_eval.specs.Forms.{do_form}
 use Rattle.def_eval.specs.Giving.{turn_loop, give_part, do_give}
 use Rattle.def_machine.specs.State as machine
-use Rattle.def_machine.specs.State.{Level, frame, State, slot_at}
+use Rattle.def_machine.specs.State.{Level, frame, slot_at}
 use Rattle.def_machine.specs.Turn.{turn}
-use Rattle.step_laws.specs.Site.{Site, within, place_in, at_line, LineAt, Room}
+use Rattle.step_laws.specs.Site.{Site, within, place_in, LineAt, Room}
 use Rattle.step_laws.specs.Covered.{Covered}
-use Rattle.step_laws.proofs.Placed.{high, high-both, high-puts, heights, line-past, line-behind, Stands, moved, left, right, the_line, Rest, frame_at, turned, jumped}
+use Rattle.step_laws.proofs.Placed.{high, high-both, high-puts, line-past, line-behind, Stands, moved, left, right, the_line, Rest, frame_at, turned, jumped}
 use Rattle.step_laws.proofs.Relation.{Static, LoopAt, InFrame, Common, Doing, GivesIn, Related, Step}
 use Rattle.step_laws.proofs.Matching.{by_none, by_one, by_two, going, state_at, written, writes}
 use Rattle.step_laws.proofs.Literals.{aligned}

@@ -1,21 +1,20 @@
 -- How a transition is matched by no turn, one turn and two, and how a value is given.
-use Rattle.std.proofs.Common.{◌≡◌, ◌⊎◌, ℕ, zero, suc, ◌+◌, ◌<◌, ◌≤◌, List, [], ◌∷◌, refl, sym, ap, ◌∙◌, subst, inl, arith, length}
-use Rattle.std.specs.Prelude.{Option, None}
+use Rattle.std.proofs.Common.{◌≡◌, ◌⊎◌, ℕ, zero, suc, ◌<◌, List, [], ◌∷◌, refl, sym, ap, ◌∙◌, subst, inl, arith}
 use Rattle.rb_value.specs.declared.value.Value.{Value}
 use Rattle.rb_value.specs.declared.exit.Slot.TheVariants.{V}
 use Rattle.path_eval.specs.Steps.{times}
-use Rattle.def_calls.specs.Seen.{Seen, Going}
+use Rattle.def_calls.specs.Seen.{Going}
 use Rattle.def_calls.specs.World.{World}
 use Rattle.def_eval.specs.Configuration as source
-use Rattle.def_eval.specs.Configuration.{Place, Item, part, activation, iteration, ensuring, Focus, give, Config, Run, Halt, seen}
+use Rattle.def_eval.specs.Configuration.{Item, part, activation, iteration, ensuring, Focus, give, Config, Run, seen}
 use Rattle.def_eval.specs.Transition.{go}
 use Rattle.def_machine.specs.State as machine
-use Rattle.def_machine.specs.State.{Registers, Level, frame, State, On, body_at, list_at, slot_at, put, shown}
+use Rattle.def_machine.specs.State.{Level, frame, State, On, slot_at, put, shown}
 use Rattle.def_machine.specs.Turn.{turn}
 use Rattle.step_laws.specs.Site.{Site, place_in, Room}
 use Rattle.step_laws.specs.Measure.{measure}
 use Rattle.step_laws.proofs.Placed.{Rest, frame_at}
-use Rattle.step_laws.proofs.Relation.{Static, InFrame, Same, Common, GivesIn, Giving, Agree, Related, Step}
+use Rattle.step_laws.proofs.Relation.{Static, InFrame, Common, GivesIn, Giving, Related, Step}
 use Rattle.step_laws.proofs.Registers.{slot_same, keeps_above, frame_kept, same_above}
 
 pub by_none : (h : Site) (c : Config) (s : State) → measure (go h.source c) < measure c

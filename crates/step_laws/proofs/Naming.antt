@@ -1,6 +1,6 @@
 -- The names of simple forms are those of core methods, so both sides begin with the symbols of the opening store.
-use Rattle.std.proofs.Common.{◌≡◌, ℕ, zero, suc, ◌+◌, arith, List, [], ◌∷◌, ◌++◌, refl, sym, ap, ◌∙◌, subst, Bool, true, false, true≢false}
-use Rattle.std.specs.Prelude.{◌&&◌, is_some, bytes_eq, codes, position, if◌then◌else◌, unwrap_or, Option, Some, None}
+use Rattle.std.proofs.Common.{◌≡◌, ℕ, ◌+◌, arith, List, [], ◌∷◌, ◌++◌, refl, sym, ap, ◌∙◌, subst, Bool, true, false, true≢false}
+use Rattle.std.specs.Prelude.{is_some, bytes_eq, codes, position, if◌then◌else◌, unwrap_or, Option, Some, None}
 use Rattle.def_core.specs.Store.{Store}
 use Rattle.def_core.specs.Changes.{intern, intern_at}
 use Rattle.rb_store.specs.Opening.{with_names}

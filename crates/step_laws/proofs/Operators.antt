@@ -1,11 +1,10 @@
 -- The instructions of calls: operators are calls by their names.
-use Rattle.std.proofs.Common.{◌≡◌, ℕ, zero, suc, ◌+◌, List, [], ◌∷◌, refl, sym, ap, ◌∙◌, subst, arith, length, Bool, true, false}
-use Rattle.std.specs.Prelude.{if◌then◌else◌, Option, Some, None, unwrap_or, bytes_eq, codes, nat_eq, nat_lt, get_or}
+use Rattle.std.proofs.Common.{◌≡◌, ℕ, ◌+◌, List, [], ◌∷◌, refl, sym, ap, ◌∙◌, arith, length, Bool, true, false}
+use Rattle.std.specs.Prelude.{if◌then◌else◌, Option, Some, None, unwrap_or, bytes_eq, codes, nat_eq, nat_lt}
 use Rattle.std.proofs.lemmas.Slice.Eq.{bytes_eq-Decides}
 use Rattle.std.proofs.lemmas.Bool.Decides.{nat_tests}
 use Rattle.rb_value.specs.declared.value.Value.{Value}
 use Rattle.rb_value.specs.declared.value.SymId.{SymId}
-use Rattle.rb_value.specs.declared.exit.Slot.TheVariants.{V}
 use Rattle.rb_value.specs.Slot.{read}
 use Rattle.def_core.specs.Changes.{intern}
 use Rattle.rite_code.specs.Code.{Program}
@@ -14,10 +13,10 @@ use Rattle.rite_code.specs.declared.operation.Operation.TheVariants as op
 use Rattle.ir_core.specs.CoreForm.{Name}
 use Rattle.gen_forms.specs.Gen.{comparison, operator, symbol as entry_of}
 use Rattle.def_calls.specs.Values.{elements_or_itself}
-use Rattle.def_calls.specs.Calls.{Sending, by_name, by_bare_name}
-use Rattle.def_machine.specs.State.{Registers, Frame, Level, Memory, State, body_at, slot_at, value_at}
-use Rattle.def_machine.specs.Turn.{act, operate, call, reg, row, arguments, self_name, self_count, self_first, symbol}
-use Rattle.step_laws.specs.Site.{Site, IsThere, Named, number}
+use Rattle.def_calls.specs.Calls.{by_name, by_bare_name}
+use Rattle.def_machine.specs.State.{Frame, Level, Memory}
+use Rattle.def_machine.specs.Turn.{act, operate, call, reg, row, arguments, self_first, symbol}
+use Rattle.step_laws.specs.Site.{Site, Named, number}
 use Rattle.step_laws.specs.Calm.{IsSteady}
 use Rattle.step_laws.proofs.Placed.{Rest, frame_at}
 use Rattle.step_laws.proofs.Relation.{Holds, CallBy, operates, sends, sends_self}

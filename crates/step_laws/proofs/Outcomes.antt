@@ -1,6 +1,6 @@
 -- What the operators, `puts` and `to_s` come to on nil, true, false and integers: a value or an exception. The objects
 -- that were there stay, no symbol is new, and nothing is written.
-use Rattle.std.proofs.Common.{◌≡◌, ℕ, ◌+◌, ◌≤◌, ◌<◌, ℤ, List, [], ◌∷◌, ◌++◌, refl, sym, ap, ◌∙◌, subst, arith, length, get_or, Bool, true, false, true≢false, append_assoc}
+use Rattle.std.proofs.Common.{◌≡◌, ℕ, ◌+◌, ℤ, List, [], ◌∷◌, ◌++◌, refl, sym, ap, ◌∙◌, subst, length, get_or, Bool, true, false, true≢false, append_assoc}
 use Rattle.std.specs.Prelude.{◌&&◌, nat_eq, nat_le, codes, if◌then◌else◌, Option, Some, None, Result, Ok, Err}
 use Rattle.std.proofs.lemmas.List.{append-nil}
 use Rattle.rb_value.specs.Object.{Object}
@@ -31,7 +31,7 @@ use Rattle.def_core.specs.declared.found.Found.{Found}
 use Rattle.def_core.specs.Store.{Store, Done, with_object}
 use Rattle.def_core.specs.Classes.{class_of, plain_class_of}
 use Rattle.def_core.specs.Find.{same_value, find, may_call, allowed}
-use Rattle.def_core.specs.Changes.{fails, Interned, intern}
+use Rattle.def_core.specs.Changes.{fails, Interned}
 use Rattle.rb_store.specs.Opening.{main_object}
 use Rattle.def_rows.specs.declared.answer.Answer as row_answers
 use Rattle.def_rows.specs.Answers.{finish_plain, finish, answer_of, called}
@@ -44,12 +44,12 @@ use Rattle.def_calls.specs.Plain.{outright as outright_row}
 use Rattle.def_calls.specs.Plans.{Iteration, begun, handing, putting, putting_text, printing, printing_text, inspecting, inspecting_text, raising, looping, visiting, counting, initializing}
 use Rattle.def_calls.specs.Rows
 use Rattle.def_calls.specs.Rows.{Row, of_table, outright, iterates, PlainRow, StarRow, row_at, method_missing_row}
-use Rattle.def_calls.specs.Calls.{Entry, answers, enters, begins, Sending, by_name, main_activation, enter_kind, enter_row, enter_method, enter_found, enter_missing, missing_by, missing_named, missing, forbidden, enter_allowed, find_for, enter_unchecked, send_by_core, call}
+use Rattle.def_calls.specs.Calls.{Entry, answers, enters, begins, by_name, main_activation, enter_kind, enter_row, enter_method, enter_found, enter_missing, missing_by, missing_named, missing, forbidden, enter_allowed, find_for, enter_unchecked, send_by_core, call}
 use Rattle.def_eval.specs.Source.{Source}
 use Rattle.step_laws.specs.Site.{opening_store, number}
 use Rattle.step_laws.specs.Simple.{IsOperator}
 use Rattle.step_laws.proofs.Symbols.{IsCoreName, the_symbol, number_is, interned_core}
-use Rattle.step_laws.proofs.Found.{is_arithmetic, is_sameness, is_plain_row, is_plain_line, is_plain_of, is_number_text, is_truth_text, is_text_row, is_text_line, is_text_of, is_open, is_core, passes, is_plain, is_text, none_or, grown, both_true, operator_known, FindsAll, finds_all, is_missing, Missing, missing_all, Texts, texts_all, is_writer, writes_row, is_puts, Writing, writing}
+use Rattle.step_laws.proofs.Found.{is_arithmetic, is_sameness, is_plain_row, is_plain_line, is_plain_of, is_number_text, is_truth_text, is_text_row, is_text_line, is_text_of, is_open, is_core, passes, is_plain, is_text, none_or, grown, both_true, operator_known, FindsAll, finds_all, is_missing, Missing, missing_all, Texts, texts_all, is_writer, writes_row, is_puts, writing}
 
 -- nil, true, false and integers
 abbrev pub IsImmediate : Value → Type 0

@@ -1,21 +1,19 @@
 -- Pieces of code that stand in a body, and the turn of a line.
-use Rattle.std.proofs.Common.{◌≡◌, ℕ, ◌+◌, ℤ, List, [], ◌∷◌, ◌++◌, length, arith, refl, sym, ap, ◌∙◌, subst, length-append}
-use Rattle.std.specs.Prelude.{pos, negsuc, ◌+ℤ◌, ◌-ℤ◌, Option, Some, None}
+use Rattle.std.proofs.Common.{◌≡◌, ℕ, ◌+◌, ℤ, List, [], ◌∷◌, ◌++◌, length, arith, refl, ap, ◌∙◌, subst, length-append}
+use Rattle.std.specs.Prelude.{pos, ◌+ℤ◌, ◌-ℤ◌, Option, None}
 use Rattle.std.proofs.lemmas.Int.{ints}
 use Rattle.rb_value.specs.declared.value.Value.{Value}
 use Rattle.rb_value.specs.declared.value.ObjId.{ObjId}
-use Rattle.rb_value.specs.declared.value.SymId.{SymId}
 use Rattle.def_core.specs.declared.bound.BindKind.{BindKind}
-use Rattle.rite_code.specs.Code.{Program}
 use Rattle.rite_code.specs.Instruction.{Instruction}
 use Rattle.rite_code.specs.declared.operation.Operation.{Operation}
 use Rattle.rite_code.specs.declared.operation.Operation.TheVariants as op
 use Rattle.gen_parts.specs.declared.line.Line.{Line}
 use Rattle.gen_parts.specs.declared.line.Line.TheVariants as line
 use Rattle.gen_parts.specs.declared.emitter.Spot.{Spot}
-use Rattle.gen_parts.specs.Pieces.{Piece, past, behind, both, puts, does, nothing}
-use Rattle.gen_parts.specs.Assembly.{instruction_before, distance}
-use Rattle.def_machine.specs.State.{Frame, Level, frame, Memory, State, On}
+use Rattle.gen_parts.specs.Pieces.{Piece, past, behind, both, puts, nothing}
+use Rattle.gen_parts.specs.Assembly.{instruction_before}
+use Rattle.def_machine.specs.State.{Frame, Level, frame, Memory, On}
 use Rattle.def_machine.specs.Turn.{target, turn, act, act_at}
 use Rattle.step_laws.specs.Site.{Site, at_line, LineAt, Lines}
 

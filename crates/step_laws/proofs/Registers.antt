@@ -1,5 +1,5 @@
 -- A write to one register, and what it leaves.
-use Rattle.std.proofs.Common.{◌≡◌, ◌≢◌, ◌⊎◌, ℕ, zero, suc, ◌+◌, ◌<◌, ◌≤◌, List, [], ◌∷◌, refl, sym, ap, ◌∙◌, subst, arith, length, get_or, set, Bool, true, false, length-set, get_or-set_same, get_or-set_other, true≢false}
+use Rattle.std.proofs.Common.{◌≡◌, ◌≢◌, ℕ, zero, suc, ◌+◌, ◌<◌, ◌≤◌, List, [], ◌∷◌, refl, sym, ap, ◌∙◌, subst, arith, length, get_or, set, Bool, true, false, length-set, get_or-set_same, get_or-set_other, true≢false}
 use Rattle.std.specs.Prelude.{bytes_eq, Option, Some, None, unwrap_or, is_some, if◌then◌else◌}
 use Rattle.std.proofs.lemmas.Slice.Eq.{bytes_eq-Decides}
 use Rattle.rb_value.specs.declared.value.Value.{Value}
@@ -10,9 +10,9 @@ use Rattle.rb_value.specs.Slot.{read}
 use Rattle.ir_core.specs.CoreForm.{Name, Local, named, hidden, pattern, rest}
 use Rattle.def_eval.specs.Configuration.{Place, Scope, Part, operands, receiver, items, block, elements, hash_key, hash_value, pieces, rest as rest_part, test, chosen, and_then, or_else, loop_test, loop_body, rescued, clause_class, clause_target, clause_body, ensured, Item, part, activation, iteration, ensuring, Memory}
 use Rattle.def_eval.specs.Scopes.{same_local, value_in, put_value, no_scope, scope_at, outward, scopes_around, first_with, scope_of, variable, put_in, with_variable}
-use Rattle.def_machine.specs.State.{Registers, no_registers, Level, body_at, list_at, slot_at, value_at, put}
-use Rattle.step_laws.specs.Site.{Site, place_in, Room, register, Known}
-use Rattle.step_laws.proofs.Relation.{Static, Holds, HoldsCall, Behind, InFrame, WaitsIn, Waits, Same}
+use Rattle.def_machine.specs.State.{Registers, no_registers, body_at, list_at, slot_at, value_at, put}
+use Rattle.step_laws.specs.Site.{Site, place_in, register, Known}
+use Rattle.step_laws.proofs.Relation.{Static, Holds, HoldsCall, Behind, InFrame, Same}
 
 pub list_same : (l : List Registers) (n i : ℕ) (v : Slot) → n < length l
     → list_at (put l n i v) n ≡ record (list_at l n) { slots = set (list_at l n).slots i v }

@@ -4,13 +4,12 @@ use Rattle.rb_value.specs.declared.value.Value.{Value}
 use Rattle.rb_value.specs.declared.value.Value.TheVariants.{Nil, Obj}
 use Rattle.rb_value.specs.declared.value.ObjId.{ObjId}
 use Rattle.rb_value.specs.declared.exit.Exit.TheVariants.{Raise}
-use Rattle.rb_value.specs.declared.exit.Slot.{Slot}
 use Rattle.rb_value.specs.declared.exit.Slot.TheVariants.{V}
 use Rattle.rb_store.specs.Opening.{main_object}
 use Rattle.rite_code.specs.declared.operation.Operation.{Operation}
 use Rattle.rite_code.specs.declared.operation.Operation.TheVariants as op
 use Rattle.ir_counts.specs.Tables.{item_count}
-use Rattle.ir_core.specs.CoreForm.{Name, named, CoreForm, Maybe, absent, Forms, none, Items, Branches}
+use Rattle.ir_core.specs.CoreForm.{Name, named, CoreForm, absent, none, Branches}
 use Rattle.gen_parts.specs.declared.line.Line.TheVariants as line
 use Rattle.gen_parts.specs.declared.emitter.Spot.{Spot}
 use Rattle.gen_parts.specs.declared.emitter.Held.TheVariants as held
@@ -19,13 +18,13 @@ use Rattle.gen_forms.specs.declared.context.Loop.{Loop}
 use Rattle.gen_forms.specs.Gen.{Context, gen, others_in_turn, pass_in_registers, choose, over, operator, symbol}
 use Rattle.path_eval.specs.Steps.{Matched}
 use Rattle.def_calls.specs.Seen.{Ended}
-use Rattle.def_calls.specs.Calls.{Sending, by_name}
+use Rattle.def_calls.specs.Calls.{by_name}
 use Rattle.def_eval.specs.Configuration as source
-use Rattle.def_eval.specs.Configuration.{Place, Scope, Exit, raise, return, break, leave_loop, next, begin_anew, Action, assign, Part, operands, receiver, items, block, elements, hash_key, hash_value, pieces, rest, test, chosen, and_then, or_else, loop_test, loop_body, rescued, clause_class, clause_target, clause_body, ensured, Stop, passes, loops, rescues, assigns, retries, ensures, stop_of, Item, part, activation, iteration, ensuring, Focus, perform, give, travel, Config, Run, Halt, seen}
+use Rattle.def_eval.specs.Configuration.{Place, Scope, Exit, raise, next, assign, Part, operands, receiver, items, block, elements, hash_key, hash_value, pieces, rest, test, chosen, and_then, or_else, loop_test, loop_body, rescued, clause_class, clause_target, clause_body, ensured, Stop, passes, loops, rescues, assigns, retries, ensures, stop_of, Item, part, activation, iteration, ensuring, Focus, perform, give, travel, Config, Run, Halt, seen}
 use Rattle.def_eval.specs.Scopes.{value_in, scope_at}
 use Rattle.def_eval.specs.Transition.{go}
 use Rattle.def_machine.specs.State as machine
-use Rattle.def_machine.specs.State.{Registers, Frame, Level, frame, State, On, Off, Stuck, body_at, list_at, slot_at, value_at, shown}
+use Rattle.def_machine.specs.State.{Registers, Level, frame, State, On, Off, Stuck, body_at, list_at, slot_at, value_at, shown}
 use Rattle.def_machine.specs.Unwind.{throw}
 use Rattle.def_machine.specs.Turn.{turn}
 use Rattle.step_laws.specs.Site.{Site, within, place_in, at_line, LineAt, Room, register, Known, IsThere, Named, number}

@@ -1,42 +1,40 @@
 -- Calls: the receiver, the items one after the other, and the call.
-use Rattle.std.proofs.Common.{◌≡◌, ℕ, ◌+◌, ◌<◌, ◌≤◌, List, [], ◌∷◌, ◌++◌, refl, sym, ap, ◌∙◌, subst, arith, length, length-append, Bool, true, false}
-use Rattle.std.specs.Prelude.{if◌then◌else◌, Option, Some, None, nat_lt}
+use Rattle.std.proofs.Common.{◌≡◌, ℕ, ◌+◌, ◌<◌, List, [], ◌∷◌, refl, sym, ap, ◌∙◌, subst, arith, length, Bool, true, false}
+use Rattle.std.specs.Prelude.{if◌then◌else◌, Option, None, nat_lt}
 use Rattle.rb_value.specs.declared.value.Value.{Value}
 use Rattle.rb_value.specs.declared.exit.Slot.TheVariants.{V}
 use Rattle.rb_value.specs.Slot.{read}
-use Rattle.rb_value.specs.declared.value.SymId.{SymId}
 use Rattle.rite_code.specs.declared.operation.Operation.{Operation}
 use Rattle.rite_code.specs.declared.operation.Operation.TheVariants as op
 use Rattle.ir_counts.specs.Tables.{item_count}
-use Rattle.ir_core.specs.CoreForm.{Name, CoreForm, call as call_form, Maybe, absent, there, Items, no_items, plain, splat, Receiver, to, on_self, bare}
+use Rattle.ir_core.specs.CoreForm.{Name, absent, there, Items, no_items, plain, splat}
 use Rattle.gen_parts.specs.declared.line.Line.TheVariants as line
 use Rattle.gen_parts.specs.declared.emitter.Spot.{Spot}
-use Rattle.gen_parts.specs.Pieces.{past, does, nothing, ◌⊕◌}
+use Rattle.gen_parts.specs.Pieces.{past}
 use Rattle.gen_forms.specs.declared.context.Loop.{Loop}
-use Rattle.gen_forms.specs.Gen.{Context, gen, pass_in_registers}
+use Rattle.gen_forms.specs.Gen.{gen, pass_in_registers}
 use Rattle.def_core.specs.Store.{with_object}
 use Rattle.def_rows.specs.Answers.{items_object}
-use Rattle.def_calls.specs.World.{World, with_store, Activation, activation_at}
+use Rattle.def_calls.specs.World.{World, with_store, activation_at}
 use Rattle.def_calls.specs.Calls.{Sending, by_name, Entry}
 use Rattle.def_calls.specs.Calls as calls
-use Rattle.def_eval.specs.Source.{span}
 use Rattle.def_eval.specs.Configuration as source
-use Rattle.def_eval.specs.Configuration.{Place, receiver, items, Item, part, perform, give, Config, Run}
+use Rattle.def_eval.specs.Configuration.{Place, receiver, items, Item, Config}
 use Rattle.def_eval.specs.Entering.{enter}
-use Rattle.def_eval.specs.Forms.{perform_call, own_block, with_arguments, packed, next_item}
+use Rattle.def_eval.specs.Forms.{perform_call, own_block, with_arguments, next_item}
 use Rattle.def_eval.specs.Transition.{go}
 use Rattle.def_machine.specs.State as machine
-use Rattle.def_machine.specs.State.{Registers, Frame, Level, frame, State, On, slot_at, value_at, put, list_at}
+use Rattle.def_machine.specs.State.{Registers, frame, value_at, put}
 use Rattle.def_machine.specs.Entering.{enter as enter_machine}
-use Rattle.def_machine.specs.Turn.{turn, call as call_machine, arguments, self_first}
+use Rattle.def_machine.specs.Turn.{turn, call as call_machine, arguments}
 use Rattle.step_laws.specs.Site.{Site, within, place_in, at_line, LineAt, Room, number}
-use Rattle.step_laws.specs.Covered.{Covered, CoveredItems}
+use Rattle.step_laws.specs.Covered.{CoveredItems}
 use Rattle.step_laws.specs.Calm.{IsSteady}
-use Rattle.step_laws.specs.Measure.{size, size_items, weights, measure}
-use Rattle.step_laws.proofs.Placed.{high, high-both, high-puts, high-nothing, heights, line-past, Stands, moved, left, right, the_line, Rest, frame_at, turned}
-use Rattle.step_laws.proofs.Relation.{Static, Holds, HoldsCall, CallBy, InFrame, WaitsIn, Waits, Same, Common, Doing, GivesIn, Related, Step}
-use Rattle.step_laws.proofs.Registers.{Keeps, keeps_above, frame_kept, same_above, slot_same, slot_other}
-use Rattle.step_laws.proofs.Matching.{by_none, going, state_at, written}
+use Rattle.step_laws.specs.Measure.{size_items, weights, measure}
+use Rattle.step_laws.proofs.Placed.{high, high-both, high-nothing, line-past, Stands, left, right, Rest, frame_at, turned}
+use Rattle.step_laws.proofs.Relation.{Static, Holds, HoldsCall, CallBy, InFrame, WaitsIn, Common, Related, Step}
+use Rattle.step_laws.proofs.Registers.{keeps_above, frame_kept, same_above, slot_same, slot_other}
+use Rattle.step_laws.proofs.Matching.{by_none, state_at, written}
 use Rattle.step_laws.proofs.Calling.{From, waits_in, entered}
 use Rattle.step_laws.proofs.Literals.{aligned}
 use Rattle.step_laws.proofs.Operators.{few, arguments_are, calls_value, calls_self}

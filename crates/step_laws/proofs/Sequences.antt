@@ -1,14 +1,13 @@
 -- Sequences.
-use Rattle.std.proofs.Common.{◌≡◌, ℕ, ◌+◌, ◌<◌, List, [], ◌∷◌, refl, sym, ap, ◌∙◌, subst, arith}
+use Rattle.std.proofs.Common.{◌≡◌, ℕ, ◌+◌, List, [], ◌∷◌, refl, sym, ap, ◌∙◌, subst, arith}
 use Rattle.rb_value.specs.declared.value.Value.{Value}
 use Rattle.rb_value.specs.declared.value.Value.TheVariants.{Nil}
 use Rattle.rb_value.specs.declared.exit.Slot.TheVariants.{V}
 use Rattle.rite_code.specs.declared.operation.Operation.TheVariants as op
-use Rattle.ir_core.specs.CoreForm.{CoreForm, seq, Forms, none, more}
+use Rattle.ir_core.specs.CoreForm.{seq, Forms, none, more}
 use Rattle.gen_parts.specs.declared.line.Line.TheVariants as line
 use Rattle.gen_parts.specs.Pieces.{past, ◌⊕◌}
 use Rattle.gen_forms.specs.Gen.{gen, others_in_turn}
-use Rattle.def_eval.specs.Source.{span}
 use Rattle.def_eval.specs.Configuration as source
 use Rattle.def_eval.specs.Configuration.{rest, Item, part, perform, give, Run}
 use Rattle.def_eval.specs.Forms.{do_form}
@@ -16,8 +15,8 @@ use Rattle.def_eval.specs.Giving.{give_part, do_give}
 use Rattle.def_machine.specs.State as machine
 use Rattle.def_machine.specs.State.{Level, frame, slot_at}
 use Rattle.step_laws.specs.Site.{Site, within}
-use Rattle.step_laws.proofs.Placed.{high, high-both, high-puts, high-nothing, heights, line-past, Stands, left, right, the_line, Rest, frame_at}
-use Rattle.step_laws.proofs.Relation.{Static, InFrame, Same, Common, Doing, GivesIn, Related, Step}
+use Rattle.step_laws.proofs.Placed.{high, high-both, high-puts, high-nothing, heights, line-past, left, right, the_line, frame_at}
+use Rattle.step_laws.proofs.Relation.{Static, InFrame, Common, Doing, GivesIn, Step}
 use Rattle.step_laws.proofs.Matching.{by_none, going, state_at, stays}
 use Rattle.step_laws.proofs.Literals.{aligned, written_by}
 

@@ -1,12 +1,10 @@
 -- The symbols of the opening store are those of every later one.
-use Rattle.std.proofs.Common.{◌≡◌, ℕ, zero, suc, ◌+◌, ◌<◌, List, [], ◌∷◌, ◌++◌, refl, sym, ap, ◌∙◌, subst, arith, length, length-append, Bool, true, false, true≢false, append_assoc}
-use Rattle.std.specs.Prelude.{bytes_eq, is_some, nat_lt, not, position, if◌then◌else◌, Option, Some, None, unwrap_or}
+use Rattle.std.proofs.Common.{◌≡◌, ℕ, suc, ◌+◌, ◌<◌, List, [], ◌∷◌, ◌++◌, refl, sym, ap, ◌∙◌, arith, length, length-append, Bool, true, false, true≢false}
+use Rattle.std.specs.Prelude.{bytes_eq, is_some, nat_lt, not, position, if◌then◌else◌, Option, Some, None}
 use Rattle.std.specs.List.{position_or_len}
 use Rattle.std.proofs.lemmas.Bool.{lt-ltb}
 use Rattle.std.proofs.lemmas.Bool.Decides.{nat_tests}
-use Rattle.std.proofs.lemmas.List.{append-nil}
 use Rattle.rb_value.specs.declared.value.SymId.{SymId}
-use Rattle.rb_value.specs.Object.{Object}
 use Rattle.def_core.specs.Store.{Store, symbol_number}
 use Rattle.def_core.specs.Changes.{Interned, intern_at, intern}
 use Rattle.rb_store.specs.Opening.{with_names}

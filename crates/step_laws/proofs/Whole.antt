@@ -1,29 +1,27 @@
 -- The step law, by cases on the focus, and the theorem for a main program.
-use Rattle.std.proofs.Common.{◌≡◌, ℕ, zero, suc, ◌+◌, ◌<◌, ◌≤◌, List, [], ◌∷◌, refl, sym, ap, ◌∙◌, subst, arith, length, length-set, get_or, get_or-set_same, get_or-set_other, set, replicate, Bool, true, false, true≢false}
-use Rattle.std.specs.Prelude.{Option, Some, None, unwrap_or, if◌then◌else◌}
+use Rattle.std.proofs.Common.{◌≡◌, ℕ, zero, suc, List, [], ◌∷◌, refl, sym, ap, ◌∙◌, subst, arith, length, length-set, get_or, get_or-set_same, get_or-set_other, replicate, Bool, true, false, true≢false}
+use Rattle.std.specs.Prelude.{Some, None, unwrap_or, if◌then◌else◌}
 use Rattle.std.proofs.lemmas.List.{length-replicate}
 use Rattle.rb_value.specs.declared.value.Value.{Value}
 use Rattle.rb_value.specs.declared.value.Value.TheVariants.{Nil, Obj}
-use Rattle.rb_value.specs.declared.exit.Slot.{Slot}
 use Rattle.rb_value.specs.declared.exit.Slot.TheVariants.{V}
 use Rattle.rb_value.specs.Slot.{read}
 use Rattle.rb_store.specs.Opening.{main_object}
 use Rattle.rite_code.specs.Code.{Program}
 use Rattle.ir_core.specs.CoreForm as form
-use Rattle.path_eval.specs.Steps.{StepLaw, Follows, Matched}
+use Rattle.path_eval.specs.Steps.{StepLaw, Matched}
 use Rattle.path_eval.proofs.Induction.{follows}
 use Rattle.def_core.specs.declared.bound.BindKind.TheVariants as bind
 use Rattle.gen_parts.specs.declared.line.Line.TheVariants as line
 use Rattle.rite_code.specs.declared.operation.Operation.TheVariants as op
 use Rattle.gen_forms.specs.Gen.{gen, first_spot}
 use Rattle.def_calls.specs.Seen.{Going, Over, over}
-use Rattle.def_calls.specs.World.{World}
 use Rattle.def_calls.specs.Calls.{main_activation}
 use Rattle.def_eval.specs.Source.{Source, body_at, form_of, locals_of}
 use Rattle.def_eval.specs.Scopes.{same_local, value_in}
 use Rattle.def_eval.specs.Configuration as source
 use Rattle.def_eval.specs.Configuration.{Part, operands, receiver, items, block, elements, hash_key, hash_value, pieces, rest, test, chosen, and_then, or_else, loop_test, loop_body, rescued, clause_class, clause_target, clause_body, ensured, Item, part, activation, iteration, ensuring, Focus, perform, give, travel, Config, Run, Halt, all_nil, opening, seen}
-use Rattle.def_eval.specs.Transition.{go, go_times}
+use Rattle.def_eval.specs.Transition.{go}
 use Rattle.def_machine.specs.State as machine
 use Rattle.def_machine.specs.State.{Level, State, On, Off, Stuck, start, shown}
 use Rattle.def_machine.specs.Turn.{turn}
@@ -31,10 +29,11 @@ use Rattle.step_laws.specs.Site.{Site, LineAt, register}
 use Rattle.step_laws.specs.Calm.{IsCalm, StaysCalm}
 use Rattle.step_laws.specs.Measure.{measure}
 use Rattle.step_laws.specs.Implements.{main_site, IsCodeOf, Implements}
-use Rattle.step_laws.proofs.Relation.{Static, Same, Common, Doing, GivesIn, Giving, Agree, Related, Step}
-use Rattle.step_laws.proofs.Placed.{high, Stands, Rest, frame_at}
+use Rattle.step_laws.proofs.Relation.{Static, Same, Common, Doing, GivesIn, Giving, Related, Step}
+use Rattle.step_laws.proofs.Placed.{high, Stands, Rest}
 use Rattle.step_laws.proofs.Matching.{state_at}
 use Rattle.step_laws.proofs.Literals.{aligned, do_nil, do_truth, do_falsehood, do_self, do_int}
+use Rattle.step_laws.proofs.Answers.{do_symbol, do_gvar, do_ivar, do_str, do_constant}
 use Rattle.step_laws.proofs.Locals.{do_local, do_set_local, give_operand}
 use Rattle.step_laws.proofs.Sequences.{do_seq, give_rest}
 use Rattle.step_laws.proofs.Branches.{do_cond, give_test, give_chosen, do_and, do_or, give_and, give_or}
@@ -53,17 +52,17 @@ module _ (h : Site) (static : Static h) (ks : List Item) (m : source.Memory) (ls
   form_matched j form.falsehood c d = do_falsehood h static j ks m ls k both d
   form_matched j form.self_ref c d = do_self h static j ks m ls k both c.0 d
   form_matched j (form.int z) c d = do_int h static j ks m ls k both z d
-  form_matched j (form.str t) c d = absurd d.covered
-  form_matched j (form.sym x) c d = absurd d.covered
+  form_matched j (form.str t) c d = do_str h static j ks m ls k both t d c.3
+  form_matched j (form.sym x) c d = do_symbol h static j ks m ls k both x d
   form_matched j (form.local x) c d = do_local h static ks m ls k both j x d
   form_matched j (form.own x) c d = absurd d.covered
   form_matched j form.exception c d = absurd d.covered
   form_matched j (form.set_local x e) c d = do_set_local h static ks m ls k both j x e d
-  form_matched j (form.ivar x) c d = absurd d.covered
+  form_matched j (form.ivar x) c d = do_ivar h static j ks m ls k both c.0 x d
   form_matched j (form.set_ivar x e) c d = absurd d.covered
-  form_matched j (form.gvar x) c d = absurd d.covered
+  form_matched j (form.gvar x) c d = do_gvar h static j ks m ls k both x d
   form_matched j (form.set_gvar x e) c d = absurd d.covered
-  form_matched j (form.constant x) c d = absurd d.covered
+  form_matched j (form.constant x) c d = do_constant h static j ks m ls k both x d c.3
   form_matched j (form.top_constant x) c d = absurd d.covered
   form_matched j (form.in_constant e x) c d = absurd d.covered
   form_matched j (form.set_constant x e) c d = absurd d.covered

@@ -1,10 +1,10 @@
 -- The forms whose code is shown to do what they mean, in register r of a body.
-use Rattle.std.specs.Prelude.{◌≡◌, ◌⊎◌, ℕ, ℤ, pos, negsuc, zero, suc, ◌+◌, codes, Bool, true, false, nat_lt, Option, Some, None, slice_get}
+use Rattle.std.specs.Prelude.{List, ◌≡◌, ◌⊎◌, ℕ, ℤ, pos, negsuc, zero, suc, ◌+◌, codes, Bool, true, false, nat_lt, Option, Some, None, slice_get}
 use Rattle.rite_code.specs.declared.code.PoolItem.TheVariants as pool
 use Rattle.rite_code.specs.declared.operation.Operation.{Operation}
 use Rattle.ir_counts.specs.Tables.{item_count}
 use Rattle.ir_core.specs.CoreForm.{Name, Local, named, hidden, pattern, rest, CoreForm, nil, truth, falsehood, self_ref, int, str, sym, local, own, exception, set_local, ivar, set_ivar, gvar, set_gvar, constant, top_constant, in_constant, set_constant, set_in_constant, array, hash, range, text, intern, seq, cond, and_form, or_form, while_form, call, yield_form, super_form, function, lambda, begin_form, return_form, break_form, next_form, retry, define, define_on, class_form, module_form, singleton_class, alias_form, undef_form, defined, item, rest_of, tail_of, Maybe, absent, there, Forms, none, more, Items, no_items, plain, splat, Branches, no_branches, branch, Receiver, to, on_self, bare}
-use Rattle.gen_forms.specs.Gen.{is_within, integer_entry, operates}
+use Rattle.gen_forms.specs.Gen.{is_within, integer_entry, text_entry, operates}
 use Rattle.def_machine.specs.State.{body_at}
 use Rattle.step_laws.specs.Site.{Site, Room, Known, IsThere, Named}
 
@@ -20,6 +20,10 @@ abbrev pub IsPooled : Site → ℤ → Type 0
 IsPooled h z = is_within (negsuc 2147483647) z (pos 2147483647) ≡ false
     → slice_get (body_at h.program h.body).pool (integer_entry h.context z) ≡ Some (pool.Int z)
 
+-- the pool has the text
+abbrev pub IsTexted : Site → List ℕ → Type 0
+IsTexted h t = slice_get (body_at h.program h.body).pool (text_entry h.context t) ≡ Some (pool.Text t)
+
 -- the name of a call: an operator with an instruction of its own needs no entry of a table
 abbrev pub IsNamed : Site → Name → Option Operation → Type 0
 IsNamed h x (Some o) = IsThere h.source x
@@ -32,17 +36,17 @@ abbrev mutual
   Covered h r falsehood = Room h r
   Covered h r self_ref = Room h r
   Covered h r (int z) = Room h r × IsPooled h z
-  Covered h r (str t) = ⊥
-  Covered h r (sym x) = ⊥
+  Covered h r (str t) = Room h r × IsTexted h t
+  Covered h r (sym x) = Room h r × Named h x
   Covered h r (local x) = Room h r × IsLocal h x
   Covered h r (own x) = ⊥
   Covered h r exception = ⊥
   Covered h r (set_local x e) = Covered h r e × IsLocal h x
-  Covered h r (ivar x) = ⊥
+  Covered h r (ivar x) = Room h r × Named h x
   Covered h r (set_ivar x e) = ⊥
-  Covered h r (gvar x) = ⊥
+  Covered h r (gvar x) = Room h r × Named h x
   Covered h r (set_gvar x e) = ⊥
-  Covered h r (constant x) = ⊥
+  Covered h r (constant x) = Room h r × Named h x
   Covered h r (top_constant x) = ⊥
   Covered h r (in_constant e x) = ⊥
   Covered h r (set_constant x e) = ⊥

@@ -1,9 +1,9 @@
 //! The step law of the six first forms, over the whole definitions: the code that gen_forms gives for a form goes with the
 //! evaluation of the form, transition by transition. There is no code here.
 //!
-//! - `specs::Covered`: the forms whose code is followed: nil, true, false, self, integers, locals, sequences, branches,
-//!   `and` and `or`, loops, calls of a value and of self with plain items and no block. Operators are calls by look-up and
-//!   row, and `puts` is the iteration that it is, plan by plan.
+//! - `specs::Covered`: the forms whose code is followed: nil, true, false, self, integers, strings, symbols, variables and
+//!   constants that are read, locals, sequences, branches, `and` and `or`, loops, calls of a value and of self with plain
+//!   items and no block. Operators are calls by look-up and row, and `puts` is the iteration that it is, plan by plan.
 //! - `specs::Simple`: those over nil, true, false and integers, with operators and `puts`, whose evaluation calls no body
 //! - `specs::Calm`: what is asked of an evaluation otherwise: it calls no body of the source, and leaves its fiber for no
 //!   other one
