@@ -1,4 +1,7 @@
 //! What a method over items checks of its arguments and its block.
+ghost use Rattle.std.specs.Prelude.{◌≡◌, None, Ok, IfOk, OnOk};
+ghost use Rattle.iter_items.specs.Checks as checks;
+
 use crate::row::Task;
 use def_core::Cause;
 use rb_value::{ObjId, SymId, Value};
@@ -15,7 +18,9 @@ pub(crate) struct Arguments {
 }
 
 /// At most so many arguments, and at least, may go to a method.
-fn count_of(task: Task) -> (u64, u64) {
+fn count_of(task: Task) -> (u64, u64)
+    ensures { result ≡ checks.counts task }
+{
     match task {
         Task::EachWithObject | Task::EachSlice | Task::EachCons => (1, 1),
         Task::Count | Task::Sum => (0, 1),
@@ -25,7 +30,9 @@ fn count_of(task: Task) -> (u64, u64) {
 }
 
 /// Whether a method with so many arguments can't do without a block.
-fn wants_block(task: Task, given: usize) -> bool {
+fn wants_block(task: Task, given: usize) -> bool
+    ensures { result ≡ checks.wants_block task given }
+{
     match task {
         Task::All | Task::Any | Task::Never | Task::Count | Task::Sum => false,
         Task::Inject => given == 0,
@@ -34,16 +41,21 @@ fn wants_block(task: Task, given: usize) -> bool {
 }
 
 /// The size of a group, which is above 0.
-fn size_of(heap: &Heap, value: Value) -> Result<u64, Cause> {
+fn size_of(heap: &Heap, value: Value) -> Result<u64, Cause>
+    ensures { result ≡ checks.size_of heap.now.store value }
+{
     let number = integer(heap, value)?;
-    if number <= 0 {
-        return Err(Cause::NegativeCount);
+    match u64::try_from(number) {
+        Ok(0) => Err(Cause::NegativeCount),
+        Ok(size) => Ok(size),
+        Err(_) => Err(Cause::NegativeCount),
     }
-    Ok(u64::try_from(number).unwrap_or(0))
 }
 
 /// The arguments of a method that has a size.
-fn given_size(heap: &Heap, value: Value) -> Result<Arguments, Cause> {
+fn given_size(heap: &Heap, value: Value) -> Result<Arguments, Cause>
+    ensures { result ≡ checks.with_size (checks.size_of heap.now.store value) }
+{
     Ok(Arguments {
         value: None,
         name: None,
@@ -52,7 +64,9 @@ fn given_size(heap: &Heap, value: Value) -> Result<Arguments, Cause> {
 }
 
 /// The arguments of a method that has a value or none.
-fn given_value(value: Option<Value>) -> Arguments {
+fn given_value(value: Option<Value>) -> Arguments
+    ensures { result ≡ checks.arguments value None 0 }
+{
     Arguments {
         value,
         name: None,
@@ -60,27 +74,49 @@ fn given_value(value: Option<Value>) -> Arguments {
     }
 }
 
-/// The arguments of `inject`: the first value, and the name of a method where there are two arguments or no block.
+/// The first value of `inject`.
+fn inject_value(args: &[Value], block: Option<ObjId>) -> Option<Value>
+    ensures { result ≡ checks.inject_value args.now block }
+{
+    match args {
+        [value, _] => Some(*value),
+        [only] => if block.is_some() { Some(*only) } else { None },
+        _ => None,
+    }
+}
+
+/// The name of the method of `inject`, where there are two arguments or no block.
+fn inject_name(args: &[Value], block: Option<ObjId>) -> Option<Value>
+    ensures { result ≡ checks.inject_name args.now block }
+{
+    match args {
+        [_, name] => Some(*name),
+        [only] => if block.is_none() { Some(*only) } else { None },
+        _ => None,
+    }
+}
+
+/// The arguments of `inject`: the first value, and a name.
 fn given_inject(
     heap: &mut Heap,
     args: &[Value],
     block: Option<ObjId>,
-) -> Result<Result<Arguments, Cause>, AllocError> {
-    let (value, name) = match args {
-        [value, name] => (Some(*value), Some(*name)),
-        [only] if block.is_none() => (None, Some(*only)),
-        [only] => (Some(*only), None),
-        _ => (None, None),
+) -> Result<Result<Arguments, Cause>, AllocError>
+    ensures arguments { IfOk result (λ given. given ≡ (checks.inject heap.old args.now block).arguments) }
+    ensures store { OnOk result (heap.new.store ≡ (checks.inject heap.old args.now block).held.store) }
+{
+    let value = inject_value(args, block);
+    let Some(name) = inject_name(args, block) else {
+        return Ok(Ok(given_value(value)));
     };
-    let name = match name {
-        Some(name) => match name_in(heap, name)? {
-            Ok(name) => Some(name),
-            Err(cause) => return Ok(Err(cause)),
-        },
-        None => None,
-    };
-    let size = 0;
-    Ok(Ok(Arguments { value, name, size }))
+    match name_in(heap, name)? {
+        Ok(name) => Ok(Ok(Arguments {
+            value,
+            name: Some(name),
+            size: 0,
+        })),
+        Err(cause) => Ok(Err(cause)),
+    }
 }
 
 /// The arguments of `sum` or `count`, with the method that they call.
@@ -88,10 +124,36 @@ fn given_named(
     heap: &mut Heap,
     name: &[u8],
     value: Option<Value>,
-) -> Result<Arguments, AllocError> {
+) -> Result<Result<Arguments, Cause>, AllocError>
+    ensures arguments { IfOk result (λ given. given ≡ (checks.named heap.old name.now value).arguments) }
+    ensures heap { OnOk result (heap.new ≡ (checks.named heap.old name.now value).held) }
+{
     let name = Some(heap.intern(name)?);
     let size = 0;
-    Ok(Arguments { value, name, size })
+    Ok(Ok(Arguments { value, name, size }))
+}
+
+/// What the arguments say, where their number is right and a block is there.
+fn read(
+    heap: &mut Heap,
+    task: Task,
+    args: &[Value],
+    block: Option<ObjId>,
+) -> Result<Result<Arguments, Cause>, AllocError>
+    ensures arguments { IfOk result (λ given. given ≡ (checks.read task heap.old args.now block).arguments) }
+    ensures store { OnOk result (heap.new.store ≡ (checks.read task heap.old args.now block).held.store) }
+{
+    match task {
+        Task::EachSlice | Task::EachCons => Ok(given_size(heap, argument(args, 0))),
+        Task::EachWithObject => Ok(Ok(given_value(Some(argument(args, 0))))),
+        Task::Inject => given_inject(heap, args, block),
+        Task::Sum => {
+            let value = args.first().copied().unwrap_or(Value::Int(0));
+            given_named(heap, b"+", Some(value))
+        }
+        Task::Count => given_named(heap, b"==", args.first().copied()),
+        _ => Ok(Ok(given_value(None))),
+    }
 }
 
 /// What the arguments say, or why a method can't take them.
@@ -100,7 +162,10 @@ pub(crate) fn given(
     task: Task,
     args: &[Value],
     block: Option<ObjId>,
-) -> Result<Result<Arguments, Cause>, AllocError> {
+) -> Result<Result<Arguments, Cause>, AllocError>
+    ensures arguments { IfOk result (λ given. given ≡ (checks.given task heap.old args.now block).arguments) }
+    ensures store { OnOk result (heap.new.store ≡ (checks.given task heap.old args.now block).held.store) }
+{
     let (least, most) = count_of(task);
     if let Some(cause) = miscounted(args.len(), least, Some(most)) {
         return Ok(Err(cause));
@@ -108,16 +173,5 @@ pub(crate) fn given(
     if wants_block(task, args.len()) && block.is_none() {
         return Ok(Err(Cause::NoBlockGiven));
     }
-    let first = argument(args, 0);
-    match task {
-        Task::EachSlice | Task::EachCons => Ok(given_size(heap, first)),
-        Task::EachWithObject => Ok(Ok(given_value(Some(first)))),
-        Task::Inject => given_inject(heap, args, block),
-        Task::Sum => {
-            let value = args.first().copied().unwrap_or(Value::Int(0));
-            Ok(Ok(given_named(heap, b"+", Some(value))?))
-        }
-        Task::Count => Ok(Ok(given_named(heap, b"==", args.first().copied())?)),
-        _ => Ok(Ok(given_value(None))),
-    }
+    read(heap, task, args, block)
 }

@@ -1,7 +1,11 @@
 //! What a visit gives once all items were visited.
+ghost use Rattle.std.specs.Prelude.{◌≡◌, IfOk, OnOk};
+ghost use Rattle.iter_items.specs.Driving as driving;
+
 use crate::row::Task;
 use crate::visit::Visit;
 use crate::wish::Wish;
+use rb_base::List;
 use rb_value::Value;
 use rows_items::heap::Heap;
 use rows_items::{Extreme, RowError, extreme_place, order_of};
@@ -10,26 +14,36 @@ use std::cmp::Ordering;
 use std::mem;
 
 /// A new Array of what was kept.
-fn kept_array(heap: &mut Heap, visit: &mut Visit) -> Result<Value, AllocError> {
-    let kept = mem::replace(&mut visit.kept, Vec::new(heap.alloc()));
-    heap.make_array(kept)
+fn kept_array(heap: &mut Heap, visit: &mut Visit) -> Result<Wish, AllocError>
+    ensures { IfOk result (λ wish. driving.IsLeft (driving.given_by heap.old visit.old None) wish visit.new heap.new) }
+{
+    let kept = mem::replace(&mut visit.kept, List::new(heap.alloc()));
+    Ok(Wish::Ends(heap.make_array(kept.into_vec())?))
 }
 
 /// The two parts of the items.
-fn both_parts(heap: &mut Heap, visit: &mut Visit) -> Result<Value, AllocError> {
-    let first = kept_array(heap, visit)?;
-    let others = mem::replace(&mut visit.others, Vec::new(heap.alloc()));
-    let second = heap.make_array(others)?;
-    let mut parts = Vec::with_capacity(heap.alloc(), 2)?;
-    parts.push(first)?;
-    parts.push(second)?;
-    heap.make_array(parts)
+fn both_parts(heap: &mut Heap, visit: &mut Visit) -> Result<Wish, AllocError>
+    ensures { IfOk result (λ wish. driving.IsLeft (driving.both_parts heap.old visit.old) wish visit.new heap.new) }
+{
+    let kept = mem::replace(&mut visit.kept, List::new(heap.alloc()));
+    let others = mem::replace(&mut visit.others, List::new(heap.alloc()));
+    let first = heap.make_array(kept.into_vec())?;
+    let second = heap.make_array(others.into_vec())?;
+    let parts = Vec::from_slice(heap.alloc(), &[first, second])?;
+    Ok(Wish::Ends(heap.make_array(parts)?))
 }
 
 /// The item whose key is the least or the greatest.
 fn extreme(heap: &Heap, visit: &Visit, wanted: Extreme) -> Result<Value, RowError> {
-    match extreme_place(heap, &visit.others, wanted)? {
-        Some(place) => Ok(visit.kept.get(place).copied().unwrap_or(Value::Nil)),
+    match extreme_place(heap, visit.others.as_slice(), wanted)? {
+        Some(place) => Ok(
+            visit
+                .kept
+                .as_slice()
+                .get(place)
+                .copied()
+                .unwrap_or(Value::Nil),
+        ),
         None => Ok(Value::Nil),
     }
 }
@@ -44,7 +58,12 @@ struct Keyed {
 /// The items with their keys.
 fn with_keys(heap: &Heap, visit: &Visit) -> Result<Vec<Keyed>, AllocError> {
     let mut all = Vec::with_capacity(heap.alloc(), visit.kept.len())?;
-    'items: for (item, key) in visit.kept.iter().zip(visit.others.iter()) {
+    'items: for (item, key) in visit
+        .kept
+        .as_slice()
+        .iter()
+        .zip(visit.others.as_slice().iter())
+    {
         all.push(Keyed {
             key: *key,
             item: *item,
@@ -71,7 +90,7 @@ fn kept_order(
 
 /// The items in the order of their keys; those of equal keys keep theirs.
 fn sorted_items(heap: &Heap, visit: &Visit) -> Result<Vec<Value>, RowError> {
-    extreme_place(heap, &visit.others, Extreme::Least)?;
+    extreme_place(heap, visit.others.as_slice(), Extreme::Least)?;
     let mut all = with_keys(heap, visit)?;
     let mut failure = None;
     all.sort_by(|left, right| kept_order(heap, left, right, &mut failure))?;
@@ -92,7 +111,9 @@ fn sorted_array(heap: &mut Heap, visit: &Visit) -> Result<Value, RowError> {
 }
 
 /// What a method that orders items comes to.
-fn settled(outcome: Result<Value, RowError>) -> Result<Wish, AllocError> {
+fn settled(outcome: Result<Value, RowError>) -> Result<Wish, AllocError>
+    ensures { IfOk result driving.IsEnd }
+{
     match outcome {
         Ok(value) => Ok(Wish::Ends(value)),
         Err(RowError::Fails(cause)) => Ok(Wish::Fails(cause)),
@@ -101,15 +122,20 @@ fn settled(outcome: Result<Value, RowError>) -> Result<Wish, AllocError> {
 }
 
 /// What was gathered: the Hash that was made, or else the items.
-fn gathered(heap: &mut Heap, visit: &mut Visit) -> Result<Value, AllocError> {
+fn gathered(heap: &mut Heap, visit: &mut Visit) -> Result<Wish, AllocError>
+    ensures { IfOk result (λ wish. driving.IsLeft (driving.kept_given heap.old visit.old) wish visit.new heap.new) }
+{
     match visit.made {
-        Some(hash) => Ok(Value::Obj(hash)),
+        Some(hash) => Ok(Wish::Ends(Value::Obj(hash))),
         None => kept_array(heap, visit),
     }
 }
 
 /// What the visit gives once all items were visited.
-pub(crate) fn end(heap: &mut Heap, visit: &mut Visit) -> Result<Wish, AllocError> {
+pub(crate) fn end(heap: &mut Heap, visit: &mut Visit) -> Result<Wish, AllocError>
+    ensures { IfOk result (λ wish.
+        driving.Ends visit.old.task heap.old visit.old wish visit.new heap.new) }
+{
     match visit.task {
         Task::Map
         | Task::FlatMap
@@ -117,8 +143,8 @@ pub(crate) fn end(heap: &mut Heap, visit: &mut Visit) -> Result<Wish, AllocError
         | Task::Reject
         | Task::GroupBy
         | Task::TakeWhile
-        | Task::DropWhile => Ok(Wish::Ends(gathered(heap, visit)?)),
-        Task::Partition => Ok(Wish::Ends(both_parts(heap, visit)?)),
+        | Task::DropWhile => gathered(heap, visit),
+        Task::Partition => both_parts(heap, visit),
         Task::MinBy => settled(extreme(heap, visit, Extreme::Least)),
         Task::MaxBy => settled(extreme(heap, visit, Extreme::Greatest)),
         Task::SortBy => settled(sorted_array(heap, visit)),

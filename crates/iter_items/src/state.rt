@@ -14,15 +14,3 @@ pub enum ItemsState {
     Compares(ComparingState),
     Enumerates(EnumeratorState),
 }
-
-impl From<ComparingState> for ItemsState {
-    fn from(state: ComparingState) -> ItemsState {
-        ItemsState::Compares(state)
-    }
-}
-
-impl From<EnumeratorState> for ItemsState {
-    fn from(state: EnumeratorState) -> ItemsState {
-        ItemsState::Enumerates(state)
-    }
-}

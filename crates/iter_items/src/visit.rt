@@ -1,7 +1,11 @@
 //! A visit of items.
+ghost use Rattle.std.specs.Prelude.{◌≡◌};
+ghost use Rattle.iter_items.specs.Asking as asking;
+
 use crate::row::Task;
 use crate::source::Source;
 use crate::wish::Wish;
+use rb_base::List;
 use rb_value::{ObjId, SymId, Value};
 use rows_items::heap::{Heap, Site};
 
@@ -14,9 +18,9 @@ pub struct Visit {
     pub(crate) block: Option<ObjId>,
     pub(crate) item: Value,
     /// What was gathered: items, or answers.
-    pub(crate) kept: Vec<Value>,
+    pub(crate) kept: List<Value>,
     /// The other items of a partition, or the answers that order the items.
-    pub(crate) others: Vec<Value>,
+    pub(crate) others: List<Value>,
     /// The Hash that is made.
     pub(crate) made: Option<ObjId>,
     /// What was made of the items so far, an object that goes to each call, or the value that is counted.
@@ -42,19 +46,21 @@ impl Visit {
         receiver: Value,
         source: Source,
         block: Option<ObjId>,
-    ) -> Visit {
+    ) -> Visit
+        ensures { result ≡ asking.begun task receiver source block }
+    {
         Visit {
             task,
             receiver,
             source,
             block,
             item: Value::Nil,
-            kept: Vec::new(heap.alloc()),
-            others: Vec::new(heap.alloc()),
+            kept: List::new(heap.alloc()),
+            others: List::new(heap.alloc()),
             made: None,
             value: None,
             name: None,
-            site: Site::default(),
+            site: Site { place: 0 },
             size: 0,
             tally: 0,
             called: false,
@@ -63,12 +69,16 @@ impl Visit {
     }
 
     /// The value that was made so far; nil where there is none.
-    pub(crate) fn value_or_nil(&self) -> Value {
+    pub(crate) fn value_or_nil(&self) -> Value
+        ensures { result ≡ asking.value_or_nil self.now }
+    {
         self.value.unwrap_or(Value::Nil)
     }
 
     /// How many items came, or counted.
-    pub(crate) fn tally_value(&self) -> Value {
+    pub(crate) fn tally_value(&self) -> Value
+        ensures { result ≡ asking.tally_value self.now }
+    {
         Value::Int(i64::try_from(self.tally).unwrap_or(i64::MAX))
     }
 }

@@ -1,0 +1,5 @@
+pub mod Taken
+pub mod Visited
+pub mod Wanted
+pub mod Started
+pub mod Lifted

@@ -1,0 +1,9 @@
+pub mod Checks
+pub mod Sources
+pub mod Asking
+pub mod Hearing
+pub mod Stage
+pub mod Driving
+pub mod Steps
+pub mod Moved
+pub mod Rows
