@@ -1,7 +1,9 @@
 //! First turns of iterations that need no plan.
 
+use crate::enumerating::first_of_enumerator;
 use crate::iterating::{fail_out, waiting};
 use def_core::{BindKind, Cause};
+use iter_enumerators::EnumeratorState;
 use rb_value::{ObjId, Sort, SymId, Value};
 use std::alloc::AllocError;
 use vm_acts::core_calls::{Call, Passed};
@@ -10,8 +12,8 @@ use vm_acts::core_iter::making::blank_for;
 use vm_acts::fiber_switch::Resumed;
 use vm_acts::heap::{Blank, Heap};
 use vm_acts::run_calls::method_running;
-use vm_acts::run_rows::iter_items::ItemsRow;
 use vm_acts::run_rows::iter_items::iter_comparing::ComparingRow;
+use vm_acts::run_rows::iter_items::{ItemsRow, ItemsState};
 use vm_acts::run_rows::{KernelRow, PlainRow, Row, StarRow, call_at_once, call_plain};
 use vm_acts::vm_frames::{Arguments, Begun, Frame};
 use vm_acts::vm_parts::entering::{Entered, enter_called, keep_passed, open_body};
@@ -24,18 +26,27 @@ use vm_plain::pair_value;
 
 /// What `initialize` of a class is: a body, or a core method that calls no other.
 #[derive(Clone, Copy)]
-enum Initialize {
+pub enum Initialize {
     Body(MethodBody),
     Core(PlainRow),
 }
 
-/// What the first turn of an iteration does in place: it ends with a value, calls a Proc, resumes a fiber with at most one
-/// value, yields at most one, makes an object of a class, has a class make one, which is raised, or asks its receiver for
-/// what a core method gives.
+/// What the first turn of an iteration does in place: it ends with a value, calls a Proc whose answer is handed on or gives
+/// way to a value, resumes a fiber with at most one value, or with none for the next item of an Enumerator, yields at most
+/// one, makes an object of a class, has a class make one, which is raised, or asks its receiver for what a core method
+/// gives.
 #[derive(Clone, Copy)]
-enum First {
+pub enum First {
     Gives(Value),
     Calls(ObjId),
+    Puts {
+        callee: ObjId,
+        given: Value,
+    },
+    Enumerates {
+        fiber: ObjId,
+        then: EnumeratorState,
+    },
     Resumes {
         fiber: ObjId,
         passed: Passed,
@@ -185,6 +196,7 @@ fn first_of(parts: &mut Parts, begun: &Begun) -> Result<Option<First>, AllocErro
         StarRow::Items(ItemsRow::Compares(ComparingRow::HashElement)) => {
             first_of_element(parts, begun)
         }
+        StarRow::Items(ItemsRow::Enumerates(row)) => Ok(first_of_enumerator(parts, begun, row)),
         StarRow::Kernel(KernelRow::NewObject) => first_of_object(parts, begun),
         StarRow::Kernel(KernelRow::Raise) => first_of_raise(parts, begun),
         StarRow::Kernel(KernelRow::Message) => Ok(first_of_message(parts, begun)),
@@ -328,11 +340,14 @@ fn raise_in_place(parts: &mut Parts, begun: &Begun, class: Value) -> Result<Flow
     Ok(Flow::Wakes)
 }
 
+/// An iteration that begins waits.
+fn wait(parts: &mut Parts, begun: &Begun, then: Iteration) -> Result<(), AllocError> {
+    parts.frames.push_iteration(waiting(begun.number, then))
+}
+
 /// An iteration that begins waits for the one value that it hands on.
 fn wait_handing(parts: &mut Parts, begun: &Begun) -> Result<(), AllocError> {
-    parts
-        .frames
-        .push_iteration(waiting(begun.number, Iteration::Handing))
+    wait(parts, begun, Iteration::Handing)
 }
 
 /// Asks the receiver of an iteration, which waits, for what a core method gives.
@@ -370,6 +385,15 @@ fn begin_with(
         First::Calls(callee) => {
             wait_handing(parts, begun)?;
             enter_called(code, hot, parts, callee, begun.block, &begun.arguments)
+        }
+        First::Puts { callee, given } => {
+            wait(parts, begun, Iteration::Giving(given))?;
+            enter_called(code, hot, parts, callee, None, &begun.arguments)
+        }
+        First::Enumerates { fiber, then } => {
+            wait(parts, begun, Iteration::Items(ItemsState::Enumerates(then)))?;
+            parts.frames.drop_arguments(begun.arguments);
+            resume_in_place(code, hot, parts, fiber, Passed::Nothing)
         }
         First::Resumes { fiber, passed } => {
             wait_handing(parts, begun)?;

@@ -5,6 +5,7 @@
 //! Types: [`Machine`], [`Ran`], [`Turn`], [`StepFault`]. Calls: [`start`], and those of [`Machine`].
 #![tactic(auto)]
 
+mod enumerating;
 mod in_place;
 mod iterating;
 pub mod machine;
