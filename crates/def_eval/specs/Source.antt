@@ -29,7 +29,7 @@ over_asked a asks.Super x = a.nothing
 over_asked a asks.SelfReference x = a.nothing
 over_asked a asks.Assignment x = a.nothing
 
--- a form's own names come after those of its parts
+-- a form's own names come before those of its parts, as in the tables of its code
 abbrev mutual
   pub over : {A : Type 0} → Gathered A → CoreForm → A
   over a nil = a.nothing
@@ -44,14 +44,14 @@ abbrev mutual
   over a exception = a.nothing
   over a (set_local x e) = over a e
   over a (ivar x) = a.of_name x
-  over a (set_ivar x e) = a.join (over a e) (a.of_name x)
+  over a (set_ivar x e) = a.join (a.of_name x) (over a e)
   over a (gvar x) = a.of_name x
-  over a (set_gvar x e) = a.join (over a e) (a.of_name x)
+  over a (set_gvar x e) = a.join (a.of_name x) (over a e)
   over a (constant x) = a.of_name x
   over a (top_constant x) = a.of_name x
-  over a (in_constant e x) = a.join (over a e) (a.of_name x)
-  over a (set_constant x e) = a.join (over a e) (a.of_name x)
-  over a (set_in_constant s x e) = a.join (over a s) (a.join (over a e) (a.of_name x))
+  over a (in_constant e x) = a.join (a.of_name x) (over a e)
+  over a (set_constant x e) = a.join (a.of_name x) (over a e)
+  over a (set_in_constant s x e) = a.join (a.of_name x) (a.join (over a s) (over a e))
   over a (array is) = over_items a is
   over a (hash ps) = over_pairs a ps
   over a (range e f x) = a.join (over a e) (over a f)
@@ -62,7 +62,7 @@ abbrev mutual
   over a (and_form e f) = a.join (over a e) (over a f)
   over a (or_form e f) = a.join (over a e) (over a f)
   over a (while_form first t b) = a.join (over a t) (over a b)
-  over a (call r x is b) = a.join (over_receiver a r) (a.join (over_items a is) (a.join (over_maybe a b) (a.of_name x)))
+  over a (call r x is b) = a.join (a.of_name x) (a.join (over_receiver a r) (a.join (over_items a is) (over_maybe a b)))
   over a (yield_form is) = over_items a is
   over a (super_form is b) = a.join (over_items a is) (over_maybe a b)
   over a (function f) = over_body a f
@@ -72,14 +72,14 @@ abbrev mutual
   over a (break_form e) = over a e
   over a (next_form e) = over a e
   over a retry = a.nothing
-  over a (define x f) = a.join (over_body a f) (a.of_name x)
-  over a (define_on e x f) = a.join (over a e) (a.join (over_body a f) (a.of_name x))
-  over a (class_form s x p f) = a.join (over_maybe a s) (a.join (over_maybe a p) (a.join (over_body a f) (a.of_name x)))
-  over a (module_form s x f) = a.join (over_maybe a s) (a.join (over_body a f) (a.of_name x))
+  over a (define x f) = a.join (a.of_name x) (over_body a f)
+  over a (define_on e x f) = a.join (a.of_name x) (a.join (over a e) (over_body a f))
+  over a (class_form s x p f) = a.join (a.of_name x) (a.join (over_maybe a s) (a.join (over_maybe a p) (over_body a f)))
+  over a (module_form s x f) = a.join (a.of_name x) (a.join (over_maybe a s) (over_body a f))
   over a (singleton_class e f) = a.join (over a e) (over_body a f)
   over a (alias_form new old) = a.join (a.of_name new) (a.of_name old)
   over a (undef_form x) = a.of_name x
-  over a (defined k x e) = a.join (over_maybe a e) (over_asked a k x)
+  over a (defined k x e) = a.join (over_asked a k x) (over_maybe a e)
   over a (item e k) = over a e
   over a (rest_of e from post) = over a e
   over a (tail_of e from count) = over a e

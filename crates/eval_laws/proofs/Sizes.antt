@@ -10,8 +10,9 @@ module _ {A : Type 0} where
   two : (xs ys : List A) (m n : ℕ) → length xs ≡ m → length ys ≡ n → length (xs ++ ys) ≡ m + n
   two xs ys m n h k = rw length-append (omega (arith, h, k))
 
-  alone : (xs : List A) (m : ℕ) → length xs ≡ m → length (xs ++ []) ≡ m + 0
-  alone xs m h = two xs [] m 0 h refl
+  -- behind a name
+  named : (xs : List A) (n : ℕ) → length xs ≡ n → length xs ≡ 0 + n
+  named xs n h = omega (arith, h)
 
 asked : (k : DefinedKind) (x : List ℕ) → length (over_asked in_order k x) ≡ over_asked how_many k x
 asked asks.Expression x = refl
@@ -39,14 +40,14 @@ mutual
   size form.exception = refl
   size (form.set_local x e) = size e
   size (form.ivar x) = refl
-  size (form.set_ivar x e) = alone _ _ (size e)
+  size (form.set_ivar x e) = named _ _ (size e)
   size (form.gvar x) = refl
-  size (form.set_gvar x e) = alone _ _ (size e)
+  size (form.set_gvar x e) = named _ _ (size e)
   size (form.constant x) = refl
   size (form.top_constant x) = refl
-  size (form.in_constant e x) = alone _ _ (size e)
-  size (form.set_constant x e) = alone _ _ (size e)
-  size (form.set_in_constant c x e) = two _ _ _ _ (size c) (alone _ _ (size e))
+  size (form.in_constant e x) = named _ _ (size e)
+  size (form.set_constant x e) = named _ _ (size e)
+  size (form.set_in_constant c x e) = named _ _ (two _ _ _ _ (size c) (size e))
   size (form.array is) = size_items is
   size (form.hash ps) = size_pairs ps
   size (form.range e f x) = two _ _ _ _ (size e) (size f)
@@ -57,7 +58,7 @@ mutual
   size (form.and_form e f) = two _ _ _ _ (size e) (size f)
   size (form.or_form e f) = two _ _ _ _ (size e) (size f)
   size (form.while_form first t b) = two _ _ _ _ (size t) (size b)
-  size (form.call r x is b) = two _ _ _ _ (size_receiver r) (two _ _ _ _ (size_items is) (alone _ _ (size_maybe b)))
+  size (form.call r x is b) = named _ _ (two _ _ _ _ (size_receiver r) (two _ _ _ _ (size_items is) (size_maybe b)))
   size (form.yield_form is) = size_items is
   size (form.super_form is b) = two _ _ _ _ (size_items is) (size_maybe b)
   size (form.function f) = size_body f
@@ -68,15 +69,15 @@ mutual
   size (form.break_form e) = size e
   size (form.next_form e) = size e
   size form.retry = refl
-  size (form.define x f) = alone _ _ (size_body f)
-  size (form.define_on e x f) = two _ _ _ _ (size e) (alone _ _ (size_body f))
+  size (form.define x f) = named _ _ (size_body f)
+  size (form.define_on e x f) = named _ _ (two _ _ _ _ (size e) (size_body f))
   size (form.class_form c x p f) =
-      two _ _ _ _ (size_maybe c) (two _ _ _ _ (size_maybe p) (alone _ _ (size_body f)))
-  size (form.module_form c x f) = two _ _ _ _ (size_maybe c) (alone _ _ (size_body f))
+      named _ _ (two _ _ _ _ (size_maybe c) (two _ _ _ _ (size_maybe p) (size_body f)))
+  size (form.module_form c x f) = named _ _ (two _ _ _ _ (size_maybe c) (size_body f))
   size (form.singleton_class e f) = two _ _ _ _ (size e) (size_body f)
   size (form.alias_form x y) = refl
   size (form.undef_form x) = refl
-  size (form.defined k x e) = two _ _ _ _ (size_maybe e) (asked k x)
+  size (form.defined k x e) = two _ _ _ _ (asked k x) (size_maybe e)
   size (form.item e k) = size e
   size (form.rest_of e from post) = size e
   size (form.tail_of e from count) = size e

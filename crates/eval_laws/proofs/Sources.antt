@@ -159,9 +159,27 @@ module _ (s : Source) where
   the_name : (n : ℕ) (x : Name) → Here s n (name x) → IsNamed s x
   the_name n x h = h.names x (or_left (bytes_eq x x) false ((bytes_eq-Decides x x).1 refl))
 
-  -- a name behind a piece
-  named : (n : ℕ) (p : Piece) (x : Name) → Here s n (joined p (name x)) → IsNamed s x
-  named n p x h = the_name (n + length p.bodies) x (right n (n + length p.bodies) p (name x) refl h)
+  -- a name before a piece
+  named : (n : ℕ) (x : Name) (q : Piece) → Here s n (joined (name x) q) → IsNamed s x
+  named n x q h = the_name n x (left n (name x) q h)
+
+  behind_name : (n : ℕ) (x : Name) (q : Piece) → Here s n (joined (name x) q) → Here s n q
+  behind_name n x q h = right n n (name x) q (omega arith) h
+
+  no_bodies : (k : DefinedKind) (x : Name) → length (over_asked in_order k x) ≡ 0
+  no_bodies asks.Expression x = refl
+  no_bodies asks.LocalVariable x = refl
+  no_bodies asks.InstanceVariable x = refl
+  no_bodies asks.GlobalVariable x = refl
+  no_bodies asks.Constant x = refl
+  no_bodies asks.Method x = refl
+  no_bodies asks.Yield x = refl
+  no_bodies asks.Super x = refl
+  no_bodies asks.SelfReference x = refl
+  no_bodies asks.Assignment x = refl
+
+  behind_asked : (n : ℕ) (k : DefinedKind) (x : Name) (q : Piece) → Here s n (joined (asked_piece k x) q) → Here s n q
+  behind_asked n k x q h = let e = no_bodies k x in right n n (asked_piece k x) q (omega (arith, e)) h
 
   asked : (n : ℕ) (k : DefinedKind) (x : Name) → Here s n (asked_piece k x) → IsAsked s k x
   asked n asks.Expression x h = tt
@@ -193,19 +211,19 @@ module _ (s : Source) where
     stands a n form.exception h k = h
     stands a n (form.set_local x e) h k = let b = and_true h in (b.0, stands a n e b.1 k)
     stands a n (form.ivar x) h k = the_name n x k
-    stands a n (form.set_ivar x e) h k = (named n (piece e) x k, stands a n e h (left n (piece e) (name x) k))
+    stands a n (form.set_ivar x e) h k = (named n x (piece e) k, stands a n e h (behind_name n x (piece e) k))
     stands a n (form.gvar x) h k = the_name n x k
-    stands a n (form.set_gvar x e) h k = (named n (piece e) x k, stands a n e h (left n (piece e) (name x) k))
+    stands a n (form.set_gvar x e) h k = (named n x (piece e) k, stands a n e h (behind_name n x (piece e) k))
     stands a n (form.constant x) h k = the_name n x k
     stands a n (form.top_constant x) h k = the_name n x k
-    stands a n (form.in_constant e x) h k = (named n (piece e) x k, stands a n e h (left n (piece e) (name x) k))
-    stands a n (form.set_constant x e) h k = (named n (piece e) x k, stands a n e h (left n (piece e) (name x) k))
+    stands a n (form.in_constant e x) h k = (named n x (piece e) k, stands a n e h (behind_name n x (piece e) k))
+    stands a n (form.set_constant x e) h k = (named n x (piece e) k, stands a n e h (behind_name n x (piece e) k))
     stands a n (form.set_in_constant c x e) h k =
         let b = and_true h in
-        let r = behind n c (joined (piece e) (name x)) k in (
-          named (n + span c) (piece e) x r,
-          stands a n c b.0 (left n (piece c) (joined (piece e) (name x)) k),
-          stands a (n + span c) e b.1 (left (n + span c) (piece e) (name x) r),
+        let l = behind_name n x (joined (piece c) (piece e)) k in (
+          named n x (joined (piece c) (piece e)) k,
+          stands a n c b.0 (left n (piece c) (piece e) l),
+          stands a (n + span c) e b.1 (behind n c (piece e) l),
         )
     stands a n (form.array is) h k = items_stand a n is h k
     stands a n (form.hash ps) h k = pairs_stand a n ps h k
@@ -234,15 +252,14 @@ module _ (s : Source) where
     stands a n (form.call r x is b) h k =
         let c = and_true h in
         let d = and_true c.1 in
-        let q = joined (piece_items is) (joined (piece_maybe b) (name x)) in
-        let l = behind_receiver n r q k in
-        let m = behind_items (past_receiver n r) is (joined (piece_maybe b) (name x)) l in (
-          named (past_items (past_receiver n r) is) (piece_maybe b) x m,
-          receiver_stands a n r c.0 (left n (piece_receiver r) q k),
-          items_stand a (past_receiver n r) is d.0
-              (left (past_receiver n r) (piece_items is) (joined (piece_maybe b) (name x)) l),
+        let q = joined (piece_items is) (piece_maybe b) in
+        let f = behind_name n x (joined (piece_receiver r) q) k in
+        let l = behind_receiver n r q f in (
+          named n x (joined (piece_receiver r) q) k,
+          receiver_stands a n r c.0 (left n (piece_receiver r) q f),
+          items_stand a (past_receiver n r) is d.0 (left (past_receiver n r) (piece_items is) (piece_maybe b) l),
           maybe_stands a (past_items (past_receiver n r) is) b d.1
-              (left (past_items (past_receiver n r) is) (piece_maybe b) (name x) m),
+              (behind_items (past_receiver n r) is (piece_maybe b) l),
         )
     stands a n (form.yield_form is) h k = items_stand a n is (and_true h).1 k
     stands a n (form.super_form is b) h k =
@@ -272,33 +289,31 @@ module _ (s : Source) where
     stands a n (form.next_form e) h k = stands a n e (and_true h).1 k
     stands a n form.retry h k = h
     stands a n (form.define x f) h k =
-        (named n (piece_body f) x k, method_stands n f h (left n (piece_body f) (name x) k))
+        (named n x (piece_body f) k, method_stands n f h (behind_name n x (piece_body f) k))
     stands a n (form.define_on e x f) h k =
         let b = and_true h in
-        let r = behind n e (joined (piece_body f) (name x)) k in (
-          named (n + span e) (piece_body f) x r,
-          stands a n e b.0 (left n (piece e) (joined (piece_body f) (name x)) k),
-          method_stands (n + span e) f b.1 (left (n + span e) (piece_body f) (name x) r),
+        let l = behind_name n x (joined (piece e) (piece_body f)) k in (
+          named n x (joined (piece e) (piece_body f)) k,
+          stands a n e b.0 (left n (piece e) (piece_body f) l),
+          method_stands (n + span e) f b.1 (behind n e (piece_body f) l),
         )
     stands a n (form.class_form c x p f) h k =
         let b = and_true h in
         let d = and_true b.1 in
-        let q = joined (piece_maybe p) (joined (piece_body f) (name x)) in
-        let l = behind_maybe n c q k in
-        let m = behind_maybe (n + span_maybe c) p (joined (piece_body f) (name x)) l in (
-          named (n + span_maybe c + span_maybe p) (piece_body f) x m,
-          maybe_stands a n c b.0 (left n (piece_maybe c) q k),
-          maybe_stands a (n + span_maybe c) p d.0
-              (left (n + span_maybe c) (piece_maybe p) (joined (piece_body f) (name x)) l),
-          class_stands (n + span_maybe c + span_maybe p) f d.1
-              (left (n + span_maybe c + span_maybe p) (piece_body f) (name x) m),
+        let q = joined (piece_maybe p) (piece_body f) in
+        let g = behind_name n x (joined (piece_maybe c) q) k in
+        let l = behind_maybe n c q g in (
+          named n x (joined (piece_maybe c) q) k,
+          maybe_stands a n c b.0 (left n (piece_maybe c) q g),
+          maybe_stands a (n + span_maybe c) p d.0 (left (n + span_maybe c) (piece_maybe p) (piece_body f) l),
+          class_stands (n + span_maybe c + span_maybe p) f d.1 (behind_maybe (n + span_maybe c) p (piece_body f) l),
         )
     stands a n (form.module_form c x f) h k =
         let b = and_true h in
-        let l = behind_maybe n c (joined (piece_body f) (name x)) k in (
-          named (n + span_maybe c) (piece_body f) x l,
-          maybe_stands a n c b.0 (left n (piece_maybe c) (joined (piece_body f) (name x)) k),
-          class_stands (n + span_maybe c) f b.1 (left (n + span_maybe c) (piece_body f) (name x) l),
+        let l = behind_name n x (joined (piece_maybe c) (piece_body f)) k in (
+          named n x (joined (piece_maybe c) (piece_body f)) k,
+          maybe_stands a n c b.0 (left n (piece_maybe c) (piece_body f) l),
+          class_stands (n + span_maybe c) f b.1 (behind_maybe n c (piece_body f) l),
         )
     stands a n (form.singleton_class e f) h k =
         let b = and_true h in (
@@ -306,11 +321,11 @@ module _ (s : Source) where
           class_stands (n + span e) f b.1 (behind n e (piece_body f) k),
         )
     stands a n (form.alias_form x y) h k =
-        (the_name n x (left n (name x) (name y) k), named n (name x) y k)
+        (named n x (name y) k, the_name n y (behind_name n x (name y) k))
     stands a n (form.undef_form x) h k = the_name n x k
     stands a n (form.defined d x e) h k = (
-      asked (n + span_maybe e) d x (behind_maybe n e (asked_piece d x) k),
-      maybe_stands a n e h (left n (piece_maybe e) (asked_piece d x) k),
+      asked n d x (left n (asked_piece d x) (piece_maybe e) k),
+      maybe_stands a n e h (behind_asked n d x (piece_maybe e) k),
     )
     stands a n (form.item e i) h k = stands a n e h k
     stands a n (form.rest_of e from post) h k = stands a n e h k

@@ -83,12 +83,14 @@ mutual
   names_core (form.or_form a b) is = all_core (over named_in a) (over named_in b) (names_core a is.0) (names_core b is.1)
   names_core (form.while_form first t b) is = all_core (over named_in t) (over named_in b) (names_core t is.0) (names_core b is.1)
   names_core (form.call (form.to e) x is' form.absent) is =
-      all_core (over named_in e) (over_items named_in is' ++ ([] ++ x ∷ [])) (names_core e is.0)
-      (all_core (over_items named_in is') ([] ++ x ∷ []) (items_core is' is.1) (operator_known x is.2, tt))
+      (
+        operator_known x is.2,
+        all_core (over named_in e) (over_items named_in is' ++ []) (names_core e is.0)
+            (all_core (over_items named_in is') [] (items_core is' is.1) tt),
+      )
   names_core (form.call (form.to e) x is' (form.there b)) is = absurd is
   names_core (form.call form.on_self x is' form.absent) is =
-      all_core (over_items named_in is') ([] ++ x ∷ []) (items_core is' is.0)
-      (subst IsCoreName (sym is.1) puts_known, tt)
+      (subst IsCoreName (sym is.1) puts_known, all_core (over_items named_in is') [] (items_core is' is.0) tt)
   names_core (form.call form.on_self x is' (form.there b)) is = absurd is
   names_core (form.call form.bare x is' b) is = absurd is
   names_core (form.yield_form is') is = absurd is
@@ -166,11 +168,11 @@ mutual
   no_bodies (form.or_form a b) is = none_both (over in_order a) (over in_order b) (no_bodies a is.0) (no_bodies b is.1)
   no_bodies (form.while_form first t b) is = none_both (over in_order t) (over in_order b) (no_bodies t is.0) (no_bodies b is.1)
   no_bodies (form.call (form.to e) x is' form.absent) is =
-      none_both (over in_order e) (over_items in_order is' ++ ([] ++ [])) (no_bodies e is.0)
-      (none_both (over_items in_order is') ([] ++ []) (none_in_items is' is.1) refl)
+      none_both (over in_order e) (over_items in_order is' ++ []) (no_bodies e is.0)
+      (none_both (over_items in_order is') [] (none_in_items is' is.1) refl)
   no_bodies (form.call (form.to e) x is' (form.there b)) is = absurd is
   no_bodies (form.call form.on_self x is' form.absent) is =
-      none_both (over_items in_order is') ([] ++ []) (none_in_items is' is.0) refl
+      none_both (over_items in_order is') [] (none_in_items is' is.0) refl
   no_bodies (form.call form.on_self x is' (form.there b)) is = absurd is
   no_bodies (form.call form.bare x is' b) is = absurd is
   no_bodies (form.yield_form is') is = absurd is
