@@ -16,6 +16,7 @@ use Rattle.rb_value.specs.declared.core_class.CoreClass.TheVariants as class
 use Rattle.def_core.specs.Store.{Store, core, sort_at}
 use Rattle.def_core.specs.Changes.{is_class_sort}
 use Rattle.def_core.specs.Classes.{chain, is_member}
+use Rattle.def_core.specs.Classes as classes
 use Rattle.def_core.specs.Sound.{Proc, ClassOrModule, plays, has_object}
 
 -- whether the store has a symbol of that number, what a value names
@@ -136,3 +137,7 @@ with_symbol name defined w = if has_symbol w.store name then defined w else give
 
 abbrev pub is_in_chain : Store → ObjId → ObjId → Bool
 is_in_chain st class other = has_space st class && is_member (chain st.objects class) other
+
+-- its ancestors, the nearest first
+abbrev pub ancestors : Store → ObjId → List ObjId
+ancestors st class = if has_space st class then classes.ancestors st.objects class else []

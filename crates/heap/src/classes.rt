@@ -1,6 +1,7 @@
 //! Classes of values, and what is above them.
 
 ghost use Rattle.std.specs.Prelude.{◌≡◌, [], IfOk, OnOk, OnErr, if◌then◌else◌};
+ghost use Rattle.class_model.specs.AncestorsLeft.{ancestors_left, IsAncestry};
 ghost use Rattle.def_core.specs.Classes.{empty_class};
 ghost use Rattle.def_core.specs.Sound.{Sound, census, Is, ClassOrModule};
 ghost use Rattle.def_core.specs.Store as store;
@@ -15,6 +16,7 @@ ghost use Rattle.heap.specs.Operands as operands;
 use crate::heap::Heap;
 use crate::making::add;
 use crate::testing::{class_or_object, own, space};
+use class_model::ancestry::Ancestors;
 use class_model::{ancestors, superclass_of};
 use pair_table::PairTable;
 use rb_base::List;
@@ -37,6 +39,18 @@ fn empty(alloc: Global, form: ClassForm, superclass: Option<ObjId>) -> ClassCont
         visibility: Visibility::Public,
         methods: MethodTable::new(alloc),
     }
+}
+
+/// The rest of the ancestors of a class.
+fn ancestors_of(walk: &mut Ancestors, alloc: Global) -> Result<Vec<ObjId>, AllocError>
+    requires { IsAncestry walk.old }
+    ensures { IfOk result (λ list. list.items ≡ ancestors_left walk.old) }
+{
+    let mut all = Vec::new(alloc);
+    'ancestors: while let Some(id) = walk.next() {
+        all.push(id)?;
+    }
+    Ok(all)
 }
 
 /// Makes a class without a name under a superclass, and Object where that is no class.
@@ -155,14 +169,13 @@ impl Heap {
     }
 
     /// The ancestors of a class or module, the nearest first.
-    pub fn ancestors(&self, class: ObjId) -> Result<Vec<ObjId>, AllocError> {
-        let mut all = Vec::new(self.alloc());
-        if let Some(class) = space(&self.st, class) {
-            'ancestors: for id in ancestors(&self.st, class) {
-                all.push(id)?;
-            }
+    pub fn ancestors(&self, class: ObjId) -> Result<Vec<ObjId>, AllocError>
+        ensures { IfOk result (λ list. list.items ≡ operands.ancestors self.now.store class) }
+    {
+        match space(&self.st, class) {
+            Some(class) => ancestors_of(&mut ancestors(&self.st, class), self.alloc()),
+            None => Ok(Vec::new(self.alloc())),
         }
-        Ok(all)
     }
 
     /// Makes a class without a name under a superclass, and Object where that is no class.
