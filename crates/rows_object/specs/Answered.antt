@@ -24,3 +24,7 @@ Answered before after (Err e) defined = Unit {0}
 -- a value of a core class was expected
 abbrev pub refused : CoreClass → Value → Store → Done
 refused class v st = fails st (cause.Expected (core class) (plain_class_of st.objects (own st v)))
+
+-- a store as one that is held, whatever the count of its changes
+abbrev pub holding : Store → Held
+holding st = record { store = st; changes = 0 }

@@ -1,8 +1,11 @@
 -- What the methods give and leave (ISO/IEC 30170:2012, 15.2 and 15.3).
-use Rattle.std.specs.Prelude.{ℤ, pos, negsuc, List, nat_lt, Bool, not, if◌then◌else◌, Option, Some, None, get_or}
+use Rattle.std.specs.Prelude.{ℕ, ℤ, pos, negsuc, List, [], ◌++◌, codes, nat_lt, Bool, true, false, not, if◌then◌else◌, Option, Some, None, is_some, get_or}
 use Rattle.rb_value.specs.declared.value.Value.{Value}
 use Rattle.rb_value.specs.declared.value.Value.TheVariants.{Nil, True, False, Int, Sym, Obj}
 use Rattle.rb_value.specs.declared.value.ObjId.{ObjId}
+use Rattle.rb_value.specs.declared.kind.Sort.{Sort}
+use Rattle.rb_value.specs.declared.method.Visibility.{Visibility}
+use Rattle.rb_value.specs.declared.method.Visibility.TheVariants as visibility
 use Rattle.rb_value.specs.declared.core_class.CoreClass.TheVariants as class
 use Rattle.rb_value.specs.declared.procs.ProcContents.{ProcContents}
 use Rattle.rb_value.specs.Value.{truth}
@@ -11,13 +14,22 @@ use Rattle.def_core.specs.declared.cause.Cause.{Cause}
 use Rattle.def_core.specs.declared.cause.Cause.TheVariants as cause
 use Rattle.def_core.specs.Store.{Store, Done, object_at, same_object}
 use Rattle.def_core.specs.Classes.{class_of, plain_class_of, chain, is_member}
+use Rattle.def_core.specs.declared.found.Found.{Found}
+use Rattle.def_core.specs.Changes as changes
 use Rattle.def_core.specs.Changes.{gives, fails}
+use Rattle.def_core.specs.Find.{find}
+use Rattle.def_core.specs.Texts as texts
+use Rattle.def_rows.specs.Answers.{makes, text_object}
+use Rattle.def_calls.specs.Definitions as definitions
+use Rattle.def_calls.specs.World.{World, Answer, answer, give}
+use Rattle.rb_store.specs.Opening.{main_object}
 use Rattle.def_calls.specs.Views.{a_proc, a_fiber, fiber_of}
 use Rattle.def_calls.specs.Definitions.{space_in}
-use Rattle.heap.specs.Operands.{own}
-use Rattle.heap.specs.Reading.{proc_in}
+use Rattle.heap.specs.Operands.{own, has_space, with_space}
+use Rattle.heap.specs.Reading.{proc_in, sort_of_value}
 use Rattle.heap.specs.Told.{told}
 use Rattle.rows_object.specs.Answered.{refused}
+use Rattle.rows_object.specs.Follows.{followed, named, raise, refuse}
 
 -- Object.
 
@@ -51,6 +63,68 @@ is_a v space st = of_space st space
 abbrev pub is_instance : Value → Value → Store → Done
 is_instance v space st = of_space st space
     (λ c. truth (same_object (plain_class_of st.objects (own st v)) c)) (space_in st.objects (own st space))
+
+-- what a class or module is called by texts
+abbrev pub class_name : Store → ObjId → List ℕ
+class_name st c = if has_space st c then texts.class_name st c else []
+
+abbrev pub class_text : Store → Value → List ℕ
+class_text st v = class_name st (plain_class_of st.objects (own st v))
+
+-- `to_s` and `inspect`
+abbrev pub shown_as : Store → Value → List ℕ
+shown_as st v = if same_value v (Obj main_object) then codes "main" else (codes "#<" ++ class_text st v) ++ codes ">"
+
+unfoldable pub text : Value → Store → Done
+text v st = makes st (text_object (shown_as st v))
+
+-- `extend`: the singleton class includes the module
+
+abbrev pub is_module : Option Sort → Bool
+is_module None = false
+is_module (Some s) = changes.is_module_sort s
+
+abbrev pub module_in : Store → Value → Option ObjId
+module_in st v = if is_module (sort_of_value st v) then space_in st.objects (own st v) else None
+
+abbrev pub include_in : ObjId → Value → World → Answer
+include_in c mixin w = with_space c (λ u. answer u (changes.include u.store c (own w.store mixin))) w
+
+abbrev pub extended_by : Value → Value → Value → World → Answer
+extended_by v mixin Nil w = give w Nil
+extended_by v mixin True w = give w True
+extended_by v mixin False w = give w False
+extended_by v mixin (Int z) w = give w (Int z)
+extended_by v mixin (Sym s) w = give w (Sym s)
+extended_by v mixin (Obj c) w = followed (include_in c mixin w) (λ u after. give after v)
+
+abbrev pub extend_if : Value → Value → Bool → World → Answer
+extend_if v mixin false w = refuse class.Module mixin w
+extend_if v mixin true w =
+    followed (definitions.singleton_class w (own w.store v)) (extended_by v mixin)
+
+abbrev pub extend : Value → Value → World → Answer
+extend v mixin w = extend_if v mixin (is_some (module_in w.store mixin)) w
+
+-- `respond_to?`: a public method of that name is found
+
+abbrev pub is_public : Visibility → Bool
+is_public visibility.Public = true
+is_public visibility.Private = false
+is_public visibility.Protected = false
+
+abbrev pub public_found : Option Found → Bool
+public_found None = false
+public_found (Some f) = is_public f.visibility
+
+abbrev pub responds_to : Value → Value → World → Answer
+responds_to v name = named name (λ own_name w. give w (truth (public_found
+    (find w.store.objects (class_of w.store.objects (own w.store v)) own_name))))
+
+-- `method_missing`: no method of that name is found
+abbrev pub method_missing : Value → Value → World → Answer
+method_missing v name = named name (λ own_name w. raise
+    (cause.UndefinedMethod own_name (plain_class_of w.store.objects (own w.store v))) w)
 
 -- Kernel.
 

@@ -1,6 +1,8 @@
 //! Methods of Kernel, and `method_missing`.
 ghost use Rattle.std.specs.Prelude.{◌≡◌};
 ghost use Rattle.rows_object.specs.Answered.{Answered};
+ghost use Rattle.rows_object.specs.Follows.{Follows};
+ghost use Rattle.rows_object.specs.Numbers as numbers;
 ghost use Rattle.rows_object.specs.Rows as rows;
 
 use core_calls::heap::{Given, Heap};
@@ -15,7 +17,9 @@ pub(crate) fn method_missing(
     heap: &mut Heap,
     receiver: Value,
     name: Value,
-) -> Result<Given, AllocError> {
+) -> Result<Given, AllocError>
+    ensures { Follows heap.old heap.new result (rows.method_missing receiver name) }
+{
     match name_in(heap, name)? {
         Ok(name) => {
             let class = heap.plain_class_of(receiver);
@@ -60,7 +64,9 @@ pub(crate) fn exit(heap: &mut Heap, args: &[Value]) -> Result<Given, AllocError>
 }
 
 /// Whether all bytes are decimal digits.
-fn are_digits(text: &[u8]) -> bool {
+fn are_digits(text: &[u8]) -> bool
+    ensures { result ≡ numbers.are_digits text.now }
+{
     'bytes: for byte in text {
         if !byte.is_ascii_digit() {
             return false;
@@ -69,13 +75,22 @@ fn are_digits(text: &[u8]) -> bool {
     true
 }
 
-/// The number that a text is: decimal digits after a sign or none.
-fn whole_number(text: &[u8]) -> Result<i64, Cause> {
-    let digits = match text.split_first() {
+/// A text without the sign that it begins with.
+fn behind_sign(text: &[u8]) -> &[u8]
+    ensures { result.now ≡ numbers.behind_sign text.now }
+{
+    match text.split_first() {
         Some((b'+', rest)) => rest,
         Some((b'-', rest)) => rest,
         _ => text,
-    };
+    }
+}
+
+/// The number that a text is: decimal digits after a sign or none.
+fn whole_number(text: &[u8]) -> Result<i64, Cause>
+    ensures { result ≡ numbers.whole_number text.now }
+{
+    let digits = behind_sign(text);
     if digits.is_empty() || !are_digits(digits) {
         return Err(Cause::InvalidInteger);
     }
@@ -85,16 +100,25 @@ fn whole_number(text: &[u8]) -> Result<i64, Cause> {
     }
 }
 
-/// `Integer`: the number that a value is.
-pub(crate) fn to_integer(heap: &mut Heap, value: Value) -> Result<Given, AllocError> {
-    if let Value::Int(_) = value {
-        return Ok(Given::Gives(value));
-    }
+/// Gives the number that a String is, and refuses another value.
+fn number_in_text(heap: &mut Heap, value: Value) -> Result<Given, AllocError>
+    ensures { Follows heap.old heap.new result (numbers.text_number value) }
+{
     match heap.text_of(value) {
         Some(text) => match whole_number(text) {
             Ok(number) => Ok(Given::Gives(Value::Int(number))),
             Err(cause) => heap.fail(cause),
         },
         None => heap.unexpected(CoreClass::Integer, value),
+    }
+}
+
+/// `Integer`: the number that a value is.
+pub(crate) fn to_integer(heap: &mut Heap, value: Value) -> Result<Given, AllocError>
+    ensures { Follows heap.old heap.new result (numbers.to_integer value) }
+{
+    match value {
+        Value::Int(_) => Ok(Given::Gives(value)),
+        other => number_in_text(heap, other),
     }
 }

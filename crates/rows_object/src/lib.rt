@@ -8,6 +8,7 @@ pub mod calling;
 mod enumerators;
 pub mod exceptions;
 mod fibers;
+pub mod giving;
 mod identity;
 mod kernel;
 mod objects;

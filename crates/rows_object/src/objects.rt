@@ -2,6 +2,7 @@
 ghost use Rattle.std.specs.Prelude.{◌≡◌};
 ghost use Rattle.run_values.specs.declared.given.Given.TheVariants.{Gives};
 ghost use Rattle.rows_object.specs.Answered.{Answered};
+ghost use Rattle.rows_object.specs.Follows.{Follows};
 ghost use Rattle.rows_object.specs.Rows as rows;
 
 use core_calls::heap::{Given, Heap};
@@ -10,7 +11,10 @@ use rb_value::{CoreClass, ObjId, Sort, Value, Visibility};
 use std::alloc::AllocError;
 
 /// `to_s` and `inspect` of an object: its class, and `main` of the main object.
-pub(crate) fn text(heap: &mut Heap, receiver: Value) -> Result<Given, AllocError> {
+#[tactic(auto, unfolding(crate::specs::Rows::text))]
+pub(crate) fn text(heap: &mut Heap, receiver: Value) -> Result<Given, AllocError>
+    ensures { Answered heap.old heap.new result (rows.text receiver) }
+{
     if receiver == heap.main_object() {
         return Ok(Given::Gives(heap.make_text(b"main")?));
     }
@@ -29,7 +33,9 @@ pub(crate) fn class_of(heap: &Heap, receiver: Value) -> Given
 }
 
 /// The module that a value is.
-fn a_module(heap: &Heap, value: Value) -> Option<ObjId> {
+fn a_module(heap: &Heap, value: Value) -> Option<ObjId>
+    ensures { result ≡ rows.module_in heap.now.store value }
+{
     match heap.sort(value) {
         Some(Sort::Module) => heap.space_in(value),
         _ => None,
@@ -37,7 +43,9 @@ fn a_module(heap: &Heap, value: Value) -> Option<ObjId> {
 }
 
 /// `extend`: the singleton class includes a module.
-pub(crate) fn extend(heap: &mut Heap, receiver: Value, mixin: Value) -> Result<Given, AllocError> {
+pub(crate) fn extend(heap: &mut Heap, receiver: Value, mixin: Value) -> Result<Given, AllocError>
+    ensures { Follows heap.old heap.new result (rows.extend receiver mixin) }
+{
     if a_module(heap, mixin).is_none() {
         return heap.unexpected(CoreClass::Module, mixin);
     }
@@ -80,7 +88,9 @@ pub(crate) fn responds_to(
     heap: &mut Heap,
     receiver: Value,
     name: Value,
-) -> Result<Given, AllocError> {
+) -> Result<Given, AllocError>
+    ensures { Follows heap.old heap.new result (rows.responds_to receiver name) }
+{
     match name_in(heap, name)? {
         Ok(name) => {
             let public = match heap.find_for(receiver, name)? {

@@ -1,63 +1,56 @@
 //! Methods of Proc, and those that give Procs of blocks and Symbols.
+ghost use Rattle.std.specs.Prelude.{◌≡◌, ◌<◌, pos, IfOk, OnOk};
+ghost use Rattle.def_core.specs.Store.{next_number};
+ghost use Rattle.heap.specs.Made.{with_core_proc};
 ghost use Rattle.rows_object.specs.Answered.{Answered};
+ghost use Rattle.rows_object.specs.Procs as defined;
 ghost use Rattle.rows_object.specs.Rows as rows;
 
-use crate::row::ObjectRow;
-use crate::{enumerators, fibers};
-use core_calls::Call;
 use core_calls::heap::{Given, Heap};
 use core_calls::hidden::SEND_KEPT_ROW;
 use rb_value::{CoreClass, ObjId, Shape, Value};
 use std::alloc::AllocError;
 
 /// A new Proc that sends a Symbol to its first argument.
-pub fn proc_of_symbol(heap: &mut Heap, symbol: Value) -> Result<ObjId, AllocError> {
+pub fn proc_of_symbol(heap: &mut Heap, symbol: Value) -> Result<ObjId, AllocError>
+    ensures number { IfOk result (λ id. id ≡ next_number heap.old.store) }
+    ensures made { OnOk result (heap.new ≡ with_core_proc heap.old defined.send_kept_row symbol) }
+{
     heap.make_core_proc(SEND_KEPT_ROW, symbol)
 }
 
-/// A method that needs a block, one of Proc, or `to_proc` of a Symbol.
-pub(crate) fn call(heap: &mut Heap, row: ObjectRow, call: Call<'_>) -> Result<Given, AllocError> {
-    match row {
-        ObjectRow::Arity => arity(heap, call.receiver),
-        ObjectRow::IsLambda => is_lambda(heap, call.receiver),
-        ObjectRow::SymbolAsProc => {
-            let made = proc_of_symbol(heap, call.receiver)?;
-            Ok(Given::Gives(Value::Obj(made)))
-        }
-        _ => match call.block {
-            Some(block) => of_block(heap, row, call.receiver, block),
-            None => Ok(Given::Gives(Value::Nil)),
-        },
-    }
-}
-
-/// A method that gives what a block becomes.
-fn of_block(
-    heap: &mut Heap,
-    row: ObjectRow,
-    receiver: Value,
-    block: ObjId,
-) -> Result<Given, AllocError> {
-    match row {
-        ObjectRow::BlockAsLambda => as_lambda(heap, block),
-        ObjectRow::NewFiber => fibers::of_block(heap, receiver, block),
-        ObjectRow::NewEnumerator => enumerators::of_block(heap, receiver, block),
-        _ => Ok(Given::Gives(Value::Obj(block))),
-    }
+/// `to_proc` of a Symbol.
+#[tactic(auto, unfolding(crate::specs::Procs::symbol_as_proc))]
+pub(crate) fn symbol_as_proc(heap: &mut Heap, symbol: Value) -> Result<Given, AllocError>
+    ensures { Answered heap.old heap.new result (defined.symbol_as_proc symbol) }
+{
+    Ok(Given::Gives(Value::Obj(proc_of_symbol(heap, symbol)?)))
 }
 
 /// `lambda`: a new lambda of a block; a Proc that enters a row is one.
-fn as_lambda(heap: &mut Heap, block: ObjId) -> Result<Given, AllocError> {
+pub(crate) fn as_lambda(heap: &mut Heap, block: ObjId) -> Result<Given, AllocError>
+    ensures { Answered heap.old heap.new result (defined.as_lambda block) }
+{
     match heap.copy_proc(block, true)? {
         Some(lambda) => Ok(Given::Gives(Value::Obj(lambda))),
         None => Ok(Given::Gives(Value::Obj(block))),
     }
 }
 
+/// How many arguments a body wants at least.
+fn least_of(shape: Shape) -> i64
+    ensures exact { result ≡ pos (defined.least shape) }
+    ensures small { defined.least shape < 1024 }
+{
+    i64::from(shape.required) + i64::from(shape.post)
+}
+
 /// How many arguments a body wants, and one less than minus that where it takes more. A Proc that is no lambda passes
 /// over what is too many, so its optional parameters don't count.
-fn arity_of(shape: Shape, lambda: bool) -> i64 {
-    let least = i64::from(shape.required) + i64::from(shape.post);
+fn arity_of(shape: Shape, lambda: bool) -> i64
+    ensures { result ≡ defined.arity_of shape lambda }
+{
+    let least = least_of(shape);
     if shape.rest || (lambda && shape.optional > 0) {
         -least - 1
     } else {
@@ -66,7 +59,10 @@ fn arity_of(shape: Shape, lambda: bool) -> i64 {
 }
 
 /// `arity` of a Proc.
-fn arity(heap: &mut Heap, receiver: Value) -> Result<Given, AllocError> {
+#[tactic(auto, unfolding(def_calls::specs::World::fail))]
+pub(crate) fn arity(heap: &mut Heap, receiver: Value) -> Result<Given, AllocError>
+    ensures { Answered heap.old heap.new result (defined.arity receiver) }
+{
     let Some(id) = heap.a_proc(receiver) else {
         return heap.unexpected(CoreClass::Proc, receiver);
     };
@@ -81,7 +77,7 @@ fn arity(heap: &mut Heap, receiver: Value) -> Result<Given, AllocError> {
 
 /// `lambda?` of a Proc.
 #[tactic(auto, unfolding(def_calls::specs::World::fail))]
-fn is_lambda(heap: &mut Heap, receiver: Value) -> Result<Given, AllocError>
+pub(crate) fn is_lambda(heap: &mut Heap, receiver: Value) -> Result<Given, AllocError>
     ensures { Answered heap.old heap.new result (rows.is_lambda receiver) }
 {
     let Some(id) = heap.a_proc(receiver) else {

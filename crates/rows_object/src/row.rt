@@ -1,4 +1,7 @@
 //! The core methods by their names.
+ghost use Rattle.std.specs.Prelude.{◌≡◌, map};
+ghost use Rattle.rows_object.specs.Named as named;
+ghost use Rattle.rows_object.specs.Table as table;
 
 /// A core method of this crate.
 #[derive(Clone, Copy, Debug, PartialEq, Eq)]
@@ -107,7 +110,10 @@ pub const STOP_ITERATION_ROWS: [Named; 1] = [(b"result", ObjectRow::StopResult)]
 pub const NAME_ERROR_ROWS: [Named; 1] = [(b"name", ObjectRow::ErrorName)];
 
 /// The methods of this crate that a segment of the rows has, by their names.
-pub fn rows_of(segment: u16) -> &'static [(&'static [u8], ObjectRow)] {
+#[tactic(auto, unfolding(crate::specs::Named::object_rows, crate::specs::Named::kernel_rows, crate::specs::Named::string_rows, crate::specs::Named::symbol_rows, crate::specs::Named::proc_rows, crate::specs::Named::proc_class_rows, crate::specs::Named::fiber_rows, crate::specs::Named::fiber_class_rows, crate::specs::Named::enumerator_class_rows, crate::specs::Named::exception_rows, crate::specs::Named::system_exit_rows, crate::specs::Named::stop_iteration_rows, crate::specs::Named::name_error_rows))]
+pub fn rows_of(segment: u16) -> &'static [(&'static [u8], ObjectRow)]
+    ensures { map (λ r. (r.0.now, r.1)) result.now ≡ named.rows segment }
+{
     match segment {
         0 => &OBJECT_ROWS,
         2 => &KERNEL_ROWS,
@@ -128,7 +134,9 @@ pub fn rows_of(segment: u16) -> &'static [(&'static [u8], ObjectRow)] {
 
 impl ObjectRow {
     /// At least and at most how many arguments it takes; none stands for no bound.
-    pub(crate) fn counts(self) -> (u64, Option<u64>) {
+    pub(crate) fn counts(self) -> (u64, Option<u64>)
+        ensures { result ≡ table.counts self }
+    {
         match self {
             ObjectRow::Same
             | ObjectRow::Order
@@ -149,7 +157,9 @@ impl ObjectRow {
     }
 
     /// Whether it needs a block.
-    pub(crate) fn wants_block(self) -> bool {
+    pub(crate) fn wants_block(self) -> bool
+        ensures { result ≡ table.wants_block self }
+    {
         matches!(
             self,
             ObjectRow::BlockAsProc

@@ -1,0 +1,3 @@
+pub mod Arrays
+pub mod Held
+pub mod Passing
