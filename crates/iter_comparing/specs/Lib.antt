@@ -10,6 +10,7 @@ pub mod Searching
 pub mod Removing
 pub mod Hashes
 pub mod Sifting
+pub mod Keyed
 pub mod Texts
 pub mod Asking
 pub mod Rows

@@ -1,6 +1,6 @@
 -- What each row wants first, and next with the answer to what it wanted before. What the pieces of `join`
 -- are isn't said yet.
-use Rattle.std.specs.Prelude.{◌≡◌, ℕ, List, [], ◌++◌, length, get_or, codes, nat_eq, not, Bool, true, false, if◌then◌else◌, Option, Some, None}
+use Rattle.std.specs.Prelude.{◌≡◌, ℕ, List, [], ◌++◌, length, get_or, codes, nat_eq, not, Bool, true, false, ◌&&◌, if◌then◌else◌, Option, Some, None}
 use Rattle.rb_value.specs.declared.value.Value.{Value}
 use Rattle.rb_value.specs.declared.value.Value.TheVariants.{Nil, False}
 use Rattle.rb_value.specs.declared.value.ObjId.{ObjId}
@@ -10,6 +10,8 @@ use Rattle.rb_value.specs.declared.core_class.CoreClass.TheVariants as class
 use Rattle.def_core.specs.declared.cause.Cause.{Cause}
 use Rattle.def_core.specs.Parts.{elements_at}
 use Rattle.def_calls.specs.Views.{an_array, a_hash}
+use Rattle.def_core.specs.Changes.{intern, Interned}
+use Rattle.rb_value.specs.declared.value.SymId.{SymId}
 use Rattle.rb_store.specs.Held.{Held}
 use Rattle.core_calls.specs.Checks.{miscounted}
 use Rattle.def_plans.specs.Plan.{Planned, gives, refuses, expected}
@@ -19,7 +21,7 @@ use Rattle.iter_comparing.specs.Stage.{Stage, negates, tests, hands, missing, or
 use Rattle.iter_comparing.specs.Ordering as ordering
 use Rattle.iter_comparing.specs.Equal.{IsAsked}
 use Rattle.iter_comparing.specs.Fetching.{element, fetch, fail_absent}
-use Rattle.iter_comparing.specs.Repeating.{repeat}
+use Rattle.iter_comparing.specs.Repeating.{repeat, made}
 use Rattle.iter_comparing.specs.declared.sifting.Sieve.{Sieve}
 use Rattle.iter_comparing.specs.declared.sifting.Sieve.TheVariants as sieve
 use Rattle.iter_comparing.specs.declared.sifting.Sifting.{Sifting}
@@ -29,7 +31,8 @@ use Rattle.iter_comparing.specs.declared.state.Work.{Work}
 use Rattle.iter_comparing.specs.declared.state.Work.TheVariants as work
 use Rattle.iter_comparing.specs.Sifting.{is_union}
 use Rattle.iter_comparing.specs.Hashes.{items, pairs}
-use Rattle.iter_comparing.specs.Asking.{Begins}
+use Rattle.iter_comparing.specs.Keyed as keyed
+use Rattle.iter_comparing.specs.Asking.{Begins, Comes}
 use Rattle.iter_comparing.specs.Asking as asking
 
 -- at least and at most so many arguments
@@ -97,9 +100,24 @@ sifting held a s b = record {
   asked = 0;
 }
 
+-- of Integers, and Strings, that have the `==` of their class those stay at once that stay by their keys
+abbrev pub SiftsHow : Bool → Held → SymId → Sifting → Planned Stage → Type 0
+SiftsHow true held equal w p = p ≡ made held (keyed.sifted held.store w)
+SiftsHow false held equal w p = Comes equal held (work.Sifts w) p
+
+abbrev pub SiftsFor : Held → SymId → Sifting → Planned Stage → Type 0
+SiftsFor held equal w p = SiftsHow (keyed.have_own_equality held.store equal w.values
+    && keyed.have_own_equality held.store equal w.others) held equal w p
+
+abbrev pub SiftsNamed : Held → Sifting → Interned → Planned Stage → Type 0
+SiftsNamed held w named p = SiftsFor (record held { store = named.store }) named.symbol w p
+
+abbrev pub SiftsAll : Held → Sifting → Planned Stage → Type 0
+SiftsAll held w p = SiftsNamed held w (intern held.store (codes "==")) p
+
 abbrev pub SiftsBy : Held → ObjId → Sieve → Value → Option ObjId → Planned Stage → Type 0
 SiftsBy held a s v None p = p ≡ refuses held (expected held class.Array v)
-SiftsBy held a s v (Some b) p = Begins held (codes "==") (work.Sifts (sifting held a s b)) p
+SiftsBy held a s v (Some b) p = SiftsAll held (sifting held a s b) p
 
 abbrev pub Sifts : Held → ObjId → Sieve → Value → Planned Stage → Type 0
 Sifts held a s v p = SiftsBy held a s v (an_array held.store.objects v) p

@@ -3,6 +3,7 @@ ghost use Rattle.std.specs.Prelude.{◌≡◌, IfOk, OnOk};
 ghost use Rattle.def_plans.specs.Plan.{Plans, Meets};
 ghost use Rattle.iter_comparing.specs.Outright as outright;
 ghost use Rattle.iter_comparing.specs.Asking as asking;
+ghost use Rattle.iter_comparing.specs.Asking.{Comes};
 ghost use Rattle.iter_comparing.specs.Turns as turns;
 ghost use Rattle.rb_value.specs.declared.value.SymId.{SymId};
 ghost use Rattle.iter_comparing.specs.Stage.{stage_of};
@@ -93,7 +94,7 @@ impl Work {
 }
 
 /// The row of the table that a method is.
-fn row_of(found: Option<Found>) -> Option<u16>
+pub(crate) fn row_of(found: Option<Found>) -> Option<u16>
     ensures { result ≡ outright.row_of_found found }
 {
     match found?.method {
@@ -293,7 +294,6 @@ fn first_plan(heap: &Heap, asking: Asking, turn: Turn) -> Result<Plan<ComparingS
 }
 
 /// Begins a work that asks values for a method.
-#[tactic(auto, using(crate::proofs::Comes::comes_as))]
 pub(crate) fn begin(
     heap: &mut Heap,
     name: &[u8],
@@ -302,6 +302,18 @@ pub(crate) fn begin(
     ensures { Meets stage_of heap.new result (asking.Begins heap.old name.now work) }
 {
     let name = heap.intern(name)?;
+    begin_named(heap, name, work)
+}
+
+/// Begins a work that asks values for the method of a name.
+#[tactic(auto, using(crate::proofs::Comes::comes_as))]
+pub(crate) fn begin_named(
+    heap: &mut Heap,
+    name: SymId,
+    work: Work,
+) -> Result<Plan<ComparingState>, AllocError>
+    ensures { Meets stage_of heap.new result (Comes name heap.old work) }
+{
     let mut site = Site::default();
     let mut work = work;
     let turn = advance(heap, name, &mut site, &mut work)?;

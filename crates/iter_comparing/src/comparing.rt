@@ -7,11 +7,12 @@ ghost use Rattle.iter_comparing.specs.Equal as equal;
 ghost use Rattle.iter_comparing.specs.Stage.{stage_of};
 ghost use Rattle.iter_comparing.specs.Rows as rows;
 
-use crate::asking::{begin, go_on, outright};
+use crate::asking::{begin, begin_named, go_on, outright};
 use crate::equating::{Equating, KeySearch, pairs_of};
 use crate::fetching::{element, fail_absent, fetch};
 use crate::flattening::pieces;
 use crate::joining::Joining;
+use crate::keyed::{have_own_equality, sifted};
 use crate::ordering;
 use crate::pairing::Pairing;
 use crate::removing::Removing;
@@ -172,6 +173,21 @@ fn sieve_values(
     })
 }
 
+/// Begins a work in which some values stay. Where all are Integers, or Strings, that have the `==` of their class, it ends
+/// at once.
+fn sift(heap: &mut Heap, work: Sifting) -> Result<Plan<ComparingState>, AllocError>
+    ensures { Meets stage_of heap.new result (rows.SiftsAll heap.old work) }
+{
+    let equal = heap.intern(b"==")?;
+    if have_own_equality(heap, equal, work.values.as_slice())?
+        && have_own_equality(heap, equal, work.others.as_slice())?
+    {
+        let kept = sifted(heap, &work)?;
+        return Ok(Plan::Finishes(heap.make_array(kept)?));
+    }
+    begin_named(heap, equal, Work::Sifts(work))
+}
+
 /// Begins `-`, `&` or `|` of an Array, to which another has to be given.
 fn start_sieve(
     heap: &mut Heap,
@@ -184,7 +200,7 @@ fn start_sieve(
     match heap.an_array(other) {
         Some(other) => {
             let work = sieve_values(heap, array, sieve, other)?;
-            begin(heap, b"==", Work::Sifts(work))
+            sift(heap, work)
         }
         None => Ok(Plan::Fails(heap.refusal(CoreClass::Array, other))),
     }

@@ -11,6 +11,7 @@ mod equating;
 mod fetching;
 mod flattening;
 mod joining;
+mod keyed;
 mod ordering;
 mod pairing;
 mod questions;
