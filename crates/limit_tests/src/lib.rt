@@ -1,0 +1,5 @@
+//! Sources at the limits of the counts of a program, and one past them.
+#![tactic(auto)]
+
+#[cfg(test)]
+mod limits;
