@@ -1,5 +1,5 @@
 -- Branches: conditions, `and` and `or`.
-use Rattle.std.proofs.Common.{◌≡◌, ℕ, ◌+◌, ◌<◌, ◌≤◌, List, [], ◌∷◌, refl, sym, ap, ◌∙◌, subst, arith, Bool, true, false}
+use Rattle.std.proofs.Common.{◌≡◌, ℕ, ◌+◌, ◌<◌, ◌≤◌, List, ◌∷◌, refl, sym, ap, ◌∙◌, subst, arith, Bool, true, false}
 use Rattle.std.specs.Prelude.{pos, ◌-ℤ◌, if◌then◌else◌, Option}
 use Rattle.rb_value.specs.declared.value.Value.{Value}
 use Rattle.rb_value.specs.declared.exit.Slot.{Slot}
@@ -28,54 +28,54 @@ use Rattle.step_laws.specs.Site.{Site, within, place_in, at_line, LineAt}
 use Rattle.step_laws.specs.Covered.{Covered, CoveredBranches}
 use Rattle.step_laws.specs.Measure.{measure}
 use Rattle.step_laws.proofs.Placed.{high, high-both, high-puts, line-past, line-behind, Stands, moved, left, right, the_line, Rest, frame_at, leads, jumped}
-use Rattle.step_laws.proofs.Relation.{Static, after_test, InFrame, Common, Doing, GivesIn, Related, Step}
+use Rattle.step_laws.specs.Relation.{Ground, Static, after_test, InFrame, Common, Doing, GivesIn, Related, Step}
 use Rattle.step_laws.proofs.Matching.{by_none, by_one, going, state_at, stays}
 use Rattle.step_laws.proofs.Literals.{aligned}
 
 -- The turn of a jump that looks at a register.
 
 -- to the place of the next line, or to that of another one
-place_by : (h : Site) (x : Rest) (n to : ℕ) (k : machine.Memory) (b : Bool)
+place_by : (g : Ground) (h : Site) (x : Rest) (n to : ℕ) (k : machine.Memory) (b : Bool)
     → On (frame (record (frame_at h x n) {
       place = if b then at_line h (n + 1)
           else target (at_line h (n + 1)) (pos (at_line h to) -ℤ pos (at_line h (n + 1)));
-    }) ∷ []) k ≡ state_at h x (if b then n + 1 else to) k
-place_by h x n to k true = refl
-place_by h x n to k false =
-    ap (λ (p : ℕ). On (frame (record (frame_at h x n) { place = p }) ∷ []) k) (leads (at_line h (n + 1)) (at_line h to))
+    }) ∷ g.below) k ≡ state_at g h x (if b then n + 1 else to) k
+place_by g h x n to k true = refl
+place_by g h x n to k false =
+    ap (λ (p : ℕ). On (frame (record (frame_at h x n) { place = p }) ∷ g.below) k) (leads (at_line h (n + 1)) (at_line h to))
 
-pub jumped_not : (h : Site) (x : Rest) (n r to : ℕ) (k : machine.Memory) (v : Value) (b : Bool)
+pub jumped_not : (g : Ground) (h : Site) (x : Rest) (n r to : ℕ) (k : machine.Memory) (v : Value) (b : Bool)
     → LineAt h n (line.JumpNot r to) → slot_at k.lists h.list r ≡ V v → is_true v ≡ b
-    → turn h.program (state_at h x n k) ≡ state_at h x (if b then n + 1 else to) k
+    → turn h.program (state_at g h x n k) ≡ state_at g h x (if b then n + 1 else to) k
 unfolding instruction_before
-jumped_not h x n r to k v b l stands e =
-    ap (λ (i : Option (Instruction × ℕ)). act_at h.program i (frame_at h x n) [] k) l.here
+jumped_not g h x n r to k v b l stands e =
+    ap (λ (i : Option (Instruction × ℕ)). act_at h.program i (frame_at h x n) g.below k) l.here
     ∙ ap (λ (t : Bool). On (frame (record (frame_at h x n) {
       place = if t then at_line h (n + 1)
           else target (at_line h (n + 1)) (pos (at_line h to) -ℤ pos (at_line h (n + 1)));
-    }) ∷ []) k) (ap (λ (u : Slot). is_true (read u)) stands ∙ e)
-    ∙ place_by h x n to k b
+    }) ∷ g.below) k) (ap (λ (u : Slot). is_true (read u)) stands ∙ e)
+    ∙ place_by g h x n to k b
 
-place_unless : (h : Site) (x : Rest) (n to : ℕ) (k : machine.Memory) (b : Bool)
+place_unless : (g : Ground) (h : Site) (x : Rest) (n to : ℕ) (k : machine.Memory) (b : Bool)
     → On (frame (record (frame_at h x n) {
       place = if b then target (at_line h (n + 1)) (pos (at_line h to) -ℤ pos (at_line h (n + 1)))
           else at_line h (n + 1);
-    }) ∷ []) k ≡ state_at h x (if b then to else n + 1) k
-place_unless h x n to k false = refl
-place_unless h x n to k true =
-    ap (λ (p : ℕ). On (frame (record (frame_at h x n) { place = p }) ∷ []) k) (leads (at_line h (n + 1)) (at_line h to))
+    }) ∷ g.below) k ≡ state_at g h x (if b then to else n + 1) k
+place_unless g h x n to k false = refl
+place_unless g h x n to k true =
+    ap (λ (p : ℕ). On (frame (record (frame_at h x n) { place = p }) ∷ g.below) k) (leads (at_line h (n + 1)) (at_line h to))
 
-pub jumped_if : (h : Site) (x : Rest) (n r to : ℕ) (k : machine.Memory) (v : Value) (b : Bool)
+pub jumped_if : (g : Ground) (h : Site) (x : Rest) (n r to : ℕ) (k : machine.Memory) (v : Value) (b : Bool)
     → LineAt h n (line.JumpIf r to) → slot_at k.lists h.list r ≡ V v → is_true v ≡ b
-    → turn h.program (state_at h x n k) ≡ state_at h x (if b then to else n + 1) k
+    → turn h.program (state_at g h x n k) ≡ state_at g h x (if b then to else n + 1) k
 unfolding instruction_before
-jumped_if h x n r to k v b l stands e =
-    ap (λ (i : Option (Instruction × ℕ)). act_at h.program i (frame_at h x n) [] k) l.here
+jumped_if g h x n r to k v b l stands e =
+    ap (λ (i : Option (Instruction × ℕ)). act_at h.program i (frame_at h x n) g.below k) l.here
     ∙ ap (λ (t : Bool). On (frame (record (frame_at h x n) {
       place = if t then target (at_line h (n + 1)) (pos (at_line h to) -ℤ pos (at_line h (n + 1)))
           else at_line h (n + 1);
-    }) ∷ []) k) (ap (λ (u : Slot). is_true (read u)) stands ∙ e)
-    ∙ place_unless h x n to k b
+    }) ∷ g.below) k) (ap (λ (u : Slot). is_true (read u)) stands ∙ e)
+    ∙ place_unless g h x n to k b
 
 -- What stands behind a test.
 pub record Tested (h : Site) (n r end : ℕ) (c : Context) (s : Spot) (b : CoreForm) (bs : Branches) (o : CoreForm)
@@ -148,15 +148,17 @@ guarded h n r end c s e l here code ends =
       ends = ends';
     }
 
-module _ (h : Site) (static : Static h) (ks : List Item) (m : source.Memory) (ls : List Level)
-    (k : machine.Memory) (both : Common h m (aligned k m)) where
+module _ (g : Ground) (h : Site) (static : Static h) (ks : List Item) (m : source.Memory) (ls : List Level)
+    (k : machine.Memory) (both : Common g h m (aligned k m)) where
   -- the branches that are left, at line n
   branches : (x : Rest) (n r : ℕ) (loop : Option Loop) (s : Spot) (j : ℕ) (bs : Branches) (o : CoreForm)
       → m.place ≡ place_in h → s.line ≡ n → CoveredBranches h r bs × Covered h r o → h.first ≤ r
       → Stands h n (chosen_code (within h loop) s r bs (λ d t i. gen d t i o))
-      → InFrame h k.lists ks (n + high (chosen_code (within h loop) s r bs (λ d t i. gen d t i o))) r
-      → Related h (next_branch j bs o ks m) (state_at h x n (aligned k m))
+      → InFrame g h k.lists ks (n + high (chosen_code (within h loop) s r bs (λ d t i. gen d t i o))) r
+      → Related h (next_branch j bs o ks m) (state_at g h x n (aligned k m))
   branches x n r loop s j no_branches o there here covered above code next = (
+    g,
+    h,
     both,
     record {
       x = x;
@@ -176,6 +178,8 @@ module _ (h : Site) (static : Static h) (ks : List Item) (m : source.Memory) (ls
   branches x n r loop s j (branch t b bs) o there here covered above code next =
       let p = gen (within h loop) s r t in
       let q = after_test (within h loop) (past s p) r b bs o in (
+        g,
+        h,
         both,
         record {
           x = x;
@@ -213,27 +217,29 @@ module _ (h : Site) (static : Static h) (ks : List Item) (m : source.Memory) (ls
   smaller j no_branches o = omega arith
   smaller j (branch t b bs) o = omega arith
 
-  pub do_cond : (j : ℕ) (bs : Branches) (o : CoreForm) (d : Doing h (cond bs o) ks m.place ls k.lists)
-      → Step h (Run (perform j (cond bs o)) ks m) (state_at h d.x d.n (aligned k m))
+  pub do_cond : (j : ℕ) (bs : Branches) (o : CoreForm) (d : Doing g h (cond bs o) ks m.place ls k.lists)
+      → Step h (Run (perform j (cond bs o)) ks m) (state_at g h d.x d.n (aligned k m))
   unfolding do_form
   do_cond j bs o d =
-      by_none h (Run (perform j (cond bs o)) ks m) (state_at h d.x d.n (aligned k m)) (smaller j bs o)
+      by_none h (Run (perform j (cond bs o)) ks m) (state_at g h d.x d.n (aligned k m)) (smaller j bs o)
       (branches d.x d.n d.r d.loop d.s j bs o d.there d.here d.covered d.above d.code d.next)
 
   -- a test that is given its value
   chosen_by : (v : Value) (j : ℕ) (b : CoreForm) (bs : Branches) (o : CoreForm)
-      (d : GivesIn h v (part (test j b bs o) ∷ ks) m.place ls k.lists)
+      (d : GivesIn g h v (part (test j b bs o) ∷ ks) m.place ls k.lists)
       → Tested h d.n d.next.low d.next.end (within h d.next.behind.loop) d.next.behind.s b bs o
       → (t : Bool) → is_true v ≡ t
-      → Step h (Run (give v) (part (test j b bs o) ∷ ks) m) (state_at h d.x d.n (aligned k m))
+      → Step h (Run (give v) (part (test j b bs o) ∷ ks) m) (state_at g h d.x d.n (aligned k m))
   unfolding do_give give_part
   chosen_by v j b bs o d y true e =
       let c = Run (give v) (part (test j b bs o) ∷ ks) m in
       let stands = subst (λ (i : ℕ). slot_at k.lists h.list i ≡ V v) (sym d.next.behind.at) d.stands in
-      by_one h c (state_at h d.x d.n (aligned k m)) (state_at h d.x (d.n + 1) (aligned k m))
-      (going (give v) (part (test j b bs o) ∷ ks) m (frame (frame_at h d.x d.n) ∷ []) (aligned k m) refl)
-      (jumped_not h d.x d.n d.next.low y.further.line (aligned k m) v true y.skip stands e)
-      (subst (λ (u : Bool). Related h (choose u j b bs o ks m) (state_at h d.x (d.n + 1) (aligned k m))) (sym e) (
+      by_one h c (state_at g h d.x d.n (aligned k m)) (state_at g h d.x (d.n + 1) (aligned k m))
+      (going (give v) (part (test j b bs o) ∷ ks) m (frame (frame_at h d.x d.n) ∷ g.below) (aligned k m) refl)
+      (jumped_not g h d.x d.n d.next.low y.further.line (aligned k m) v true y.skip stands e)
+      (subst (λ (u : Bool). Related h (choose u j b bs o ks m) (state_at g h d.x (d.n + 1) (aligned k m))) (sym e) (
+        g,
+        h,
         both,
         record {
           x = d.x;
@@ -260,42 +266,44 @@ module _ (h : Site) (static : Static h) (ks : List Item) (m : source.Memory) (ls
   chosen_by v j b bs o d y false e =
       let c = Run (give v) (part (test j b bs o) ∷ ks) m in
       let stands = subst (λ (i : ℕ). slot_at k.lists h.list i ≡ V v) (sym d.next.behind.at) d.stands in
-      by_one h c (state_at h d.x d.n (aligned k m)) (state_at h d.x y.further.line (aligned k m))
-      (going (give v) (part (test j b bs o) ∷ ks) m (frame (frame_at h d.x d.n) ∷ []) (aligned k m) refl)
-      (jumped_not h d.x d.n d.next.low y.further.line (aligned k m) v false y.skip stands e)
-      (subst (λ (u : Bool). Related h (choose u j b bs o ks m) (state_at h d.x y.further.line (aligned k m))) (sym e)
+      by_one h c (state_at g h d.x d.n (aligned k m)) (state_at g h d.x y.further.line (aligned k m))
+      (going (give v) (part (test j b bs o) ∷ ks) m (frame (frame_at h d.x d.n) ∷ g.below) (aligned k m) refl)
+      (jumped_not g h d.x d.n d.next.low y.further.line (aligned k m) v false y.skip stands e)
+      (subst (λ (u : Bool). Related h (choose u j b bs o ks m) (state_at g h d.x y.further.line (aligned k m))) (sym e)
       (branches d.x y.further.line d.next.low d.next.behind.loop y.further (j + span b) bs o d.there refl
       (d.next.behind.covered.1, d.next.behind.covered.2) d.next.above y.others
-      (subst (λ (i : ℕ). InFrame h k.lists ks i d.next.low) (sym y.ends) d.next.next)))
+      (subst (λ (i : ℕ). InFrame g h k.lists ks i d.next.low) (sym y.ends) d.next.next)))
 
   pub give_test : (v : Value) (j : ℕ) (b : CoreForm) (bs : Branches) (o : CoreForm)
-      (d : GivesIn h v (part (test j b bs o) ∷ ks) m.place ls k.lists)
-      → Step h (Run (give v) (part (test j b bs o) ∷ ks) m) (state_at h d.x d.n (aligned k m))
+      (d : GivesIn g h v (part (test j b bs o) ∷ ks) m.place ls k.lists)
+      → Step h (Run (give v) (part (test j b bs o) ∷ ks) m) (state_at g h d.x d.n (aligned k m))
   give_test v j b bs o d =
       let y = d.next.behind in
       chosen_by v j b bs o d (tested h d.n d.next.low d.next.end (within h y.loop) y.s b bs o y.here y.code y.ends)
       (is_true v) refl
 
   -- the value of a branch, behind which is a jump to the end
-  pub give_chosen : (v : Value) (d : GivesIn h v (part chosen ∷ ks) m.place ls k.lists)
-      → Step h (Run (give v) (part chosen ∷ ks) m) (state_at h d.x d.n (aligned k m))
+  pub give_chosen : (v : Value) (d : GivesIn g h v (part chosen ∷ ks) m.place ls k.lists)
+      → Step h (Run (give v) (part chosen ∷ ks) m) (state_at g h d.x d.n (aligned k m))
   unfolding do_give give_part
   give_chosen v d =
-      by_one h (Run (give v) (part chosen ∷ ks) m) (state_at h d.x d.n (aligned k m))
-      (state_at h d.x d.next.end (aligned k m))
-      (going (give v) (part chosen ∷ ks) m (frame (frame_at h d.x d.n) ∷ []) (aligned k m) refl)
-      (jumped h d.x d.n d.next.end [] (aligned k m) d.next.behind.jump)
-      (stays h v ks m d.x (aligned k m) d.next.end d.next.low both d.there
+      by_one h (Run (give v) (part chosen ∷ ks) m) (state_at g h d.x d.n (aligned k m))
+      (state_at g h d.x d.next.end (aligned k m))
+      (going (give v) (part chosen ∷ ks) m (frame (frame_at h d.x d.n) ∷ g.below) (aligned k m) refl)
+      (jumped h d.x d.n d.next.end g.below (aligned k m) d.next.behind.jump)
+      (stays g h v ks m d.x (aligned k m) d.next.end d.next.low both d.there
       (subst (λ (i : ℕ). slot_at k.lists h.list i ≡ V v) (sym d.next.behind.at) d.stands) d.next.next)
 
   -- `and` and `or` begin with their first operand
-  pub do_and : (j : ℕ) (a b : CoreForm) (d : Doing h (and_form a b) ks m.place ls k.lists)
-      → Step h (Run (perform j (and_form a b)) ks m) (state_at h d.x d.n (aligned k m))
+  pub do_and : (j : ℕ) (a b : CoreForm) (d : Doing g h (and_form a b) ks m.place ls k.lists)
+      → Step h (Run (perform j (and_form a b)) ks m) (state_at g h d.x d.n (aligned k m))
   unfolding do_form
   do_and j a b d =
       let p = gen (within h d.loop) d.s d.r a in
       let q = over (held.JumpNot d.r) (past d.s p) (λ t. gen (within h d.loop) t d.r b) in
-      by_none h (Run (perform j (and_form a b)) ks m) (state_at h d.x d.n (aligned k m)) (omega arith) (
+      by_none h (Run (perform j (and_form a b)) ks m) (state_at g h d.x d.n (aligned k m)) (omega arith) (
+        g,
+        h,
         both,
         record {
           x = d.x;
@@ -328,13 +336,15 @@ module _ (h : Site) (static : Static h) (ks : List Item) (m : source.Memory) (ls
         },
       )
 
-  pub do_or : (j : ℕ) (a b : CoreForm) (d : Doing h (or_form a b) ks m.place ls k.lists)
-      → Step h (Run (perform j (or_form a b)) ks m) (state_at h d.x d.n (aligned k m))
+  pub do_or : (j : ℕ) (a b : CoreForm) (d : Doing g h (or_form a b) ks m.place ls k.lists)
+      → Step h (Run (perform j (or_form a b)) ks m) (state_at g h d.x d.n (aligned k m))
   unfolding do_form
   do_or j a b d =
       let p = gen (within h d.loop) d.s d.r a in
       let q = over (held.JumpIf d.r) (past d.s p) (λ t. gen (within h d.loop) t d.r b) in
-      by_none h (Run (perform j (or_form a b)) ks m) (state_at h d.x d.n (aligned k m)) (omega arith) (
+      by_none h (Run (perform j (or_form a b)) ks m) (state_at g h d.x d.n (aligned k m)) (omega arith) (
+        g,
+        h,
         both,
         record {
           x = d.x;
@@ -370,9 +380,11 @@ module _ (h : Site) (static : Static h) (ks : List Item) (m : source.Memory) (ls
   -- the second operand is done, or the value of the first is that of the whole
   second : (x : Rest) (v : Value) (n r end : ℕ) (loop : Option Loop) (s : Spot) (j : ℕ) (e : CoreForm) (l : ℕ → Line)
       → m.place ≡ place_in h → s.line ≡ n → Covered h r e → h.first ≤ r
-      → Guarded h n r end (within h loop) s e l → InFrame h k.lists ks end r
-      → Related h (Run (perform j e) ks m) (state_at h x (n + 1) (aligned k m))
-  second x v n r end loop s j e l there here covered above g next = (
+      → Guarded h n r end (within h loop) s e l → InFrame g h k.lists ks end r
+      → Related h (Run (perform j e) ks m) (state_at g h x (n + 1) (aligned k m))
+  second x v n r end loop s j e l there here covered above q next = (
+    g,
+    h,
     both,
     record {
       x = x;
@@ -385,66 +397,66 @@ module _ (h : Site) (static : Static h) (ks : List Item) (m : source.Memory) (ls
       here = omega (arith, line-behind s, here);
       covered = covered;
       above = above;
-      code = g.code;
-      next = subst (λ (i : ℕ). InFrame h k.lists ks i r) (sym g.ends) next;
+      code = q.code;
+      next = subst (λ (i : ℕ). InFrame g h k.lists ks i r) (sym q.ends) next;
     },
   )
 
-  and_by : (v : Value) (j : ℕ) (e : CoreForm) (d : GivesIn h v (part (and_then j e) ∷ ks) m.place ls k.lists)
+  and_by : (v : Value) (j : ℕ) (e : CoreForm) (d : GivesIn g h v (part (and_then j e) ∷ ks) m.place ls k.lists)
       → Guarded h d.n d.next.low d.next.end (within h d.next.behind.loop) d.next.behind.s e (line.JumpNot d.next.low)
       → (t : Bool) → is_true v ≡ t
-      → Step h (Run (give v) (part (and_then j e) ∷ ks) m) (state_at h d.x d.n (aligned k m))
+      → Step h (Run (give v) (part (and_then j e) ∷ ks) m) (state_at g h d.x d.n (aligned k m))
   unfolding do_give give_part
-  and_by v j e d g true is =
+  and_by v j e d q true is =
       let stands = subst (λ (i : ℕ). slot_at k.lists h.list i ≡ V v) (sym d.next.behind.at) d.stands in
-      by_one h (Run (give v) (part (and_then j e) ∷ ks) m) (state_at h d.x d.n (aligned k m))
-      (state_at h d.x (d.n + 1) (aligned k m))
-      (going (give v) (part (and_then j e) ∷ ks) m (frame (frame_at h d.x d.n) ∷ []) (aligned k m) refl)
-      (jumped_not h d.x d.n d.next.low d.next.end (aligned k m) v true g.skip stands is)
-      (subst (λ (u : Bool). Related h (go_right u j e v ks m) (state_at h d.x (d.n + 1) (aligned k m))) (sym is)
+      by_one h (Run (give v) (part (and_then j e) ∷ ks) m) (state_at g h d.x d.n (aligned k m))
+      (state_at g h d.x (d.n + 1) (aligned k m))
+      (going (give v) (part (and_then j e) ∷ ks) m (frame (frame_at h d.x d.n) ∷ g.below) (aligned k m) refl)
+      (jumped_not g h d.x d.n d.next.low d.next.end (aligned k m) v true q.skip stands is)
+      (subst (λ (u : Bool). Related h (go_right u j e v ks m) (state_at g h d.x (d.n + 1) (aligned k m))) (sym is)
       (second d.x v d.n d.next.low d.next.end d.next.behind.loop d.next.behind.s j e (line.JumpNot d.next.low) d.there
-      d.next.behind.here d.next.behind.covered d.next.above g d.next.next))
-  and_by v j e d g false is =
+      d.next.behind.here d.next.behind.covered d.next.above q d.next.next))
+  and_by v j e d q false is =
       let stands = subst (λ (i : ℕ). slot_at k.lists h.list i ≡ V v) (sym d.next.behind.at) d.stands in
-      by_one h (Run (give v) (part (and_then j e) ∷ ks) m) (state_at h d.x d.n (aligned k m))
-      (state_at h d.x d.next.end (aligned k m))
-      (going (give v) (part (and_then j e) ∷ ks) m (frame (frame_at h d.x d.n) ∷ []) (aligned k m) refl)
-      (jumped_not h d.x d.n d.next.low d.next.end (aligned k m) v false g.skip stands is)
-      (subst (λ (u : Bool). Related h (go_right u j e v ks m) (state_at h d.x d.next.end (aligned k m))) (sym is)
-      (stays h v ks m d.x (aligned k m) d.next.end d.next.low both d.there stands d.next.next))
+      by_one h (Run (give v) (part (and_then j e) ∷ ks) m) (state_at g h d.x d.n (aligned k m))
+      (state_at g h d.x d.next.end (aligned k m))
+      (going (give v) (part (and_then j e) ∷ ks) m (frame (frame_at h d.x d.n) ∷ g.below) (aligned k m) refl)
+      (jumped_not g h d.x d.n d.next.low d.next.end (aligned k m) v false q.skip stands is)
+      (subst (λ (u : Bool). Related h (go_right u j e v ks m) (state_at g h d.x d.next.end (aligned k m))) (sym is)
+      (stays g h v ks m d.x (aligned k m) d.next.end d.next.low both d.there stands d.next.next))
 
-  or_by : (v : Value) (j : ℕ) (e : CoreForm) (d : GivesIn h v (part (or_else j e) ∷ ks) m.place ls k.lists)
+  or_by : (v : Value) (j : ℕ) (e : CoreForm) (d : GivesIn g h v (part (or_else j e) ∷ ks) m.place ls k.lists)
       → Guarded h d.n d.next.low d.next.end (within h d.next.behind.loop) d.next.behind.s e (line.JumpIf d.next.low)
       → (t : Bool) → is_true v ≡ t
-      → Step h (Run (give v) (part (or_else j e) ∷ ks) m) (state_at h d.x d.n (aligned k m))
+      → Step h (Run (give v) (part (or_else j e) ∷ ks) m) (state_at g h d.x d.n (aligned k m))
   unfolding do_give give_part
-  or_by v j e d g false is =
+  or_by v j e d q false is =
       let stands = subst (λ (i : ℕ). slot_at k.lists h.list i ≡ V v) (sym d.next.behind.at) d.stands in
-      by_one h (Run (give v) (part (or_else j e) ∷ ks) m) (state_at h d.x d.n (aligned k m))
-      (state_at h d.x (d.n + 1) (aligned k m))
-      (going (give v) (part (or_else j e) ∷ ks) m (frame (frame_at h d.x d.n) ∷ []) (aligned k m) refl)
-      (jumped_if h d.x d.n d.next.low d.next.end (aligned k m) v false g.skip stands is)
-      (subst (λ (u : Bool). Related h (go_left u j e v ks m) (state_at h d.x (d.n + 1) (aligned k m))) (sym is)
+      by_one h (Run (give v) (part (or_else j e) ∷ ks) m) (state_at g h d.x d.n (aligned k m))
+      (state_at g h d.x (d.n + 1) (aligned k m))
+      (going (give v) (part (or_else j e) ∷ ks) m (frame (frame_at h d.x d.n) ∷ g.below) (aligned k m) refl)
+      (jumped_if g h d.x d.n d.next.low d.next.end (aligned k m) v false q.skip stands is)
+      (subst (λ (u : Bool). Related h (go_left u j e v ks m) (state_at g h d.x (d.n + 1) (aligned k m))) (sym is)
       (second d.x v d.n d.next.low d.next.end d.next.behind.loop d.next.behind.s j e (line.JumpIf d.next.low) d.there
-      d.next.behind.here d.next.behind.covered d.next.above g d.next.next))
-  or_by v j e d g true is =
+      d.next.behind.here d.next.behind.covered d.next.above q d.next.next))
+  or_by v j e d q true is =
       let stands = subst (λ (i : ℕ). slot_at k.lists h.list i ≡ V v) (sym d.next.behind.at) d.stands in
-      by_one h (Run (give v) (part (or_else j e) ∷ ks) m) (state_at h d.x d.n (aligned k m))
-      (state_at h d.x d.next.end (aligned k m))
-      (going (give v) (part (or_else j e) ∷ ks) m (frame (frame_at h d.x d.n) ∷ []) (aligned k m) refl)
-      (jumped_if h d.x d.n d.next.low d.next.end (aligned k m) v true g.skip stands is)
-      (subst (λ (u : Bool). Related h (go_left u j e v ks m) (state_at h d.x d.next.end (aligned k m))) (sym is)
-      (stays h v ks m d.x (aligned k m) d.next.end d.next.low both d.there stands d.next.next))
+      by_one h (Run (give v) (part (or_else j e) ∷ ks) m) (state_at g h d.x d.n (aligned k m))
+      (state_at g h d.x d.next.end (aligned k m))
+      (going (give v) (part (or_else j e) ∷ ks) m (frame (frame_at h d.x d.n) ∷ g.below) (aligned k m) refl)
+      (jumped_if g h d.x d.n d.next.low d.next.end (aligned k m) v true q.skip stands is)
+      (subst (λ (u : Bool). Related h (go_left u j e v ks m) (state_at g h d.x d.next.end (aligned k m))) (sym is)
+      (stays g h v ks m d.x (aligned k m) d.next.end d.next.low both d.there stands d.next.next))
 
-  pub give_and : (v : Value) (j : ℕ) (e : CoreForm) (d : GivesIn h v (part (and_then j e) ∷ ks) m.place ls k.lists)
-      → Step h (Run (give v) (part (and_then j e) ∷ ks) m) (state_at h d.x d.n (aligned k m))
+  pub give_and : (v : Value) (j : ℕ) (e : CoreForm) (d : GivesIn g h v (part (and_then j e) ∷ ks) m.place ls k.lists)
+      → Step h (Run (give v) (part (and_then j e) ∷ ks) m) (state_at g h d.x d.n (aligned k m))
   give_and v j e d =
       let y = d.next.behind in
       and_by v j e d (guarded h d.n d.next.low d.next.end (within h y.loop) y.s e (line.JumpNot d.next.low) y.here y.code
       y.ends) (is_true v) refl
 
-  pub give_or : (v : Value) (j : ℕ) (e : CoreForm) (d : GivesIn h v (part (or_else j e) ∷ ks) m.place ls k.lists)
-      → Step h (Run (give v) (part (or_else j e) ∷ ks) m) (state_at h d.x d.n (aligned k m))
+  pub give_or : (v : Value) (j : ℕ) (e : CoreForm) (d : GivesIn g h v (part (or_else j e) ∷ ks) m.place ls k.lists)
+      → Step h (Run (give v) (part (or_else j e) ∷ ks) m) (state_at g h d.x d.n (aligned k m))
   give_or v j e d =
       let y = d.next.behind in
       or_by v j e d (guarded h d.n d.next.low d.next.end (within h y.loop) y.s e (line.JumpIf d.next.low) y.here y.code

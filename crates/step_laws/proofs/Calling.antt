@@ -7,9 +7,12 @@ use Rattle.def_core.specs.declared.bound.Bound.{Bound}
 use Rattle.def_core.specs.declared.bound.Bound.TheVariants.{Values, Wrong}
 use Rattle.def_core.specs.declared.cause.Cause.TheVariants as cause
 use Rattle.def_core.specs.Bind.{bind}
+use Rattle.rb_value.specs.declared.exit.Slot.TheVariants.{V}
+use Rattle.rite_code.specs.Code.{Program}
 use Rattle.ir_core.specs.CoreForm.{CoreForm, Forms, none, more, Body}
 use Rattle.def_calls.specs.World.{World, Answer, Result, gives, raises, fail, next_activation, with_activation, with_store}
 use Rattle.def_calls.specs.Calls.{Entry, answers, enters, begins, Opening, is_full, settle}
+use Rattle.def_calls.specs.Fibers as fibers
 use Rattle.def_eval.specs.Source.{Source, span, parameters_of, locals_of, body_at, form_of}
 use Rattle.def_eval.specs.Configuration as source
 use Rattle.def_eval.specs.Configuration.{Place, Part, operands, receiver, items, block, elements, hash_key, hash_value, pieces, rest, test, chosen, and_then, or_else, loop_test, loop_body, rescued, clause_class, clause_target, clause_body, ensured, stop_of, Item, part, activation, iteration, ensuring, give, Config, Run, seen}
@@ -17,47 +20,44 @@ use Rattle.def_eval.specs.Scopes.{shape_of, first_variables}
 use Rattle.def_eval.specs.Entering.{after_result, depth, do_all, do_from, forms_in, begin_body, first_of, count_failure, begin_bound, in_new_scope, open_body, open_iteration, enter}
 use Rattle.def_eval.specs.Transition.{go}
 use Rattle.def_machine.specs.State as machine
-use Rattle.def_machine.specs.State.{Registers, Level, frame, On, shown}
+use Rattle.def_machine.specs.State.{Registers, Frame, Level, frame, On, put, shown}
 use Rattle.def_machine.specs.Unwind.{receive}
 use Rattle.def_machine.specs.Entering.{answer_result, open_frame, enter as enter_machine}
 use Rattle.def_machine.specs.Turn.{turn}
 use Rattle.step_laws.specs.Site.{Site}
-use Rattle.step_laws.specs.Calm.{Quiet}
-use Rattle.step_laws.specs.Measure.{weights, measure}
+use Rattle.step_laws.specs.Calm.{Grows, Quiet}
+use Rattle.step_laws.specs.Measure.{burden, measure}
 use Rattle.step_laws.proofs.Placed.{Rest, frame_at}
-use Rattle.step_laws.proofs.Relation.{Static, Behind, InFrame, WaitsIn, Waits, IsPassed, Leaving, Common, Related, Step}
-use Rattle.step_laws.proofs.Matching.{by_none, by_one, written, writes}
+use Rattle.step_laws.specs.Relation.{Behind, Inside, EndsBy, stops, returns, Ends, IsSite, Waits, Ground, over_levels, InFrame, IsPassed, Leaving, Both, Alike, Advances}
+use Rattle.step_laws.proofs.Untouched.{leaves_end, runs_again}
+use Rattle.step_laws.proofs.Matching.{no_turn, one_turn, written, writes}
 
 -- both sides have the same number of activations under way
-frame_depth : (h : Site) (l : List Registers) (ks : List Item) (n r : ℕ) → InFrame h l ks n r → depth ks ≡ 1
-frame_depth h l [] n r a = absurd a
-frame_depth h l (part p ∷ ks) n r a = frame_depth h l ks a.end a.low a.next
-frame_depth h l (activation c p ∷ ks) n r a = ap (λ (is : List Item). depth is + 1) a.last
-frame_depth h l (iteration c it p ∷ ks) n r a = absurd a
-frame_depth h l (ensuring o ∷ ks) n r a = absurd a
 
-waiting_depth : (h : Site) (l : List Registers) (ks : List Item) (place : Place) (ls : List Level)
-    → WaitsIn h l ks place ls → depth ks ≡ length ls
-waiting_depth h l ks place ls a = frame_depth h l ks a.n a.x.waits a.next ∙ sym (ap length a.is)
+inside_depth : (h : Site) (l : List Registers) (AtEnd : ℕ → Place → List Item → ℕ → ℕ → Type 0) (d : ℕ)
+    → ((a : ℕ) (p : Place) (is : List Item) (i t : ℕ) → AtEnd a p is i t → depth is ≡ d) → (ks : List Item) (n r : ℕ)
+    → Inside h l AtEnd ks n r → depth ks ≡ d + 1
+inside_depth h l E d to [] n r a = absurd a
+inside_depth h l E d to (part p ∷ ks) n r a = inside_depth h l E d to ks a.end a.low a.next
+inside_depth h l E d to (activation c p ∷ ks) n r a = ap (λ (i : ℕ). i + 1) (to c p ks n r a)
+inside_depth h l E d to (iteration c it p ∷ ks) n r a = absurd a
+inside_depth h l E d to (ensuring o ∷ ks) n r a = absurd a
 
-pub depth_is : (h : Site) (l : List Registers) (ks : List Item) (place : Place) (ls : List Level)
-    → Waits h l ks place ls → depth ks ≡ length ls
-depth_is h l [] place ls a = absurd a
-depth_is h l (part p ∷ ks) place ls a = waiting_depth h l (part p ∷ ks) place ls a
-depth_is h l (activation c p ∷ ks) place ls a = waiting_depth h l (activation c p ∷ ks) place ls a
-depth_is h l (iteration c it p ∷ ks) place ls a =
-    let d = depth_is h l ks p a.others a.next in
-    omega (arith, d) ∙ sym (ap length a.is)
-depth_is h l (ensuring o ∷ ks) place ls a = absurd a
+end_depth : (h : Site) (fiber : fibers.Name) (ls : List Level) (F : Place → List Item → Type 0)
+    → ((p : Place) (is : List Item) → F p is → depth is ≡ length ls) → (p : Place) (is : List Item) (n r : ℕ)
+    → EndsBy h fiber ls F p is n r → depth is ≡ length ls
+end_depth h fiber ls F to p is n r (stops l main last bare root) = ap depth last ∙ sym (ap length bare)
+end_depth h fiber ls F to p is n r (returns l next) = to p is next
 
--- items inside of a frame that waits
-pub waits_in : (h : Site) (l : List Registers) (ks : List Item) (n r : ℕ) (place : Place) (ls : List Level)
-    → InFrame h l ks n r → WaitsIn h l ks place ls → Waits h l ks place ls
-waits_in h l [] n r place ls a w = absurd a
-waits_in h l (part p ∷ ks) n r place ls a w = w
-waits_in h l (activation c p ∷ ks) n r place ls a w = w
-waits_in h l (iteration c it p ∷ ks) n r place ls a w = absurd a
-waits_in h l (ensuring o ∷ ks) n r place ls a w = absurd a
+pub depth_is : (hs : List Site) (fiber : fibers.Name) (l : List Registers) (ks : List Item) (place : Place)
+    (ls : List Level) → Waits hs fiber l ks place ls → depth ks ≡ length ls
+depth_is hs fiber l ks place [] a = ap depth a
+depth_is hs fiber l ks place (frame f ∷ ls) a =
+    inside_depth a.h l (λ b p is i t. Ends a.h fiber ls (λ q js. Waits hs fiber l js q ls) b p is i t) (length ls)
+    (λ b p is i t e. end_depth a.h fiber ls (λ q js. Waits hs fiber l js q ls)
+    (λ q js. depth_is hs fiber l js q ls) p is i t e.by) ks a.n a.x.waits a.next ∙ omega arith
+depth_is hs fiber l ks place (machine.iteration a it v ∷ ls) w =
+    ap depth w.is ∙ ap (λ (d : ℕ). d + 1) (depth_is hs fiber l w.others w.back ls w.next) ∙ omega arith
 
 -- an exception leaves what waits
 passed : (h : Site) (l : List Registers) (p : Part) (low n r end : ℕ) → Behind h l p low n r end → IsPassed (stop_of p)
@@ -82,79 +82,154 @@ passed h l (clause_target j e t q) low n r end b = absurd b
 passed h l (clause_body q) low n r end b = absurd b
 passed h l (ensured j e) low n r end b = absurd b
 
-pub leaves_frame : (h : Site) (l : List Registers) (ks : List Item) (n r : ℕ) (x : Rest) (at : ℕ) (ls : List Level)
-    → ls ≡ frame (frame_at h x at) ∷ [] → InFrame h l ks n r → Leaving h l ks ls
-leaves_frame h l [] n r x at ls e a = absurd a
-leaves_frame h l (part p ∷ ks) n r x at ls e a =
-    (passed h l p a.low n r a.end a.behind, leaves_frame h l ks a.end a.low x at ls e a.next)
-leaves_frame h l (activation c p ∷ ks) n r x at ls e a =
-    record { x = x; at = at; is = e; last = a.last; same = a.is }
-leaves_frame h l (iteration c it p ∷ ks) n r x at ls e a = absurd a
-leaves_frame h l (ensuring o ∷ ks) n r x at ls e a = absurd a
+leaves_inside : (hs : List Site) (fiber : fibers.Name) (l : List Registers) (h : Site) (x : Rest) (at : ℕ)
+    (ls : List Level) → IsSite hs h → (ks : List Item) (n r : ℕ)
+    → Inside h l (λ a p is i t. Ends h fiber ls (λ q js. Waits hs fiber l js q ls) a p is i t) ks n r
+    → Leaving hs fiber l ks (frame (frame_at h x at) ∷ ls)
+leaves_inside hs fiber l h x at ls site [] n r a = absurd a
+leaves_inside hs fiber l h x at ls site (part p ∷ ks) n r a = (
+  passed h l p a.low n r a.end a.behind,
+  leaves_inside hs fiber l h x at ls site ks a.end a.low a.next,
+)
+leaves_inside hs fiber l h x at ls site (activation c p ∷ ks) n r a = record {
+  h = h;
+  x = x;
+  at = at;
+  below = ls;
+  is = refl;
+  site = site;
+  same = a.is;
+  next = leaves_end h fiber ls (λ q js. Waits hs fiber l js q ls) hs l (λ q js w. w) p ks n r a.by;
+}
+leaves_inside hs fiber l h x at ls site (iteration c it p ∷ ks) n r a = absurd a
+leaves_inside hs fiber l h x at ls site (ensuring o ∷ ks) n r a = absurd a
 
-pub leaves : (h : Site) (l : List Registers) (ks : List Item) (place : Place) (ls : List Level)
-    → Waits h l ks place ls → Leaving h l ks ls
-leaves h l [] place ls a = absurd a
-leaves h l (part p ∷ ks) place ls a = leaves_frame h l (part p ∷ ks) a.n a.x.waits a.x a.at ls a.is a.next
-leaves h l (activation c p ∷ ks) place ls a =
-    leaves_frame h l (activation c p ∷ ks) a.n a.x.waits a.x a.at ls a.is a.next
-leaves h l (iteration c it p ∷ ks) place ls a =
-    record { answer = a.answer; others = a.others; is = a.is; next = a.next }
-leaves h l (ensuring o ∷ ks) place ls a = absurd a
+pub leaves_frame : (g : Ground) (h : Site) (l : List Registers) (ks : List Item) (n r : ℕ) (x : Rest) (at : ℕ)
+    → IsSite g.sites h → InFrame g h l ks n r
+    → Leaving g.sites g.fiber l ks (frame (frame_at h x at) ∷ g.below)
+leaves_frame g h l ks n r x at site a = leaves_inside g.sites g.fiber l h x at g.below site ks n r a
+
+pub leaves : (hs : List Site) (fiber : fibers.Name) (l : List Registers) (ks : List Item) (place : Place)
+    (ls : List Level) → Waits hs fiber l ks place ls → Leaving hs fiber l ks ls
+leaves hs fiber l ks place [] a = subst (λ (is : List Item). Leaving hs fiber l is []) (sym a) refl
+leaves hs fiber l ks place (frame f ∷ ls) a =
+    subst (λ (q : Frame). Leaving hs fiber l ks (frame q ∷ ls)) (sym a.is)
+    (leaves_inside hs fiber l a.h a.x a.at ls a.site ks a.n a.x.waits a.next)
+leaves hs fiber l ks place (machine.iteration a it v ∷ ls) w =
+    subst (λ (is : List Item). Leaving hs fiber l is (machine.iteration a it v ∷ ls)) (sym w.is)
+    (record { answer = v; below = ls; is = refl; next = w.next })
 
 -- A value goes to what waits for it.
 
-back_in : (h : Site) → Static h → (v : Value) (ks : List Item) (m : source.Memory) (ls : List Level)
-    (k : machine.Memory) → Common h m k → WaitsIn h k.lists ks m.place ls
-    → Related h (Run (give v) ks m) (receive v ls k)
-unfolding receive
-back_in h static v ks m ls k c a =
-    subst (λ (gs : List Level). Related h (Run (give v) ks m) (receive v gs k)) (sym a.is)
-    (subst (λ (p : ℕ). Related h (Run (give v) ks m) (On (frame (record (frame_at h a.x a.at) { place = p }) ∷ [])
-    (written h k a.x.waits v))) (sym a.after)
-    (writes h static v ks m a.x k a.n a.x.waits c a.there a.room a.next))
-
-pub received : (h : Site) → Static h → (v : Value) (ks : List Item) (m : source.Memory) (ls : List Level)
-    (k : machine.Memory) → Common h m k → Waits h k.lists ks m.place ls
-    → Related h (Run (give v) ks m) (receive v ls k)
-unfolding receive
-received h static v [] m ls k c a = absurd a
-received h static v (part p ∷ ks) m ls k c a = back_in h static v (part p ∷ ks) m ls k c a
-received h static v (activation b p ∷ ks) m ls k c a = back_in h static v (activation b p ∷ ks) m ls k c a
-received h static v (iteration b it p ∷ ks) m ls k c a =
-    subst (λ (gs : List Level). Related h (Run (give v) (iteration b it p ∷ ks) m) (receive v gs k)) (sym a.is)
-    (c, record { others = a.others; is = refl; next = a.next })
-received h static v (ensuring o ∷ ks) m ls k c a = absurd a
+module _ {s : Source} {p : Program} where
+  -- to the frame or the iteration on top
+  pub received_by : (g : Ground) (v : Value) (ks : List Item) (m : source.Memory) (q : Level) (ls : List Level)
+      (k : machine.Memory) → Both s p (over_levels g (q ∷ ls)) m k → Waits g.sites g.fiber k.lists ks m.place (q ∷ ls)
+      → Alike s p (Run (give v) ks m) (receive v (q ∷ ls) k)
+  unfolding receive
+  received_by g v ks m (frame f) ls k b a =
+      let e : f.list ≡ a.h.list = ap (λ (q : Frame). q.list) a.is in
+      let here = runs_again g a.h m k f ls e a.site b in
+      let static = (b.sites.each a.h a.site).static in
+      subst (λ (q : Frame). Alike s p (Run (give v) ks m)
+      (On (frame (record q { place = q.after }) ∷ ls) (record k { lists = put k.lists q.list q.waits (V v) }))) (sym a.is)
+      (subst (λ (i : ℕ). Alike s p (Run (give v) ks m)
+      (On (frame (record (frame_at a.h a.x a.at) { place = i }) ∷ ls) (written a.h k a.x.waits v))) (sym a.after)
+      (writes (over_levels g ls) a.h static v ks m a.x k a.n a.x.waits here a.there a.room a.next))
+  received_by g v ks m (machine.iteration c it old) ls k b w =
+      subst (λ (is : List Item). Alike s p (Run (give v) is m) (On (machine.iteration c it v ∷ ls) k)) (sym w.is) (record {
+        g = over_levels g ls;
+        is = refl;
+        both = record { world = b.world; sites = b.sites; fibers = b.fibers; apart = b.apart };
+        waits = w.next;
+      })
 
 -- What a transition and a turn come from.
-pub record From (h : Site) (c : Config) (ls : List Level) (k : machine.Memory) (m : source.Memory) : Type 0 where
+pub record Origin (s : Source) (c : Config) (ls : List Level) (k : machine.Memory) (m : source.Memory) : Type 0 where
   pub alike : shown (On ls k) ≡ seen c
   pub out : k.world.out ≡ m.world.out
-  pub quiet : Quiet m (go h.source c)
+  pub quiet : Quiet m (go s c)
+
+abbrev pub From : Site → Config → List Level → machine.Memory → source.Memory → Type 0
+From h c ls k m = Origin h.source c ls k m
+
+-- Both sides at any world to which activations are added.
+abbrev pub Worlds : Source → Program → Ground → source.Memory → source.Memory → machine.Memory → Type 0
+Worlds s p g m m' k' = (w : World) → Grows m.world w → Both s p g (source.with_world m' w) (machine.with_world k' w)
+
+-- A transition that no turn matches lowers the measure. A value that is given to no level is none yet.
+abbrev pub Falls : List Level → List Item → source.Memory → Config → Type 0
+Falls [] ks m c = 1 + burden ks m < measure c
+Falls (q ∷ gs) ks m c = burden ks m < measure c
+
+pub falls : (gs : List Level) (ks : List Item) (m : source.Memory) (c : Config) → 1 + burden ks m < measure c
+    → Falls gs ks m c
+falls [] ks m c lt = lt
+falls (q ∷ gs) ks m c lt = omega (arith, lt)
+
+light : (gs : List Level) (ks : List Item) (m : source.Memory) (c : Config) → Falls gs ks m c → burden ks m < measure c
+light [] ks m c lt = omega (arith, lt)
+light (q ∷ gs) ks m c lt = lt
+
+-- A value goes to what waits for it, if there is a level.
+pub given_on : (s : Source) (p : Program) (c : Config) (ls : List Level) (k : machine.Memory) → shown (On ls k) ≡ seen c
+    → (v : Value) (ks : List Item) (m : source.Memory) (g : Ground) (gs : List Level) (k' : machine.Memory)
+    → go s c ≡ Run (give v) ks m → turn p (On ls k) ≡ receive v gs k' → 0 < length gs
+    → Both s p (over_levels g gs) m k' → Waits g.sites g.fiber k'.lists ks m.place gs → Advances s p c (On ls k)
+given_on s p c ls k alike v ks m g [] k' goes turns some both a = absurd (omega (arith, some))
+given_on s p c ls k alike v ks m g (q ∷ gs) k' goes turns some both a =
+    one_turn s p c (On ls k) (receive v (q ∷ gs) k') alike turns
+    (subst (λ (d : Config). Alike s p d (receive v (q ∷ gs) k')) (sym goes) (received_by g v ks m q gs k' both a))
+
+-- A value goes to what waits for it, or to what resumed the fiber.
+pub given_back : (s : Source) (p : Program) (c : Config) (ls : List Level) (k : machine.Memory) (m : source.Memory)
+    → Origin s c ls k m → (v : Value) (ks : List Item) (m' : source.Memory) (g : Ground) (gs : List Level)
+    (k' : machine.Memory) → go s c ≡ Run (give v) ks m' → turn p (On ls k) ≡ receive v gs k' → Falls gs ks m' c
+    → Both s p (over_levels g gs) m' k' → Waits g.sites g.fiber k'.lists ks m'.place gs → Advances s p c (On ls k)
+given_back s p c ls k m from v ks m' g [] k' goes turns less both a =
+    let goes' = goes ∙ ap (λ (is : List Item). Run (give v) is m') a in
+    let quiet = subst (Quiet m) goes' from.quiet in
+    let less' = subst (λ (is : List Item). 1 + burden is m' < measure c) a less in
+    no_turn s p c (On ls k) (subst (λ (d : Config). measure d < measure c) (sym goes') less')
+    (subst (λ (d : Config). Alike s p d (On ls k)) (sym goes') (record {
+      g = over_levels g [];
+      memory = k';
+      last = refl;
+      gives = turns;
+      out = from.out ∙ sym quiet.1;
+      both = both;
+    }))
+given_back s p c ls k m from v ks m' g (q ∷ gs) k' goes turns less both a =
+    given_on s p c ls k from.alike v ks m' g (q ∷ gs) k' goes turns (omega arith) both a
 
 -- The answer of a call, with what waits for it.
-pub answered : (h : Site) → Static h → (c : Config) (ls : List Level) (k : machine.Memory) (m : source.Memory)
-    → From h c ls k m → (x : Result) (w : World) (ks : List Item) (m' : source.Memory) (gs : List Level)
-    (k' : machine.Memory) → go h.source c ≡ after_result x w ks m'
-    → turn h.program (On ls k) ≡ answer_result h.program x gs (machine.with_world k' w) → weights ks < measure c
-    → Common h (source.with_world m' w) (machine.with_world k' w) → Waits h k'.lists ks m'.place gs
-    → Step h c (On ls k)
-answered h static c ls k m from (gives v) w ks m' gs k' goes turns less both a =
-    by_one h c (On ls k) (receive v gs (machine.with_world k' w)) from.alike turns
-    (subst (λ (d : Config). Related h d (receive v gs (machine.with_world k' w))) (sym goes)
-    (received h static v ks (source.with_world m' w) gs (machine.with_world k' w) both a))
-answered h static c ls k m from (raises e) w ks m' gs k' goes turns less both a =
+pub answered : (s : Source) (p : Program) (c : Config) (ls : List Level) (k : machine.Memory) (m : source.Memory)
+    → Origin s c ls k m → (x : Result) (w : World) (ks : List Item) (m' : source.Memory) (g : Ground) (gs : List Level)
+    (k' : machine.Memory) → go s c ≡ after_result x w ks m'
+    → turn p (On ls k) ≡ answer_result p x gs (machine.with_world k' w) → Falls gs ks m' c
+    → Worlds s p (over_levels g gs) m m' k' → Waits g.sites g.fiber k'.lists ks m'.place gs → Advances s p c (On ls k)
+answered s p c ls k m from (gives v) w ks m' g gs k' goes turns less both a =
     let quiet = subst (Quiet m) goes from.quiet in
-    by_none h c (On ls k) (subst (λ (d : Config). measure d < measure c) (sym goes) (omega (arith, less)))
-    (subst (λ (d : Config). Related h d (On ls k)) (sym goes) (record {
+    given_back s p c ls k m from v ks (source.with_world m' w) g gs (machine.with_world k' w) goes turns
+    (same_fall gs ks m' w c less) (both w quiet.2) a
+  where
+    same_fall : (gs : List Level) (ks : List Item) (m : source.Memory) (w : World) (c : Config) → Falls gs ks m c
+        → Falls gs ks (source.with_world m w) c
+    same_fall [] ks m w c lt = lt
+    same_fall (q ∷ gs) ks m w c lt = lt
+answered s p c ls k m from (raises e) w ks m' g gs k' goes turns less both a =
+    let quiet = subst (Quiet m) goes from.quiet in
+    let less' : burden ks m' < measure c = light gs ks m' c less in
+    no_turn s p c (On ls k) (subst (λ (d : Config). measure d < measure c) (sym goes) (omega (arith, less')))
+    (subst (λ (d : Config). Alike s p d (On ls k)) (sym goes) (record {
+      g = over_levels g gs;
       e = e;
       exception = refl;
-      levels = gs;
       memory = machine.with_world k' w;
       throws = turns;
       out = from.out ∙ sym quiet.1;
-      common = both;
-      leaving = leaves h k'.lists ks m'.place gs a;
+      both = both w quiet.2;
+      leaving = leaves g.sites g.fiber k'.lists ks m'.place gs a;
     }))
 
 -- Nothing but a body opens a scope.
@@ -208,62 +283,63 @@ opens m s o ks l w q =
     opens_scope m o b bound.bound ks l (with_store w bound.store) q
 
 -- What a call enters. No body is one of it, since no scope is opened.
-pub entered : (h : Site) → Static h → (c : Config) (ls : List Level) (k : machine.Memory) (m : source.Memory)
-    → From h c ls k m → (e : Entry) (ks : List Item) (m' : source.Memory) (gs : List Level) (k' : machine.Memory)
-    → go h.source c ≡ enter h.source e None ks m'
-    → turn h.program (On ls k) ≡ enter_machine h.program e None gs k' → weights ks < measure c
-    → length m'.scopes ≡ length m.scopes
-    → ((w : World) → Common h (source.with_world m' w) (machine.with_world k' w)) → Waits h k'.lists ks m'.place gs
-    → Step h c (On ls k)
+pub entered : (s : Source) (p : Program) (c : Config) (ls : List Level) (k : machine.Memory) (m : source.Memory)
+    → Origin s c ls k m → (e : Entry) (ks : List Item) (m' : source.Memory) (g : Ground) (gs : List Level)
+    (k' : machine.Memory) → go s c ≡ enter s e None ks m' → turn p (On ls k) ≡ enter_machine p e None gs k'
+    → Falls gs ks m' c → length m'.scopes ≡ length m.scopes → Worlds s p (over_levels g gs) m m' k'
+    → Waits g.sites g.fiber k'.lists ks m'.place gs → Advances s p c (On ls k)
 unfolding enter enter_machine settle
-entered h static c ls k m from (answers a) ks m' gs k' goes turns less scopes both waits =
-    answered h static c ls k m from a.result a.world ks m' gs k' goes turns less (both a.world) waits
-entered h static c ls k m from (enters o w) ks m' gs k' goes turns less scopes both waits = at (is_full (depth ks)) refl
-  where
-    failure : Answer
-    failure = fail w cause.StackTooDeep
-
-    at : (b : Bool) → is_full (depth ks) ≡ b → Step h c (On ls k)
-    at true e =
-        let goes' = goes ∙ ap (λ (t : Bool). if t then after_result failure.result failure.world ks m'
-        else open_body h.source o ks m' w) e in
-        let turns' = turns ∙ ap (λ (t : Bool). if t
-        then answer_result h.program failure.result gs (machine.with_world k' failure.world)
-        else open_frame h.program o w gs k') (ap is_full (sym (depth_is h k'.lists ks m'.place gs waits)) ∙ e) in
-        answered h static c ls k m from failure.result failure.world ks m' gs k' goes' turns' less (both failure.world)
-        waits
-    at false e =
-        let goes' = goes ∙ ap (λ (t : Bool). if t then after_result failure.result failure.world ks m'
-        else open_body h.source o ks m' w) e in
-        let more = opens m h.source o ks m' w (subst (Quiet m) goes' from.quiet) in
-        absurd (omega (arith, more, scopes))
-entered h static c ls k m from (begins it a w) ks m' gs k' goes turns less scopes both waits =
+entered s p c ls k m from (answers a) ks m' g gs k' goes turns less scopes both waits =
+    answered s p c ls k m from a.result a.world ks m' g gs k' goes turns less both waits
+entered s p c ls k m from (enters o w) ks m' g gs k' goes turns less scopes both waits =
     at (is_full (depth ks)) refl
   where
     failure : Answer
     failure = fail w cause.StackTooDeep
 
-    at : (b : Bool) → is_full (depth ks) ≡ b → Step h c (On ls k)
+    at : (b : Bool) → is_full (depth ks) ≡ b → Advances s p c (On ls k)
+    at true e =
+        let goes' = goes ∙ ap (λ (t : Bool). if t then after_result failure.result failure.world ks m'
+        else open_body s o ks m' w) e in
+        let turns' = turns ∙ ap (λ (t : Bool). if t
+        then answer_result p failure.result gs (machine.with_world k' failure.world)
+        else open_frame p o w gs k')
+        (ap is_full (sym (depth_is g.sites g.fiber k'.lists ks m'.place gs waits)) ∙ e) in
+        answered s p c ls k m from failure.result failure.world ks m' g gs k' goes' turns' less both waits
+    at false e =
+        let goes' = goes ∙ ap (λ (t : Bool). if t then after_result failure.result failure.world ks m'
+        else open_body s o ks m' w) e in
+        let more = opens m s o ks m' w (subst (Quiet m) goes' from.quiet) in
+        absurd (omega (arith, more, scopes))
+entered s p c ls k m from (begins it a w) ks m' g gs k' goes turns less scopes both waits =
+    at (is_full (depth ks)) refl
+  where
+    failure : Answer
+    failure = fail w cause.StackTooDeep
+
+    turned_to : (b : Bool) → is_full (depth ks) ≡ b → turn p (On ls k)
+        ≡ (if b then answer_result p failure.result gs (machine.with_world k' failure.world)
+        else On (machine.iteration (next_activation w) it Nil ∷ gs) (machine.with_world k' (with_activation w a)))
+    turned_to b e = turns ∙ ap (λ (t : Bool). if t
+        then answer_result p failure.result gs (machine.with_world k' failure.world)
+        else On (machine.iteration (next_activation w) it Nil ∷ gs) (machine.with_world k' (with_activation w a)))
+        (ap is_full (sym (depth_is g.sites g.fiber k'.lists ks m'.place gs waits)) ∙ e)
+
+    at : (b : Bool) → is_full (depth ks) ≡ b → Advances s p c (On ls k)
     at true e =
         let goes' = goes ∙ ap (λ (t : Bool). if t then after_result failure.result failure.world ks m'
         else open_iteration it a ks m' w) e in
-        let turns' = turns ∙ ap (λ (t : Bool). if t
-        then answer_result h.program failure.result gs (machine.with_world k' failure.world)
-        else On (machine.iteration (next_activation w) it Nil ∷ gs) (machine.with_world k' (with_activation w a)))
-        (ap is_full (sym (depth_is h k'.lists ks m'.place gs waits)) ∙ e) in
-        answered h static c ls k m from failure.result failure.world ks m' gs k' goes' turns' less (both failure.world)
-        waits
+        answered s p c ls k m from failure.result failure.world ks m' g gs k' goes' (turned_to true e) less both waits
     at false e =
         let goes' = goes ∙ ap (λ (t : Bool). if t then after_result failure.result failure.world ks m'
         else open_iteration it a ks m' w) e in
-        let turns' = turns ∙ ap (λ (t : Bool). if t
-        then answer_result h.program failure.result gs (machine.with_world k' failure.world)
-        else On (machine.iteration (next_activation w) it Nil ∷ gs) (machine.with_world k' (with_activation w a)))
-        (ap is_full (sym (depth_is h k'.lists ks m'.place gs waits)) ∙ e) in
-        let all = both (with_activation w a) in
-        by_one h c (On ls k) _ from.alike turns'
-        (subst (λ (d : Config). Related h d (On (machine.iteration (next_activation w) it Nil ∷ gs)
-        (machine.with_world k' (with_activation w a)))) (sym goes') (
-          record { world = all.world; alone = all.alone; alone_too = all.alone_too; same = all.same },
-          record { others = gs; is = refl; next = waits },
-        ))
+        let quiet = subst (Quiet m) goes' from.quiet in
+        let all = both (with_activation w a) quiet.2 in
+        one_turn s p c (On ls k) _ from.alike (turned_to false e)
+        (subst (λ (d : Config). Alike s p d (On (machine.iteration (next_activation w) it Nil ∷ gs)
+        (machine.with_world k' (with_activation w a)))) (sym goes') (record {
+          g = over_levels g gs;
+          is = refl;
+          both = record { world = all.world; sites = all.sites; fibers = all.fibers; apart = all.apart };
+          waits = waits;
+        }))

@@ -7,7 +7,7 @@ use Rattle.rite_code.specs.declared.operation.Operation.{Operation}
 use Rattle.rite_code.specs.declared.operation.Operation.TheVariants as op
 use Rattle.ir_counts.specs.Tables.{item_count}
 use Rattle.ir_walk.specs.Width.{has_splat}
-use Rattle.ir_core.specs.CoreForm.{Name, CoreForm, call, Maybe, absent, there, Items, no_items, plain, splat, Receiver, to, on_self}
+use Rattle.ir_core.specs.CoreForm.{Name, CoreForm, call, Maybe, absent, Items, no_items, plain, splat, Receiver, to, on_self}
 use Rattle.gen_parts.specs.declared.line.Line.TheVariants as line
 use Rattle.gen_parts.specs.declared.emitter.Spot.{Spot}
 use Rattle.gen_parts.specs.Pieces.{Piece, past, does, nothing, ◌⊕◌}
@@ -28,7 +28,8 @@ use Rattle.step_laws.specs.Site.{Site, within, LineAt, IsThere, Named}
 use Rattle.step_laws.specs.Covered.{CoveredItems, IsNamed}
 use Rattle.step_laws.specs.Calm.{IsSteady, Quiet}
 use Rattle.step_laws.proofs.Placed.{high, high-both, high-puts, high-nothing, line-past, Stands, moved, left, right, the_line, frame_at}
-use Rattle.step_laws.proofs.Relation.{Static, Holds, HoldsCall, CallBy, operates, sends, sends_self, Common, Doing, GivesIn, Step}
+use Rattle.step_laws.specs.Relation.{Ground, Static, Holds, HoldsCall, CallBy, operates, sends, sends_self, Common, Doing, GivesIn, Step}
+use Rattle.step_laws.proofs.Untouched.{same_here}
 use Rattle.step_laws.proofs.Matching.{by_none, going, state_at}
 use Rattle.step_laws.proofs.Literals.{aligned, self_is}
 use Rattle.step_laws.proofs.Sends.{items_on}
@@ -192,18 +193,20 @@ holds_call : (h : Site) (l : List Registers) (own : Bool) (low r : ℕ) (recv : 
 holds_call h l false low r recv vs v s e q = (s.0, holds_more l h.list (low + 1) r vs v s.1 e q)
 holds_call h l true low r recv vs v s e q = (s.0, holds_more l h.list (low + 1) r vs v s.1 e q)
 
-module _ (h : Site) (static : Static h) (ks : List Item) (m : source.Memory) (ls : List Level)
-    (k : machine.Memory) (both : Common h m (aligned k m)) (steady : IsSteady h.source m.world) where
+module _ (g : Ground) (h : Site) (static : Static h) (ks : List Item) (m : source.Memory) (ls : List Level)
+    (k : machine.Memory) (both : Common g h m (aligned k m)) (steady : IsSteady h.source m.world) where
   -- the receiver is done first
   pub do_call_to : (j : ℕ) (e : CoreForm) (x : Name) (is : Items)
-      (d : Doing h (call (to e) x is absent) ks m.place ls k.lists)
-      → Step h (Run (perform j (call (to e) x is absent)) ks m) (state_at h d.x d.n (aligned k m))
+      (d : Doing g h (call (to e) x is absent) ks m.place ls k.lists)
+      → Step h (Run (perform j (call (to e) x is absent)) ks m) (state_at g h d.x d.n (aligned k m))
   unfolding do_form
   do_call_to j e x is d =
       let c = value_called h d.n d.r d.loop d.s x is d.covered.2 d.covered.3 e
       (operation_of absent (to e) x is d.r) refl d.covered.4 d.code in
       let p = gen (within h d.loop) d.s d.r e in
-      by_none h (Run (perform j (call (to e) x is absent)) ks m) (state_at h d.x d.n (aligned k m)) (omega arith) (
+      by_none h (Run (perform j (call (to e) x is absent)) ks m) (state_at g h d.x d.n (aligned k m)) (omega arith) (
+        g,
+        h,
         both,
         record {
           x = d.x;
@@ -251,16 +254,16 @@ module _ (h : Site) (static : Static h) (ks : List Item) (m : source.Memory) (ls
       then gather_all h.source j (arguments_of (by_name (symbol m x)) recv absent) is ks m
       else next_item h.source j (by_name (symbol m x)) recv [] is absent ks m) f
 
-  pub do_call_self : (j : ℕ) (x : Name) (is : Items) (d : Doing h (call on_self x is absent) ks m.place ls k.lists)
+  pub do_call_self : (j : ℕ) (x : Name) (is : Items) (d : Doing g h (call on_self x is absent) ks m.place ls k.lists)
       → Quiet m (go h.source (Run (perform j (call on_self x is absent)) ks m))
-      → Step h (Run (perform j (call on_self x is absent)) ks m) (state_at h d.x d.n (aligned k m))
+      → Step h (Run (perform j (call on_self x is absent)) ks m) (state_at g h d.x d.n (aligned k m))
   unfolding do_form
   do_call_self j x is d quiet =
       let c = self_called h d.n d.r d.loop d.s x is d.covered.1 d.covered.2 d.covered.3 d.code in
       let conf = Run (perform j (call on_self x is absent)) ks m in
       let none : d.n + high nothing ≡ d.n = omega (arith, high-nothing) in
       let q = pass_in_registers (within h d.loop) (past d.s nothing) (d.r + 1) is in
-      items_on h static ks m k both steady d.there conf d.x d.n j (by_name (symbol m x)) (self_of m) [] is (record {
+      items_on g h static ks m k both steady d.there conf d.x d.n j (by_name (symbol m x)) (self_of m) [] is (record {
         low = d.r;
         own = true;
         loop = d.loop;
@@ -271,7 +274,7 @@ module _ (h : Site) (static : Static h) (ks : List Item) (m : source.Memory) (ls
         room = d.covered.0;
         covered = d.covered.1;
         name = x;
-        held = (self_is h static m k.lists steady d.there both.same ∙ both.same.self, tt);
+        held = (self_is g h m (aligned k m) both d.there ∙ (same_here g h m (aligned k m) both).self, tt);
         o = c.o;
         by = subst (λ (i : ℕ). CallBy h d.r x i true c.o) (omega arith) c.by;
         code = moved h (d.n + high nothing) d.n q none c.items;
@@ -280,21 +283,21 @@ module _ (h : Site) (static : Static h) (ks : List Item) (m : source.Memory) (ls
         ends = omega (arith, none, c.ends);
         next = d.next;
       }) (record {
-        alike = going (perform j (call on_self x is absent)) ks m (frame (frame_at h d.x d.n) ∷ []) (aligned k m) refl;
+        alike = going (perform j (call on_self x is absent)) ks m (frame (frame_at h d.x d.n) ∷ g.below) (aligned k m) refl;
         out = refl;
         quiet = quiet;
       }) (plain_call j x (self_of m) is absent refl (no_splat h (d.r + 1) is d.covered.1))
       (ap by_name (steady.names x d.covered.3.there)) (omega arith)
 
   pub give_receiver : (v : Value) (j : ℕ) (x : Name) (is : Items) (b : Maybe)
-      (d : GivesIn h v (part (receiver j x is b) ∷ ks) m.place ls k.lists)
+      (d : GivesIn g h v (part (receiver j x is b) ∷ ks) m.place ls k.lists)
       → Quiet m (go h.source (Run (give v) (part (receiver j x is b) ∷ ks) m))
-      → Step h (Run (give v) (part (receiver j x is b) ∷ ks) m) (state_at h d.x d.n (aligned k m))
+      → Step h (Run (give v) (part (receiver j x is b) ∷ ks) m) (state_at g h d.x d.n (aligned k m))
   unfolding do_give give_part
   give_receiver v j x is b d quiet =
       let y = d.next.behind in
       let low = d.next.low in
-      items_on h static ks m k both steady d.there (Run (give v) (part (receiver j x is b) ∷ ks) m) d.x d.n j
+      items_on g h static ks m k both steady d.there (Run (give v) (part (receiver j x is b) ∷ ks) m) d.x d.n j
       (by_name (symbol m x)) v [] is (record {
         low = low;
         own = false;
@@ -315,23 +318,23 @@ module _ (h : Site) (static : Static h) (ks : List Item) (m : source.Memory) (ls
         ends = y.ends;
         next = d.next.next;
       }) (record {
-        alike = going (give v) (part (receiver j x is b) ∷ ks) m (frame (frame_at h d.x d.n) ∷ []) (aligned k m) refl;
+        alike = going (give v) (part (receiver j x is b) ∷ ks) m (frame (frame_at h d.x d.n) ∷ g.below) (aligned k m) refl;
         out = refl;
         quiet = quiet;
       }) (plain_call j x v is b y.plain (no_splat h (low + 1) is y.covered))
       (ap by_name (steady.names x (there_of h low x (item_count is) false y.o y.by))) (omega arith)
 
   pub give_item : (v : Value) (j : ℕ) (sender : Sending) (recv : Value) (vs : List Value) (is : Items) (b : Maybe)
-      (d : GivesIn h v (part (items j sender recv vs is b) ∷ ks) m.place ls k.lists)
+      (d : GivesIn g h v (part (items j sender recv vs is b) ∷ ks) m.place ls k.lists)
       → Quiet m (go h.source (Run (give v) (part (items j sender recv vs is b) ∷ ks) m))
-      → Step h (Run (give v) (part (items j sender recv vs is b) ∷ ks) m) (state_at h d.x d.n (aligned k m))
+      → Step h (Run (give v) (part (items j sender recv vs is b) ∷ ks) m) (state_at g h d.x d.n (aligned k m))
   unfolding do_give give_part
   give_item v j sender recv vs is b d quiet =
       let y = d.next.behind in
       let low = d.next.low in
       let all : length vs + 1 + item_count is ≡ length (vs ++ v ∷ []) + item_count is =
       omega (arith, length-append vs (v ∷ [])) in
-      items_on h static ks m k both steady d.there (Run (give v) (part (items j sender recv vs is b) ∷ ks) m) d.x d.n j
+      items_on g h static ks m k both steady d.there (Run (give v) (part (items j sender recv vs is b) ∷ ks) m) d.x d.n j
       sender recv (vs ++ v ∷ []) is (record {
         low = low;
         own = y.own;
@@ -352,7 +355,7 @@ module _ (h : Site) (static : Static h) (ks : List Item) (m : source.Memory) (ls
         ends = y.ends;
         next = d.next.next;
       }) (record {
-        alike = going (give v) (part (items j sender recv vs is b) ∷ ks) m (frame (frame_at h d.x d.n) ∷ []) (aligned k m)
+        alike = going (give v) (part (items j sender recv vs is b) ∷ ks) m (frame (frame_at h d.x d.n) ∷ g.below) (aligned k m)
             refl;
         out = refl;
         quiet = quiet;

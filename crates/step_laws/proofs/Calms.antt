@@ -1,5 +1,5 @@
--- The evaluation of simple forms stays calm: it calls no body, opens no scope, and leaves its fiber for no other one.
-use Rattle.std.proofs.Common.{◌≡◌, ℕ, zero, suc, ◌+◌, ◌-◌, List, [], ◌∷◌, ◌++◌, refl, sym, ap, ◌∙◌, subst, length, length-set, Bool, true, false, true≢false}
+-- The evaluation of simple forms stays calm: it calls no body and opens no scope.
+use Rattle.std.proofs.Common.{◌≡◌, ℕ, zero, suc, ◌+◌, List, [], ◌∷◌, ◌++◌, refl, sym, ap, ◌∙◌, subst, length, length-set, Bool, true, false, true≢false}
 use Rattle.std.specs.Prelude.{if◌then◌else◌, codes, nat_lt, Option, Some, None}
 use Rattle.std.proofs.lemmas.List.{append-nil}
 use Rattle.rb_value.specs.Object.{Object}
@@ -8,7 +8,7 @@ use Rattle.rb_value.specs.declared.value.Value.{Value}
 use Rattle.rb_value.specs.declared.value.Value.TheVariants.{Nil, True, False, Int, Sym, Obj}
 use Rattle.rb_value.specs.Value.{is_true}
 use Rattle.def_core.specs.Store.{Store, with_object}
-use Rattle.def_core.specs.Changes.{Interned, intern}
+use Rattle.def_core.specs.Changes.{Interned}
 use Rattle.rb_store.specs.Opening.{main_object}
 use Rattle.def_rows.specs.Answers.{items_object}
 use Rattle.ir_core.specs.CoreForm as form
@@ -30,12 +30,12 @@ use Rattle.def_eval.specs.Giving.{returned, carry_out, choose, go_right, go_left
 use Rattle.def_eval.specs.Exits.{travel_part, travel_caught, end_by, leave_fiber, do_travel}
 use Rattle.def_eval.specs.Transition.{go, go_times}
 use Rattle.step_laws.specs.Site.{number, opening_store}
-use Rattle.step_laws.specs.Calm.{IsOwn, IsOwnNext, Leaves, IsCalm, StaysCalm}
+use Rattle.step_laws.specs.Calm.{Leaves, IsCalm, StaysCalm}
 use Rattle.step_laws.specs.Simple.{IsSimple, AreSimple, AreSimpleItems, AreSimpleBranches}
 use Rattle.step_laws.proofs.Symbols.{IsCoreName, the_symbol, number_is, interned_core, steady_name, opening_objects}
 use Rattle.step_laws.proofs.Found.{operator_known, texts_all, writing, is_writer}
 use Rattle.step_laws.proofs.Outcomes.{IsImmediate, AreImmediate, IsOfPuts, Kept, kept_more, operator_entry, puts_called, text_sent}
-use Rattle.step_laws.proofs.Tame.{VariablesAre, ScopesAre, Sent, PartIs, IsCoreAt, ItemsAre, GivenTo, MemoryIs, IsTame, Fine, given_to, scope_is, variable_is, put_is, set_is, same_grows, core_grows, items_grow, core_closed, main_is, main_closed, entry_fine, operator, puts}
+use Rattle.step_laws.proofs.Tame.{VariablesAre, ScopesAre, Sent, PartIs, IsCoreAt, ItemsAre, GivenTo, MemoryIs, IsTame, Fine, quiet_given, given_to, scope_is, variable_is, put_is, set_is, same_grows, core_grows, items_grow, core_closed, main_is, main_closed, entry_fine, operator, puts}
 
 -- Forms.
 
@@ -43,21 +43,25 @@ module _ (s : Source) (ks : List Item) (m : Memory) (kept : Kept s m.world) (all
     (alone : m.fibers.resumer ≡ None) where
   -- a value is given
   value_fine : (v : Value) → IsImmediate v → ItemsAre s m.world ks m.place → Fine s m (Run (give v) ks m)
-  value_fine v i under =
-      (record { kept = kept; scopes = all; alone = alone; focus = given_to v ks i; items = under }, (refl, tt))
+  value_fine v i under = (
+    record { kept = kept; scopes = all; alone = alone; focus = given_to v ks i; items = under },
+    (refl, quiet_given v ks m m refl, same_grows m.world m.world refl),
+  )
 
   -- a form is done under an item
   form_fine : (j : ℕ) (e : CoreForm) (p : Part) → IsSimple e → PartIs s p → m.place.activation ≡ 1
       → ItemsAre s m.world ks m.place → Fine s m (Run (perform j e) (part p ∷ ks) m)
   form_fine j e p is at here under = (
     record { kept = kept; scopes = all; alone = alone; focus = (is, here); items = (at, here, under) },
-    (refl, tt),
+    (refl, tt, same_grows m.world m.world refl),
   )
 
   last_fine : (j : ℕ) (e : CoreForm) → IsSimple e → m.place.activation ≡ 1 → ItemsAre s m.world ks m.place
       → Fine s m (Run (perform j e) ks m)
-  last_fine j e is here under =
-      (record { kept = kept; scopes = all; alone = alone; focus = (is, here); items = under }, (refl, tt))
+  last_fine j e is here under = (
+    record { kept = kept; scopes = all; alone = alone; focus = (is, here); items = under },
+    (refl, tt, same_grows m.world m.world refl),
+  )
 
   -- a call whose items have their values
   call_fine : (j : ℕ) (k : Sending) (recv : Value) (vs : List Value) → Sent s k recv → AreImmediate vs
@@ -67,31 +71,32 @@ module _ (s : Source) (ks : List Item) (m : Memory) (kept : Kept s m.world) (all
       array : Object
       array = items_object vs
 
-      sent_fine : (l : Memory) → Kept s l.world → l.world.out ≡ m.world.out → length l.scopes ≡ length m.scopes
+      sent_fine : (l : Memory) → Kept s l.world → l.world.out ≡ m.world.out
+          → l.world.activations ≡ m.world.activations → length l.scopes ≡ length m.scopes
           → ScopesAre l.scopes → l.fibers.resumer ≡ None → ItemsAre s l.world ks l.place → (q : Sending)
           → Sent s q recv → Fine s m (perform_call s q recv vs (own_block q l) ks l)
-      sent_fine l kept out scopes all alone under q (operator x e is i) =
+      sent_fine l kept out same scopes all alone under q (operator x e is i) =
           subst (λ (p : Sending). Fine s m (perform_call s p recv vs (own_block p l) ks l)) (sym e)
           (entry_fine s IsImmediate m l ks
           (calls.call l.world (activation_at l.world l.place.activation) (by_name (number s x)) recv vs None)
-          (operator_entry s l.world (activation_at l.world l.place.activation) x recv vs kept is i) kept out scopes all
-          alone under (λ v j. given_to v ks j))
-      sent_fine l kept out scopes all alone under q (puts e is) =
+          (operator_entry s l.world (activation_at l.world l.place.activation) x recv vs kept is i) kept out same
+          scopes all alone under (λ v j. given_to v ks j))
+      sent_fine l kept out same scopes all alone under q (puts e is) =
           subst (λ (p : Sending). Fine s m (perform_call s p recv vs (own_block p l) ks l)) (sym e)
           (subst (λ (u : Value). Fine s m (perform_call s (by_name (number s (codes "puts"))) u vs None ks l)) (sym is)
           (entry_fine s IsImmediate m l ks
           (calls.call l.world (activation_at l.world l.place.activation) (by_name (number s (codes "puts")))
           (Obj main_object) vs None)
-          (puts_called s l.world (activation_at l.world l.place.activation) vs kept each) kept out scopes all alone under
+          (puts_called s l.world (activation_at l.world l.place.activation) vs kept each) kept out same scopes all alone under
           (λ v j. given_to v ks j)))
 
       by : (b : Bool) → Fine s m (with_arguments s j k recv vs form.absent ks (if b
           then with_world m (with_store m.world (with_object m.world.store (items_object vs))) else m))
-      by false = sent_fine m kept refl refl all alone under k sent
+      by false = sent_fine m kept refl refl refl all alone under k sent
       by true =
           sent_fine (with_world m (with_store m.world (with_object m.world.store (items_object vs))))
           (kept_more s m.world (with_object m.world.store (items_object vs)) (items_object vs ∷ []) kept refl refl) refl
-          refl all alone (items_grow s m.world (with_store m.world (with_object m.world.store (items_object vs))) ks m.place
+          refl refl all alone (items_grow s m.world (with_store m.world (with_object m.world.store (items_object vs))) ks m.place
           (same_grows m.world (with_store m.world (with_object m.world.store (items_object vs))) refl) under) k sent
 
   -- the next item, or the call
@@ -254,7 +259,11 @@ module _ (s : Source) (ks : List Item) (m : Memory) (kept : Kept s m.world) (all
       focus = given_to v ks i;
       items = under;
     },
-    (length-set m.scopes (scope_of m x) _, tt),
+    (
+      length-set m.scopes (scope_of m x) _,
+      quiet_given v ks m (with_variable m x v) refl,
+      same_grows m.world m.world refl,
+    ),
   )
 
   part_fine : (v : Value) (p : Part) → IsImmediate v → PartIs s p → m.place.activation ≡ 1
@@ -368,11 +377,6 @@ module _ (s : Source) (st : Store) (symbols : st.symbols ≡ (opening_store s).s
   plan_is (counting z i p) v is = absurd is
   plan_is (initializing u) v is = absurd is
 
-own_plan : (p : Plan) → PlanIs p → IsOwn p
-own_plan p (finishing v e i) = subst IsOwn (sym e) tt
-own_plan p (writing_out it bytes e is) = subst IsOwn (sym e) tt
-own_plan p (sending it v e is i isnt) = subst IsOwn (sym e) tt
-
 module _ (s : Source) (ks : List Item) (m : Memory) (kept : Kept s m.world) (all : ScopesAre m.scopes)
     (alone : m.fibers.resumer ≡ None) (a : ℕ) (core : IsCoreAt m.world a) (place : Place)
     (under : ItemsAre s m.world ks place) where
@@ -382,7 +386,7 @@ module _ (s : Source) (ks : List Item) (m : Memory) (kept : Kept s m.world) (all
       subst (λ (w : World). Fine s m (Run (give v) ks (record m { place = place; world = w })))
       (sym (core_closed m.world a core.runs)) (
         record { kept = kept; scopes = all; alone = alone; focus = given_to v ks i; items = under },
-        (refl, tt),
+        (refl, quiet_given v ks m (record m { place = place }) refl, same_grows m.world m.world refl),
       )
 
   carried_fine : (p : Plan) → PlanIs p → Fine s m (carry_out s p a place ks m)
@@ -406,13 +410,13 @@ module _ (s : Source) (ks : List Item) (m : Memory) (kept : Kept s m.world) (all
             items_grow s m.world (write m.world bytes) ks place (same_grows m.world (write m.world bytes) refl) under,
           );
         },
-        (refl, tt),
+        (refl, tt, same_grows m.world (write m.world bytes) refl),
       )
   carried_fine p (sending it v e is i isnt) =
       subst (λ (q : Plan). Fine s m (carry_out s q a place ks m)) (sym e)
       (entry_fine s (λ u. Unit {0}) m m (iteration a it place ∷ ks)
       (send_by_core m.world v (the_symbol (codes "to_s")) [] None false) (text_sent s m.world v kept i isnt) kept refl refl
-      all alone (is, core, under) (λ u t. tt))
+      refl all alone (is, core, under) (λ u t. tt))
 
   iteration_fine : (it : Iteration) (v : Value) → IsOfPuts it
       → Fine s m (do_give s v (iteration a it place ∷ ks) m)
@@ -449,7 +453,7 @@ module _ (s : Source) (ks : List Item) (m : Memory) (kept : Kept s m.world) (all
       (subst (λ (o : Option Value). Fine s m (travel_caught e o ks (record m { place = place })))
       (sym (not_caught it e m.world.store is)) (
         record { kept = kept; scopes = all; alone = alone; focus = record { e = e; is = refl }; items = under },
-        (refl, refl),
+        (refl, refl, same_grows m.world m.world refl),
       ))
 
 -- Ends and exits.
@@ -498,13 +502,13 @@ travel_fine s e [] m kept all alone under =
 travel_fine s e (part p ∷ ks) m kept all alone under =
     subst (Fine s m) (sym (passed_part s p e ks m under.0)) (
       record { kept = kept; scopes = all; alone = alone; focus = record { e = e; is = refl }; items = under.2 },
-      (refl, refl),
+      (refl, refl, same_grows m.world m.world refl),
     )
 travel_fine s e (activation a p ∷ ks) m kept all alone under =
     subst (λ (w : World). Fine s m (Run (travel (raise e)) ks (record m { place = p; world = w })))
     (sym (ap (close m.world) under.0 ∙ main_closed s m.world kept)) (
       record { kept = kept; scopes = all; alone = alone; focus = record { e = e; is = refl }; items = under.1 },
-      (refl, refl),
+      (refl, refl, same_grows m.world m.world refl),
     )
 travel_fine s e (iteration a it p ∷ ks) m kept all alone under =
     left_by s ks m kept all alone a under.1 p under.2 it e under.0
@@ -521,7 +525,7 @@ give_fine s v (activation a p ∷ ks) m kept all alone to under =
     subst (λ (w : World). Fine s m (Run (give v) ks (record m { place = p; world = w })))
     (sym (ap (close m.world) under.0 ∙ main_closed s m.world kept)) (
       record { kept = kept; scopes = all; alone = alone; focus = given_to v ks to; items = under.1 },
-      (refl, tt),
+      (refl, quiet_given v ks m (record m { place = p }) refl, same_grows m.world m.world refl),
     )
 give_fine s v (iteration a it p ∷ ks) m kept all alone to under =
     iteration_fine s ks m kept all alone a under.1 p under.2 it v under.0
@@ -533,17 +537,6 @@ go_fine s (give v) ks m t = give_fine s v ks m t.kept t.scopes t.alone t.focus t
 go_fine s (travel x) ks m t =
     subst (λ (y : Exit). Fine s m (go s (Run (travel y) ks m))) (sym t.focus.is)
     (travel_fine s t.focus.e ks m t.kept t.scopes t.alone t.items)
-
-own_next : (s : Source) (f : Focus) (ks : List Item) (m : Memory) → MemoryIs s f ks m → IsOwnNext f ks m
-own_next s (perform j e) ks m t = tt
-own_next s (give v) [] m t = tt
-own_next s (give v) (part p ∷ ks) m t = tt
-own_next s (give v) (activation a p ∷ ks) m t = tt
-own_next s (give v) (iteration a it p ∷ ks) m t =
-    own_plan (plans.next it v m.world.store).plan
-    (plan_is s m.world.store t.kept.symbols t.kept.more it v t.items.0).plan
-own_next s (give v) (ensuring o ∷ ks) m t = tt
-own_next s (travel x) ks m t = tt
 
 leaves_core : (s : Source) (f : Focus) (ks : List Item) (m : Memory) → MemoryIs s f ks m → Leaves f ks m
 leaves_core s (perform j e) ks m t = tt
@@ -557,8 +550,7 @@ leaves_core s (travel x) (ensuring o ∷ ks) m t = tt
 calm_of : (s : Source) (c : Config) → IsTame s c → IsCalm s c
 calm_of s (Halt e) t = tt
 calm_of s (Run f ks m) t = (
-  record { names = λ x e. steady_name s m.world.store x t.kept.symbols e; main = main_is s m.world t.kept },
-  own_next s f ks m t,
+  record { names = λ x e. steady_name s m.world.store x t.kept.symbols e },
   leaves_core s f ks m t,
   (go_fine s f ks m t).1,
 )

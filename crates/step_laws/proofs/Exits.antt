@@ -1,17 +1,23 @@
 -- The end of the main program, and exceptions that leave items.
-use Rattle.std.proofs.Common.{◌≡◌, ℕ, ◌<◌, ◌≤◌, List, [], ◌∷◌, refl, sym, ap, ◌∙◌, subst, arith, length, Bool, true, false, reverse}
+use Rattle.std.proofs.Common.{◌≡◌, ℕ, suc, ◌+◌, ◌<◌, ◌≤◌, List, [], ◌∷◌, refl, sym, ap, ◌∙◌, subst, arith, length, Bool, true, false, reverse}
 use Rattle.std.specs.List.{filter}
 use Rattle.std.specs.Prelude.{if◌then◌else◌, Option, Some, None}
+use Rattle.std.proofs.lemmas.Bool.{eq-eqb}
+use Rattle.std.proofs.lemmas.List.{append-nil}
 use Rattle.rb_value.specs.declared.value.Value.{Value}
 use Rattle.rb_value.specs.declared.value.ObjId.{ObjId}
-use Rattle.rb_value.specs.declared.exit.Exit.TheVariants.{Raise}
+use Rattle.rb_value.specs.declared.exit.Exit.TheVariants.{Raise, Return}
+use Rattle.rb_value.specs.Slot.{read}
+use Rattle.rite_code.specs.Code.{Program}
 use Rattle.rite_code.specs.declared.code.CatchEntry.{CatchEntry}
 use Rattle.rite_code.specs.declared.operation.Operation.TheVariants as op
 use Rattle.def_calls.specs.Seen.{Ended, Uncaught}
-use Rattle.def_calls.specs.World.{World, Activation, activation_at}
+use Rattle.def_calls.specs.World.{World, activation_at, main_program, with_store}
 use Rattle.def_calls.specs.Calls.{close, close_run, unrescued, Unrescued}
 use Rattle.def_calls.specs.Plans.{Iteration, caught}
-use Rattle.def_calls.specs.Fibers.{Fibers, Onward, back_to, finish}
+use Rattle.def_calls.specs.Fibers.{Fiber, Fibers, Onward, back_to, finish}
+use Rattle.def_calls.specs.Fibers as fibers
+use Rattle.def_eval.specs.Source.{Source}
 use Rattle.def_eval.specs.Configuration as source
 use Rattle.def_eval.specs.Configuration.{Place, Exit, raise, Part, Stop, passes, loops, rescues, assigns, retries, ensures, stop_of, Item, part, activation, iteration, Kept, give, travel, Config, Run, Halt}
 use Rattle.def_eval.specs.Giving.{returned, end_fiber, do_give}
@@ -19,15 +25,17 @@ use Rattle.def_eval.specs.Exits.{travel_part, travel_caught, end_by, leave_fiber
 use Rattle.def_eval.specs.Transition.{go}
 use Rattle.def_machine.specs.State as machine
 use Rattle.def_machine.specs.State.{Level, frame, State, On, Off}
-use Rattle.def_machine.specs.Unwind.{covers, covering, handler, at_frame, unwind, closed, receive, end_program, fallen, land, throw_within, throw, end_by as end_by_machine}
+use Rattle.def_machine.specs.Unwind.{covers, covering, handler, reach, at_frame, unwind, closed, receive, receive_in_resumer, end_program, fallen, land, throw_within, throw, end_by as end_by_machine, end_fiber as end_fiber_machine}
 use Rattle.def_machine.specs.Turn.{turn}
 use Rattle.step_laws.specs.Site.{Site, at_line}
-use Rattle.step_laws.specs.Calm.{IsSteady, Quiet}
+use Rattle.step_laws.specs.Calm.{Grows, Quiet}
 use Rattle.step_laws.specs.Measure.{weight, measure}
 use Rattle.step_laws.proofs.Placed.{Rest, frame_at, turned}
-use Rattle.step_laws.proofs.Relation.{Static, IsPassed, Waits, Common, GivesIn, Giving, Throwing, Related, Step}
-use Rattle.step_laws.proofs.Matching.{by_none, by_one, going, going_out, state_at}
-use Rattle.step_laws.proofs.Calling.{leaves, received}
+use Rattle.step_laws.specs.Relation.{Static, EndsBy, stops, returns, Waits, Ground, over_levels, IsPassed, SitesAre, uses, uses_in, Both, Common, GivesIn, GivesOut, Throwing, Alike, Advances, Step}
+use Rattle.step_laws.proofs.Untouched.{sites_grow, grown, without_top}
+use Rattle.step_laws.proofs.Switching.{Onwards, nowhere, onward, finished, ground_in, switched}
+use Rattle.step_laws.proofs.Matching.{no_turn, one_turn, going, going_out, state_at}
+use Rattle.step_laws.proofs.Calling.{From, leaves, falls, given_back, given_on}
 use Rattle.step_laws.proofs.Literals.{aligned}
 
 -- a fiber without a resumer is the last
@@ -36,78 +44,170 @@ unfolding finish
 no_more fs e = ap (back_to fs.others) e
 
 -- the end of the main program leaves its world
-main_closed : (h : Site) → Static h → (w : World) → IsSteady h.source w → close w h.activation ≡ w
+main_closed : (w : World) (a : ℕ) → (activation_at w a).runs ≡ main_program → close w a ≡ w
 unfolding close
-main_closed h static w steady =
-    ap (λ (a : ℕ). close_run w (activation_at w a).self (activation_at w a).runs) static.main
-    ∙ ap (λ (a : Activation). close_run w a.self a.runs) steady.main
+main_closed w a e = ap (close_run w (activation_at w a).self) e
 
-module _ (h : Site) (static : Static h) (m : source.Memory) (k : machine.Memory) (both : Common h m (aligned k m)) where
-  pub give_end : (v : Value) (ls : List Level) → Giving h v [] m ls (aligned k m)
-      → Step h (Run (give v) [] m) (On ls (aligned k m))
-  unfolding do_give
-  give_end v ls off =
-      by_one h (Run (give v) [] m) (On ls (aligned k m)) (Off (Ended m.world.out 0))
-      (going (give v) [] m ls (aligned k m) refl) off
-      (subst (λ (o : Option (Onward Kept)). Related h (end_fiber (give v) o m) (Off (Ended m.world.out 0)))
-      (sym (no_more m.fibers both.alone)) refl)
+same_activations : (w u : World) → u.activations ≡ w.activations → Grows w u
+same_activations w u e = record { more = []; is = e ∙ sym (append-nil w.activations) }
 
-  pub give_activation : (v : Value) (a : ℕ) (place : Place) (ks : List Item) (ls : List Level)
-      → IsSteady h.source m.world → (d : GivesIn h v (activation a place ∷ ks) m.place ls k.lists)
-      → Step h (Run (give v) (activation a place ∷ ks) m) (state_at h d.x d.n (aligned k m))
-  unfolding do_give
-  give_activation v a place ks ls steady d =
-      let c = Run (give v) (activation a place ∷ ks) m in
-      let same : close m.world a ≡ m.world =
-      ap (close m.world) d.next.is ∙ main_closed h static m.world steady in
-      let goes : go h.source c ≡ Run (give v) [] (record m { place = place }) =
-      ap (λ (is : List Item). Run (give v) is (returned m a place)) d.next.last
-      ∙ ap (λ (w : World). Run (give v) [] (record m { place = place; world = w })) same in
-      by_none h c (state_at h d.x d.n (aligned k m))
-      (subst (λ (g : Config). measure g < measure c) (sym goes) (omega arith))
-      (subst (λ (g : Config). Related h g (state_at h d.x d.n (aligned k m))) (sym goes) (
-        record { world = refl; alone = both.alone; alone_too = both.alone_too; same = both.same },
-        turned h d.x d.n op.Stop [] (aligned k m) d.next.stop,
-      ))
+-- the world in which a fiber has ended
+abbrev ended_in : World → fibers.Name → World
+ended_in w n = with_store w (fibers.with_ended w.store n)
+
+ends_same : (s : Source) (p : Program) (g : Ground) (m : source.Memory) (k : machine.Memory) → Both s p g m k
+    → ended_in k.world k.fibers.running ≡ ended_in m.world m.fibers.running
+ends_same s p g m k b =
+    ap (λ (w : World). ended_in w k.fibers.running) b.world
+    ∙ ap (ended_in m.world) (b.fibers.running_too ∙ sym b.fibers.running)
+
+in_resumer_is : (v : Value) (gs : List Level) (k : machine.Memory) → 0 < length gs
+    → receive_in_resumer v gs k ≡ receive v gs k
+unfolding receive
+in_resumer_is v [] k some = absurd (omega (arith, some))
+in_resumer_is v (l ∷ gs) k some = refl
+
+-- The end of a fiber: it goes back to the one that resumed it, and that of the main program is the end.
+pub give_end : (s : Source) (p : Program) (v : Value) (m : source.Memory) (ls : List Level) (k : machine.Memory)
+    → GivesOut s p v m ls k → Advances s p (Run (give v) [] m) (On ls k)
+unfolding do_give receive
+give_end s p v m ls k d =
+    at (finished d.g.sites d.g.fiber d.memory.lists m.fibers d.memory.fibers d.both.fibers)
+  where
+    conf : Config
+    conf = Run (give v) [] m
+
+    at : Onwards d.g.sites d.memory.lists m.fibers.others d.memory.fibers.others (finish m.fibers)
+        (finish d.memory.fibers) → Advances s p conf (On ls k)
+    at (nowhere x y) =
+        one_turn s p conf (On ls k) (Off (Ended d.memory.world.out 0)) (going_out (give v) [] m ls k d.out)
+        (d.gives ∙ ap (λ (o : Option (Onward (List Level))). end_fiber_machine v o d.memory) y)
+        (subst (λ (o : Option (Onward Kept)). Alike s p (end_fiber (give v) o m) (Off (Ended d.memory.world.out 0))) (sym x)
+        (ap (λ (w : World). Ended w.out 0) d.both.world))
+    at (onward o q left right i) =
+        let w = ended_in m.world m.fibers.running in
+        let u = ended_in d.memory.world d.memory.fibers.running in
+        let k' : machine.Memory = record d.memory { fibers = q.fibers; world = u } in
+        let m' : source.Memory = record m { place = o.kept.place; fibers = o.fibers; world = w } in
+        let b = switched s p d.g m d.memory m.fibers.others d.memory.fibers.others o q w u d.both.sites (λ n. omega (arith, d.both.apart n)) i
+        (same_activations m.world w refl) (ends_same s p d.g m d.memory d.both) in
+        given_on s p conf ls k (going_out (give v) [] m ls k d.out) v o.kept.items m' (ground_in d.g o q.kept) q.kept k'
+        (ap (λ (o : Option (Onward Kept)). end_fiber (give v) o m) left)
+        (d.gives ∙ ap (λ (o : Option (Onward (List Level))). end_fiber_machine v o d.memory) right
+        ∙ in_resumer_is v q.kept k' i.some) i.some b i.waits
+
+-- without a resumer the end of the fiber is that of the program
+received_last : (v : Value) (k : machine.Memory) → k.fibers.resumer ≡ None → receive v [] k ≡ Off (Ended k.world.out 0)
+unfolding receive
+received_last v k e = ap (λ (o : Option (Onward (List Level))). end_fiber_machine v o k) (no_more k.fibers e)
+
+-- What a return does: past a frame that catches nothing it goes to what waits below.
+returned_by : (h : Site) → Static h → (v : Value) (x : Rest) (n : ℕ) (ls : List Level) (k : machine.Memory)
+    → throw h.program (Return h.activation v) (frame (frame_at h x n) ∷ ls) k
+    ≡ receive v ls (closed k h.activation)
+unfolding throw unwind covering
+returned_by h static v x n ls k =
+    ap by static.no_catches
+    ∙ ap (λ (b : Bool). land (λ y gs l. throw_within (length k.fibers.others) h.program y gs l)
+    (reach b v ls (closed k h.activation) (unwind h.program (Return h.activation v) ls (closed k h.activation))))
+    (eq-eqb h.activation h.activation refl)
+  where
+    by : List CatchEntry → State
+    by cs = land (λ y gs l. throw_within (length k.fibers.others) h.program y gs l)
+        (at_frame (handler (Return h.activation v) (filter (covers (at_line h n)) (reverse cs))) (Return h.activation v)
+        (frame_at h x n) ls k (unwind h.program (Return h.activation v) ls (closed k h.activation)))
+
+-- The end of a body: that of the main program stops, and every other one returns its value.
+pub give_activation : (g : Ground) (h : Site) → Static h → (ks : List Item) (m : source.Memory) (k : machine.Memory)
+    → Common g h m (aligned k m) → (v : Value) (a : ℕ) (place : Place) (ls : List Level)
+    (d : GivesIn g h v (activation a place ∷ ks) m.place ls k.lists)
+    → Quiet m (go h.source (Run (give v) (activation a place ∷ ks) m))
+    → Step h (Run (give v) (activation a place ∷ ks) m) (state_at g h d.x d.n (aligned k m))
+unfolding do_give
+give_activation g h static ks m k both v a place ls d quiet = at d.next.by
+  where
+    conf : Config
+    conf = Run (give v) (activation a place ∷ ks) m
+
+    from : From h conf (frame (frame_at h d.x d.n) ∷ g.below) (aligned k m) m
+    from = record {
+      alike = going (give v) (activation a place ∷ ks) m (frame (frame_at h d.x d.n) ∷ g.below) (aligned k m) refl;
+      out = refl;
+      quiet = quiet;
+    }
+
+    w : World
+    w = close m.world a
+
+    m' : source.Memory
+    m' = record m { place = place; world = w }
+
+    back : (gs : List Level) → g.below ≡ gs → Both h.source h.program (over_levels g gs) m' (machine.with_world k w)
+    back gs e =
+        let b = grown g m (aligned k m) both.all place w quiet.2 in
+        record {
+          world = b.world;
+          sites = b.sites;
+          fibers = b.fibers;
+          apart = subst (λ (is : List Level). (n : ℕ) → uses n is + uses_in n k.fibers.others ≤ 1) e b.apart;
+        }
+
+    at : EndsBy h g.fiber g.below (λ q js. Waits g.sites g.fiber k.lists js q g.below) place ks d.n d.r
+        → Step h conf (state_at g h d.x d.n (aligned k m))
+    at (stops l main last bare root) =
+        let i = both.all.sites.each h both.site in
+        let same : close m.world a ≡ m.world =
+        ap (close m.world) d.next.is ∙ main_closed m.world h.activation (i.runs ∙ main) in
+        let none : k.fibers.resumer ≡ None = both.all.fibers.resumer ∙ both.all.fibers.rooted root in
+        given_back h.source h.program conf (frame (frame_at h d.x d.n) ∷ g.below) (aligned k m) m from v ks m' g []
+        (machine.with_world k w) refl
+        (turned h d.x d.n op.Stop g.below (aligned k m) l
+        ∙ ap (λ (u : World). Off (Ended u.out 0)) (sym same)
+        ∙ sym (received_last v (machine.with_world k w) none)) (omega arith) (back [] bare) last
+    at (returns l next) =
+        given_back h.source h.program conf (frame (frame_at h d.x d.n) ∷ g.below) (aligned k m) m from v ks m' g g.below
+        (machine.with_world k w) refl
+        (turned h d.x d.n (op.Return d.r) g.below (aligned k m) l
+        ∙ ap (λ (u : Value). throw h.program (Return h.activation u) (frame (frame_at h d.x d.n) ∷ g.below) (aligned k m))
+        (ap read d.stands)
+        ∙ returned_by h static v d.x d.n g.below (aligned k m)
+        ∙ ap (λ (c : ℕ). receive v g.below (machine.with_world k (close m.world c))) (sym d.next.is))
+        (falls g.below ks m' conf (omega arith)) (back g.below refl) next
 
 -- What a throw does.
 
-thrown_out : (h : Site) (e : ObjId) (k : machine.Memory) → k.fibers.resumer ≡ None
-    → throw h.program (Raise e) [] k ≡ end_program (unrescued k.world.store e) k.world.out
-unfolding throw unwind
-thrown_out h e k alone =
-    ap (fallen_by) (no_more k.fibers alone)
-  where
-    fallen_by : Option (Onward (List Level)) → State
-    fallen_by o =
-        fallen (λ y ls l. throw_within (length k.fibers.others) h.program y ls l) e o k
-
--- past a frame of the body, which catches nothing
-past : (h : Site) → Static h → (e : ObjId) (x : Rest) (n : ℕ) (k : machine.Memory)
-    → throw h.program (Raise e) (frame (frame_at h x n) ∷ []) k
-    ≡ throw h.program (Raise e) [] (closed k h.activation)
+-- past a frame of a body that catches nothing
+past : (h : Site) → Static h → (e : ObjId) (x : Rest) (n : ℕ) (ls : List Level) (k : machine.Memory)
+    → throw h.program (Raise e) (frame (frame_at h x n) ∷ ls) k ≡ throw h.program (Raise e) ls (closed k h.activation)
 unfolding throw unwind covering
-past h static e x n k = ap by static.no_catches
+past h static e x n ls k = ap by static.no_catches
   where
     by : List CatchEntry → State
-    by cs = land (λ y ls l. throw_within (length k.fibers.others) h.program y ls l)
-        (at_frame (handler (Raise e) (filter (covers (at_line h n)) (reverse cs))) (Raise e) (frame_at h x n) [] k
-        (unwind h.program (Raise e) [] (closed k h.activation)))
+    by cs = land (λ y gs l. throw_within (length k.fibers.others) h.program y gs l)
+        (at_frame (handler (Raise e) (filter (covers (at_line h n)) (reverse cs))) (Raise e) (frame_at h x n) ls k
+        (unwind h.program (Raise e) ls (closed k h.activation)))
 
 -- past an iteration, or its end
-abbrev by_caught : Site → ObjId → List Level → machine.Memory → Option Value → State
-by_caught h e ls k None = throw h.program (Raise e) ls k
-by_caught h e ls k (Some v) = receive v ls k
+abbrev by_caught : Program → ObjId → List Level → machine.Memory → Option Value → State
+by_caught p e ls k None = throw p (Raise e) ls k
+by_caught p e ls k (Some v) = receive v ls k
 
-past_iteration : (h : Site) (e : ObjId) (a : ℕ) (it : Iteration) (v : Value) (ls : List Level) (k : machine.Memory)
-    → throw h.program (Raise e) (machine.iteration a it v ∷ ls) k ≡ by_caught h e ls k (caught it e k.world.store)
+past_iteration : (p : Program) (e : ObjId) (a : ℕ) (it : Iteration) (v : Value) (ls : List Level) (k : machine.Memory)
+    → throw p (Raise e) (machine.iteration a it v ∷ ls) k ≡ by_caught p e ls k (caught it e k.world.store)
 unfolding throw unwind
-past_iteration h e a it v ls k = by (caught it e k.world.store)
+past_iteration p e a it v ls k = by (caught it e k.world.store)
   where
-    by : (o : Option Value) → land (λ y gs l. throw_within (length k.fibers.others) h.program y gs l)
-        (end_by_machine o ls k (unwind h.program (Raise e) ls k)) ≡ by_caught h e ls k o
+    by : (o : Option Value) → land (λ y gs l. throw_within (length k.fibers.others) p y gs l)
+        (end_by_machine o ls k (unwind p (Raise e) ls k)) ≡ by_caught p e ls k o
     by None = refl
     by (Some u) = refl
+
+-- past the last level of a fiber
+past_fiber : (p : Program) (e : ObjId) (k : machine.Memory)
+    → throw p (Raise e) [] k
+    ≡ fallen (λ y ls l. throw_within (length k.fibers.others) p y ls l) e (finish k.fibers) k
+unfolding throw unwind
+past_fiber p e k = refl
 
 -- an exit passes a part
 passes_part : (x : ObjId) (p : Stop) (ks : List Item) (m : source.Memory) → IsPassed p
@@ -141,132 +241,188 @@ weight_pos (source.clause_target n e b r) = omega arith
 weight_pos (source.clause_body r) = omega arith
 weight_pos (source.ensured n e) = omega arith
 
-module _ (h : Site) (static : Static h) (m : source.Memory) (ls : List Level) (k : machine.Memory) where
-  ends_alike : (u : Unrescued) (out : List ℕ) → Related h (end_by u out) (end_program u out)
+module _ (s : Source) (p : Program) (m : source.Memory) (ls : List Level) (k : machine.Memory) where
+  ends_alike : (u : Unrescued) (out : List ℕ) → Alike s p (end_by u out) (end_program u out)
   ends_alike u out = by u.exits
     where
       by : (b : Bool)
-          → Related h (if b then Halt (Ended out u.status) else Halt (Uncaught out u.class u.message))
+          → Alike s p (if b then Halt (Ended out u.status) else Halt (Uncaught out u.class u.message))
           (if b then Off (Ended out u.status) else Off (Uncaught out u.class u.message))
       by true = refl
       by false = refl
 
-  -- nothing is left: the program ends
-  pub travel_end : (x : Exit) → Throwing h x [] m ls k → Step h (Run (travel x) [] m) (On ls k)
-  unfolding do_travel
-  travel_end x t =
-      let c = t.common in
-      let last = t.throws ∙ ap (λ (gs : List Level). throw h.program (Raise t.e) gs t.memory) t.leaving
-      ∙ thrown_out h t.e t.memory c.alone_too
-      ∙ ap (λ (w : World). end_program (unrescued w.store t.e) w.out) c.world in
-      let goes : go h.source (Run (travel x) [] m) ≡ end_by (unrescued m.world.store t.e) m.world.out =
-      ap (λ (y : Exit). go h.source (Run (travel y) [] m)) t.exception
-      ∙ ap (λ (o : Option (Onward Kept)). leave_fiber t.e o m) (no_more m.fibers c.alone) in
-      by_one h (Run (travel x) [] m) (On ls k) (end_program (unrescued m.world.store t.e) m.world.out)
-      (going_out (travel x) [] m ls k t.out) last
-      (subst (λ (d : Config). Related h d (end_program (unrescued m.world.store t.e) m.world.out)) (sym goes)
-      (ends_alike (unrescued m.world.store t.e) m.world.out))
+  -- nothing is left in the fiber: the program ends, or the exception goes on in what resumed the fiber
+  pub travel_end : (x : Exit) → Throwing s p x [] m ls k → Advances s p (Run (travel x) [] m) (On ls k)
+  unfolding do_travel throw
+  travel_end x t = at (finished t.g.sites t.g.fiber t.memory.lists m.fibers t.memory.fibers t.both.fibers)
+    where
+      conf : Config
+      conf = Run (travel x) [] m
+
+      goes : go s conf ≡ leave_fiber t.e (finish m.fibers) m
+      goes = ap (λ (y : Exit). go s (Run (travel y) [] m)) t.exception
+
+      turns : turn p (On ls k)
+          ≡ fallen (λ y gs l. throw_within (length t.memory.fibers.others) p y gs l) t.e (finish t.memory.fibers) t.memory
+      turns = t.throws ∙ ap (λ (gs : List Level). throw p (Raise t.e) gs t.memory) t.leaving
+          ∙ past_fiber p t.e t.memory
+
+      at : Onwards t.g.sites t.memory.lists m.fibers.others t.memory.fibers.others (finish m.fibers)
+          (finish t.memory.fibers) → Advances s p conf (On ls k)
+      at (nowhere a b) =
+          let last = turns
+          ∙ ap (λ (o : Option (Onward (List Level))). fallen (λ y gs l. throw_within (length t.memory.fibers.others) p y gs l)
+          t.e o t.memory) b
+          ∙ ap (λ (w : World). end_program (unrescued w.store t.e) w.out) t.both.world in
+          let goes' : go s conf ≡ end_by (unrescued m.world.store t.e) m.world.out =
+          goes ∙ ap (λ (o : Option (Onward Kept)). leave_fiber t.e o m) a in
+          one_turn s p conf (On ls k) (end_program (unrescued m.world.store t.e) m.world.out)
+          (going_out (travel x) [] m ls k t.out) last
+          (subst (λ (d : Config). Alike s p d (end_program (unrescued m.world.store t.e) m.world.out)) (sym goes')
+          (ends_alike (unrescued m.world.store t.e) m.world.out))
+      at (onward o q left right i) =
+          let w = ended_in m.world m.fibers.running in
+          let u = ended_in t.memory.world t.memory.fibers.running in
+          let k' : machine.Memory = record t.memory { fibers = q.fibers; world = u } in
+          let m' : source.Memory = record m { place = o.kept.place; fibers = o.fibers; world = w } in
+          let goes' : go s conf ≡ Run (travel (raise t.e)) o.kept.items m' =
+          goes ∙ ap (λ (o : Option (Onward Kept)). leave_fiber t.e o m) left in
+          let more : length t.memory.fibers.others ≡ suc (length q.fibers.others) = omega (arith, i.fewer) in
+          no_turn s p conf (On ls k)
+          (subst (λ (d : Config). measure d < measure conf) (sym goes') (omega (arith, i.lighter)))
+          (subst (λ (d : Config). Alike s p d (On ls k)) (sym goes') (record {
+            g = ground_in t.g o q.kept;
+            e = t.e;
+            exception = refl;
+            memory = k';
+            throws = turns
+                ∙ ap (λ (b : Option (Onward (List Level))). fallen
+                (λ y gs l. throw_within (length t.memory.fibers.others) p y gs l) t.e b t.memory) right
+                ∙ ap (λ (n : ℕ). throw_within n p (Raise t.e) q.kept k') more;
+            out = t.out;
+            both = switched s p t.g m t.memory m.fibers.others t.memory.fibers.others o q w u t.both.sites (λ n. omega (arith, t.both.apart n)) i
+                (same_activations m.world w refl) (ends_same s p t.g m t.memory t.both);
+            leaving = leaves t.g.sites o.fibers.running t.memory.lists o.kept.items o.kept.place q.kept i.waits;
+          }))
 
   -- a part is passed
-  pub travel_part_on : (x : Exit) (p : Part) (ks : List Item) → Throwing h x (part p ∷ ks) m ls k
-      → Step h (Run (travel x) (part p ∷ ks) m) (On ls k)
+  pub travel_part_on : (x : Exit) (q : Part) (ks : List Item) → Throwing s p x (part q ∷ ks) m ls k
+      → Advances s p (Run (travel x) (part q ∷ ks) m) (On ls k)
   unfolding do_travel
-  travel_part_on x p ks t =
-      let conf = Run (travel x) (part p ∷ ks) m in
-      let goes : go h.source conf ≡ Run (travel (raise t.e)) ks m =
-      ap (λ (y : Exit). go h.source (Run (travel y) (part p ∷ ks) m)) t.exception
-      ∙ passes_part t.e (stop_of p) ks m t.leaving.0 in
-      by_none h conf (On ls k)
-      (subst (λ (d : Config). measure d < measure conf) (sym goes) (omega (arith, weight_pos p)))
-      (subst (λ (d : Config). Related h d (On ls k)) (sym goes) (record {
+  travel_part_on x q ks t =
+      let conf = Run (travel x) (part q ∷ ks) m in
+      let goes : go s conf ≡ Run (travel (raise t.e)) ks m =
+      ap (λ (y : Exit). go s (Run (travel y) (part q ∷ ks) m)) t.exception
+      ∙ passes_part t.e (stop_of q) ks m t.leaving.0 in
+      no_turn s p conf (On ls k)
+      (subst (λ (d : Config). measure d < measure conf) (sym goes) (omega (arith, weight_pos q)))
+      (subst (λ (d : Config). Alike s p d (On ls k)) (sym goes) (record {
+        g = t.g;
         e = t.e;
         exception = refl;
-        levels = t.levels;
         memory = t.memory;
         throws = t.throws;
         out = t.out;
-        common = t.common;
+        both = t.both;
         leaving = t.leaving.1;
       }))
 
-  -- the main program is left
+  -- the levels that are left, when they are known
+  at_levels : (x : Exit) (ks : List Item) (t : Throwing s p x ks m ls k) (gs : List Level) → t.g.below ≡ gs
+      → Both s p (over_levels t.g gs) m t.memory
+  at_levels x ks t gs e = record {
+    world = t.both.world;
+    sites = t.both.sites;
+    fibers = t.both.fibers;
+    apart = subst (λ (is : List Level). (n : ℕ) → uses n is + uses_in n t.memory.fibers.others ≤ 1) e t.both.apart;
+  }
+
+  -- a body is left
   pub travel_activation_on : (x : Exit) (a : ℕ) (place : Place) (ks : List Item)
-      → Throwing h x (activation a place ∷ ks) m ls k
-      → Quiet m (go h.source (Run (travel x) (activation a place ∷ ks) m))
-      → Step h (Run (travel x) (activation a place ∷ ks) m) (On ls k)
+      → Throwing s p x (activation a place ∷ ks) m ls k
+      → Quiet m (go s (Run (travel x) (activation a place ∷ ks) m))
+      → Advances s p (Run (travel x) (activation a place ∷ ks) m) (On ls k)
   unfolding do_travel
   travel_activation_on x a place ks t quiet =
       let conf = Run (travel x) (activation a place ∷ ks) m in
-      let goes : go h.source conf ≡ Run (travel (raise t.e)) [] (returned m a place) =
-      ap (λ (y : Exit). go h.source (Run (travel y) (activation a place ∷ ks) m)) t.exception
-      ∙ ap (λ (is : List Item). Run (travel (raise t.e)) is (returned m a place)) t.leaving.last in
-      let c = t.common in
+      let f = t.leaving in
+      let goes : go s conf ≡ Run (travel (raise t.e)) ks (returned m a place) =
+      ap (λ (y : Exit). go s (Run (travel y) (activation a place ∷ ks) m)) t.exception in
       let still = subst (Quiet m) goes quiet in
-      by_none h conf (On ls k)
+      let i = t.both.sites.each f.h f.site in
+      let w = close m.world a in
+      let b = without_top t.g m t.memory (frame_at f.h f.x f.at) f.below
+      (at_levels x (activation a place ∷ ks) t (frame (frame_at f.h f.x f.at) ∷ f.below) f.is) in
+      let leaves_frame : throw p (Raise t.e) (frame (frame_at f.h f.x f.at) ∷ f.below) t.memory
+      ≡ throw p (Raise t.e) f.below (closed t.memory f.h.activation) =
+      subst (λ (q : Program). throw q (Raise t.e) (frame (frame_at f.h f.x f.at) ∷ f.below) t.memory
+      ≡ throw q (Raise t.e) f.below (closed t.memory f.h.activation)) i.program
+      (past f.h i.static t.e f.x f.at f.below t.memory) in
+      no_turn s p conf (On ls k)
       (subst (λ (d : Config). measure d < measure conf) (sym goes) (omega arith))
-      (subst (λ (d : Config). Related h d (On ls k)) (sym goes) (record {
+      (subst (λ (d : Config). Alike s p d (On ls k)) (sym goes) (record {
+        g = over_levels t.g f.below;
         e = t.e;
         exception = refl;
-        levels = [];
-        memory = closed t.memory h.activation;
+        memory = machine.with_world t.memory w;
         throws = t.throws
-            ∙ ap (λ (gs : List Level). throw h.program (Raise t.e) gs t.memory) t.leaving.is
-            ∙ past h static t.e t.leaving.x t.leaving.at t.memory;
+            ∙ ap (λ (gs : List Level). throw p (Raise t.e) gs t.memory) f.is
+            ∙ leaves_frame
+            ∙ ap (λ (u : World). throw p (Raise t.e) f.below (machine.with_world t.memory u))
+            (ap (λ (u : World). close u f.h.activation) t.both.world ∙ ap (close m.world) (sym f.same));
         out = t.out ∙ sym still.1;
-        common = record {
-          world = ap (λ (w : World). close w h.activation) c.world ∙ ap (close m.world) (sym t.leaving.same);
-          alone = c.alone;
-          alone_too = c.alone_too;
-          same = c.same;
-        };
-        leaving = refl;
+        both = grown (over_levels t.g f.below) m t.memory b place w still.2;
+        leaving = leaves t.g.sites t.g.fiber t.memory.lists ks place f.below f.next;
       }))
 
-  caught_by : (x : Exit) (a : ℕ) (it : Iteration) (place : Place) (ks : List Item) (e : ObjId) (others : List Level)
-      (k' : machine.Memory) → k.world.out ≡ m.world.out → Common h m k' → Waits h k'.lists ks place others
-      → (o : Option Value)
-      → go h.source (Run (travel x) (iteration a it place ∷ ks) m)
-      ≡ travel_caught e o ks (record m { place = place })
-      → turn h.program (On ls k) ≡ by_caught h e others k' o
-      → Step h (Run (travel x) (iteration a it place ∷ ks) m) (On ls k)
-  caught_by x a it place ks e others k' out c waits None goes turns =
+  caught_by : (x : Exit) (a : ℕ) (it : Iteration) (place : Place) (ks : List Item) (e : ObjId) (g : Ground)
+      (others : List Level) (k' : machine.Memory) → k.world.out ≡ m.world.out
+      → Quiet m (go s (Run (travel x) (iteration a it place ∷ ks) m))
+      → Both s p (over_levels g others) m k' → Waits g.sites g.fiber k'.lists ks place others → (o : Option Value)
+      → go s (Run (travel x) (iteration a it place ∷ ks) m) ≡ travel_caught e o ks (record m { place = place })
+      → turn p (On ls k) ≡ by_caught p e others k' o
+      → Advances s p (Run (travel x) (iteration a it place ∷ ks) m) (On ls k)
+  caught_by x a it place ks e g others k' out quiet b waits None goes turns =
       let conf = Run (travel x) (iteration a it place ∷ ks) m in
-      by_none h conf (On ls k)
+      no_turn s p conf (On ls k)
       (subst (λ (d : Config). measure d < measure conf) (sym goes) (omega arith))
-      (subst (λ (d : Config). Related h d (On ls k)) (sym goes) (record {
+      (subst (λ (d : Config). Alike s p d (On ls k)) (sym goes) (record {
+        g = over_levels g others;
         e = e;
         exception = refl;
-        levels = others;
         memory = k';
         throws = turns;
         out = out;
-        common = record { world = c.world; alone = c.alone; alone_too = c.alone_too; same = c.same };
-        leaving = leaves h k'.lists ks place others waits;
+        both = record { world = b.world; sites = b.sites; fibers = b.fibers; apart = b.apart };
+        leaving = leaves g.sites g.fiber k'.lists ks place others waits;
       }))
-  caught_by x a it place ks e others k' out c waits (Some v) goes turns =
+  caught_by x a it place ks e g others k' out quiet b waits (Some v) goes turns =
+      let conf = Run (travel x) (iteration a it place ∷ ks) m in
       let m' : source.Memory = record m { place = place } in
-      by_one h (Run (travel x) (iteration a it place ∷ ks) m) (On ls k) (receive v others k')
-      (going_out (travel x) (iteration a it place ∷ ks) m ls k out) turns
-      (subst (λ (d : Config). Related h d (receive v others k')) (sym goes)
-      (received h static v ks m' others k'
-      (record { world = c.world; alone = c.alone; alone_too = c.alone_too; same = c.same }) waits))
+      given_back s p conf ls k m (record {
+        alike = going_out (travel x) (iteration a it place ∷ ks) m ls k out;
+        out = out;
+        quiet = quiet;
+      }) v ks m' g others k' goes turns (falls others ks m' conf (omega arith))
+      (record { world = b.world; sites = b.sites; fibers = b.fibers; apart = b.apart }) waits
 
   -- an iteration is left, or ends by the exception
   pub travel_iteration_on : (x : Exit) (a : ℕ) (it : Iteration) (place : Place) (ks : List Item)
-      → Throwing h x (iteration a it place ∷ ks) m ls k → close m.world a ≡ m.world
-      → Step h (Run (travel x) (iteration a it place ∷ ks) m) (On ls k)
+      → Throwing s p x (iteration a it place ∷ ks) m ls k → close m.world a ≡ m.world
+      → Quiet m (go s (Run (travel x) (iteration a it place ∷ ks) m))
+      → Advances s p (Run (travel x) (iteration a it place ∷ ks) m) (On ls k)
   unfolding do_travel
-  travel_iteration_on x a it place ks t same =
-      let m' : source.Memory = record m { place = place } in
-      let c = t.common in
-      let goes : go h.source (Run (travel x) (iteration a it place ∷ ks) m)
-      ≡ travel_caught t.e (caught it t.e m.world.store) ks m' =
-      ap (λ (y : Exit). go h.source (Run (travel y) (iteration a it place ∷ ks) m)) t.exception
+  travel_iteration_on x a it place ks t same quiet =
+      let f = t.leaving in
+      let goes : go s (Run (travel x) (iteration a it place ∷ ks) m)
+      ≡ travel_caught t.e (caught it t.e m.world.store) ks (record m { place = place }) =
+      ap (λ (y : Exit). go s (Run (travel y) (iteration a it place ∷ ks) m)) t.exception
       ∙ ap (λ (w : World). travel_caught t.e (caught it t.e w.store) ks (record m { place = place; world = w })) same in
-      let turns : turn h.program (On ls k)
-      ≡ by_caught h t.e t.leaving.others t.memory (caught it t.e m.world.store) =
-      t.throws ∙ ap (λ (gs : List Level). throw h.program (Raise t.e) gs t.memory) t.leaving.is
-      ∙ past_iteration h t.e a it t.leaving.answer t.leaving.others t.memory
-      ∙ ap (λ (w : World). by_caught h t.e t.leaving.others t.memory (caught it t.e w.store)) c.world in
-      caught_by x a it place ks t.e t.leaving.others t.memory t.out c t.leaving.next (caught it t.e m.world.store) goes
-      turns
+      let turns : turn p (On ls k) ≡ by_caught p t.e f.below t.memory (caught it t.e m.world.store) =
+      t.throws ∙ ap (λ (gs : List Level). throw p (Raise t.e) gs t.memory) f.is
+      ∙ past_iteration p t.e a it f.answer f.below t.memory
+      ∙ ap (λ (w : World). by_caught p t.e f.below t.memory (caught it t.e w.store)) t.both.world in
+      let b = at_levels x (iteration a it place ∷ ks) t (machine.iteration a it f.answer ∷ f.below) f.is in
+      caught_by x a it place ks t.e t.g f.below t.memory t.out quiet
+      (record { world = b.world; sites = b.sites; fibers = b.fibers; apart = b.apart }) f.next
+      (caught it t.e m.world.store) goes turns

@@ -1,6 +1,7 @@
 pub mod Placed
-pub mod Relation
 pub mod Registers
+pub mod Untouched
+pub mod Switching
 pub mod Matching
 pub mod Calling
 pub mod Literals

@@ -22,8 +22,9 @@ use Rattle.def_machine.specs.State.{Level, frame, slot_at, value_at}
 use Rattle.def_machine.specs.Turn.{act}
 use Rattle.step_laws.specs.Site.{Site, within, at_line, LineAt, register, Known}
 use Rattle.step_laws.proofs.Placed.{high, high-puts, heights, left, right, the_line, frame_at, turned}
-use Rattle.step_laws.proofs.Relation.{Static, InFrame, Common, Doing, GivesIn, Related, Step}
-use Rattle.step_laws.proofs.Registers.{slot_other, keeps_local, frame_kept, named_is, same_local_put}
+use Rattle.step_laws.specs.Relation.{Ground, Static, InFrame, Common, Doing, GivesIn, Related, Step}
+use Rattle.step_laws.proofs.Registers.{slot_other, keeps_local, named_is}
+use Rattle.step_laws.proofs.Untouched.{put_only, frame_kept, same_here, assigned_here}
 use Rattle.step_laws.proofs.Matching.{by_none, by_one, going, state_at, written, stays}
 use Rattle.step_laws.proofs.Literals.{aligned, written_by}
 
@@ -38,35 +39,37 @@ write_is : (h : Site) (r : ℕ) (x : Name) → Known h x
 write_is h r x k = ap (λ (d : ℕ). if nat_eq d 0 then op.Move (register h x) r
     else op.SetUpVar r (register h x) ((place_of h.context.scopes (named x)).levels - 1)) k.level
 
-module _ (h : Site) (static : Static h) (ks : List Item) (m : source.Memory) (ls : List Level)
-    (k : machine.Memory) (both : Common h m (aligned k m)) where
-  pub do_local : (j : ℕ) (y : Local) (d : Doing h (local y) ks m.place ls k.lists)
-      → Step h (Run (perform j (local y)) ks m) (state_at h d.x d.n (aligned k m))
+module _ (g : Ground) (h : Site) (static : Static h) (ks : List Item) (m : source.Memory) (ls : List Level)
+    (k : machine.Memory) (both : Common g h m (aligned k m)) where
+  pub do_local : (j : ℕ) (y : Local) (d : Doing g h (local y) ks m.place ls k.lists)
+      → Step h (Run (perform j (local y)) ks m) (state_at g h d.x d.n (aligned k m))
   unfolding do_form
   do_local j (named x) d =
       let o = read d.r (place_of h.context.scopes (named x)) in
       let l = the_line h d.n (line.Does o) d.code in
       let same : variable m (named x) ≡ value_at k.lists h.list (register h x) =
-      named_is h m k.lists x d.there both.same d.covered.1 in
-      written_by h static (Run (perform j (local (named x))) ks m) (variable m (named x)) ks m d.x k d.n d.r o
-      (going (perform j (local (named x))) ks m (frame (frame_at h d.x d.n) ∷ []) (aligned k m) refl) refl l
-      (ap (λ (q : Operation). act h.program q (at_line h (d.n + 1)) (frame_at h d.x d.n) [] (aligned k m))
+      named_is h m k.lists x d.there (same_here g h m (aligned k m) both) d.covered.1 in
+      written_by g h static (Run (perform j (local (named x))) ks m) (variable m (named x)) ks m d.x k d.n d.r o
+      (going (perform j (local (named x))) ks m (frame (frame_at h d.x d.n) ∷ g.below) (aligned k m) refl) refl l
+      (ap (λ (q : Operation). act h.program q (at_line h (d.n + 1)) (frame_at h d.x d.n) g.below (aligned k m))
       (read_is h d.r x d.covered.1)
-      ∙ ap (λ (v : Value). state_at h d.x (d.n + 1) (written h (aligned k m) d.r v)) (sym same))
+      ∙ ap (λ (v : Value). state_at g h d.x (d.n + 1) (written h (aligned k m) d.r v)) (sym same))
       both d.there d.covered.0
-      (subst (λ (i : ℕ). InFrame h k.lists ks (d.n + i) d.r) (high-puts (line.Does o)) d.next)
+      (subst (λ (i : ℕ). InFrame g h k.lists ks (d.n + i) d.r) (high-puts (line.Does o)) d.next)
   do_local j (hidden i) d = absurd d.covered.1
   do_local j (pattern i) d = absurd d.covered.1
   do_local j rest d = absurd d.covered.1
 
-  pub do_set_local : (j : ℕ) (y : Local) (e : CoreForm) (d : Doing h (set_local y e) ks m.place ls k.lists)
-      → Step h (Run (perform j (set_local y e)) ks m) (state_at h d.x d.n (aligned k m))
+  pub do_set_local : (j : ℕ) (y : Local) (e : CoreForm) (d : Doing g h (set_local y e) ks m.place ls k.lists)
+      → Step h (Run (perform j (set_local y e)) ks m) (state_at g h d.x d.n (aligned k m))
   unfolding do_form
   do_set_local j (named x) e d =
       let p = gen (within h d.loop) d.s d.r e in
       let o = write d.r (place_of h.context.scopes (named x)) in
       let l = the_line h (d.n + high p) (line.Does o) (right h d.n p (does o) d.code) in
-      by_none h (Run (perform j (set_local (named x) e)) ks m) (state_at h d.x d.n (aligned k m)) (omega arith) (
+      by_none h (Run (perform j (set_local (named x) e)) ks m) (state_at g h d.x d.n (aligned k m)) (omega arith) (
+        g,
+        h,
         both,
         record {
           x = d.x;
@@ -105,8 +108,8 @@ module _ (h : Site) (static : Static h) (ks : List Item) (m : source.Memory) (ls
 
   -- the value of an assignment, which is the last of its operands
   pub give_operand : (v : Value) (j : ℕ) (a : Action) (vs : List Value) (es : Forms)
-      (d : GivesIn h v (part (operands j a vs es) ∷ ks) m.place ls k.lists)
-      → Step h (Run (give v) (part (operands j a vs es) ∷ ks) m) (state_at h d.x d.n (aligned k m))
+      (d : GivesIn g h v (part (operands j a vs es) ∷ ks) m.place ls k.lists)
+      → Step h (Run (give v) (part (operands j a vs es) ∷ ks) m) (state_at g h d.x d.n (aligned k m))
   unfolding do_give give_part finish with_variable
   give_operand v j a vs es d =
       let b = d.next.behind in
@@ -118,21 +121,18 @@ module _ (h : Site) (static : Static h) (ks : List Item) (m : source.Memory) (ls
       let k' = written h (aligned k m) (register h b.name) v in
       let stands : slot_at k.lists h.list d.next.low ≡ V v =
       subst (λ (i : ℕ). slot_at k.lists h.list i ≡ V v) (sym b.at) d.stands in
-      let s = both.same in
+      let s = same_here g h m (aligned k m) both in
+      let b' = assigned_here g h m (aligned k m) both b.name v d.there b.known in
       let apart : d.next.low ≢ register h b.name = omega (arith, d.next.above, b.known.low) in
-      by_one h c (state_at h d.x d.n (aligned k m)) (state_at h d.x (d.n + 1) k')
-      (going (give v) (part (operands j a vs es) ∷ ks) m (frame (frame_at h d.x d.n) ∷ []) (aligned k m) refl)
-      (turned h d.x d.n (op.Move (register h b.name) d.next.low) [] (aligned k m) b.move
-      ∙ ap (λ (u : Value). state_at h d.x (d.n + 1) (written h (aligned k m) (register h b.name) u))
+      by_one h c (state_at g h d.x d.n (aligned k m)) (state_at g h d.x (d.n + 1) k')
+      (going (give v) (part (operands j a vs es) ∷ ks) m (frame (frame_at h d.x d.n) ∷ g.below) (aligned k m) refl)
+      (turned h d.x d.n (op.Move (register h b.name) d.next.low) g.below (aligned k m) b.move
+      ∙ ap (λ (u : Value). state_at g h d.x (d.n + 1) (written h (aligned k m) (register h b.name) u))
       (ap read_slot stands))
-      (subst (λ (q : Config). Related h q (state_at h d.x (d.n + 1) k')) (sym goes)
-      (stays h v ks (with_variable m (named b.name) v) d.x k' (d.n + 1) d.next.low (record {
-        world = refl;
-        alone = both.alone;
-        alone_too = both.alone_too;
-        same = same_local_put h m k.lists b.name v static d.there s b.known static.room;
-      }) d.there
+      (subst (λ (q : Config). Related h q (state_at g h d.x (d.n + 1) k')) (sym goes)
+      (stays g h v ks (with_variable m (named b.name) v) d.x k' (d.n + 1) d.next.low b' d.there
       (slot_other k.lists h.list (register h b.name) d.next.low (V v) s.present apart ∙ stands)
-      (subst (λ (i : ℕ). InFrame h k'.lists ks i d.next.low) (sym b.ends)
-      (frame_kept h k.lists k'.lists ks d.next.end d.next.low
-      (keeps_local h k.lists d.next.low (register h b.name) (V v) s.present b.known.low) d.next.next))))
+      (subst (λ (i : ℕ). InFrame g h k'.lists ks i d.next.low) (sym b.ends)
+      (frame_kept g h k.lists k'.lists ks d.next.end d.next.low
+      (keeps_local h k.lists d.next.low (register h b.name) (V v) s.present b.known.low)
+      (put_only k.lists h.list (register h b.name) v) (omega (arith, both.free)) d.next.next))))

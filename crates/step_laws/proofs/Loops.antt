@@ -1,5 +1,5 @@
 -- Loops.
-use Rattle.std.proofs.Common.{◌≡◌, ◌⊎◌, ℕ, ◌+◌, List, [], ◌∷◌, refl, sym, ap, ◌∙◌, subst, inl, inr, arith, Bool, true, false}
+use Rattle.std.proofs.Common.{◌≡◌, ◌⊎◌, ℕ, ◌+◌, List, ◌∷◌, refl, sym, ap, ◌∙◌, subst, inl, inr, arith, Bool, true, false}
 use Rattle.std.specs.Prelude.{if◌then◌else◌, Option, Some}
 use Rattle.rb_value.specs.declared.value.Value.{Value}
 use Rattle.rb_value.specs.declared.value.Value.TheVariants.{Nil}
@@ -9,7 +9,6 @@ use Rattle.rite_code.specs.declared.operation.Operation.TheVariants as op
 use Rattle.ir_core.specs.CoreForm.{CoreForm, while_form}
 use Rattle.gen_parts.specs.declared.line.Line.TheVariants as line
 use Rattle.gen_parts.specs.declared.emitter.Spot.{Spot}
-use Rattle.gen_parts.specs.declared.emitter.Held.TheVariants as held
 use Rattle.gen_parts.specs.Pieces.{past, behind, puts, does, ◌⊕◌, jump, jump_if}
 use Rattle.gen_forms.specs.declared.context.Loop.{Loop}
 use Rattle.gen_forms.specs.Gen.{gen, loop as loop_code}
@@ -24,7 +23,7 @@ use Rattle.def_machine.specs.Turn.{turn}
 use Rattle.step_laws.specs.Site.{Site, within, place_in, LineAt, Room}
 use Rattle.step_laws.specs.Covered.{Covered}
 use Rattle.step_laws.proofs.Placed.{high, high-both, high-puts, line-past, line-behind, Stands, moved, left, right, the_line, Rest, frame_at, turned, jumped}
-use Rattle.step_laws.proofs.Relation.{Static, LoopAt, InFrame, Common, Doing, GivesIn, Related, Step}
+use Rattle.step_laws.specs.Relation.{Ground, Static, LoopAt, InFrame, Common, Doing, GivesIn, Related, Step}
 use Rattle.step_laws.proofs.Matching.{by_none, by_one, by_two, going, state_at, written, writes}
 use Rattle.step_laws.proofs.Literals.{aligned}
 use Rattle.step_laws.proofs.Branches.{jumped_not, jumped_if}
@@ -187,13 +186,15 @@ module _ (h : Site) (n r end : ℕ) (o : Option Loop) (s : Spot) (t b : CoreForm
         enters = the_line h n (line.Jump v.line) (left h n enter (out ⊕ whole) code);
       }
 
-module _ (h : Site) (static : Static h) (ks : List Item) (m : source.Memory) (ls : List Level)
-    (k : machine.Memory) (both : Common h m (aligned k m)) where
+module _ (g : Ground) (h : Site) (static : Static h) (ks : List Item) (m : source.Memory) (ls : List Level)
+    (k : machine.Memory) (both : Common g h m (aligned k m)) where
   -- the test is about to be done, and the body
   at_test : (x : Rest) (r end : ℕ) (j : ℕ) (t b : CoreForm) (l : LoopAt h r t b end) → m.place ≡ place_in h
-      → InFrame h k.lists ks end r
-      → Related h (Run (perform j t) (part (loop_test j t b) ∷ ks) m) (state_at h x l.test_spot.line (aligned k m))
+      → InFrame g h k.lists ks end r
+      → Related h (Run (perform j t) (part (loop_test j t b) ∷ ks) m) (state_at g h x l.test_spot.line (aligned k m))
   at_test x r end j t b l there next = (
+    g,
+    h,
     both,
     record {
       x = x;
@@ -219,9 +220,11 @@ module _ (h : Site) (static : Static h) (ks : List Item) (m : source.Memory) (ls
   )
 
   at_body : (x : Rest) (r end : ℕ) (i j : ℕ) (t b : CoreForm) (l : LoopAt h r t b end) → m.place ≡ place_in h
-      → InFrame h k.lists ks end r
-      → Related h (Run (perform i b) (part (loop_body j t b) ∷ ks) m) (state_at h x l.body_spot.line (aligned k m))
+      → InFrame g h k.lists ks end r
+      → Related h (Run (perform i b) (part (loop_body j t b) ∷ ks) m) (state_at g h x l.body_spot.line (aligned k m))
   at_body x r end i j t b l there next = (
+    g,
+    h,
     both,
     record {
       x = x;
@@ -246,33 +249,33 @@ module _ (h : Site) (static : Static h) (ks : List Item) (m : source.Memory) (ls
     },
   )
 
-  pub do_while : (j : ℕ) (first : Bool) (t b : CoreForm) (d : Doing h (while_form first t b) ks m.place ls k.lists)
-      → Step h (Run (perform j (while_form first t b)) ks m) (state_at h d.x d.n (aligned k m))
+  pub do_while : (j : ℕ) (first : Bool) (t b : CoreForm) (d : Doing g h (while_form first t b) ks m.place ls k.lists)
+      → Step h (Run (perform j (while_form first t b)) ks m) (state_at g h d.x d.n (aligned k m))
   unfolding do_form
   do_while j false t b d =
       let whole = loop_code false (λ c u i. gen c u i t) (λ c u i. gen c u i b) (within h d.loop) d.s d.r in
       let e = test_first h d.n d.r (d.n + high whole) d.loop d.s t b d.here d.covered.0
       (d.covered.1, d.covered.2) d.code refl in
-      by_one h (Run (perform j (while_form false t b)) ks m) (state_at h d.x d.n (aligned k m))
-      (state_at h d.x e.loop.test_spot.line (aligned k m))
-      (going (perform j (while_form false t b)) ks m (frame (frame_at h d.x d.n) ∷ []) (aligned k m) refl)
-      (jumped h d.x d.n e.loop.test_spot.line [] (aligned k m) e.enters)
+      by_one h (Run (perform j (while_form false t b)) ks m) (state_at g h d.x d.n (aligned k m))
+      (state_at g h d.x e.loop.test_spot.line (aligned k m))
+      (going (perform j (while_form false t b)) ks m (frame (frame_at h d.x d.n) ∷ g.below) (aligned k m) refl)
+      (jumped h d.x d.n e.loop.test_spot.line g.below (aligned k m) e.enters)
       (at_test d.x d.r (d.n + high whole) j t b e.loop d.there d.next)
   do_while j true t b d =
       let whole = loop_code true (λ c u i. gen c u i t) (λ c u i. gen c u i b) (within h d.loop) d.s d.r in
       let e = body_first h d.n d.r (d.n + high whole) d.loop d.s t b d.here d.covered.0
       (d.covered.1, d.covered.2) d.code refl in
-      by_one h (Run (perform j (while_form true t b)) ks m) (state_at h d.x d.n (aligned k m))
-      (state_at h d.x e.loop.body_spot.line (aligned k m))
-      (going (perform j (while_form true t b)) ks m (frame (frame_at h d.x d.n) ∷ []) (aligned k m) refl)
-      (jumped h d.x d.n e.loop.body_spot.line [] (aligned k m) e.enters)
+      by_one h (Run (perform j (while_form true t b)) ks m) (state_at g h d.x d.n (aligned k m))
+      (state_at g h d.x e.loop.body_spot.line (aligned k m))
+      (going (perform j (while_form true t b)) ks m (frame (frame_at h d.x d.n) ∷ g.below) (aligned k m) refl)
+      (jumped h d.x d.n e.loop.body_spot.line g.below (aligned k m) e.enters)
       (at_body d.x d.r (d.n + high whole) (j + span t) j t b e.loop d.there d.next)
 
   -- where the test leads to
   tested_to : (v : Value) (x : Rest) (r end : ℕ) (t b : CoreForm) (l : LoopAt h r t b end)
       → slot_at k.lists h.list r ≡ V v → (u : Bool) → is_true v ≡ u
-      → turn h.program (state_at h x (l.test_spot.line + high (gen (within h l.loop) l.test_spot r t)) (aligned k m))
-      ≡ state_at h x (if u then l.body_spot.line else l.out) (aligned k m)
+      → turn h.program (state_at g h x (l.test_spot.line + high (gen (within h l.loop) l.test_spot r t)) (aligned k m))
+      ≡ state_at g h x (if u then l.body_spot.line else l.out) (aligned k m)
   tested_to v x r end t b l stands u e = by l.branches u e
     where
       n : ℕ
@@ -280,57 +283,57 @@ module _ (h : Site) (static : Static h) (ks : List Item) (m : source.Memory) (ls
 
       by : (LineAt h n (line.JumpNot r l.out) × (l.body_spot.line ≡ n + 1))
           ⊎ (LineAt h n (line.JumpIf r l.body_spot.line) × (l.out ≡ n + 1)) → (u : Bool) → is_true v ≡ u
-          → turn h.program (state_at h x n (aligned k m))
-          ≡ state_at h x (if u then l.body_spot.line else l.out) (aligned k m)
-      by (inl g) true e =
-          jumped_not h x n r l.out (aligned k m) v true g.0 stands e
-          ∙ ap (λ (i : ℕ). state_at h x i (aligned k m)) (sym g.1)
-      by (inl g) false e = jumped_not h x n r l.out (aligned k m) v false g.0 stands e
-      by (inr g) true e = jumped_if h x n r l.body_spot.line (aligned k m) v true g.0 stands e
-      by (inr g) false e =
-          jumped_if h x n r l.body_spot.line (aligned k m) v false g.0 stands e
-          ∙ ap (λ (i : ℕ). state_at h x i (aligned k m)) (sym g.1)
+          → turn h.program (state_at g h x n (aligned k m))
+          ≡ state_at g h x (if u then l.body_spot.line else l.out) (aligned k m)
+      by (inl q) true e =
+          jumped_not g h x n r l.out (aligned k m) v true q.0 stands e
+          ∙ ap (λ (i : ℕ). state_at g h x i (aligned k m)) (sym q.1)
+      by (inl q) false e = jumped_not g h x n r l.out (aligned k m) v false q.0 stands e
+      by (inr q) true e = jumped_if g h x n r l.body_spot.line (aligned k m) v true q.0 stands e
+      by (inr q) false e =
+          jumped_if g h x n r l.body_spot.line (aligned k m) v false q.0 stands e
+          ∙ ap (λ (i : ℕ). state_at g h x i (aligned k m)) (sym q.1)
 
-  test_by : (v : Value) (j : ℕ) (t b : CoreForm) (d : GivesIn h v (part (loop_test j t b) ∷ ks) m.place ls k.lists)
+  test_by : (v : Value) (j : ℕ) (t b : CoreForm) (d : GivesIn g h v (part (loop_test j t b) ∷ ks) m.place ls k.lists)
       → (u : Bool) → is_true v ≡ u
-      → Step h (Run (give v) (part (loop_test j t b) ∷ ks) m) (state_at h d.x d.n (aligned k m))
+      → Step h (Run (give v) (part (loop_test j t b) ∷ ks) m) (state_at g h d.x d.n (aligned k m))
   unfolding do_give give_part
   test_by v j t b d true e =
       let l = d.next.behind.loop in
       let r = d.next.low in
       let stands = subst (λ (i : ℕ). slot_at k.lists h.list i ≡ V v) (sym d.next.behind.at) d.stands in
-      by_one h (Run (give v) (part (loop_test j t b) ∷ ks) m) (state_at h d.x d.n (aligned k m))
-      (state_at h d.x l.body_spot.line (aligned k m))
-      (going (give v) (part (loop_test j t b) ∷ ks) m (frame (frame_at h d.x d.n) ∷ []) (aligned k m) refl)
-      (ap (λ (i : ℕ). turn h.program (state_at h d.x i (aligned k m))) (sym d.next.behind.here)
+      by_one h (Run (give v) (part (loop_test j t b) ∷ ks) m) (state_at g h d.x d.n (aligned k m))
+      (state_at g h d.x l.body_spot.line (aligned k m))
+      (going (give v) (part (loop_test j t b) ∷ ks) m (frame (frame_at h d.x d.n) ∷ g.below) (aligned k m) refl)
+      (ap (λ (i : ℕ). turn h.program (state_at g h d.x i (aligned k m))) (sym d.next.behind.here)
       ∙ tested_to v d.x r d.next.end t b l stands true e)
-      (subst (λ (u : Bool). Related h (turn_loop u j t b ks m) (state_at h d.x l.body_spot.line (aligned k m))) (sym e)
+      (subst (λ (u : Bool). Related h (turn_loop u j t b ks m) (state_at g h d.x l.body_spot.line (aligned k m))) (sym e)
       (at_body d.x r d.next.end (j + span t) j t b l d.there d.next.next))
   test_by v j t b d false e =
       let l = d.next.behind.loop in
       let r = d.next.low in
       let o = op.LoadNil r in
       let stands = subst (λ (i : ℕ). slot_at k.lists h.list i ≡ V v) (sym d.next.behind.at) d.stands in
-      by_two h (Run (give v) (part (loop_test j t b) ∷ ks) m) (state_at h d.x d.n (aligned k m))
-      (state_at h d.x l.out (aligned k m)) (state_at h d.x (l.out + 1) (written h (aligned k m) r Nil))
-      (going (give v) (part (loop_test j t b) ∷ ks) m (frame (frame_at h d.x d.n) ∷ []) (aligned k m) refl)
-      (ap (λ (i : ℕ). turn h.program (state_at h d.x i (aligned k m))) (sym d.next.behind.here)
+      by_two h (Run (give v) (part (loop_test j t b) ∷ ks) m) (state_at g h d.x d.n (aligned k m))
+      (state_at g h d.x l.out (aligned k m)) (state_at g h d.x (l.out + 1) (written h (aligned k m) r Nil))
+      (going (give v) (part (loop_test j t b) ∷ ks) m (frame (frame_at h d.x d.n) ∷ g.below) (aligned k m) refl)
+      (ap (λ (i : ℕ). turn h.program (state_at g h d.x i (aligned k m))) (sym d.next.behind.here)
       ∙ tested_to v d.x r d.next.end t b l stands false e)
-      (going (give v) (part (loop_test j t b) ∷ ks) m (frame (frame_at h d.x l.out) ∷ []) (aligned k m) refl)
-      (turned h d.x l.out o [] (aligned k m) l.load)
+      (going (give v) (part (loop_test j t b) ∷ ks) m (frame (frame_at h d.x l.out) ∷ g.below) (aligned k m) refl)
+      (turned h d.x l.out o g.below (aligned k m) l.load)
       (subst (λ (u : Bool). Related h (turn_loop u j t b ks m)
-      (state_at h d.x (l.out + 1) (written h (aligned k m) r Nil))) (sym e)
-      (writes h static Nil ks m d.x (aligned k m) (l.out + 1) r both d.there l.room
-      (subst (λ (i : ℕ). InFrame h k.lists ks i r) (sym l.ends) d.next.next)))
+      (state_at g h d.x (l.out + 1) (written h (aligned k m) r Nil))) (sym e)
+      (writes g h static Nil ks m d.x (aligned k m) (l.out + 1) r both d.there l.room
+      (subst (λ (i : ℕ). InFrame g h k.lists ks i r) (sym l.ends) d.next.next)))
 
   pub give_loop_test : (v : Value) (j : ℕ) (t b : CoreForm)
-      (d : GivesIn h v (part (loop_test j t b) ∷ ks) m.place ls k.lists)
-      → Step h (Run (give v) (part (loop_test j t b) ∷ ks) m) (state_at h d.x d.n (aligned k m))
+      (d : GivesIn g h v (part (loop_test j t b) ∷ ks) m.place ls k.lists)
+      → Step h (Run (give v) (part (loop_test j t b) ∷ ks) m) (state_at g h d.x d.n (aligned k m))
   give_loop_test v j t b d = test_by v j t b d (is_true v) refl
 
   pub give_loop_body : (v : Value) (j : ℕ) (t b : CoreForm)
-      (d : GivesIn h v (part (loop_body j t b) ∷ ks) m.place ls k.lists)
-      → Step h (Run (give v) (part (loop_body j t b) ∷ ks) m) (state_at h d.x d.n (aligned k m))
+      (d : GivesIn g h v (part (loop_body j t b) ∷ ks) m.place ls k.lists)
+      → Step h (Run (give v) (part (loop_body j t b) ∷ ks) m) (state_at g h d.x d.n (aligned k m))
   unfolding do_give give_part
   give_loop_body v j t b d = by d.next.behind.loop.back
     where
@@ -341,15 +344,15 @@ module _ (h : Site) (static : Static h) (ks : List Item) (m : source.Memory) (ls
       n = l.body_spot.line + high (gen (within h l.loop) l.body_spot d.next.low b)
 
       by : LineAt h n (line.Jump l.test_spot.line) ⊎ (l.test_spot.line ≡ n)
-          → Step h (Run (give v) (part (loop_body j t b) ∷ ks) m) (state_at h d.x d.n (aligned k m))
-      by (inl g) =
-          by_one h (Run (give v) (part (loop_body j t b) ∷ ks) m) (state_at h d.x d.n (aligned k m))
-          (state_at h d.x l.test_spot.line (aligned k m))
-          (going (give v) (part (loop_body j t b) ∷ ks) m (frame (frame_at h d.x d.n) ∷ []) (aligned k m) refl)
-          (ap (λ (i : ℕ). turn h.program (state_at h d.x i (aligned k m))) (sym d.next.behind.here)
-          ∙ jumped h d.x n l.test_spot.line [] (aligned k m) g)
+          → Step h (Run (give v) (part (loop_body j t b) ∷ ks) m) (state_at g h d.x d.n (aligned k m))
+      by (inl q) =
+          by_one h (Run (give v) (part (loop_body j t b) ∷ ks) m) (state_at g h d.x d.n (aligned k m))
+          (state_at g h d.x l.test_spot.line (aligned k m))
+          (going (give v) (part (loop_body j t b) ∷ ks) m (frame (frame_at h d.x d.n) ∷ g.below) (aligned k m) refl)
+          (ap (λ (i : ℕ). turn h.program (state_at g h d.x i (aligned k m))) (sym d.next.behind.here)
+          ∙ jumped h d.x n l.test_spot.line g.below (aligned k m) q)
           (at_test d.x d.next.low d.next.end j t b l d.there d.next.next)
-      by (inr g) =
-          by_none h (Run (give v) (part (loop_body j t b) ∷ ks) m) (state_at h d.x d.n (aligned k m)) (omega arith)
-          (subst (λ (i : ℕ). Related h (Run (perform j t) (part (loop_test j t b) ∷ ks) m) (state_at h d.x i (aligned k m)))
-          (g ∙ d.next.behind.here) (at_test d.x d.next.low d.next.end j t b l d.there d.next.next))
+      by (inr q) =
+          by_none h (Run (give v) (part (loop_body j t b) ∷ ks) m) (state_at g h d.x d.n (aligned k m)) (omega arith)
+          (subst (λ (i : ℕ). Related h (Run (perform j t) (part (loop_test j t b) ∷ ks) m) (state_at g h d.x i (aligned k m)))
+          (q ∙ d.next.behind.here) (at_test d.x d.next.low d.next.end j t b l d.there d.next.next))

@@ -2,24 +2,29 @@
 use Rattle.std.proofs.Common.{◌≡◌, ◌⊎◌, ℕ, zero, suc, ◌<◌, List, [], ◌∷◌, refl, sym, ap, ◌∙◌, subst, inl, arith}
 use Rattle.rb_value.specs.declared.value.Value.{Value}
 use Rattle.rb_value.specs.declared.exit.Slot.TheVariants.{V}
+use Rattle.rite_code.specs.Code.{Program}
 use Rattle.path_eval.specs.Steps.{times}
 use Rattle.def_calls.specs.Seen.{Going}
 use Rattle.def_calls.specs.World.{World}
+use Rattle.def_eval.specs.Source.{Source}
 use Rattle.def_eval.specs.Configuration as source
 use Rattle.def_eval.specs.Configuration.{Item, part, activation, iteration, ensuring, Focus, give, Config, Run, seen}
 use Rattle.def_eval.specs.Transition.{go}
 use Rattle.def_machine.specs.State as machine
-use Rattle.def_machine.specs.State.{Level, frame, State, On, slot_at, put, shown}
+use Rattle.def_machine.specs.State.{Registers, Level, frame, State, On, slot_at, put, shown}
 use Rattle.def_machine.specs.Turn.{turn}
 use Rattle.step_laws.specs.Site.{Site, place_in, Room}
-use Rattle.step_laws.specs.Measure.{measure}
+use Rattle.step_laws.specs.Measure.{poise, measure}
 use Rattle.step_laws.proofs.Placed.{Rest, frame_at}
-use Rattle.step_laws.proofs.Relation.{Static, InFrame, Common, GivesIn, Giving, Related, Step}
-use Rattle.step_laws.proofs.Registers.{slot_same, keeps_above, frame_kept, same_above}
+use Rattle.step_laws.specs.Relation.{Static, Ground, InFrame, Running, GivesIn, Giving, Alike, Advances, Related, Step}
+use Rattle.step_laws.proofs.Registers.{slot_same, keeps_above}
+use Rattle.step_laws.proofs.Untouched.{put_only, frame_kept, same_here, written_here}
 
-pub by_none : (h : Site) (c : Config) (s : State) → measure (go h.source c) < measure c
-    → Related h (go h.source c) s → Step h c s
-by_none h c s lt r = record {
+-- of any source and code
+
+pub no_turn : (s : Source) (p : Program) (c : Config) (t : State) → measure (go s c) < measure c → Alike s p (go s c) t
+    → Advances s p c t
+no_turn s p c t lt r = record {
   turns = 0;
   few = omega arith;
   related = r;
@@ -27,20 +32,29 @@ by_none h c s lt r = record {
   falls = λ e. lt;
 }
 
-pub by_one : (h : Site) (c : Config) (s t : State) → shown s ≡ seen c → turn h.program s ≡ t
-    → Related h (go h.source c) t → Step h c s
-by_one h c s t e one r = record {
+pub one_turn : (s : Source) (p : Program) (c : Config) (t u : State) → shown t ≡ seen c → turn p t ≡ u
+    → Alike s p (go s c) u → Advances s p c t
+one_turn s p c t u e one r = record {
   turns = 1;
   few = omega arith;
-  related = subst (Related h (go h.source c)) (sym one) r;
+  related = subst (Alike s p (go s c)) (sym one) r;
   between = between;
   falls = λ e. absurd (omega arith);
 }
   where
-    between : (j : ℕ) → j < 1 → (shown (times j (turn h.program) s) ≡ seen c)
-        ⊎ (shown (times j (turn h.program) s) ≡ seen (go h.source c))
+    between : (j : ℕ) → j < 1 → (shown (times j (turn p) t) ≡ seen c) ⊎ (shown (times j (turn p) t) ≡ seen (go s c))
     between zero l = inl e
     between (suc j) l = absurd (omega arith)
+
+-- of those of a site
+
+pub by_none : (h : Site) (c : Config) (t : State) → measure (go h.source c) < measure c
+    → Related h (go h.source c) t → Step h c t
+by_none h c t lt r = no_turn h.source h.program c t lt r
+
+pub by_one : (h : Site) (c : Config) (t u : State) → shown t ≡ seen c → turn h.program t ≡ u
+    → Related h (go h.source c) u → Step h c t
+by_one h c t u e one r = one_turn h.source h.program c t u e one r
 
 pub by_two : (h : Site) (c : Config) (s t u : State) → shown s ≡ seen c → turn h.program s ≡ t → shown t ≡ seen c
     → turn h.program t ≡ u → Related h (go h.source c) u → Step h c s
@@ -64,14 +78,14 @@ pub going : (f : Focus) (ks : List Item) (m : source.Memory) (ls : List Level) (
 unfolding shown seen
 going f ks m ls k e = ap (λ (w : World). Going w.out) e
 
--- items inside of a frame that a value is given to
-pub gives_in : (h : Site) (v : Value) (ks : List Item) (m : source.Memory) (ls : List Level) (k : machine.Memory)
-    (n r : ℕ) → InFrame h k.lists ks n r → GivesIn h v ks m.place ls k.lists → Giving h v ks m ls k
-gives_in h v [] m ls k n r a g = absurd a
-gives_in h v (part p ∷ ks) m ls k n r a g = g
-gives_in h v (activation c p ∷ ks) m ls k n r a g = g
-gives_in h v (iteration c it p ∷ ks) m ls k n r a g = absurd a
-gives_in h v (ensuring o ∷ ks) m ls k n r a g = absurd a
+-- no iteration goes on with a value that is given inside of a frame
+pub given_light : (g : Ground) (h : Site) (l : List Registers) (ks : List Item) (n r : ℕ) (v : Value)
+    → InFrame g h l ks n r → poise (give v) ks ≡ 1
+given_light g h l [] n r v a = absurd a
+given_light g h l (part q ∷ ks) n r v a = refl
+given_light g h l (activation c q ∷ ks) n r v a = refl
+given_light g h l (iteration c it q ∷ ks) n r v a = absurd a
+given_light g h l (ensuring o ∷ ks) n r v a = absurd a
 
 pub going_out : (f : Focus) (ks : List Item) (m : source.Memory) (ls : List Level) (k : machine.Memory)
     → k.world.out ≡ m.world.out → shown (On ls k) ≡ seen (Run f ks m)
@@ -79,51 +93,48 @@ unfolding shown seen
 going_out f ks m ls k e = ap Going e
 
 -- the state whose running level is the frame at line n
-abbrev pub state_at : Site → Rest → ℕ → machine.Memory → State
-state_at h x n k = On (frame (frame_at h x n) ∷ []) k
+abbrev pub state_at : Ground → Site → Rest → ℕ → machine.Memory → State
+state_at g h x n k = On (frame (frame_at h x n) ∷ g.below) k
 
 -- the memory with a value in register r
 abbrev pub written : Site → machine.Memory → ℕ → Value → machine.Memory
 written h k r v = record k { lists = put k.lists h.list r (V v) }
 
--- the value of a form is written to its register, and the items go on
-pub writes : (h : Site) → Static h → (v : Value) (ks : List Item) (m : source.Memory) (x : Rest) (k : machine.Memory)
-    (n r : ℕ) → Common h m k → m.place ≡ place_in h → Room h r → InFrame h k.lists ks n r
-    → Related h (Run (give v) ks m) (state_at h x n (written h k r v))
-writes h static v ks m x k n r c there room a =
-    let l' = put k.lists h.list r (V v) in
-    let s = c.same in
-    let a' = frame_kept h k.lists l' ks n r (keeps_above h k.lists r r (V v) s.present (omega arith)) a in (
-      record {
-        world = c.world;
-        alone = c.alone;
-        alone_too = c.alone_too;
-        same = same_above h m.scopes k.lists r v static room.above s;
-      },
-      gives_in h v ks m (frame (frame_at h x n) ∷ []) (written h k r v) n r a' (record {
+module _ {s : Source} {p : Program} where
+  -- items inside of a frame that a value is given to
+  pub gives_in : (g : Ground) (h : Site) (v : Value) (ks : List Item) (m : source.Memory) (ls : List Level)
+      (k : machine.Memory) (n r : ℕ) → InFrame g h k.lists ks n r → Running s p g h m k
+      → GivesIn g h v ks m.place ls k.lists → Giving s p v ks m ls k
+  gives_in g h v [] m ls k n r a b d = absurd a
+  gives_in g h v (part q ∷ ks) m ls k n r a b d = (g, h, b, d)
+  gives_in g h v (activation c q ∷ ks) m ls k n r a b d = (g, h, b, d)
+  gives_in g h v (iteration c it q ∷ ks) m ls k n r a b d = absurd a
+  gives_in g h v (ensuring o ∷ ks) m ls k n r a b d = absurd a
+
+  -- the value of a form is written to its register, and the items go on
+  pub writes : (g : Ground) (h : Site) → Static h → (v : Value) (ks : List Item) (m : source.Memory) (x : Rest)
+      (k : machine.Memory) (n r : ℕ) → Running s p g h m k → m.place ≡ place_in h → Room h r
+      → InFrame g h k.lists ks n r → Alike s p (Run (give v) ks m) (state_at g h x n (written h k r v))
+  writes g h static v ks m x k n r b there room a =
+      let l' = put k.lists h.list r (V v) in
+      let c = same_here g h m k b in
+      let a' = frame_kept g h k.lists l' ks n r (keeps_above h k.lists r r (V v) c.present (omega arith))
+      (put_only k.lists h.list r v) (omega (arith, b.free)) a in
+      gives_in g h v ks m (frame (frame_at h x n) ∷ g.below) (written h k r v) n r a'
+      (written_here g h m k b r v room.above) (record {
         x = x;
         n = n;
         r = r;
         is = refl;
         there = there;
-        stands = slot_same k.lists h.list r (V v) s.present (omega (arith, s.long, room.within));
+        stands = slot_same k.lists h.list r (V v) c.present (omega (arith, c.long, room.within));
         next = a';
-      }),
-    )
+      })
 
--- the value stays in the register of its form, and the items go on
-pub stays : (h : Site) (v : Value) (ks : List Item) (m : source.Memory) (x : Rest) (k : machine.Memory) (n r : ℕ)
-    → Common h m k → m.place ≡ place_in h → slot_at k.lists h.list r ≡ V v → InFrame h k.lists ks n r
-    → Related h (Run (give v) ks m) (state_at h x n k)
-stays h v ks m x k n r c there stands a = (
-  c,
-  gives_in h v ks m (frame (frame_at h x n) ∷ []) k n r a (record {
-    x = x;
-    n = n;
-    r = r;
-    is = refl;
-    there = there;
-    stands = stands;
-    next = a;
-  }),
-)
+  -- the value stays in the register of its form, and the items go on
+  pub stays : (g : Ground) (h : Site) (v : Value) (ks : List Item) (m : source.Memory) (x : Rest) (k : machine.Memory)
+      (n r : ℕ) → Running s p g h m k → m.place ≡ place_in h → slot_at k.lists h.list r ≡ V v
+      → InFrame g h k.lists ks n r → Alike s p (Run (give v) ks m) (state_at g h x n k)
+  stays g h v ks m x k n r b there stands a =
+      gives_in g h v ks m (frame (frame_at h x n) ∷ g.below) k n r a b
+      (record { x = x; n = n; r = r; is = refl; there = there; stands = stands; next = a })

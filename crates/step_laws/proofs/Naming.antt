@@ -82,12 +82,11 @@ mutual
   names_core (form.and_form a b) is = all_core (over named_in a) (over named_in b) (names_core a is.0) (names_core b is.1)
   names_core (form.or_form a b) is = all_core (over named_in a) (over named_in b) (names_core a is.0) (names_core b is.1)
   names_core (form.while_form first t b) is = all_core (over named_in t) (over named_in b) (names_core t is.0) (names_core b is.1)
-  names_core (form.call (form.to e) x is' form.absent) is =
-      (
-        operator_known x is.2,
-        all_core (over named_in e) (over_items named_in is' ++ []) (names_core e is.0)
-            (all_core (over_items named_in is') [] (items_core is' is.1) tt),
-      )
+  names_core (form.call (form.to e) x is' form.absent) is = (
+    operator_known x is.2,
+    all_core (over named_in e) (over_items named_in is' ++ []) (names_core e is.0)
+        (all_core (over_items named_in is') [] (items_core is' is.1) tt),
+  )
   names_core (form.call (form.to e) x is' (form.there b)) is = absurd is
   names_core (form.call form.on_self x is' form.absent) is =
       (subst IsCoreName (sym is.1) puts_known, all_core (over_items named_in is') [] (items_core is' is.0) tt)

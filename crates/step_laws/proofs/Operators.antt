@@ -19,7 +19,7 @@ use Rattle.def_machine.specs.Turn.{act, operate, call, reg, row, arguments, self
 use Rattle.step_laws.specs.Site.{Site, Named, number}
 use Rattle.step_laws.specs.Calm.{IsSteady}
 use Rattle.step_laws.proofs.Placed.{Rest, frame_at}
-use Rattle.step_laws.proofs.Relation.{Holds, CallBy, operates, sends, sends_self}
+use Rattle.step_laws.specs.Relation.{Ground, Holds, CallBy, operates, sends, sends_self}
 
 module _ (p : Program) (x : Name) (r next : ℕ) (f : Frame) (ls : List Level) (m : Memory) (o : Operation) where
   abbrev IsOperate : Type 0
@@ -87,34 +87,34 @@ symbol_is h x n k y steady named =
     ap (λ (z : Name). (intern k.world.store z).symbol) named.listed ∙ steady.names y named.there
 
 -- what calls a value in a register
-pub calls_value : (h : Site) (x : Rest) (n r next : ℕ) (k : Memory) (y : Name) (count : ℕ) (o : Operation)
+pub calls_value : (g : Ground) (h : Site) (x : Rest) (n r next : ℕ) (k : Memory) (y : Name) (count : ℕ) (o : Operation)
     → IsSteady h.source k.world → CallBy h r y count false o
-    → act h.program o next (frame_at h x n) [] k
-    ≡ call h.program (by_name (number h.source y)) r count None next (frame_at h x n) [] k
-calls_value h x n r next k y count o steady (operates e one not_own is_there) =
-    operated h.program y r next (frame_at h x n) [] k o e
-    ∙ ap (λ (s : SymId). call h.program (by_name s) r 1 None next (frame_at h x n) [] k) (steady.names y is_there)
-    ∙ ap (λ (i : ℕ). call h.program (by_name (number h.source y)) r i None next (frame_at h x n) [] k) (sym one)
-calls_value h x n r next k y count o steady (sends e c not_own named) =
-    ap (λ (i : Operation). act h.program i next (frame_at h x n) [] k) e
-    ∙ ap (λ (s : SymId). call h.program (by_name s) r count None next (frame_at h x n) [] k)
+    → act h.program o next (frame_at h x n) g.below k
+    ≡ call h.program (by_name (number h.source y)) r count None next (frame_at h x n) g.below k
+calls_value g h x n r next k y count o steady (operates e one not_own is_there) =
+    operated h.program y r next (frame_at h x n) g.below k o e
+    ∙ ap (λ (s : SymId). call h.program (by_name s) r 1 None next (frame_at h x n) g.below k) (steady.names y is_there)
+    ∙ ap (λ (i : ℕ). call h.program (by_name (number h.source y)) r i None next (frame_at h x n) g.below k) (sym one)
+calls_value g h x n r next k y count o steady (sends e c not_own named) =
+    ap (λ (i : Operation). act h.program i next (frame_at h x n) g.below k) e
+    ∙ ap (λ (s : SymId). call h.program (by_name s) r count None next (frame_at h x n) g.below k)
     (symbol_is h x n k y steady named)
-calls_value h x n r next k y count o steady (sends_self e c is_own named) = absurd (cc is_own)
+calls_value g h x n r next k y count o steady (sends_self e c is_own named) = absurd (cc is_own)
 
 -- what calls self
-pub calls_self : (h : Site) (x : Rest) (n r next : ℕ) (k : Memory) (y : Name) (count : ℕ) (o : Operation)
+pub calls_self : (g : Ground) (h : Site) (x : Rest) (n r next : ℕ) (k : Memory) (y : Name) (count : ℕ) (o : Operation)
     → IsSteady h.source k.world → CallBy h r y count true o
-    → act h.program o next (frame_at h x n) [] k
-    ≡ call h.program (by_name (number h.source y)) r count None next (frame_at h x n) []
+    → act h.program o next (frame_at h x n) g.below k
+    ≡ call h.program (by_name (number h.source y)) r count None next (frame_at h x n) g.below
     (self_first (frame_at h x n) k r)
-calls_self h x n r next k y count o steady (operates e one not_own is_there) = absurd (cc not_own)
-calls_self h x n r next k y count o steady (sends e c not_own named) = absurd (cc not_own)
-calls_self h x n r next k y count o steady (sends_self e c is_own named) =
+calls_self g h x n r next k y count o steady (operates e one not_own is_there) = absurd (cc not_own)
+calls_self g h x n r next k y count o steady (sends e c not_own named) = absurd (cc not_own)
+calls_self g h x n r next k y count o steady (sends_self e c is_own named) =
     let f = frame_at h x n in
     let k' = self_first f k r in
-    ap (λ (i : Operation). act h.program i next f [] k) e
+    ap (λ (i : Operation). act h.program i next f g.below k) e
     ∙ ap (λ (b : Bool). call h.program
     (if b then by_bare_name (symbol h.program f k (entry_of h.context y))
     else by_name (symbol h.program f k (entry_of h.context y)))
-    r (if b then 0 else count) None next f [] k') (not_bare count c)
-    ∙ ap (λ (s : SymId). call h.program (by_name s) r count None next f [] k') (symbol_is h x n k y steady named)
+    r (if b then 0 else count) None next f g.below k') (not_bare count c)
+    ∙ ap (λ (s : SymId). call h.program (by_name s) r count None next f g.below k') (symbol_is h x n k y steady named)

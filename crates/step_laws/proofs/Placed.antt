@@ -1,10 +1,7 @@
 -- Pieces of code that stand in a body, and the turn of a line.
 use Rattle.std.proofs.Common.{◌≡◌, ℕ, ◌+◌, ℤ, List, [], ◌∷◌, ◌++◌, length, arith, refl, ap, ◌∙◌, subst, length-append}
-use Rattle.std.specs.Prelude.{pos, ◌+ℤ◌, ◌-ℤ◌, Option, None}
+use Rattle.std.specs.Prelude.{pos, ◌+ℤ◌, ◌-ℤ◌, Option}
 use Rattle.std.proofs.lemmas.Int.{ints}
-use Rattle.rb_value.specs.declared.value.Value.{Value}
-use Rattle.rb_value.specs.declared.value.ObjId.{ObjId}
-use Rattle.def_core.specs.declared.bound.BindKind.{BindKind}
 use Rattle.rite_code.specs.Instruction.{Instruction}
 use Rattle.rite_code.specs.declared.operation.Operation.{Operation}
 use Rattle.rite_code.specs.declared.operation.Operation.TheVariants as op
@@ -13,12 +10,11 @@ use Rattle.gen_parts.specs.declared.line.Line.TheVariants as line
 use Rattle.gen_parts.specs.declared.emitter.Spot.{Spot}
 use Rattle.gen_parts.specs.Pieces.{Piece, past, behind, both, puts, nothing}
 use Rattle.gen_parts.specs.Assembly.{instruction_before}
-use Rattle.def_machine.specs.State.{Frame, Level, frame, Memory, On}
+use Rattle.def_machine.specs.State.{Level, frame, Memory, On}
 use Rattle.def_machine.specs.Turn.{target, turn, act, act_at}
 use Rattle.step_laws.specs.Site.{Site, at_line, LineAt, Lines}
-
-unfoldable pub high : Piece → ℕ
-high p = length p.lines
+unfoldable pub use Rattle.step_laws.specs.Standing.{high, Stands}
+pub use Rattle.step_laws.specs.Standing.{Rest, frame_at}
 
 pub high-both : (p q : Piece) → high (both p q) ≡ high p + high q
 unfolding high both
@@ -42,10 +38,6 @@ line-behind s = refl
 
 pub ruleset heights = (line-past, line-behind, high-both, high-puts, high-nothing)
 
--- the lines of a piece stand from line n on
-unfoldable pub Stands : Site → ℕ → Piece → Type 0
-Stands h n p = Lines h n p.lines
-
 pub moved : (h : Site) (n k : ℕ) (p : Piece) → n ≡ k → Stands h n p → Stands h k p
 moved h n k p e s = subst (λ (i : ℕ). Stands h i p) e s
 
@@ -68,29 +60,6 @@ unfolding Stands puts
 the_line h n l s = s.0
 
 -- Turns.
-
--- what a frame keeps besides its place
-pub record Rest : Type 0 where
-  pub after : ℕ
-  pub waits : ℕ
-  pub arguments : List Value
-  pub block : Option ObjId
-  pub binds : BindKind
-
--- the frame at a line
-abbrev pub frame_at : Site → Rest → ℕ → Frame
-frame_at h x n = record {
-  activation = h.activation;
-  body = h.body;
-  list = h.list;
-  place = at_line h n;
-  after = x.after;
-  waits = x.waits;
-  pending = None;
-  arguments = x.arguments;
-  block = x.block;
-  binds = x.binds;
-}
 
 pub turned : (h : Site) (x : Rest) (n : ℕ) (o : Operation) (ls : List Level) (m : Memory)
     → LineAt h n (line.Does o)

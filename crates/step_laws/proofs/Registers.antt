@@ -12,7 +12,7 @@ use Rattle.def_eval.specs.Configuration.{Place, Scope, Part, operands, receiver,
 use Rattle.def_eval.specs.Scopes.{same_local, value_in, put_value, no_scope, scope_at, outward, scopes_around, first_with, scope_of, variable, put_in, with_variable}
 use Rattle.def_machine.specs.State.{Registers, no_registers, body_at, list_at, slot_at, value_at, put}
 use Rattle.step_laws.specs.Site.{Site, place_in, register, Known}
-use Rattle.step_laws.proofs.Relation.{Static, Holds, HoldsCall, Behind, InFrame, Same}
+use Rattle.step_laws.specs.Relation.{Static, Holds, HoldsCall, Behind, Inside, Same}
 
 pub list_same : (l : List Registers) (n i : ℕ) (v : Slot) → n < length l
     → list_at (put l n i v) n ≡ record (list_at l n) { slots = set (list_at l n).slots i v }
@@ -33,7 +33,12 @@ slot_other l n i j v lt ne =
     ap (λ (r : Registers). get_or r.slots j (V Nil)) (list_same l n i v lt)
     ∙ get_or-set_other (list_at l n).slots i j v (V Nil) ne
 
-length_put : (l : List Registers) (n i : ℕ) (v : Slot) → length (put l n i v) ≡ length l
+pub list_other : (l : List Registers) (n i j : ℕ) (v : Slot) → j ≢ n → list_at (put l n i v) j ≡ list_at l j
+unfolding put
+list_other l n i j v ne =
+    get_or-set_other l n j (record (list_at l n) { slots = set (list_at l n).slots i v }) no_registers ne
+
+pub length_put : (l : List Registers) (n i : ℕ) (v : Slot) → length (put l n i v) ≡ length l
 unfolding put
 length_put l n i v = length-set l n (record (list_at l n) { slots = set (list_at l n).slots i v })
 
@@ -107,20 +112,21 @@ behind_kept h l l' (clause_target j e t q) low n r end k above b = absurd b
 behind_kept h l l' (clause_body q) low n r end k above b = absurd b
 behind_kept h l l' (ensured j e) low n r end k above b = absurd b
 
-pub frame_kept : (h : Site) (l l' : List Registers) (ks : List Item) (n r : ℕ) → Keeps h l l' r → InFrame h l ks n r
-    → InFrame h l' ks n r
-frame_kept h l l' [] n r k a = absurd a
-frame_kept h l l' (part p ∷ ks) n r k a = record {
+pub inside_kept : (h : Site) (l l' : List Registers) (AtEnd AtEnd' : ℕ → Place → List Item → ℕ → ℕ → Type 0)
+    → ((a : ℕ) (p : Place) (is : List Item) (i t : ℕ) → AtEnd a p is i t → AtEnd' a p is i t)
+    → (ks : List Item) (n r : ℕ) → Keeps h l l' r → Inside h l AtEnd ks n r → Inside h l' AtEnd' ks n r
+inside_kept h l l' E F to [] n r k a = absurd a
+inside_kept h l l' E F to (part p ∷ ks) n r k a = record {
   low = a.low;
   end = a.end;
   above = a.above;
   below = a.below;
   behind = behind_kept h l l' p a.low n r a.end k a.above a.behind;
-  next = frame_kept h l l' ks a.end a.low (lower h l l' r a.low a.below k) a.next;
+  next = inside_kept h l l' E F to ks a.end a.low (lower h l l' r a.low a.below k) a.next;
 }
-frame_kept h l l' (activation c p ∷ ks) n r k a = a
-frame_kept h l l' (iteration c it p ∷ ks) n r k a = absurd a
-frame_kept h l l' (ensuring o ∷ ks) n r k a = absurd a
+inside_kept h l l' E F to (activation c p ∷ ks) n r k a = to c p ks n r a
+inside_kept h l l' E F to (iteration c it p ∷ ks) n r k a = absurd a
+inside_kept h l l' E F to (ensuring o ∷ ks) n r k a = absurd a
 
 -- A write above the locals.
 pub same_above : (h : Site) (cs : List Scope) (l : List Registers) (r : ℕ) (v : Value) → Static h → h.first ≤ r
@@ -211,8 +217,13 @@ scope_put : (cs : List Scope) (n : ℕ) (x : Local) (v : Value) → n < length c
 scope_put cs n x v lt =
     get_or-set_same cs n (record (scope_at cs n) { variables = put_value (scope_at cs n).variables x v }) no_scope lt
 
+pub scope_other : (cs : List Scope) (n j : ℕ) (x : Local) (v : Value) → j ≢ n
+    → scope_at (put_in cs n x v) j ≡ scope_at cs j
+scope_other cs n j x v ne =
+    get_or-set_other cs n j (record (scope_at cs n) { variables = put_value (scope_at cs n).variables x v }) no_scope ne
+
 -- an assignment on both sides
-put_alike : (h : Site) (cs : List Scope) (l : List Registers) (x : Name) (v : Value) → Static h → Same h cs l
+pub put_alike : (h : Site) (cs : List Scope) (l : List Registers) (x : Name) (v : Value) → Static h → Same h cs l
     → Known h x → register h x < (body_at h.program h.body).registers
     → Same h (put_in cs h.list (named x) v) (put l h.list (register h x) (V v))
 put_alike h cs l x v static s k within =
@@ -249,14 +260,12 @@ put_alike h cs l x v static s k within =
         ∙ s.alike y known
         ∙ sym (ap read (slot_other l h.list (register h x) (register h y) (V v) s.present (static.apart y x known k e)))
 
-pub same_local_put : (h : Site) (m : Memory) (l : List Registers) (x : Name) (v : Value) → Static h
-    → m.place ≡ place_in h → Same h m.scopes l → Known h x → h.first ≤ (body_at h.program h.body).registers
-    → Same h (with_variable m (named x) v).scopes (put l h.list (register h x) (V v))
+-- the scope of the body is that in which a name is assigned
+pub assigned : (h : Site) (m : Memory) (x : Name) (v : Value) → m.place ≡ place_in h
+    → (scope_at m.scopes h.list).parent ≡ None → (with_variable m (named x) v).scopes ≡ put_in m.scopes h.list (named x) v
 unfolding with_variable
-same_local_put h m l x v static there s k room =
+assigned h m x v there none =
     let e : m.place.scope ≡ h.list = ap (λ (p : Place). p.scope) there in
-    let none : (scope_at m.scopes m.place.scope).parent ≡ None =
-    subst (λ (n : ℕ). (scope_at m.scopes n).parent ≡ None) (sym e) s.parent in
-    subst (λ (n : ℕ). Same h (put_in m.scopes n (named x) v) (put l h.list (register h x) (V v)))
-    (sym (scope_is m x none ∙ e))
-    (put_alike h m.scopes l x v static s k (omega (arith, k.low, room)))
+    let none' : (scope_at m.scopes m.place.scope).parent ≡ None =
+    subst (λ (n : ℕ). (scope_at m.scopes n).parent ≡ None) (sym e) none in
+    ap (λ (n : ℕ). put_in m.scopes n (named x) v) (scope_is m x none' ∙ e)

@@ -5,9 +5,8 @@ use Rattle.rb_value.specs.declared.value.Value.{Value}
 use Rattle.rb_value.specs.declared.exit.Slot.TheVariants.{V}
 use Rattle.rb_value.specs.Slot.{read}
 use Rattle.rite_code.specs.declared.operation.Operation.{Operation}
-use Rattle.rite_code.specs.declared.operation.Operation.TheVariants as op
 use Rattle.ir_counts.specs.Tables.{item_count}
-use Rattle.ir_core.specs.CoreForm.{Name, absent, there, Items, no_items, plain, splat}
+use Rattle.ir_core.specs.CoreForm.{Name, absent, Items, no_items, plain, splat}
 use Rattle.gen_parts.specs.declared.line.Line.TheVariants as line
 use Rattle.gen_parts.specs.declared.emitter.Spot.{Spot}
 use Rattle.gen_parts.specs.Pieces.{past}
@@ -24,23 +23,24 @@ use Rattle.def_eval.specs.Entering.{enter}
 use Rattle.def_eval.specs.Forms.{perform_call, own_block, with_arguments, next_item}
 use Rattle.def_eval.specs.Transition.{go}
 use Rattle.def_machine.specs.State as machine
-use Rattle.def_machine.specs.State.{Registers, frame, value_at, put}
+use Rattle.def_machine.specs.State.{Registers, Frame, frame, value_at, put}
 use Rattle.def_machine.specs.Entering.{enter as enter_machine}
-use Rattle.def_machine.specs.Turn.{turn, call as call_machine, arguments}
+use Rattle.def_machine.specs.Turn.{call as call_machine, arguments}
 use Rattle.step_laws.specs.Site.{Site, within, place_in, at_line, LineAt, Room, number}
 use Rattle.step_laws.specs.Covered.{CoveredItems}
 use Rattle.step_laws.specs.Calm.{IsSteady}
-use Rattle.step_laws.specs.Measure.{size_items, weights, measure}
+use Rattle.step_laws.specs.Measure.{size_items, burden, measure}
 use Rattle.step_laws.proofs.Placed.{high, high-both, high-nothing, line-past, Stands, left, right, Rest, frame_at, turned}
-use Rattle.step_laws.proofs.Relation.{Static, Holds, HoldsCall, CallBy, InFrame, WaitsIn, Common, Related, Step}
-use Rattle.step_laws.proofs.Registers.{keeps_above, frame_kept, same_above, slot_same, slot_other}
+use Rattle.step_laws.specs.Relation.{Waits, Ground, over_levels, Static, Holds, HoldsCall, CallBy, InFrame, Common, Related, Step}
+use Rattle.step_laws.proofs.Registers.{slot_same, slot_other, keeps_above}
+use Rattle.step_laws.proofs.Untouched.{put_only, frame_kept, grown, same_here, written_here, below_running}
 use Rattle.step_laws.proofs.Matching.{by_none, state_at, written}
-use Rattle.step_laws.proofs.Calling.{From, waits_in, entered}
+use Rattle.step_laws.proofs.Calling.{From, Worlds, entered}
 use Rattle.step_laws.proofs.Literals.{aligned}
 use Rattle.step_laws.proofs.Operators.{few, arguments_are, calls_value, calls_self}
 
 -- A call some of whose items have their values, at line n.
-pub record CallSite (h : Site) (l : List Registers) (recv : Value) (vs : List Value) (is : Items) (ks : List Item)
+pub record CallSite (g : Ground) (h : Site) (l : List Registers) (recv : Value) (vs : List Value) (is : Items) (ks : List Item)
     (n : ℕ) : Type 0 where
   pub low : ℕ
   pub own : Bool
@@ -59,7 +59,7 @@ pub record CallSite (h : Site) (l : List Registers) (recv : Value) (vs : List Va
   pub calls : LineAt h (n + high (pass_in_registers (within h loop) s r is)) (line.Does o)
   pub end : ℕ
   pub ends : n + high (pass_in_registers (within h loop) s r is) + 1 ≡ end
-  pub next : InFrame h l ks end low
+  pub next : InFrame g h l ks end low
 
 -- a frame that waits in a register for what its instruction calls
 abbrev asking : Site → Rest → ℕ → ℕ → Rest
@@ -72,8 +72,8 @@ items_kept h l r i v [] lt below s = tt
 items_kept h l r i v (u ∷ vs) lt below s =
     (slot_other l h.list i r (V v) lt (omega arith) ∙ s.0, items_kept h l (r + 1) i v vs lt (omega arith) s.1)
 
-module _ (h : Site) (static : Static h) (ks : List Item) (m : source.Memory)
-    (k : machine.Memory) (both : Common h m (aligned k m)) (steady : IsSteady h.source m.world)
+module _ (g : Ground) (h : Site) (static : Static h) (ks : List Item) (m : source.Memory)
+    (k : machine.Memory) (both : Common g h m (aligned k m)) (steady : IsSteady h.source m.world)
     (at_home : m.place ≡ place_in h) where
   abbrev the_entry : Name → Value → List Value → Entry
   the_entry y recv vs = calls.call m.world (activation_at m.world h.activation) (by_name (number h.source y)) recv vs None
@@ -94,25 +94,47 @@ module _ (h : Site) (static : Static h) (ks : List Item) (m : source.Memory)
   turns_in : (x : Rest) (n r count : ℕ) (k' : machine.Memory) (recv : Value) (vs : List Value) (y : Name)
       → value_at k'.lists h.list r ≡ recv → Holds k'.lists h.list (r + 1) vs → count ≡ length vs
       → nat_lt 253 count ≡ false → k'.world ≡ m.world
-      → call_machine h.program (by_name (number h.source y)) r count None (at_line h (n + 1)) (frame_at h x n) [] k'
-      ≡ enter_machine h.program (the_entry y recv vs) None (frame (frame_at h (asking h x n r) n) ∷ []) k'
+      → call_machine h.program (by_name (number h.source y)) r count None (at_line h (n + 1)) (frame_at h x n) g.below k'
+      ≡ enter_machine h.program (the_entry y recv vs) None (frame (frame_at h (asking h x n r) n) ∷ g.below) k'
   turns_in x n r count k' recv vs y is_recv held all n253 same =
       ap (λ (v : Value). enter_machine h.program (calls.call k'.world (activation_at k'.world h.activation)
       (by_name (number h.source y)) v (arguments (frame_at h x n) k' r count) None) None
-      (frame (frame_at h (asking h x n r) n) ∷ []) k') is_recv
+      (frame (frame_at h (asking h x n r) n) ∷ g.below) k') is_recv
       ∙ ap (λ (us : List Value). enter_machine h.program (calls.call k'.world (activation_at k'.world h.activation)
-      (by_name (number h.source y)) recv us None) None (frame (frame_at h (asking h x n r) n) ∷ []) k')
+      (by_name (number h.source y)) recv us None) None (frame (frame_at h (asking h x n r) n) ∷ g.below) k')
       (arguments_are (frame_at h x n) k' r count vs held all n253)
       ∙ ap (λ (w : World). enter_machine h.program (calls.call w (activation_at w h.activation)
-      (by_name (number h.source y)) recv vs None) None (frame (frame_at h (asking h x n r) n) ∷ []) k') same
+      (by_name (number h.source y)) recv vs None) None (frame (frame_at h (asking h x n r) n) ∷ g.below) k') same
+
+  -- both sides, the frame of the call waiting
+  waiting_worlds : (k' : machine.Memory) → Common g h m k' → (f : Frame) → f.list ≡ h.list
+      → Worlds h.source h.program (over_levels g (frame f ∷ g.below)) m m k'
+  waiting_worlds k' b f e w grows =
+      grown (over_levels g (frame f ∷ g.below)) m k' (below_running g h m k' b f e) m.place w grows
+
+  waiting_frame : (x : Rest) (n r : ℕ) (k' : machine.Memory) → Common g h m k' → Room h r
+      → InFrame g h k'.lists ks (n + 1) r
+      → Waits g.sites g.fiber k'.lists ks m.place (frame (frame_at h (asking h x n r) n) ∷ g.below)
+  waiting_frame x n r k' b room next = record {
+    h = h;
+    x = asking h x n r;
+    at = n;
+    n = n + 1;
+    is = refl;
+    site = b.site;
+    after = refl;
+    room = room;
+    there = at_home;
+    next = next;
+  }
 
   -- all items have their values
   call_now : (c : Config) (x : Rest) (n j : ℕ) (sender : Sending) (recv : Value) (vs : List Value)
-      (b : CallSite h k.lists recv vs no_items ks n)
-      → From h c (frame (frame_at h x n) ∷ []) (aligned k m) m
+      (b : CallSite g h k.lists recv vs no_items ks n)
+      → From h c (frame (frame_at h x n) ∷ g.below) (aligned k m) m
       → go h.source c ≡ next_item h.source j sender recv vs no_items absent ks m
-      → sender ≡ by_name (number h.source b.name) → weights ks < measure c
-      → Step h c (state_at h x n (aligned k m))
+      → sender ≡ by_name (number h.source b.name) → burden ks m < measure c
+      → Step h c (state_at g h x n (aligned k m))
   call_now c x n j sender recv vs b from goes e less =
       let count : length vs + item_count no_items ≡ length vs = omega arith in
       let n253 = few h b.low b.name (length vs + item_count no_items) b.own b.o b.by in
@@ -121,75 +143,52 @@ module _ (h : Site) (static : Static h) (ks : List Item) (m : source.Memory)
       omega (arith, high-nothing) in
       let at : LineAt h n (line.Does b.o) = subst (λ (i : ℕ). LineAt h i (line.Does b.o)) here b.calls in
       let ends : b.end ≡ n + 1 = omega (arith, here, b.ends) in
-      let next : InFrame h k.lists ks (n + 1) b.low = subst (λ (i : ℕ). InFrame h k.lists ks i b.low) ends b.next in
+      let next : InFrame g h k.lists ks (n + 1) b.low = subst (λ (i : ℕ). InFrame g h k.lists ks i b.low) ends b.next in
       by b.own b.by b.held at next goes' count n253
     where
       by : (own : Bool) → CallBy h b.low b.name (length vs + item_count no_items) own b.o
-          → HoldsCall h k.lists own b.low recv vs → LineAt h n (line.Does b.o) → InFrame h k.lists ks (n + 1) b.low
+          → HoldsCall h k.lists own b.low recv vs → LineAt h n (line.Does b.o) → InFrame g h k.lists ks (n + 1) b.low
           → go h.source c ≡ enter h.source (the_entry b.name recv vs) None ks m
           → length vs + item_count no_items ≡ length vs → nat_lt 253 (length vs + item_count no_items) ≡ false
-          → Step h c (state_at h x n (aligned k m))
+          → Step h c (state_at g h x n (aligned k m))
       by false by_that held at next goes' count n253 =
-          let turns = turned h x n b.o [] (aligned k m) at
-          ∙ calls_value h x n b.low (at_line h (n + 1)) (aligned k m) b.name (length vs + item_count no_items) b.o steady
+          let turns = turned h x n b.o g.below (aligned k m) at
+          ∙ calls_value g h x n b.low (at_line h (n + 1)) (aligned k m) b.name (length vs + item_count no_items) b.o steady
           by_that
           ∙ turns_in x n b.low (length vs + item_count no_items) (aligned k m) recv vs b.name (ap read held.0) held.1
           count n253 refl in
-          let waiting : WaitsIn h k.lists ks m.place (frame (frame_at h (asking h x n b.low) n) ∷ []) = record {
-            x = asking h x n b.low;
-            at = n;
-            n = n + 1;
-            is = refl;
-            after = refl;
-            room = b.room;
-            there = at_home;
-            next = next;
-          } in
-          entered h static c (frame (frame_at h x n) ∷ []) (aligned k m) m from (the_entry b.name recv vs) ks m
-          (frame (frame_at h (asking h x n b.low) n) ∷ []) (aligned k m) goes' turns less refl
-          (λ w. record { world = refl; alone = both.alone; alone_too = both.alone_too; same = both.same })
-          (waits_in h k.lists ks (n + 1) b.low m.place (frame (frame_at h (asking h x n b.low) n) ∷ []) next waiting)
+          let f = frame_at h (asking h x n b.low) n in
+          entered h.source h.program c (frame (frame_at h x n) ∷ g.below) (aligned k m) m from (the_entry b.name recv vs) ks
+          m g (frame f ∷ g.below) (aligned k m) goes' turns less refl (waiting_worlds (aligned k m) both f refl)
+          (waiting_frame x n b.low (aligned k m) both b.room next)
       by true by_that held at next goes' count n253 =
-          let s = both.same in
+          let s = same_here g h m (aligned k m) both in
           let v = value_at k.lists h.list 0 in
           let k' = written h (aligned k m) b.low v in
+          let both' = written_here g h m (aligned k m) both b.low v b.room.above in
           let first : value_at k'.lists h.list b.low ≡ recv =
           ap read (slot_same k.lists h.list b.low (V v) s.present (omega (arith, s.long, b.room.within)))
           ∙ s.self ∙ sym held.0 in
-          let turns = turned h x n b.o [] (aligned k m) at
-          ∙ calls_self h x n b.low (at_line h (n + 1)) (aligned k m) b.name (length vs + item_count no_items) b.o steady
+          let turns = turned h x n b.o g.below (aligned k m) at
+          ∙ calls_self g h x n b.low (at_line h (n + 1)) (aligned k m) b.name (length vs + item_count no_items) b.o steady
           by_that
           ∙ turns_in x n b.low (length vs + item_count no_items) k' recv vs b.name first
           (items_kept h k.lists (b.low + 1) b.low v vs s.present (omega arith) held.1) count n253 refl in
-          let next' = frame_kept h k.lists k'.lists ks (n + 1) b.low
-          (keeps_above h k.lists b.low b.low (V v) s.present (omega arith)) next in
-          let waiting : WaitsIn h k'.lists ks m.place (frame (frame_at h (asking h x n b.low) n) ∷ []) = record {
-            x = asking h x n b.low;
-            at = n;
-            n = n + 1;
-            is = refl;
-            after = refl;
-            room = b.room;
-            there = at_home;
-            next = next';
-          } in
-          entered h static c (frame (frame_at h x n) ∷ []) (aligned k m) m from (the_entry b.name recv vs) ks m
-          (frame (frame_at h (asking h x n b.low) n) ∷ []) k' goes' turns less refl
-          (λ w. record {
-            world = refl;
-            alone = both.alone;
-            alone_too = both.alone_too;
-            same = same_above h m.scopes k.lists b.low v static b.room.above s;
-          })
-          (waits_in h k'.lists ks (n + 1) b.low m.place (frame (frame_at h (asking h x n b.low) n) ∷ []) next' waiting)
+          let next' = frame_kept g h k.lists k'.lists ks (n + 1) b.low
+          (keeps_above h k.lists b.low b.low (V v) s.present (omega arith)) (put_only k.lists h.list b.low v)
+          (omega (arith, both.free)) next in
+          let f = frame_at h (asking h x n b.low) n in
+          entered h.source h.program c (frame (frame_at h x n) ∷ g.below) (aligned k m) m from (the_entry b.name recv vs) ks
+          m g (frame f ∷ g.below) k' goes' turns less refl (waiting_worlds k' both' f refl)
+          (waiting_frame x n b.low k' both' b.room next')
 
   -- the next item, or the call
   pub items_on : (c : Config) (x : Rest) (n j : ℕ) (sender : Sending) (recv : Value) (vs : List Value) (is : Items)
-      (b : CallSite h k.lists recv vs is ks n)
-      → From h c (frame (frame_at h x n) ∷ []) (aligned k m) m
+      (b : CallSite g h k.lists recv vs is ks n)
+      → From h c (frame (frame_at h x n) ∷ g.below) (aligned k m) m
       → go h.source c ≡ next_item h.source j sender recv vs is absent ks m
-      → sender ≡ by_name (number h.source b.name) → size_items is + weights ks < measure c
-      → Step h c (state_at h x n (aligned k m))
+      → sender ≡ by_name (number h.source b.name) → size_items is + burden ks m < measure c
+      → Step h c (state_at g h x n (aligned k m))
   items_on c x n j sender recv vs no_items b from goes e less =
       call_now c x n j sender recv vs b from goes e (omega (arith, less))
   items_on c x n j sender recv vs (splat i is) b from goes e less = absurd b.covered
@@ -198,9 +197,11 @@ module _ (h : Site) (static : Static h) (ks : List Item) (m : source.Memory)
       let p = gen (within h b.loop) b.s r i in
       let q = pass_in_registers (within h b.loop) (past b.s p) (r + 1) is in
       let more : length vs + (1 + item_count is) ≡ length vs + 1 + item_count is = omega arith in
-      by_none h c (state_at h x n (aligned k m))
+      by_none h c (state_at g h x n (aligned k m))
       (subst (λ (d : Config). measure d < measure c) (sym goes) (omega (arith, less)))
-      (subst (λ (d : Config). Related h d (state_at h x n (aligned k m))) (sym goes) (
+      (subst (λ (d : Config). Related h d (state_at g h x n (aligned k m))) (sym goes) (
+        g,
+        h,
         both,
         record {
           x = x;

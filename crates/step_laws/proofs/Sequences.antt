@@ -1,5 +1,5 @@
 -- Sequences.
-use Rattle.std.proofs.Common.{◌≡◌, ℕ, ◌+◌, List, [], ◌∷◌, refl, sym, ap, ◌∙◌, subst, arith}
+use Rattle.std.proofs.Common.{◌≡◌, ℕ, ◌+◌, List, ◌∷◌, refl, sym, ap, ◌∙◌, subst, arith}
 use Rattle.rb_value.specs.declared.value.Value.{Value}
 use Rattle.rb_value.specs.declared.value.Value.TheVariants.{Nil}
 use Rattle.rb_value.specs.declared.exit.Slot.TheVariants.{V}
@@ -16,25 +16,28 @@ use Rattle.def_machine.specs.State as machine
 use Rattle.def_machine.specs.State.{Level, frame, slot_at}
 use Rattle.step_laws.specs.Site.{Site, within}
 use Rattle.step_laws.proofs.Placed.{high, high-both, high-puts, high-nothing, heights, line-past, left, right, the_line, frame_at}
-use Rattle.step_laws.proofs.Relation.{Static, InFrame, Common, Doing, GivesIn, Step}
-use Rattle.step_laws.proofs.Matching.{by_none, going, state_at, stays}
+use Rattle.step_laws.specs.Measure.{poise}
+use Rattle.step_laws.specs.Relation.{Ground, Static, InFrame, Common, Doing, GivesIn, Step}
+use Rattle.step_laws.proofs.Matching.{by_none, going, given_light, state_at, stays}
 use Rattle.step_laws.proofs.Literals.{aligned, written_by}
 
-module _ (h : Site) (static : Static h) (ks : List Item) (m : source.Memory) (ls : List Level)
-    (k : machine.Memory) (both : Common h m (aligned k m)) where
-  pub do_seq : (j : ℕ) (es : Forms) (d : Doing h (seq es) ks m.place ls k.lists)
-      → Step h (Run (perform j (seq es)) ks m) (state_at h d.x d.n (aligned k m))
+module _ (g : Ground) (h : Site) (static : Static h) (ks : List Item) (m : source.Memory) (ls : List Level)
+    (k : machine.Memory) (both : Common g h m (aligned k m)) where
+  pub do_seq : (j : ℕ) (es : Forms) (d : Doing g h (seq es) ks m.place ls k.lists)
+      → Step h (Run (perform j (seq es)) ks m) (state_at g h d.x d.n (aligned k m))
   unfolding do_form
   do_seq j none d =
       let o = op.LoadNil d.r in
-      written_by h static (Run (perform j (seq none)) ks m) Nil ks m d.x k d.n d.r o
-      (going (perform j (seq none)) ks m (frame (frame_at h d.x d.n) ∷ []) (aligned k m) refl) refl
+      written_by g h static (Run (perform j (seq none)) ks m) Nil ks m d.x k d.n d.r o
+      (going (perform j (seq none)) ks m (frame (frame_at h d.x d.n) ∷ g.below) (aligned k m) refl) refl
       (the_line h d.n (line.Does o) d.code) refl both d.there d.covered.0
-      (subst (λ (i : ℕ). InFrame h k.lists ks (d.n + i) d.r) (high-puts (line.Does o)) d.next)
+      (subst (λ (i : ℕ). InFrame g h k.lists ks (d.n + i) d.r) (high-puts (line.Does o)) d.next)
   do_seq j (more e es) d =
       let p = gen (within h d.loop) d.s d.r e in
       let q = others_in_turn (within h d.loop) (past d.s p) d.r es in
-      by_none h (Run (perform j (seq (more e es))) ks m) (state_at h d.x d.n (aligned k m)) (omega arith) (
+      by_none h (Run (perform j (seq (more e es))) ks m) (state_at g h d.x d.n (aligned k m)) (omega arith) (
+        g,
+        h,
         both,
         record {
           x = d.x;
@@ -67,20 +70,23 @@ module _ (h : Site) (static : Static h) (ks : List Item) (m : source.Memory) (ls
         },
       )
 
-  pub give_rest : (v : Value) (j : ℕ) (es : Forms) (d : GivesIn h v (part (rest j es) ∷ ks) m.place ls k.lists)
-      → Step h (Run (give v) (part (rest j es) ∷ ks) m) (state_at h d.x d.n (aligned k m))
+  pub give_rest : (v : Value) (j : ℕ) (es : Forms) (d : GivesIn g h v (part (rest j es) ∷ ks) m.place ls k.lists)
+      → Step h (Run (give v) (part (rest j es) ∷ ks) m) (state_at g h d.x d.n (aligned k m))
   unfolding do_give give_part
   give_rest v j none d =
       let b = d.next.behind in
-      by_none h (Run (give v) (part (rest j none) ∷ ks) m) (state_at h d.x d.n (aligned k m)) (omega arith)
-      (stays h v ks m d.x (aligned k m) d.n d.next.low both d.there
+      let light : poise (give v) ks ≡ 1 = given_light g h k.lists ks d.next.end d.next.low v d.next.next in
+      by_none h (Run (give v) (part (rest j none) ∷ ks) m) (state_at g h d.x d.n (aligned k m)) (omega (arith, light))
+      (stays g h v ks m d.x (aligned k m) d.n d.next.low both d.there
       (subst (λ (i : ℕ). slot_at k.lists h.list i ≡ V v) (sym b.at) d.stands)
-      (subst (λ (i : ℕ). InFrame h k.lists ks i d.next.low) (sym (omega (arith, high-nothing, b.ends))) d.next.next))
+      (subst (λ (i : ℕ). InFrame g h k.lists ks i d.next.low) (sym (omega (arith, high-nothing, b.ends))) d.next.next))
   give_rest v j (more e es) d =
       let b = d.next.behind in
       let p = gen (within h b.loop) b.s d.next.low e in
       let q = others_in_turn (within h b.loop) (past b.s p) d.next.low es in
-      by_none h (Run (give v) (part (rest j (more e es)) ∷ ks) m) (state_at h d.x d.n (aligned k m)) (omega arith) (
+      by_none h (Run (give v) (part (rest j (more e es)) ∷ ks) m) (state_at g h d.x d.n (aligned k m)) (omega arith) (
+        g,
+        h,
         both,
         record {
           x = d.x;

@@ -13,11 +13,11 @@ use Rattle.def_calls.specs.World.{World, Answer, Result as Given, gives, raises,
 use Rattle.def_calls.specs.Calls.{Sending, by_name, Entry, answers, enters, begins, is_full, settle, main_activation, close_run, close}
 use Rattle.def_calls.specs.Plans.{Iteration}
 use Rattle.def_eval.specs.Source.{Source}
-use Rattle.def_eval.specs.Configuration.{Place, Scope, raise, assign, Part, operands, receiver, items, block, elements, hash_key, hash_value, pieces, rest, test, chosen, and_then, or_else, loop_test, loop_body, rescued, clause_class, clause_target, clause_body, ensured, Item, part, activation, iteration, ensuring, Focus, perform, give, travel, Memory, Config, Run, Halt}
+use Rattle.def_eval.specs.Configuration.{Place, Scope, raise, assign, Part, operands, receiver, items, block, elements, hash_key, hash_value, pieces, rest, test, chosen, and_then, or_else, loop_test, loop_body, rescued, clause_class, clause_target, clause_body, ensured, Item, part, activation, iteration, ensuring, Focus, perform, give, travel, Memory, with_world, Config, Run, Halt}
 use Rattle.def_eval.specs.Scopes.{same_local, value_in, put_value, scope_at, scope_of, variable}
 use Rattle.def_eval.specs.Entering.{after_result, depth, open_iteration, enter}
 use Rattle.step_laws.specs.Site.{number}
-use Rattle.step_laws.specs.Calm.{Quiet}
+use Rattle.step_laws.specs.Calm.{QuietFocus, Grows, Quiet}
 use Rattle.step_laws.specs.Simple.{IsOperator, IsSimple, AreSimple, AreSimpleItems, AreSimpleBranches}
 use Rattle.step_laws.proofs.Outcomes.{IsImmediate, AreImmediate, IsOfPuts, Kept, GivenIs, AnswerIs, EntryIs, failed}
 
@@ -100,6 +100,11 @@ IsTame s (Run f ks m) = MemoryIs s f ks m
 abbrev pub Fine : Source → Memory → Config → Type 0
 Fine s m c = IsTame s c × Quiet m c
 
+pub quiet_given : (v : Value) (ks : List Item) (m l : Memory) → l.world.out ≡ m.world.out
+    → QuietFocus (give v) ks m l
+quiet_given v [] m l e = e
+quiet_given v (k ∷ ks) m l e = tt
+
 pub given_to : (v : Value) (ks : List Item) → IsImmediate v → GivenTo v ks
 given_to v [] i = tt
 given_to v (part p ∷ ks) i = i
@@ -145,10 +150,6 @@ set_is (d ∷ cs) (suc n) c is all = (all.0, set_is cs n c is all.1)
 
 -- Activations.
 
-pub record Grows (w u : World) : Type 0 where
-  pub more : List Activation
-  pub is : u.activations ≡ w.activations ++ more
-
 pub same_grows : (w u : World) → u.activations ≡ w.activations → Grows w u
 same_grows w u e = record { more = []; is = e ∙ sym (append-nil w.activations) }
 
@@ -187,27 +188,32 @@ main_closed s w k = ap (λ (a : Activation). close_run w a.self a.runs) (main_is
 -- Answers and entries.
 
 pub answer_fine : (s : Source) (Is : Value → Type 0) (m l : Memory) (w : World) (ks : List Item) (a : Answer)
-    → AnswerIs s Is w a → w.out ≡ m.world.out → length l.scopes ≡ length m.scopes → ScopesAre l.scopes
-    → l.fibers.resumer ≡ None → ItemsAre s w ks l.place → ((v : Value) → Is v → GivenTo v ks)
+    → AnswerIs s Is w a → w.out ≡ m.world.out → w.activations ≡ m.world.activations
+    → length l.scopes ≡ length m.scopes → ScopesAre l.scopes → l.fibers.resumer ≡ None → ItemsAre s w ks l.place → ((v : Value) → Is v → GivenTo v ks)
     → Fine s m (after_result a.result a.world ks l)
-answer_fine s Is m l w ks a g out scopes all alone under to = by a.result g.result
+answer_fine s Is m l w ks a g out same scopes all alone under to = by a.result g.result
   where
     still : ItemsAre s a.world ks l.place
     still = items_grow s w a.world ks l.place (same_grows w a.world g.activations) under
 
+    grows : Grows m.world a.world
+    grows = same_grows m.world a.world (g.activations ∙ same)
+
     by : (x : Given) → GivenIs Is x → Fine s m (after_result x a.world ks l)
-    by (gives v) i =
-        (record { kept = g.kept; scopes = all; alone = alone; focus = to v i; items = still }, (scopes, tt))
+    by (gives v) i = (
+      record { kept = g.kept; scopes = all; alone = alone; focus = to v i; items = still },
+      (scopes, quiet_given v ks m (with_world l a.world) (g.out ∙ out), grows),
+    )
     by (raises e) i = (
       record { kept = g.kept; scopes = all; alone = alone; focus = record { e = e; is = refl }; items = still },
-      (scopes, g.out ∙ out),
+      (scopes, g.out ∙ out, grows),
     )
 
 pub opened_fine : (s : Source) (m l : Memory) (ks : List Item) (it : Iteration) (a : Activation) → IsOfPuts it
-    → a.runs ≡ core_method → Kept s l.world → length l.scopes ≡ length m.scopes → ScopesAre l.scopes
-    → l.fibers.resumer ≡ None → ItemsAre s l.world ks l.place → Fine s m (open_iteration it a ks l l.world)
+    → a.runs ≡ core_method → Kept s l.world → l.world.activations ≡ m.world.activations
+    → length l.scopes ≡ length m.scopes → ScopesAre l.scopes → l.fibers.resumer ≡ None → ItemsAre s l.world ks l.place → Fine s m (open_iteration it a ks l l.world)
 unfolding activation_at
-opened_fine s m l ks it a is core k scopes all alone under =
+opened_fine s m l ks it a is core k same scopes all alone under =
     let acts = l.world.activations in
     let n : length (acts ++ a ∷ []) ≡ length acts + 1 = length-append acts (a ∷ []) ∙ omega arith in
     let last : get_or (acts ++ a ∷ []) (length acts + 1 - 1) no_activation ≡ a =
@@ -233,18 +239,19 @@ opened_fine s m l ks it a is core k scopes all alone under =
           items_grow s l.world (with_activation l.world a) ks l.place (record { more = a ∷ []; is = refl }) under,
         );
       },
-      (scopes, tt),
+      (scopes, tt, record { more = a ∷ []; is = ap (λ (xs : List Activation). xs ++ a ∷ []) same }),
     )
 
 pub entry_fine : (s : Source) (Is : Value → Type 0) (m l : Memory) (ks : List Item) (e : Entry)
-    → EntryIs s Is l.world e → Kept s l.world → l.world.out ≡ m.world.out → length l.scopes ≡ length m.scopes
+    → EntryIs s Is l.world e → Kept s l.world → l.world.out ≡ m.world.out
+    → l.world.activations ≡ m.world.activations → length l.scopes ≡ length m.scopes
     → ScopesAre l.scopes → l.fibers.resumer ≡ None → ItemsAre s l.world ks l.place
     → ((v : Value) → Is v → GivenTo v ks) → Fine s m (enter s e None ks l)
 unfolding enter settle
-entry_fine s Is m l ks (answers a) g k out scopes all alone under to =
-    answer_fine s Is m l l.world ks a g out scopes all alone under to
-entry_fine s Is m l ks (enters o u) g k out scopes all alone under to = absurd g
-entry_fine s Is m l ks (begins it a u) g k out scopes all alone under to =
+entry_fine s Is m l ks (answers a) g k out same scopes all alone under to =
+    answer_fine s Is m l l.world ks a g out same scopes all alone under to
+entry_fine s Is m l ks (enters o u) g k out same scopes all alone under to = absurd g
+entry_fine s Is m l ks (begins it a u) g k out same scopes all alone under to =
     subst (λ (w : World). Fine s m (if is_full (depth ks)
     then after_result (fail w cause.StackTooDeep).result (fail w cause.StackTooDeep).world ks l
     else open_iteration it a ks l w)) (sym g.2) (by (is_full (depth ks)))
@@ -254,5 +261,5 @@ entry_fine s Is m l ks (begins it a u) g k out scopes all alone under to =
         else open_iteration it a ks l l.world)
     by true =
         answer_fine s Is m l l.world ks (fail l.world cause.StackTooDeep) (failed s Is l.world cause.StackTooDeep k) out
-        scopes all alone under to
-    by false = opened_fine s m l ks it a g.0 g.1 k scopes all alone under
+        same scopes all alone under to
+    by false = opened_fine s m l ks it a g.0 g.1 k same scopes all alone under

@@ -1,14 +1,14 @@
 -- What it means that code implements a source, and what is asked of the code of a main program.
-use Rattle.std.specs.Prelude.{◌≡◌, ◌≢◌, ◌<◌, ◌≤◌, ℕ, zero, List, [], ◌∷◌, length, Bool, false, bytes_eq, Option, None}
+use Rattle.std.specs.Prelude.{◌≡◌, ◌≢◌, ◌<◌, ◌≤◌, ℕ, List, [], length, Bool, false, bytes_eq}
 use Rattle.rb_value.specs.declared.value.Value.TheVariants.{Obj}
 use Rattle.rb_store.specs.Opening.{main_object, with_names}
 use Rattle.rite_code.specs.Code.{Program}
 use Rattle.rite_code.specs.declared.operation.Operation.TheVariants as op
 use Rattle.ir_core.specs.CoreForm.{Name}
 use Rattle.gen_parts.specs.declared.line.Line.TheVariants as line
-use Rattle.gen_parts.specs.declared.emitter.Spot.{Spot}
 use Rattle.gen_forms.specs.Gen.{Context, gen, first_spot}
 use Rattle.path_eval.specs.Steps.{Follows}
+use Rattle.def_calls.specs.World.{main_program}
 use Rattle.def_calls.specs.Rows
 use Rattle.def_calls.specs.Seen.{over}
 use Rattle.def_eval.specs.Source.{Source, body_at, form_of, all_names}
@@ -29,6 +29,7 @@ main_site s p wide at c first = record {
   activation = 1;
   list = 0;
   self = Obj main_object;
+  runs = main_program;
   wide = wide;
   at = at;
   context = c;

@@ -3,5 +3,7 @@ pub mod Covered
 pub mod Calm
 pub mod Simple
 pub mod Measure
+pub mod Standing
+pub mod Relation
 pub mod Implements
 pub mod Example

@@ -1,7 +1,8 @@
 -- What falls in a transition that no turn of the machine matches.
 use Rattle.std.specs.Prelude.{ℕ, ◌+◌, List, [], ◌∷◌}
 use Rattle.ir_core.specs.CoreForm.{CoreForm, nil, truth, falsehood, self_ref, int, str, sym, local, own, exception, set_local, ivar, set_ivar, gvar, set_gvar, constant, top_constant, in_constant, set_constant, set_in_constant, array, hash, range, text, intern, seq, cond, and_form, or_form, while_form, call, yield_form, super_form, function, lambda, begin_form, return_form, break_form, next_form, retry, define, define_on, class_form, module_form, singleton_class, alias_form, undef_form, defined, item, rest_of, tail_of, Forms, none, more, Items, no_items, plain, splat, Branches, no_branches, branch, Receiver, to, on_self, bare}
-use Rattle.def_eval.specs.Configuration.{Part, operands, receiver, items, block, elements, hash_key, hash_value, pieces, rest, test, chosen, and_then, or_else, loop_test, loop_body, rescued, clause_class, clause_target, clause_body, ensured, Item, part, activation, iteration, ensuring, Focus, perform, give, travel, Config, Run, Halt}
+use Rattle.def_calls.specs.Fibers.{Fiber}
+use Rattle.def_eval.specs.Configuration.{Part, operands, receiver, items, block, elements, hash_key, hash_value, pieces, rest, test, chosen, and_then, or_else, loop_test, loop_body, rescued, clause_class, clause_target, clause_body, ensured, Item, part, activation, iteration, ensuring, Kept, Focus, perform, give, travel, Memory, Config, Run, Halt}
 
 -- forms with no part that is done before a turn count one
 abbrev mutual
@@ -102,14 +103,27 @@ abbrev pub weights : List Item → ℕ
 weights [] = 0
 weights (part k ∷ ks) = weight k + weights ks
 weights (activation a place ∷ ks) = 1 + weights ks
-weights (iteration a it place ∷ ks) = 1 + weights ks
+weights (iteration a it place ∷ ks) = 3 + weights ks
 weights (ensuring o ∷ ks) = 1 + weights ks
 
-abbrev pub focus_size : Focus → ℕ
-focus_size (perform n e) = 1 + size e
-focus_size (give v) = 1
-focus_size (travel x) = 0
+-- what the other fibers wait to do
+abbrev pub waiting : List (Fiber Kept) → ℕ
+waiting [] = 0
+waiting (f ∷ fs) = 1 + weights f.kept.items + waiting fs
+
+abbrev pub burden : List Item → Memory → ℕ
+burden ks m = weights ks + waiting m.fibers.others
+
+-- a value weighs more where an iteration goes on with it, which may begin a fiber
+abbrev pub poise : Focus → List Item → ℕ
+poise (perform n e) ks = 1 + size e
+poise (give v) [] = 1
+poise (give v) (part k ∷ ks) = 1
+poise (give v) (activation a place ∷ ks) = 1
+poise (give v) (iteration a it place ∷ ks) = 3
+poise (give v) (ensuring o ∷ ks) = 1
+poise (travel x) ks = 0
 
 abbrev pub measure : Config → ℕ
 measure (Halt e) = 0
-measure (Run f ks m) = focus_size f + weights ks
+measure (Run f ks m) = poise f ks + burden ks m

@@ -1,9 +1,8 @@
 -- Where the code of a body stands, and what its activation has: what is the same all over a body.
-use Rattle.std.specs.Prelude.{◌≡◌, ◌<◌, ◌≤◌, ℕ, ◌+◌, List, [], ◌∷◌, get_or, position, bytes_eq, is_some, Bool, true, Option, Some, None}
+use Rattle.std.specs.Prelude.{◌≡◌, ◌<◌, ◌≤◌, ℕ, ◌+◌, List, [], ◌∷◌, get_or, position, bytes_eq, is_some, Bool, true, Option, Some}
 use Rattle.rb_value.specs.declared.value.Value.{Value}
 use Rattle.rb_value.specs.declared.value.SymId.{SymId}
 use Rattle.rite_code.specs.Code.{Program}
-use Rattle.rite_code.specs.Instruction.{Instruction}
 use Rattle.def_core.specs.Store.{Store}
 use Rattle.def_core.specs.Changes.{intern}
 use Rattle.rb_store.specs.Opening.{with_names}
@@ -14,6 +13,7 @@ use Rattle.gen_parts.specs.Assembly.{instruction_before}
 use Rattle.gen_parts.specs.Assembly as assembly
 use Rattle.gen_forms.specs.declared.context.Loop.{Loop}
 use Rattle.gen_forms.specs.Gen.{Context, symbol}
+use Rattle.def_calls.specs.World.{Runs}
 use Rattle.def_calls.specs.Rows
 use Rattle.def_eval.specs.Source.{Source, all_names}
 use Rattle.def_eval.specs.Configuration.{Place}
@@ -23,11 +23,12 @@ use Rattle.def_machine.specs.Turn.{fetch}
 pub record Site : Type 0 where
   pub source : Source
   pub program : Program
-  -- the body, the activation that runs it, its list of registers, and self
+  -- the body, the activation that runs it, its list of registers, self, and what it is a run of
   pub body : ℕ
   pub activation : ℕ
   pub list : ℕ
   pub self : Value
+  pub runs : Runs
   -- whether its jumps are wide, and the places of its lines
   pub wide : Bool
   pub at : List ℕ

@@ -5,13 +5,16 @@
 //!   constants that are read, locals, sequences, branches, `and` and `or`, loops, calls of a value and of self with plain
 //!   items and no block. Operators are calls by look-up and row, and `puts` is the iteration that it is, plan by plan.
 //! - `specs::Simple`: those over nil, true, false and integers, with operators and `puts`, whose evaluation calls no body
-//! - `specs::Calm`: what is asked of an evaluation otherwise: it calls no body of the source, and leaves its fiber for no
-//!   other one
+//! - `specs::Calm`: what is asked of an evaluation otherwise: it calls no body of the source
 //! - `specs::Implements`: code of a source, and what it means that code implements a source
+//! - `specs::Relation`: when a configuration and a state are alike (`Alike`): one world on both sides; the focus goes with
+//!   the frame or the iteration that runs; below it frames and iterations wait for values as the items do, whichever and
+//!   however many; so in each other fiber; each scope has the list of registers of its number, of a body that has a
+//!   `Site`, and no two frames have one list
 //!
-//! The relation of the two sides stands in proofs/Relation.antt: the same world on both, a list of registers for the
-//! scope, the frame for the items inside the activation, a level for each iteration. A form of more adds a case to it, to
-//! proofs/Whole.antt, and a file of its own.
+//! The step law is of any such pair, not only of those that a simple program comes to. A form of more adds a case to
+//! `Behind` in the relation, to proofs/Whole.antt, and a file of its own; what it leaves as it is stands in
+//! proofs/Untouched.antt.
 #![tactic(auto)]
 
 ghost use Rattle.std.specs.Prelude.{◌≡◌, List, ℕ, None};
@@ -22,12 +25,27 @@ ghost use Rattle.ir_core.specs.Program.{IsProgram};
 ghost use Rattle.ir_counts.specs.Counts.{need};
 ghost use Rattle.ir_counts.specs.Limits.{first_excess};
 ghost use Rattle.gen_forms.specs.Making.{coded_program};
+ghost use Rattle.path_eval.specs.Steps.{StepLaw};
+ghost use Rattle.def_calls.specs.Seen.{over};
 ghost use Rattle.def_eval.specs.Source.{Source, body_at, form_of, source_of};
-ghost use Rattle.def_eval.specs.Configuration.{opening};
+ghost use Rattle.def_eval.specs.Configuration.{opening, seen};
+ghost use Rattle.def_eval.specs.Transition.{go};
+ghost use Rattle.def_machine.specs.State.{shown, start};
+ghost use Rattle.def_machine.specs.Turn.{turn};
 ghost use Rattle.step_laws.specs.Calm.{StaysCalm};
+ghost use Rattle.step_laws.specs.Measure.{measure};
+ghost use Rattle.step_laws.specs.Relation.{Alike, Shared};
 ghost use Rattle.step_laws.specs.Simple.{IsSimple};
 ghost use Rattle.step_laws.specs.Implements.{IsCodeOf, Implements};
 ghost use Rattle.step_laws.specs.Example.{countdown, IsWitness};
+
+/// From a configuration and a state that are alike a transition is matched by few turns, after which they are alike again;
+/// what waits below the running frame, and in other fibers, may be anything that is alike. Both begin alike.
+pub fn each_transition_is_matched()
+    ensures law { (s : Source) (p : Program) → StepLaw (go s) (turn p) seen shown over measure (Shared s p) }
+    ensures begun { (s : Source) (p : Program) (input : List ℕ) → IsCodeOf s p
+        → Alike s p (opening s input) (start p input) }
+{}
 
 /// Code of a source implements it, for each input with which the evaluation calls no body of the source.
 #[tactic(auto, using(crate::proofs::Whole::implements))]

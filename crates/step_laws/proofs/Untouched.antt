@@ -1,0 +1,312 @@
+-- What a step leaves as it is: all but the list of registers of the frame that runs, its scope, and the world, to which
+-- activations are added.
+use Rattle.std.proofs.Common.{◌≡◌, ◌≢◌, ℕ, ◌+◌, ◌-◌, ◌≤◌, List, [], ◌∷◌, refl, sym, ap, ◌∙◌, subst, arith, length, length-set, length-append, get_or, Bool, true, false, ⊎_elim}
+use Rattle.std.specs.Prelude.{nat_eq, if◌then◌else◌, Option, unwrap_or, slice_get}
+use Rattle.std.proofs.lemmas.Bool.{cases_eq, eqb-true, eqb-false}
+use Rattle.std.proofs.lemmas.List.{get_or_append_left}
+use Rattle.rb_value.specs.declared.value.Value.{Value}
+use Rattle.rb_value.specs.declared.value.Value.TheVariants.{Nil}
+use Rattle.rb_value.specs.declared.exit.Slot.TheVariants.{V}
+use Rattle.rb_value.specs.Slot.{read}
+use Rattle.rite_code.specs.Code.{Program}
+use Rattle.ir_core.specs.CoreForm.{Name, named}
+use Rattle.def_calls.specs.World.{World, Activation, no_activation, activation_at}
+use Rattle.def_calls.specs.Fibers as fibers
+use Rattle.def_eval.specs.Source.{Source}
+use Rattle.def_eval.specs.Configuration as source
+use Rattle.def_eval.specs.Configuration.{Place, Scope, Item, Kept}
+use Rattle.def_eval.specs.Scopes.{value_in, scope_at, put_in, with_variable}
+use Rattle.def_machine.specs.State as machine
+use Rattle.def_machine.specs.State.{Registers, Frame, Level, frame, body_at, list_at, slot_at, value_at, put}
+use Rattle.step_laws.specs.Site.{Site, place_in, register, Known}
+use Rattle.step_laws.specs.Calm.{Grows}
+use Rattle.step_laws.specs.Relation.{Inside, EndsBy, stops, returns, Ends, IsSite, Waits, Ground, over_levels, InFrame, Same, SiteIs, SitesAre, FibersAre, AllFibers, uses, uses_in, Both, Running}
+use Rattle.step_laws.proofs.Registers.{Keeps, inside_kept, list_other, length_put, scope_other, same_above, put_alike, assigned}
+
+-- lists that differ in that of one number alone
+pub record OnlyIn (c : ℕ) (l l' : List Registers) : Type 0 where
+  pub others : (n : ℕ) → n ≢ c → list_at l' n ≡ list_at l n
+
+pub put_only : (l : List Registers) (c i : ℕ) (v : Value) → OnlyIn c l (put l c i (V v))
+put_only l c i v = record { others = λ n ne. list_other l c i n (V v) ne }
+
+keeps_other : (h : Site) (l l' : List Registers) (c r : ℕ) → OnlyIn c l l' → h.list ≢ c → Keeps h l l' r
+unfolding slot_at
+keeps_other h l l' c r o ne = record {
+  same = λ i above below. ap (λ (g : Registers). get_or g.slots i (V Nil)) (o.others h.list ne);
+}
+
+-- a frame whose list isn't that of the number
+apart_from : (n i u : ℕ) → (if nat_eq n i then 1 else 0) + u ≡ 0 → (n ≢ i) × (u ≡ 0)
+apart_from n i u e = at (nat_eq n i) refl e
+  where
+    at : (b : Bool) → nat_eq n i ≡ b → (if b then 1 else 0) + u ≡ 0 → (n ≢ i) × (u ≡ 0)
+    at true q z = absurd (omega (arith, z))
+    at false q z = (eqb-false n i q, omega (arith, z))
+
+pub ends_kept : (h : Site) (fiber : fibers.Name) (ls : List Level) (F G : Place → List Item → Type 0)
+    → ((p : Place) (is : List Item) → F p is → G p is) → (a : ℕ) (p : Place) (is : List Item) (n r : ℕ)
+    → Ends h fiber ls F a p is n r → Ends h fiber ls G a p is n r
+ends_kept h fiber ls F G to a p is n r e = record { is = e.is; by = at e.by }
+  where
+    at : EndsBy h fiber ls F p is n r → EndsBy h fiber ls G p is n r
+    at (stops l main last none root) = stops l main last none root
+    at (returns l next) = returns l (to p is next)
+
+pub leaves_end : (h : Site) (fiber : fibers.Name) (ls : List Level) (F : Place → List Item → Type 0) (hs : List Site)
+    (l : List Registers) → ((p : Place) (is : List Item) → F p is → Waits hs fiber l is p ls) → (p : Place)
+    (is : List Item) (n r : ℕ) → EndsBy h fiber ls F p is n r → Waits hs fiber l is p ls
+leaves_end h fiber ls F hs l to p is n r (stops at main last bare root) =
+    subst (λ (gs : List Level). Waits hs fiber l is p gs) (sym bare) last
+leaves_end h fiber ls F hs l to p is n r (returns at next) = to p is next
+
+-- what waits is untouched, where no frame of it has the list
+pub waits_kept : (hs : List Site) (fiber : fibers.Name) (l l' : List Registers) (c : ℕ) → OnlyIn c l l'
+    → (ks : List Item) (place : Place) (ls : List Level) → uses c ls ≡ 0 → Waits hs fiber l ks place ls
+    → Waits hs fiber l' ks place ls
+waits_kept hs fiber l l' c o ks place [] u w = w
+waits_kept hs fiber l l' c o ks place (frame f ∷ ls) u w =
+    let a = apart_from c f.list (uses c ls) u in
+    let ne : w.h.list ≢ c = λ (e : w.h.list ≡ c). a.0 (sym (ap (λ (q : Frame). q.list) w.is ∙ e)) in
+    record {
+      h = w.h;
+      x = w.x;
+      at = w.at;
+      n = w.n;
+      is = w.is;
+      site = w.site;
+      after = w.after;
+      room = w.room;
+      there = w.there;
+      next = inside_kept w.h l l' (λ b p is i t. Ends w.h fiber ls (λ q js. Waits hs fiber l js q ls) b p is i t)
+          (λ b p is i t. Ends w.h fiber ls (λ q js. Waits hs fiber l' js q ls) b p is i t)
+          (ends_kept w.h fiber ls (λ q js. Waits hs fiber l js q ls) (λ q js. Waits hs fiber l' js q ls)
+          (λ q js. waits_kept hs fiber l l' c o js q ls a.1)) ks w.n w.x.waits
+          (keeps_other w.h l l' c w.x.waits o ne) w.next;
+    }
+waits_kept hs fiber l l' c o ks place (machine.iteration a it v ∷ ls) u w = record {
+  others = w.others;
+  back = w.back;
+  is = w.is;
+  next = waits_kept hs fiber l l' c o w.others w.back ls u w.next;
+}
+
+fibers_kept : (hs : List Site) (l l' : List Registers) (c : ℕ) → OnlyIn c l l' → (fs : List (fibers.Fiber Kept))
+    (gs : List (fibers.Fiber (List Level))) → uses_in c gs ≡ 0 → FibersAre hs l fs gs → FibersAre hs l' fs gs
+fibers_kept hs l l' c o [] [] u a = a
+fibers_kept hs l l' c o [] (g ∷ gs) u a = absurd a
+fibers_kept hs l l' c o (f ∷ fs) [] u a = absurd a
+fibers_kept hs l l' c o (f ∷ fs) (g ∷ gs) u a =
+    let i = a.0 in (
+      record {
+        name = i.name;
+        wait = i.wait;
+        resumer = i.resumer;
+        rooted = i.rooted;
+        some = i.some;
+        waits = waits_kept hs f.name l l' c o f.kept.items f.kept.place g.kept (omega (arith, u)) i.waits;
+      },
+      fibers_kept hs l l' c o fs gs (omega (arith, u)) a.1,
+    )
+
+-- The items of the frame that runs, where its list changes behind them.
+pub frame_kept : (g : Ground) (h : Site) (l l' : List Registers) (ks : List Item) (n r : ℕ) → Keeps h l l' r
+    → OnlyIn h.list l l' → uses h.list g.below ≡ 0 → InFrame g h l ks n r → InFrame g h l' ks n r
+frame_kept g h l l' ks n r k o u a =
+    inside_kept h l l' (λ b p is i t. Ends h g.fiber g.below (λ q js. Waits g.sites g.fiber l js q g.below) b p is i t)
+    (λ b p is i t. Ends h g.fiber g.below (λ q js. Waits g.sites g.fiber l' js q g.below) b p is i t)
+    (ends_kept h g.fiber g.below (λ q js. Waits g.sites g.fiber l js q g.below)
+    (λ q js. Waits g.sites g.fiber l' js q g.below)
+    (λ q js. waits_kept g.sites g.fiber l l' h.list o js q g.below u)) ks n r k a
+
+-- Sites.
+
+-- a list has one site
+site_is : (hs : List Site) (h d : Site) → IsSite hs h → IsSite hs d → d.list ≡ h.list → d ≡ h
+site_is hs h d a b e = ap (λ (o : Option Site). unwrap_or o h) (sym b ∙ ap (slice_get hs) e ∙ a)
+
+same_elsewhere : (h : Site) (cs cs' : List Scope) (l l' : List Registers) → Same h cs l
+    → scope_at cs' h.list ≡ scope_at cs h.list → length cs' ≡ length cs → list_at l' h.list ≡ list_at l h.list
+    → length l' ≡ length l → Same h cs' l'
+unfolding slot_at
+same_elsewhere h cs cs' l l' s scope scopes list lists = record {
+  scope = omega (arith, s.scope, scopes);
+  parent = ap (λ (c : Scope). c.parent) scope ∙ s.parent;
+  present = omega (arith, s.present, lists);
+  long = ap (λ (g : Registers). length g.slots) list ∙ s.long;
+  self = ap (λ (g : Registers). read (get_or g.slots 0 (V Nil))) list ∙ s.self;
+  alike = λ x k. ap (λ (c : Scope). unwrap_or (value_in c.variables (named x)) Nil) scope ∙ s.alike x k
+      ∙ sym (ap (λ (g : Registers). read (get_or g.slots (register h x) (V Nil))) list);
+}
+
+-- the scope and the list of one site change, and no others
+sites_changed : (s : Source) (p : Program) (hs : List Site) (cs cs' : List Scope) (l l' : List Registers) (w : World)
+    (h : Site) → SitesAre s p hs cs l w → IsSite hs h → Same h cs' l' → length cs' ≡ length cs → length l' ≡ length l
+    → ((n : ℕ) → n ≢ h.list → scope_at cs' n ≡ scope_at cs n) → OnlyIn h.list l l' → SitesAre s p hs cs' l' w
+sites_changed s p hs cs cs' l l' w h a site same scopes lists elsewhere o = record {
+  scopes = scopes ∙ a.scopes;
+  lists = lists ∙ a.lists;
+  each = λ d is. ⊎_elim (λ e. at d is (a.each d is) (subst (λ (q : Site). Same q cs' l') (sym (site_is hs h d site is e)) same))
+      (λ ne. at d is (a.each d is) (same_elsewhere d cs cs' l l' (a.each d is).same (elsewhere d.list ne) scopes
+      (o.others d.list ne) lists)) (cases_eq d.list h.list);
+}
+  where
+    at : (d : Site) → IsSite hs d → SiteIs s p d cs l w → Same d cs' l' → SiteIs s p d cs' l' w
+    at d is i same' = record {
+      source = i.source;
+      program = i.program;
+      static = i.static;
+      same = same';
+      from_one = i.from_one;
+      opened = i.opened;
+      self = i.self;
+      runs = i.runs;
+    }
+
+-- activations that are there stay
+pub activation_kept : (w u : World) (a : ℕ) → Grows w u → 1 ≤ a → a ≤ length w.activations
+    → activation_at u a ≡ activation_at w a
+unfolding activation_at
+activation_kept w u a g low high =
+    ap (λ (xs : List Activation). get_or xs (a - 1) no_activation) g.is
+    ∙ get_or_append_left w.activations g.more no_activation (a - 1) (omega (arith, low, high))
+
+pub sites_grow : (s : Source) (p : Program) (hs : List Site) (cs : List Scope) (l : List Registers) (w u : World)
+    → Grows w u → SitesAre s p hs cs l w → SitesAre s p hs cs l u
+sites_grow s p hs cs l w u g a = record { scopes = a.scopes; lists = a.lists; each = λ h is. at h (a.each h is) }
+  where
+    at : (h : Site) → SiteIs s p h cs l w → SiteIs s p h cs l u
+    at h i =
+        let e = activation_kept w u h.activation g i.from_one i.opened in
+        let longer = ap length g.is ∙ length-append w.activations g.more in
+        record {
+          source = i.source;
+          program = i.program;
+          static = i.static;
+          same = i.same;
+          from_one = i.from_one;
+          opened = omega (arith, i.opened, longer);
+          self = ap (λ (x : Activation). x.self) e ∙ i.self;
+          runs = ap (λ (x : Activation). x.runs) e ∙ i.runs;
+        }
+
+-- Both sides, after a change.
+
+module _ {s : Source} {p : Program} where
+  -- another world, and perhaps another place
+  pub grown : (g : Ground) (m : source.Memory) (k : machine.Memory) → Both s p g m k → (place : Place) (w : World)
+      → Grows m.world w → Both s p g (record m { place = place; world = w }) (machine.with_world k w)
+  grown g m k b place w grows = record {
+    world = refl;
+    sites = sites_grow s p g.sites m.scopes k.lists m.world w grows b.sites;
+    fibers = b.fibers;
+    apart = b.apart;
+  }
+
+  pub same_here : (g : Ground) (h : Site) (m : source.Memory) (k : machine.Memory) → Running s p g h m k
+      → Same h m.scopes k.lists
+  same_here g h m k b = (b.all.sites.each h b.site).same
+
+  pub grown_here : (g : Ground) (h : Site) (m : source.Memory) (k : machine.Memory) → Running s p g h m k → (w : World)
+      → Grows m.world w → Running s p g h (source.with_world m w) (machine.with_world k w)
+  grown_here g h m k b w grows =
+      record { all = grown g m k b.all m.place w grows; site = b.site; free = b.free }
+
+  changed : (g : Ground) (h : Site) (m m' : source.Memory) (k k' : machine.Memory) → Running s p g h m k
+      → k'.world ≡ m'.world → m'.world ≡ m.world → m'.fibers ≡ m.fibers → k'.fibers ≡ k.fibers
+      → SitesAre s p g.sites m'.scopes k'.lists m.world → OnlyIn h.list k.lists k'.lists → Running s p g h m' k'
+  changed g h m m' k k' b world same f f' sites o =
+      let a = b.all.fibers in
+      let others = fibers_kept g.sites k.lists k'.lists h.list o m.fibers.others k.fibers.others (omega (arith, b.free))
+      a.others in
+      let all : AllFibers g.sites g.fiber k'.lists m.fibers k.fibers = record {
+        running = a.running;
+        running_too = a.running_too;
+        resumer = a.resumer;
+        rooted = a.rooted;
+        others = others;
+      } in
+      record {
+        all = record {
+          world = world;
+          sites = subst (λ (w : World). SitesAre s p g.sites m'.scopes k'.lists w) (sym same) sites;
+          fibers = subst (λ (q : fibers.Fibers Kept). AllFibers g.sites g.fiber k'.lists q k'.fibers) (sym f)
+              (subst (λ (q : fibers.Fibers (List Level)). AllFibers g.sites g.fiber k'.lists m.fibers q) (sym f') all);
+          apart = subst (λ (q : fibers.Fibers (List Level)). (n : ℕ) → uses n g.below + uses_in n q.others ≤ 1) (sym f')
+              b.all.apart;
+        };
+        site = b.site;
+        free = subst (λ (q : fibers.Fibers (List Level)). uses h.list g.below + uses_in h.list q.others ≡ 0) (sym f')
+            b.free;
+      }
+
+  -- a register above the locals is written
+  pub written_here : (g : Ground) (h : Site) (m : source.Memory) (k : machine.Memory) → Running s p g h m k → (r : ℕ)
+      (v : Value) → h.first ≤ r → Running s p g h m (record k { lists = put k.lists h.list r (V v) })
+  written_here g h m k b r v above =
+      let i = b.all.sites.each h b.site in
+      let o = put_only k.lists h.list r v in
+      changed g h m m k (record k { lists = put k.lists h.list r (V v) }) b b.all.world refl refl refl
+      (sites_changed s p g.sites m.scopes m.scopes k.lists (put k.lists h.list r (V v)) m.world h b.all.sites b.site
+      (same_above h m.scopes k.lists r v i.static above i.same) refl (length_put k.lists h.list r (V v)) (λ n ne. refl) o)
+      o
+
+  -- a local of the body is assigned
+  pub assigned_here : (g : Ground) (h : Site) (m : source.Memory) (k : machine.Memory) → Running s p g h m k → (x : Name)
+      (v : Value) → m.place ≡ place_in h → Known h x
+      → Running s p g h (with_variable m (named x) v) (record k { lists = put k.lists h.list (register h x) (V v) })
+  unfolding with_variable
+  assigned_here g h m k b x v there known =
+      let i = b.all.sites.each h b.site in
+      let l' = put k.lists h.list (register h x) (V v) in
+      let cs' = put_in m.scopes h.list (named x) v in
+      let o = put_only k.lists h.list (register h x) v in
+      changed g h m (with_variable m (named x) v) k (record k { lists = l' }) b b.all.world refl refl refl
+      (subst (λ (cs : List Scope). SitesAre s p g.sites cs l' m.world) (sym (assigned h m x v there i.same.parent))
+      (sites_changed s p g.sites m.scopes cs' k.lists l' m.world h b.all.sites b.site
+      (put_alike h m.scopes k.lists x v i.static i.same known (omega (arith, known.low, i.static.room)))
+      (length-set m.scopes h.list _) (length_put k.lists h.list (register h x) (V v))
+      (λ n ne. scope_other m.scopes h.list n (named x) v ne) o)) o
+
+  -- The frame that runs begins to wait, and one that waits runs again.
+
+  pub below_running : (g : Ground) (h : Site) (m : source.Memory) (k : machine.Memory) → Running s p g h m k
+      → (f : Frame) → f.list ≡ h.list → Both s p (over_levels g (frame f ∷ g.below)) m k
+  below_running g h m k b f e =
+      record { world = b.all.world; sites = b.all.sites; fibers = b.all.fibers; apart = apart }
+    where
+      free : uses f.list g.below + uses_in f.list k.fibers.others ≡ 0
+      free = subst (λ (n : ℕ). uses n g.below + uses_in n k.fibers.others ≡ 0) (sym e) b.free
+
+      at : (n : ℕ) (t : Bool) → nat_eq n f.list ≡ t
+          → (if t then 1 else 0) + uses n g.below + uses_in n k.fibers.others ≤ 1
+      at n true q =
+          let same : n ≡ f.list = eqb-true n f.list q in
+          let none : uses n g.below + uses_in n k.fibers.others ≡ 0 =
+          subst (λ (i : ℕ). uses i g.below + uses_in i k.fibers.others ≡ 0) (sym same) free in
+          omega (arith, none)
+      at n false q = omega (arith, b.all.apart n)
+
+      apart : (n : ℕ) → uses n (frame f ∷ g.below) + uses_in n k.fibers.others ≤ 1
+      apart n = at n (nat_eq n f.list) refl
+
+  pub runs_again : (g : Ground) (h : Site) (m : source.Memory) (k : machine.Memory) (f : Frame) (ls : List Level)
+      → f.list ≡ h.list → IsSite g.sites h → Both s p (over_levels g (frame f ∷ ls)) m k
+      → Running s p (over_levels g ls) h m k
+  runs_again g h m k f ls e site b = record {
+    all = record { world = b.world; sites = b.sites; fibers = b.fibers; apart = λ n. omega (arith, b.apart n) };
+    site = site;
+    free = at (nat_eq h.list f.list) refl (b.apart h.list);
+  }
+    where
+      at : (t : Bool) → nat_eq h.list f.list ≡ t
+          → (if t then 1 else 0) + uses h.list ls + uses_in h.list k.fibers.others ≤ 1
+          → uses h.list ls + uses_in h.list k.fibers.others ≡ 0
+      at true q le = omega (arith, le)
+      at false q le = absurd (eqb-false h.list f.list q (sym e))
+
+  -- the levels below another one
+  pub without_top : (g : Ground) (m : source.Memory) (k : machine.Memory) (f : Frame) (ls : List Level)
+      → Both s p (over_levels g (frame f ∷ ls)) m k → Both s p (over_levels g ls) m k
+  without_top g m k f ls b =
+      record { world = b.world; sites = b.sites; fibers = b.fibers; apart = λ n. omega (arith, b.apart n) }
