@@ -1,5 +1,5 @@
 -- The tokens of a text.
-use Rattle.std.specs.Prelude.{◌≡◌, ℕ, zero, suc, ◌+◌, ◌-◌, ◌≤◌, ◌==◌, nat_lt, not, Bool, true, false, ◌||◌, if◌then◌else◌, List, [], ◌∷◌, length, take, drop, Option, Some, None, Result, Ok, Err}
+use Rattle.std.specs.Prelude.{◌≡◌, ℕ, zero, suc, ◌+◌, ◌-◌, ◌≤◌, ◌==◌, nat_lt, not, Bool, true, false, ◌&&◌, ◌||◌, if◌then◌else◌, List, [], ◌∷◌, length, slice_index, take, drop, Option, Some, None, Result, Ok, Err}
 use Rattle.rb_heredoc.specs.declared.heredoc.Head.{Head}
 use Rattle.rb_heredoc.specs.declared.heredoc.Bodies.{Bodies}
 use Rattle.rb_heredoc.specs.Bodies.{bodies_at}
@@ -158,6 +158,16 @@ code_reach text r s = newline_or_other (behind_bodies r) text r s
 
 abbrev pub going_on : State × Reach → Result (State × Option Reach) ℕ
 going_on a = Ok (a.0, Some a.1)
+
+abbrev pub is_plain : Region → Bool
+is_plain Plain = true
+is_plain (Line next) = false
+is_plain (Body back line next) = false
+
+-- a space outside of literals and of lines with heads of heredocs
+abbrev pub is_plain_space : List ℕ → State → Reach → Bool
+is_plain_space text s r =
+    nat_lt r.at r.stop && (slice_index text r.at == 32) && is_plain r.region && not (is_literal (top s))
 
 -- one step; none is the place after it at the text's end
 unfoldable pub advance : List ℕ → State → Reach → Result (State × Option Reach) ℕ

@@ -1,5 +1,5 @@
 //! The tokens of a text.
-ghost use Rattle.std.specs.Prelude.{◌≡◌, ◌≤◌, ◌<◌, ◌+◌, ◌-◌, ℕ, length, IfOk, IfErr, IfSome};
+ghost use Rattle.std.specs.Prelude.{◌≡◌, ◌≤◌, ◌<◌, ◌+◌, ◌-◌, ℕ, length, true, Ok, Some, IfOk, IfErr, IfSome};
 ghost use Rattle.lexer_steps.specs.LexError.{Gives, IsWithin};
 ghost use Rattle.lexer_steps.specs.State.{state_of};
 ghost use Rattle.rb_lexer.specs.Lexing as lexing;
@@ -289,6 +289,49 @@ fn step_reach(
     })
 }
 
+/// Whether the stretch ends at the text's end.
+fn is_plain(region: Region) -> bool
+    ensures { result ≡ lexing.is_plain region }
+{
+    match region {
+        Region::Plain => true,
+        Region::Line { next: _ } => false,
+        Region::Body {
+            back: _,
+            line: _,
+            next: _,
+        } => false,
+    }
+}
+
+/// Whether a space stands at the place, outside of literals and of lines with heads of heredocs.
+fn is_plain_space(lexer: &Lexer, text: &[u8], reach: Reach) -> bool
+    requires { lexing.Fits (length text.now) reach }
+    ensures { result ≡ lexing.is_plain_space text.now (state_of lexer.now) reach }
+{
+    reach.at < reach.stop
+        && text[reach.at] == b' '
+        && is_plain(reach.region)
+        && !is_literal(lexer.top())
+}
+
+/// A step over such a space, of which there are many.
+#[tactic(auto, using(crate::proofs::Spaces::space_advances))]
+fn pass_space(lexer: &mut Lexer, text: &[u8], reach: Reach) -> Reach
+    requires fits { lexing.Fits (length text.now) reach }
+    requires space { lexing.is_plain_space text.now (state_of lexer.old) reach ≡ true }
+    ensures value { lexing.advance text.now (state_of lexer.old) reach ≡ Ok (state_of lexer.new, Some result) }
+    ensures fits { lexing.Fits (length text.now) result }
+    ensures smaller { lexing.unread (length text.now) result < lexing.unread (length text.now) reach }
+{
+    lexer.pass_space();
+    Reach {
+        at: reach.at + 1,
+        stop: reach.stop,
+        region: reach.region,
+    }
+}
+
 /// One step; None at the text's end.
 #[tactic(auto, unfolding(crate::specs::Lexing::advance))]
 fn advance(
@@ -305,6 +348,9 @@ fn advance(
     ensures smaller { IfOk result (λ next. IfSome next (λ r.
         lexing.unread (length text.now) r < lexing.unread (length text.now) reach)) }
 {
+    if is_plain_space(lexer, text, reach) {
+        return Ok(Some(pass_space(lexer, text, reach)));
+    }
     if reach.at >= reach.stop {
         return stretch_end(alloc, lexer, text, reach);
     }
