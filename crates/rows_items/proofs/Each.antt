@@ -1,5 +1,5 @@
 -- Values that are passed one after another.
-use Rattle.std.proofs.Common.{◌≡◌, List, [], ◌∷◌, ◌++◌, refl, ap, sym, append_assoc, append-nil}
+use Rattle.std.proofs.Common.{◌≡◌, List, [], ◌++◌, refl, ap, sym, append_assoc, append-nil}
 use Rattle.std.specs.Prelude.{Result, Ok, Err}
 use Rattle.def_core.specs.declared.cause.Cause.{Cause}
 use Rattle.rows_items.specs.Told.{with_front}

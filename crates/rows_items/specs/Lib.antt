@@ -3,3 +3,9 @@ pub mod Checks
 pub mod Made
 pub mod Keyed
 pub mod Zipped
+pub mod Order
+pub mod Walks
+pub mod Items
+pub mod Outcome
+pub mod Sorting
+pub mod Rows

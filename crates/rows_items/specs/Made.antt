@@ -1,5 +1,5 @@
 -- What methods leave that make an Array, or change nothing.
-use Rattle.std.specs.Prelude.{List, Result, Ok, Err}
+use Rattle.std.specs.Prelude.{List, Result, Ok}
 use Rattle.rb_value.specs.declared.value.Value.{Value}
 use Rattle.def_core.specs.declared.cause.Cause.{Cause}
 use Rattle.rb_store.specs.Held.{Held}

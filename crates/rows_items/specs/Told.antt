@@ -46,3 +46,8 @@ with_front xs (Err cause) = Err cause
 abbrev pub each : {A : Type 0} → (Value → Result A Cause) → List Value → Result (List A) Cause
 each what [] = Ok []
 each what (v ∷ vs) = and_then (what v) (λ x. with_front (x ∷ []) (each what vs))
+
+-- what is refused leaves the heap as it was; memory may run out between
+abbrev pub Kept : Held → Held → RowError → Type 0
+Kept before after (Fails cause) = after ≡ before
+Kept before after NoMemory = Unit {0}

@@ -1,6 +1,7 @@
 //! Why a core method gives no value.
-ghost use Rattle.std.specs.Prelude.{◌≡◌};
+ghost use Rattle.std.specs.Prelude.{◌≡◌, IfOk};
 ghost use Rattle.rows_items.specs.declared.error.RowError.TheVariants.{Fails, NoMemory};
+ghost use Rattle.rows_items.specs.Outcome.{SettlesFrom};
 
 use core_calls::heap::{Given, Heap};
 use def_core::Cause;
@@ -42,7 +43,9 @@ impl<T: Drop> From<AllocFailed<T>> for RowError {
 }
 
 /// Gives the value of a core method, or raises by the cause that there is none.
-pub fn settle(heap: &mut Heap, outcome: Result<Value, RowError>) -> Result<Given, AllocError> {
+pub fn settle(heap: &mut Heap, outcome: Result<Value, RowError>) -> Result<Given, AllocError>
+    ensures { IfOk result (λ g. SettlesFrom heap.old outcome g heap.new) }
+{
     match outcome {
         Ok(value) => Ok(Given::Gives(value)),
         Err(RowError::Fails(cause)) => heap.fail(cause),

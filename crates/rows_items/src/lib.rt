@@ -3,7 +3,7 @@
 //! Integers, or new Strings of one byte.
 //!
 //! Rows: [`ItemRow`], [`rows_of`], [`call`]. For methods of items elsewhere: [`items_of`], [`first_items`],
-//! [`order_of`], [`sorted`], [`put_pair`]. What a row gives or why it doesn't: [`RowError`], [`settle`], with checks of
+//! [`order_of`], [`extreme_place`], [`sorted`], [`put_pair`]. What a row gives or why it doesn't: [`RowError`], [`settle`], with checks of
 //! arguments.
 #![tactic(auto)]
 
@@ -24,4 +24,4 @@ pub use items::{first_items, items_of, put_values};
 pub use keyed::{key_of, put_pair};
 pub use order::order_of;
 pub use rows::{ItemRow, call, rows_of};
-pub use sorting::{Extreme, extreme_place, sorted};
+pub use sorting::{Extreme, KeyKind, extreme_place, kind_of_all, number_order, sorted, text_order};
