@@ -1,11 +1,13 @@
--- Two names of a body have two registers.
-use Rattle.std.proofs.Common.{◌≡◌, ◌≢◌, ℕ, zero, suc, ◌+◌, ◌-◌, ◌≤◌, [], ◌∷◌, refl, sym, ap, ◌∙◌, subst, arith, get_or, Bool, true, false, true≢false}
+-- Two locals of a body have two registers.
+use Rattle.std.proofs.Common.{◌≡◌, ◌≢◌, ℕ, zero, suc, ◌+◌, ◌-◌, ◌<◌, ◌≤◌, [], ◌∷◌, length, refl, sym, ap, ◌∙◌, subst, arith, get_or, Bool, true, false, true≢false}
 use Rattle.std.specs.Prelude.{bytes_eq, if◌then◌else◌, Option, Some, None}
+use Rattle.std.proofs.lemmas.Bool.{eq-eqb}
 use Rattle.std.proofs.lemmas.Slice.Eq.{bytes_eq-Decides}
 use Rattle.ir_core.specs.CoreForm.{Name, Local, named, hidden, pattern, rest}
 use Rattle.scope_resolver.specs.declared.seek.Search.{Search}
 use Rattle.scope_resolver.specs.declared.seek.Search.TheVariants.{Found, Past}
-use Rattle.scope_resolver.specs.Layout.{Slots, Scopes, is_at, seek, place_at, place_or_self, place_of}
+use Rattle.scope_resolver.specs.Layout.{Slots, Scopes, is_at, seek, place_at, place_or_self, innermost_count, place_of}
+use Rattle.def_eval.specs.Scopes.{same_local}
 use Rattle.step_laws.specs.Site.{Site, register, Known}
 
 -- what is found stays
@@ -79,11 +81,46 @@ apart_in ss x y low high ne e =
     let same : x ≡ y = ap name_of (sym a ∙ ap (λ (r : ℕ). get_or ss (r - 1) None) e ∙ b) in
     absurd (true≢false (sym ((bytes_eq-Decides x y).1 same) ∙ ne))
 
-pub apart : (h : Site) (ss : Slots) → h.context.scopes ≡ ss ∷ [] → (x y : Name) → Known h x → Known h y
-    → bytes_eq x y ≡ false → register h x ≢ register h y
-apart h ss e x y j k ne f =
-    apart_in ss x y
-    (subst (λ (c : Scopes). 1 ≤ register_in c x) e j.behind_self)
-    (subst (λ (c : Scopes). 1 ≤ register_in c y) e k.behind_self)
-    ne
-    (subst (λ (c : Scopes). register_in c x ≡ register_in c y) e f)
+-- a name stands before the hidden locals
+within : (ss : Slots) (i : ℕ) (x : Local) → get_or ss i None ≡ Some x → i < length ss
+within [] i x e = absurd (cc e)
+within (s ∷ ss) zero x e = omega arith
+within (s ∷ ss) (suc i) x e = let h = within ss i x e in omega (arith, h)
+
+below_hidden : (x : Name) (ss : Slots) → 1 ≤ register_in (ss ∷ []) x → register_in (ss ∷ []) x ≤ length ss
+below_hidden x ss low =
+    let a = stands_in x ss low in
+    let h = within ss (register_in (ss ∷ []) x - 1) (named x) a.1 in
+    omega (arith, h, low)
+
+module _ (h : Site) (ss : Slots) (scopes : h.context.scopes ≡ ss ∷ []) where
+  named_low : (x : Name) → Known h (named x) → register h (named x) ≤ length ss
+  named_low x k =
+      subst (λ (c : Scopes). register_in c x ≤ length ss) (sym scopes)
+      (below_hidden x ss (subst (λ (c : Scopes). 1 ≤ register_in c x) scopes k.behind_self))
+
+  hidden_is : (d : ℕ) → register h (hidden d) ≡ 1 + length ss + d
+  hidden_is d = ap (λ (c : Scopes). 1 + innermost_count c + d) scopes
+
+  pub apart : (x y : Local) → Known h x → Known h y → same_local x y ≡ false → register h x ≢ register h y
+  apart (named x) (named y) j k ne f =
+      apart_in ss x y
+      (subst (λ (c : Scopes). 1 ≤ register_in c x) scopes j.behind_self)
+      (subst (λ (c : Scopes). 1 ≤ register_in c y) scopes k.behind_self)
+      ne
+      (subst (λ (c : Scopes). register_in c x ≡ register_in c y) scopes f)
+  apart (named x) (hidden d) j k ne f =
+      let low = named_low x j in let is = hidden_is d in absurd (omega (arith, low, is, f))
+  apart (hidden d) (named y) j k ne f =
+      let low = named_low y k in let is = hidden_is d in absurd (omega (arith, low, is, f))
+  apart (hidden c) (hidden d) j k ne f =
+      let is = hidden_is c in
+      let at = hidden_is d in
+      let e : c ≡ d = omega (arith, is, at, f) in
+      absurd (true≢false (sym (eq-eqb c d e) ∙ ne))
+  apart (named x) (pattern i) j k ne f = absurd k.scoped
+  apart (named x) rest j k ne f = absurd k.scoped
+  apart (hidden c) (pattern i) j k ne f = absurd k.scoped
+  apart (hidden c) rest j k ne f = absurd k.scoped
+  apart (pattern i) y j k ne f = absurd j.scoped
+  apart rest y j k ne f = absurd j.scoped

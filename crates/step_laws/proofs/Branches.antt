@@ -1,6 +1,6 @@
 -- Branches: conditions, `and` and `or`.
-use Rattle.std.proofs.Common.{◌≡◌, ℕ, ◌+◌, ◌<◌, ◌≤◌, List, ◌∷◌, refl, sym, ap, ◌∙◌, subst, arith, Bool, true, false}
-use Rattle.std.specs.Prelude.{pos, ◌-ℤ◌, if◌then◌else◌, Option}
+use Rattle.std.proofs.Common.{◌≡◌, ℕ, ◌+◌, ◌<◌, ◌≤◌, List, [], ◌∷◌, refl, sym, ap, ◌∙◌, subst, arith, Bool, true, false}
+use Rattle.std.specs.Prelude.{is_some, pos, ◌-ℤ◌, if◌then◌else◌, Option}
 use Rattle.rb_value.specs.declared.value.Value.{Value}
 use Rattle.rb_value.specs.declared.exit.Slot.{Slot}
 use Rattle.rb_value.specs.declared.exit.Slot.TheVariants.{V}
@@ -28,8 +28,9 @@ use Rattle.step_laws.specs.Site.{Site, within, place_in, at_line, LineAt}
 use Rattle.step_laws.specs.Covered.{Covered, CoveredBranches}
 use Rattle.step_laws.specs.Measure.{measure}
 use Rattle.step_laws.proofs.Placed.{high, high-both, high-puts, line-past, line-behind, Stands, moved, left, right, the_line, Rest, frame_at, leads, jumped}
-use Rattle.step_laws.specs.Relation.{Ground, Static, after_test, InFrame, Common, Doing, GivesIn, Related, Step}
-use Rattle.step_laws.proofs.Matching.{by_none, by_one, going, state_at, stays}
+use Rattle.step_laws.specs.Behind.{Static, after_test}
+use Rattle.step_laws.specs.Relation.{Ground, InFrame, Common, Doing, GivesIn, Related, Step}
+use Rattle.step_laws.proofs.Matching.{by_none, by_one, in_loop, going, state_at, stays}
 use Rattle.step_laws.proofs.Literals.{aligned}
 
 -- The turn of a jump that looks at a register.
@@ -152,9 +153,9 @@ module _ (g : Ground) (h : Site) (static : Static h) (ks : List Item) (m : sourc
     (k : machine.Memory) (both : Common g h m (aligned k m)) where
   -- the branches that are left, at line n
   branches : (x : Rest) (n r : ℕ) (loop : Option Loop) (s : Spot) (j : ℕ) (bs : Branches) (o : CoreForm)
-      → m.place ≡ place_in h → s.line ≡ n → CoveredBranches h r bs × Covered h r o → h.first ≤ r
+      → m.place ≡ place_in h → s.line ≡ n → CoveredBranches h (is_some loop) r bs × Covered h (is_some loop) r o → h.first ≤ r
       → Stands h n (chosen_code (within h loop) s r bs (λ d t i. gen d t i o))
-      → InFrame g h k.lists ks (n + high (chosen_code (within h loop) s r bs (λ d t i. gen d t i o))) r
+      → InFrame g h k.lists ks (n + high (chosen_code (within h loop) s r bs (λ d t i. gen d t i o))) r loop
       → Related h (next_branch j bs o ks m) (state_at g h x n (aligned k m))
   branches x n r loop s j no_branches o there here covered above code next = (
     g,
@@ -200,13 +201,14 @@ module _ (g : Ground) (h : Site) (static : Static h) (ks : List Item) (m : sourc
             below = omega arith;
             behind = record {
               at = refl;
-              loop = loop;
               s = past s p;
               here = line-past s p ∙ ap (λ (i : ℕ). i + high p) here;
               covered = (covered.0.1, covered.0.2, covered.1);
               code = right h n p q code;
               ends = omega (arith, high-both p q);
             };
+            outer = loop;
+            inner = refl;
             next = next;
           };
         },
@@ -227,7 +229,7 @@ module _ (g : Ground) (h : Site) (static : Static h) (ks : List Item) (m : sourc
   -- a test that is given its value
   chosen_by : (v : Value) (j : ℕ) (b : CoreForm) (bs : Branches) (o : CoreForm)
       (d : GivesIn g h v (part (test j b bs o) ∷ ks) m.place ls k.lists)
-      → Tested h d.n d.next.low d.next.end (within h d.next.behind.loop) d.next.behind.s b bs o
+      → Tested h d.n d.next.low d.next.end (within h d.loop) d.next.behind.s b bs o
       → (t : Bool) → is_true v ≡ t
       → Step h (Run (give v) (part (test j b bs o) ∷ ks) m) (state_at g h d.x d.n (aligned k m))
   unfolding do_give give_part
@@ -247,7 +249,7 @@ module _ (g : Ground) (h : Site) (static : Static h) (ks : List Item) (m : sourc
           r = d.next.low;
           is = refl;
           there = d.there;
-          loop = d.next.behind.loop;
+          loop = d.loop;
           s = behind d.next.behind.s;
           here = omega (arith, line-behind d.next.behind.s, d.next.behind.here);
           covered = d.next.behind.covered.0;
@@ -259,6 +261,8 @@ module _ (g : Ground) (h : Site) (static : Static h) (ks : List Item) (m : sourc
             above = d.next.above;
             below = omega arith;
             behind = record { at = refl; jump = y.leave };
+            outer = d.next.outer;
+            inner = d.next.inner;
             next = d.next.next;
           };
         },
@@ -270,16 +274,17 @@ module _ (g : Ground) (h : Site) (static : Static h) (ks : List Item) (m : sourc
       (going (give v) (part (test j b bs o) ∷ ks) m (frame (frame_at h d.x d.n) ∷ g.below) (aligned k m) refl)
       (jumped_not g h d.x d.n d.next.low y.further.line (aligned k m) v false y.skip stands e)
       (subst (λ (u : Bool). Related h (choose u j b bs o ks m) (state_at g h d.x y.further.line (aligned k m))) (sym e)
-      (branches d.x y.further.line d.next.low d.next.behind.loop y.further (j + span b) bs o d.there refl
+      (branches d.x y.further.line d.next.low d.loop y.further (j + span b) bs o d.there refl
       (d.next.behind.covered.1, d.next.behind.covered.2) d.next.above y.others
-      (subst (λ (i : ℕ). InFrame g h k.lists ks i d.next.low) (sym y.ends) d.next.next)))
+      (subst (λ (i : ℕ). InFrame g h k.lists ks i d.next.low d.loop) (sym y.ends)
+      (in_loop g h k.lists ks d.next.end d.next.low d.loop d.next.outer d.next.inner d.next.next))))
 
   pub give_test : (v : Value) (j : ℕ) (b : CoreForm) (bs : Branches) (o : CoreForm)
       (d : GivesIn g h v (part (test j b bs o) ∷ ks) m.place ls k.lists)
       → Step h (Run (give v) (part (test j b bs o) ∷ ks) m) (state_at g h d.x d.n (aligned k m))
   give_test v j b bs o d =
       let y = d.next.behind in
-      chosen_by v j b bs o d (tested h d.n d.next.low d.next.end (within h y.loop) y.s b bs o y.here y.code y.ends)
+      chosen_by v j b bs o d (tested h d.n d.next.low d.next.end (within h d.loop) y.s b bs o y.here y.code y.ends)
       (is_true v) refl
 
   -- the value of a branch, behind which is a jump to the end
@@ -291,7 +296,7 @@ module _ (g : Ground) (h : Site) (static : Static h) (ks : List Item) (m : sourc
       (state_at g h d.x d.next.end (aligned k m))
       (going (give v) (part chosen ∷ ks) m (frame (frame_at h d.x d.n) ∷ g.below) (aligned k m) refl)
       (jumped h d.x d.n d.next.end g.below (aligned k m) d.next.behind.jump)
-      (stays g h v ks m d.x (aligned k m) d.next.end d.next.low both d.there
+      (stays g h v ks m d.x (aligned k m) d.next.end d.next.low d.next.outer both d.there
       (subst (λ (i : ℕ). slot_at k.lists h.list i ≡ V v) (sym d.next.behind.at) d.stands) d.next.next)
 
   -- `and` and `or` begin with their first operand
@@ -324,13 +329,14 @@ module _ (g : Ground) (h : Site) (static : Static h) (ks : List Item) (m : sourc
             below = omega arith;
             behind = record {
               at = refl;
-              loop = d.loop;
               s = past d.s p;
               here = line-past d.s p ∙ ap (λ (i : ℕ). i + high p) d.here;
               covered = d.covered.1;
               code = right h d.n p q d.code;
               ends = omega (arith, high-both p q);
             };
+            outer = d.loop;
+            inner = refl;
             next = d.next;
           };
         },
@@ -365,13 +371,14 @@ module _ (g : Ground) (h : Site) (static : Static h) (ks : List Item) (m : sourc
             below = omega arith;
             behind = record {
               at = refl;
-              loop = d.loop;
               s = past d.s p;
               here = line-past d.s p ∙ ap (λ (i : ℕ). i + high p) d.here;
               covered = d.covered.1;
               code = right h d.n p q d.code;
               ends = omega (arith, high-both p q);
             };
+            outer = d.loop;
+            inner = refl;
             next = d.next;
           };
         },
@@ -379,8 +386,8 @@ module _ (g : Ground) (h : Site) (static : Static h) (ks : List Item) (m : sourc
 
   -- the second operand is done, or the value of the first is that of the whole
   second : (x : Rest) (v : Value) (n r end : ℕ) (loop : Option Loop) (s : Spot) (j : ℕ) (e : CoreForm) (l : ℕ → Line)
-      → m.place ≡ place_in h → s.line ≡ n → Covered h r e → h.first ≤ r
-      → Guarded h n r end (within h loop) s e l → InFrame g h k.lists ks end r
+      → m.place ≡ place_in h → s.line ≡ n → Covered h (is_some loop) r e → h.first ≤ r
+      → Guarded h n r end (within h loop) s e l → InFrame g h k.lists ks end r loop
       → Related h (Run (perform j e) ks m) (state_at g h x (n + 1) (aligned k m))
   second x v n r end loop s j e l there here covered above q next = (
     g,
@@ -398,12 +405,12 @@ module _ (g : Ground) (h : Site) (static : Static h) (ks : List Item) (m : sourc
       covered = covered;
       above = above;
       code = q.code;
-      next = subst (λ (i : ℕ). InFrame g h k.lists ks i r) (sym q.ends) next;
+      next = subst (λ (i : ℕ). InFrame g h k.lists ks i r loop) (sym q.ends) next;
     },
   )
 
   and_by : (v : Value) (j : ℕ) (e : CoreForm) (d : GivesIn g h v (part (and_then j e) ∷ ks) m.place ls k.lists)
-      → Guarded h d.n d.next.low d.next.end (within h d.next.behind.loop) d.next.behind.s e (line.JumpNot d.next.low)
+      → Guarded h d.n d.next.low d.next.end (within h d.loop) d.next.behind.s e (line.JumpNot d.next.low)
       → (t : Bool) → is_true v ≡ t
       → Step h (Run (give v) (part (and_then j e) ∷ ks) m) (state_at g h d.x d.n (aligned k m))
   unfolding do_give give_part
@@ -414,8 +421,9 @@ module _ (g : Ground) (h : Site) (static : Static h) (ks : List Item) (m : sourc
       (going (give v) (part (and_then j e) ∷ ks) m (frame (frame_at h d.x d.n) ∷ g.below) (aligned k m) refl)
       (jumped_not g h d.x d.n d.next.low d.next.end (aligned k m) v true q.skip stands is)
       (subst (λ (u : Bool). Related h (go_right u j e v ks m) (state_at g h d.x (d.n + 1) (aligned k m))) (sym is)
-      (second d.x v d.n d.next.low d.next.end d.next.behind.loop d.next.behind.s j e (line.JumpNot d.next.low) d.there
-      d.next.behind.here d.next.behind.covered d.next.above q d.next.next))
+      (second d.x v d.n d.next.low d.next.end d.loop d.next.behind.s j e (line.JumpNot d.next.low) d.there
+      d.next.behind.here d.next.behind.covered d.next.above q
+      (in_loop g h k.lists ks d.next.end d.next.low d.loop d.next.outer d.next.inner d.next.next)))
   and_by v j e d q false is =
       let stands = subst (λ (i : ℕ). slot_at k.lists h.list i ≡ V v) (sym d.next.behind.at) d.stands in
       by_one h (Run (give v) (part (and_then j e) ∷ ks) m) (state_at g h d.x d.n (aligned k m))
@@ -423,10 +431,10 @@ module _ (g : Ground) (h : Site) (static : Static h) (ks : List Item) (m : sourc
       (going (give v) (part (and_then j e) ∷ ks) m (frame (frame_at h d.x d.n) ∷ g.below) (aligned k m) refl)
       (jumped_not g h d.x d.n d.next.low d.next.end (aligned k m) v false q.skip stands is)
       (subst (λ (u : Bool). Related h (go_right u j e v ks m) (state_at g h d.x d.next.end (aligned k m))) (sym is)
-      (stays g h v ks m d.x (aligned k m) d.next.end d.next.low both d.there stands d.next.next))
+      (stays g h v ks m d.x (aligned k m) d.next.end d.next.low d.next.outer both d.there stands d.next.next))
 
   or_by : (v : Value) (j : ℕ) (e : CoreForm) (d : GivesIn g h v (part (or_else j e) ∷ ks) m.place ls k.lists)
-      → Guarded h d.n d.next.low d.next.end (within h d.next.behind.loop) d.next.behind.s e (line.JumpIf d.next.low)
+      → Guarded h d.n d.next.low d.next.end (within h d.loop) d.next.behind.s e (line.JumpIf d.next.low)
       → (t : Bool) → is_true v ≡ t
       → Step h (Run (give v) (part (or_else j e) ∷ ks) m) (state_at g h d.x d.n (aligned k m))
   unfolding do_give give_part
@@ -437,8 +445,9 @@ module _ (g : Ground) (h : Site) (static : Static h) (ks : List Item) (m : sourc
       (going (give v) (part (or_else j e) ∷ ks) m (frame (frame_at h d.x d.n) ∷ g.below) (aligned k m) refl)
       (jumped_if g h d.x d.n d.next.low d.next.end (aligned k m) v false q.skip stands is)
       (subst (λ (u : Bool). Related h (go_left u j e v ks m) (state_at g h d.x (d.n + 1) (aligned k m))) (sym is)
-      (second d.x v d.n d.next.low d.next.end d.next.behind.loop d.next.behind.s j e (line.JumpIf d.next.low) d.there
-      d.next.behind.here d.next.behind.covered d.next.above q d.next.next))
+      (second d.x v d.n d.next.low d.next.end d.loop d.next.behind.s j e (line.JumpIf d.next.low) d.there
+      d.next.behind.here d.next.behind.covered d.next.above q
+      (in_loop g h k.lists ks d.next.end d.next.low d.loop d.next.outer d.next.inner d.next.next)))
   or_by v j e d q true is =
       let stands = subst (λ (i : ℕ). slot_at k.lists h.list i ≡ V v) (sym d.next.behind.at) d.stands in
       by_one h (Run (give v) (part (or_else j e) ∷ ks) m) (state_at g h d.x d.n (aligned k m))
@@ -446,18 +455,18 @@ module _ (g : Ground) (h : Site) (static : Static h) (ks : List Item) (m : sourc
       (going (give v) (part (or_else j e) ∷ ks) m (frame (frame_at h d.x d.n) ∷ g.below) (aligned k m) refl)
       (jumped_if g h d.x d.n d.next.low d.next.end (aligned k m) v true q.skip stands is)
       (subst (λ (u : Bool). Related h (go_left u j e v ks m) (state_at g h d.x d.next.end (aligned k m))) (sym is)
-      (stays g h v ks m d.x (aligned k m) d.next.end d.next.low both d.there stands d.next.next))
+      (stays g h v ks m d.x (aligned k m) d.next.end d.next.low d.next.outer both d.there stands d.next.next))
 
   pub give_and : (v : Value) (j : ℕ) (e : CoreForm) (d : GivesIn g h v (part (and_then j e) ∷ ks) m.place ls k.lists)
       → Step h (Run (give v) (part (and_then j e) ∷ ks) m) (state_at g h d.x d.n (aligned k m))
   give_and v j e d =
       let y = d.next.behind in
-      and_by v j e d (guarded h d.n d.next.low d.next.end (within h y.loop) y.s e (line.JumpNot d.next.low) y.here y.code
+      and_by v j e d (guarded h d.n d.next.low d.next.end (within h d.loop) y.s e (line.JumpNot d.next.low) y.here y.code
       y.ends) (is_true v) refl
 
   pub give_or : (v : Value) (j : ℕ) (e : CoreForm) (d : GivesIn g h v (part (or_else j e) ∷ ks) m.place ls k.lists)
       → Step h (Run (give v) (part (or_else j e) ∷ ks) m) (state_at g h d.x d.n (aligned k m))
   give_or v j e d =
       let y = d.next.behind in
-      or_by v j e d (guarded h d.n d.next.low d.next.end (within h y.loop) y.s e (line.JumpIf d.next.low) y.here y.code
+      or_by v j e d (guarded h d.n d.next.low d.next.end (within h d.loop) y.s e (line.JumpIf d.next.low) y.here y.code
       y.ends) (is_true v) refl

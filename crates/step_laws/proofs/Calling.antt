@@ -1,6 +1,6 @@
 -- What a call enters, on both sides, and how its answer goes back.
 use Rattle.std.proofs.Common.{◌≡◌, ℕ, zero, suc, ◌+◌, ◌<◌, List, [], ◌∷◌, refl, sym, ap, ◌∙◌, subst, arith, length, length-append, Bool, true, false}
-use Rattle.std.specs.Prelude.{if◌then◌else◌, None}
+use Rattle.std.specs.Prelude.{if◌then◌else◌, Option, None}
 use Rattle.rb_value.specs.declared.value.Value.{Value}
 use Rattle.rb_value.specs.declared.value.Value.TheVariants.{Nil}
 use Rattle.def_core.specs.declared.bound.Bound.{Bound}
@@ -10,6 +10,7 @@ use Rattle.def_core.specs.Bind.{bind}
 use Rattle.rb_value.specs.declared.exit.Slot.TheVariants.{V}
 use Rattle.rite_code.specs.Code.{Program}
 use Rattle.ir_core.specs.CoreForm.{CoreForm, Forms, none, more, Body}
+use Rattle.gen_forms.specs.declared.context.Loop.{Loop}
 use Rattle.def_calls.specs.World.{World, Answer, Result, gives, raises, fail, next_activation, with_activation, with_store}
 use Rattle.def_calls.specs.Calls.{Entry, answers, enters, begins, Opening, is_full, settle}
 use Rattle.def_calls.specs.Fibers as fibers
@@ -28,7 +29,8 @@ use Rattle.step_laws.specs.Site.{Site}
 use Rattle.step_laws.specs.Calm.{Grows, Quiet}
 use Rattle.step_laws.specs.Measure.{burden, measure}
 use Rattle.step_laws.proofs.Placed.{Rest, frame_at}
-use Rattle.step_laws.specs.Relation.{Behind, Inside, EndsBy, stops, returns, Ends, IsSite, Waits, Ground, over_levels, InFrame, IsPassed, Leaving, Both, Alike, Advances}
+use Rattle.step_laws.specs.Behind.{Behind}
+use Rattle.step_laws.specs.Relation.{Inside, EndsBy, stops, returns, Ends, IsSite, Waits, Ground, over_levels, InFrame, IsPassed, Leaving, Both, raised, Alike, Advances}
 use Rattle.step_laws.proofs.Untouched.{leaves_end, runs_again}
 use Rattle.step_laws.proofs.Matching.{no_turn, one_turn, written, writes}
 
@@ -36,12 +38,12 @@ use Rattle.step_laws.proofs.Matching.{no_turn, one_turn, written, writes}
 
 inside_depth : (h : Site) (l : List Registers) (AtEnd : ℕ → Place → List Item → ℕ → ℕ → Type 0) (d : ℕ)
     → ((a : ℕ) (p : Place) (is : List Item) (i t : ℕ) → AtEnd a p is i t → depth is ≡ d) → (ks : List Item) (n r : ℕ)
-    → Inside h l AtEnd ks n r → depth ks ≡ d + 1
-inside_depth h l E d to [] n r a = absurd a
-inside_depth h l E d to (part p ∷ ks) n r a = inside_depth h l E d to ks a.end a.low a.next
-inside_depth h l E d to (activation c p ∷ ks) n r a = ap (λ (i : ℕ). i + 1) (to c p ks n r a)
-inside_depth h l E d to (iteration c it p ∷ ks) n r a = absurd a
-inside_depth h l E d to (ensuring o ∷ ks) n r a = absurd a
+    (around : Option Loop) → Inside h l AtEnd ks n r around → depth ks ≡ d + 1
+inside_depth h l E d to [] n r around a = absurd a
+inside_depth h l E d to (part p ∷ ks) n r around a = inside_depth h l E d to ks a.end a.low a.outer a.next
+inside_depth h l E d to (activation c p ∷ ks) n r around a = ap (λ (i : ℕ). i + 1) (to c p ks n r a.0)
+inside_depth h l E d to (iteration c it p ∷ ks) n r around a = absurd a
+inside_depth h l E d to (ensuring o ∷ ks) n r around a = absurd a
 
 end_depth : (h : Site) (fiber : fibers.Name) (ls : List Level) (F : Place → List Item → Type 0)
     → ((p : Place) (is : List Item) → F p is → depth is ≡ length ls) → (p : Place) (is : List Item) (n r : ℕ)
@@ -55,66 +57,67 @@ depth_is hs fiber l ks place [] a = ap depth a
 depth_is hs fiber l ks place (frame f ∷ ls) a =
     inside_depth a.h l (λ b p is i t. Ends a.h fiber ls (λ q js. Waits hs fiber l js q ls) b p is i t) (length ls)
     (λ b p is i t e. end_depth a.h fiber ls (λ q js. Waits hs fiber l js q ls)
-    (λ q js. depth_is hs fiber l js q ls) p is i t e.by) ks a.n a.x.waits a.next ∙ omega arith
+    (λ q js. depth_is hs fiber l js q ls) p is i t e.by) ks a.n a.x.waits a.around a.next ∙ omega arith
 depth_is hs fiber l ks place (machine.iteration a it v ∷ ls) w =
     ap depth w.is ∙ ap (λ (d : ℕ). d + 1) (depth_is hs fiber l w.others w.back ls w.next) ∙ omega arith
 
 -- an exception leaves what waits
-passed : (h : Site) (l : List Registers) (p : Part) (low n r end : ℕ) → Behind h l p low n r end → IsPassed (stop_of p)
-passed h l (operands j a vs es) low n r end b = tt
-passed h l (receiver j x is o) low n r end b = tt
-passed h l (items j s recv vs is o) low n r end b = tt
-passed h l (block s recv vs) low n r end b = absurd b
-passed h l (elements j g o s is) low n r end b = absurd b
-passed h l (hash_key j o v ps) low n r end b = absurd b
-passed h l (hash_value j o v ps) low n r end b = absurd b
-passed h l (pieces j o es) low n r end b = absurd b
-passed h l (rest j es) low n r end b = tt
-passed h l (test j t bs o) low n r end b = tt
-passed h l chosen low n r end b = tt
-passed h l (and_then j e) low n r end b = tt
-passed h l (or_else j e) low n r end b = tt
-passed h l (loop_test j t e) low n r end b = tt
-passed h l (loop_body j t e) low n r end b = tt
-passed h l (rescued j t cs o) low n r end b = absurd b
-passed h l (clause_class j e es t d cs q) low n r end b = absurd b
-passed h l (clause_target j e t q) low n r end b = absurd b
-passed h l (clause_body q) low n r end b = absurd b
-passed h l (ensured j e) low n r end b = absurd b
+passed : (h : Site) (l : List Registers) (p : Part) (low n r end : ℕ) (around : Option Loop)
+    → Behind h l p low n r end around → IsPassed (stop_of p)
+passed h l (operands j a vs es) low n r end around b = tt
+passed h l (receiver j x is o) low n r end around b = tt
+passed h l (items j s recv vs is o) low n r end around b = tt
+passed h l (block s recv vs) low n r end around b = absurd b
+passed h l (elements j g o s is) low n r end around b = tt
+passed h l (hash_key j o v ps) low n r end around b = tt
+passed h l (hash_value j o v ps) low n r end around b = tt
+passed h l (pieces j o es) low n r end around b = tt
+passed h l (rest j es) low n r end around b = tt
+passed h l (test j t bs o) low n r end around b = tt
+passed h l chosen low n r end around b = tt
+passed h l (and_then j e) low n r end around b = tt
+passed h l (or_else j e) low n r end around b = tt
+passed h l (loop_test j t e) low n r end around b = tt
+passed h l (loop_body j t e) low n r end around b = tt
+passed h l (rescued j t cs o) low n r end around b = absurd b
+passed h l (clause_class j e es t d cs q) low n r end around b = absurd b
+passed h l (clause_target j e t q) low n r end around b = absurd b
+passed h l (clause_body q) low n r end around b = absurd b
+passed h l (ensured j e) low n r end around b = absurd b
 
 leaves_inside : (hs : List Site) (fiber : fibers.Name) (l : List Registers) (h : Site) (x : Rest) (at : ℕ)
     (ls : List Level) → IsSite hs h → (ks : List Item) (n r : ℕ)
-    → Inside h l (λ a p is i t. Ends h fiber ls (λ q js. Waits hs fiber l js q ls) a p is i t) ks n r
+    (around : Option Loop) → Inside h l (λ a p is i t. Ends h fiber ls (λ q js. Waits hs fiber l js q ls) a p is i t) ks n r around
     → Leaving hs fiber l ks (frame (frame_at h x at) ∷ ls)
-leaves_inside hs fiber l h x at ls site [] n r a = absurd a
-leaves_inside hs fiber l h x at ls site (part p ∷ ks) n r a = (
-  passed h l p a.low n r a.end a.behind,
-  leaves_inside hs fiber l h x at ls site ks a.end a.low a.next,
+leaves_inside hs fiber l h x at ls site [] n r around a = absurd a
+leaves_inside hs fiber l h x at ls site (part p ∷ ks) n r around a = (
+  passed h l p a.low n r a.end around a.behind,
+  leaves_inside hs fiber l h x at ls site ks a.end a.low a.outer a.next,
 )
-leaves_inside hs fiber l h x at ls site (activation c p ∷ ks) n r a = record {
+leaves_inside hs fiber l h x at ls site (activation c p ∷ ks) n r around a = record {
   h = h;
   x = x;
   at = at;
   below = ls;
   is = refl;
   site = site;
-  same = a.is;
-  next = leaves_end h fiber ls (λ q js. Waits hs fiber l js q ls) hs l (λ q js w. w) p ks n r a.by;
+  same = a.0.is;
+  next = leaves_end h fiber ls (λ q js. Waits hs fiber l js q ls) hs l (λ q js w. w) p ks n r a.0.by;
 }
-leaves_inside hs fiber l h x at ls site (iteration c it p ∷ ks) n r a = absurd a
-leaves_inside hs fiber l h x at ls site (ensuring o ∷ ks) n r a = absurd a
+leaves_inside hs fiber l h x at ls site (iteration c it p ∷ ks) n r around a = absurd a
+leaves_inside hs fiber l h x at ls site (ensuring o ∷ ks) n r around a = absurd a
 
-pub leaves_frame : (g : Ground) (h : Site) (l : List Registers) (ks : List Item) (n r : ℕ) (x : Rest) (at : ℕ)
-    → IsSite g.sites h → InFrame g h l ks n r
+pub leaves_frame : (g : Ground) (h : Site) (l : List Registers) (ks : List Item) (n r : ℕ) (around : Option Loop)
+    (x : Rest) (at : ℕ) → IsSite g.sites h → InFrame g h l ks n r around
     → Leaving g.sites g.fiber l ks (frame (frame_at h x at) ∷ g.below)
-leaves_frame g h l ks n r x at site a = leaves_inside g.sites g.fiber l h x at g.below site ks n r a
+leaves_frame g h l ks n r around x at site a = leaves_inside g.sites g.fiber l h x at g.below site ks n r around a
 
 pub leaves : (hs : List Site) (fiber : fibers.Name) (l : List Registers) (ks : List Item) (place : Place)
     (ls : List Level) → Waits hs fiber l ks place ls → Leaving hs fiber l ks ls
 leaves hs fiber l ks place [] a = subst (λ (is : List Item). Leaving hs fiber l is []) (sym a) refl
 leaves hs fiber l ks place (frame f ∷ ls) a =
     subst (λ (q : Frame). Leaving hs fiber l ks (frame q ∷ ls)) (sym a.is)
-    (leaves_inside hs fiber l a.h a.x a.at ls a.site ks a.n a.x.waits a.next)
+    (leaves_inside hs fiber l a.h a.x a.at ls a.site ks a.n a.x.waits a.around a.next)
 leaves hs fiber l ks place (machine.iteration a it v ∷ ls) w =
     subst (λ (is : List Item). Leaving hs fiber l is (machine.iteration a it v ∷ ls)) (sym w.is)
     (record { answer = v; below = ls; is = refl; next = w.next })
@@ -135,7 +138,7 @@ module _ {s : Source} {p : Program} where
       (On (frame (record q { place = q.after }) ∷ ls) (record k { lists = put k.lists q.list q.waits (V v) }))) (sym a.is)
       (subst (λ (i : ℕ). Alike s p (Run (give v) ks m)
       (On (frame (record (frame_at a.h a.x a.at) { place = i }) ∷ ls) (written a.h k a.x.waits v))) (sym a.after)
-      (writes (over_levels g ls) a.h static v ks m a.x k a.n a.x.waits here a.there a.room a.next))
+      (writes (over_levels g ls) a.h static v ks m a.x k a.n a.x.waits a.around here a.there a.room a.next))
   received_by g v ks m (machine.iteration c it old) ls k b w =
       subst (λ (is : List Item). Alike s p (Run (give v) is m) (On (machine.iteration c it v ∷ ls) k)) (sym w.is) (record {
         g = over_levels g ls;
@@ -221,7 +224,7 @@ answered s p c ls k m from (raises e) w ks m' g gs k' goes turns less both a =
     let quiet = subst (Quiet m) goes from.quiet in
     let less' : burden ks m' < measure c = light gs ks m' c less in
     no_turn s p c (On ls k) (subst (λ (d : Config). measure d < measure c) (sym goes) (omega (arith, less')))
-    (subst (λ (d : Config). Alike s p d (On ls k)) (sym goes) (record {
+    (subst (λ (d : Config). Alike s p d (On ls k)) (sym goes) (raised (record {
       g = over_levels g gs;
       e = e;
       exception = refl;
@@ -230,7 +233,7 @@ answered s p c ls k m from (raises e) w ks m' g gs k' goes turns less both a =
       out = from.out ∙ sym quiet.1;
       both = both w quiet.2;
       leaving = leaves g.sites g.fiber k'.lists ks m'.place gs a;
-    }))
+    })))
 
 -- Nothing but a body opens a scope.
 

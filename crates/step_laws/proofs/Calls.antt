@@ -1,13 +1,13 @@
 -- Calls of a value and of self, by the parts of their code.
 use Rattle.std.proofs.Common.{◌≡◌, ℕ, ◌+◌, List, [], ◌∷◌, ◌++◌, refl, sym, ap, ◌∙◌, subst, arith, length, length-append, Bool, true, false, true≢false}
-use Rattle.std.specs.Prelude.{if◌then◌else◌, Option, Some, None, nat_lt}
+use Rattle.std.specs.Prelude.{is_some, if◌then◌else◌, Option, Some, None, nat_lt}
 use Rattle.rb_value.specs.declared.value.Value.{Value}
 use Rattle.rb_value.specs.declared.exit.Slot.TheVariants.{V}
 use Rattle.rite_code.specs.declared.operation.Operation.{Operation}
 use Rattle.rite_code.specs.declared.operation.Operation.TheVariants as op
 use Rattle.ir_counts.specs.Tables.{item_count}
 use Rattle.ir_walk.specs.Width.{has_splat}
-use Rattle.ir_core.specs.CoreForm.{Name, CoreForm, call, Maybe, absent, Items, no_items, plain, splat, Receiver, to, on_self}
+use Rattle.ir_core.specs.CoreForm.{Name, CoreForm, call, Maybe, absent, there, Items, no_items, plain, splat, Receiver, to, on_self}
 use Rattle.gen_parts.specs.declared.line.Line.TheVariants as line
 use Rattle.gen_parts.specs.declared.emitter.Spot.{Spot}
 use Rattle.gen_parts.specs.Pieces.{Piece, past, does, nothing, ◌⊕◌}
@@ -28,21 +28,22 @@ use Rattle.step_laws.specs.Site.{Site, within, LineAt, IsThere, Named}
 use Rattle.step_laws.specs.Covered.{CoveredItems, IsNamed}
 use Rattle.step_laws.specs.Calm.{IsSteady, Quiet}
 use Rattle.step_laws.proofs.Placed.{high, high-both, high-puts, high-nothing, line-past, Stands, moved, left, right, the_line, frame_at}
-use Rattle.step_laws.specs.Relation.{Ground, Static, Holds, HoldsCall, CallBy, operates, sends, sends_self, Common, Doing, GivesIn, Step}
+use Rattle.step_laws.specs.Behind.{Static, Holds, HoldsCall, CallBy, operates, sends, sends_self}
+use Rattle.step_laws.specs.Relation.{Ground, Common, Doing, GivesIn, Step}
 use Rattle.step_laws.proofs.Untouched.{same_here}
-use Rattle.step_laws.proofs.Matching.{by_none, going, state_at}
+use Rattle.step_laws.proofs.Matching.{by_none, in_loop, going, state_at}
 use Rattle.step_laws.proofs.Literals.{aligned, self_is}
 use Rattle.step_laws.proofs.Sends.{items_on}
 
-no_splat : (h : Site) (r : ℕ) (is : Items) → CoveredItems h r is → has_splats is ≡ false
-no_splat h r no_items c = refl
-no_splat h r (plain e is) c = no_splat h (r + 1) is c.1
-no_splat h r (splat e is) c = absurd c
+no_splat : (h : Site) (inside : Bool) (r : ℕ) (is : Items) → CoveredItems h inside r is → has_splats is ≡ false
+no_splat h inside r no_items c = refl
+no_splat h inside r (plain e is) c = no_splat h inside (r + 1) is c.1
+no_splat h inside r (splat e is) c = absurd c
 
-none_spread : (h : Site) (r : ℕ) (is : Items) → CoveredItems h r is → has_splat is ≡ false
-none_spread h r no_items c = refl
-none_spread h r (plain e is) c = none_spread h (r + 1) is c.1
-none_spread h r (splat e is) c = absurd c
+none_spread : (h : Site) (inside : Bool) (r : ℕ) (is : Items) → CoveredItems h inside r is → has_splat is ≡ false
+none_spread h inside r no_items c = refl
+none_spread h inside r (plain e is) c = none_spread h inside (r + 1) is c.1
+none_spread h inside r (splat e is) c = absurd c
 
 passing_is : (is : Items) → has_splat is ≡ false → nat_lt 253 (item_count is) ≡ false
     → passing is ≡ passed.InRegisters (item_count is)
@@ -115,7 +116,7 @@ operator_is is x r o true e f = (f, one_item is e)
 operator_is is x r o false e f = absurd (cc f)
 
 module _ (h : Site) (n r : ℕ) (loop : Option Loop) (s : Spot) (x : Name) (is : Items)
-    (covered : CoveredItems h (r + 1) is) (few : nat_lt 253 (item_count is) ≡ false) where
+    (covered : CoveredItems h (is_some loop) (r + 1) is) (few : nat_lt 253 (item_count is) ≡ false) where
   abbrev each : Code
   each = λ d t i. pass_in_registers d t i is
 
@@ -130,7 +131,7 @@ module _ (h : Site) (n r : ℕ) (loop : Option Loop) (s : Spot) (x : Name) (is :
       (send false e g r (entry_of h.context x)) (within h loop) s r
 
   abbrev passes_few : passing is ≡ passed.InRegisters (item_count is)
-  passes_few = passing_is is (none_spread h (r + 1) is covered) few
+  passes_few = passing_is is (none_spread h (is_some loop) (r + 1) is covered) few
 
   value_called : (e : CoreForm) (o : Option Operation) → operation_of absent (to e) x is r ≡ o → IsNamed h x o
       → Stands h n (whole (to e) o (passing is))
@@ -182,7 +183,7 @@ there_of h r x count own o (operates e one not_own is_there) = is_there
 there_of h r x count own o (sends e n not_own named) = named.there
 there_of h r x count own o (sends_self e n is_own named) = named.there
 
-holds_more : (l : List Registers) (n low r : ℕ) (vs : List Value) (v : Value) → Holds l n low vs → low + length vs ≡ r
+pub holds_more : (l : List Registers) (n low r : ℕ) (vs : List Value) (v : Value) → Holds l n low vs → low + length vs ≡ r
     → slot_at l n r ≡ V v → Holds l n low (vs ++ v ∷ [])
 holds_more l n low r [] v s e q = let e' : low ≡ r = omega (arith, e) in (ap (slot_at l n) e' ∙ q, tt)
 holds_more l n low r (u ∷ vs) v s e q = (s.0, holds_more l n (low + 1) r vs v s.1 (omega (arith, e)) q)
@@ -227,7 +228,6 @@ module _ (g : Ground) (h : Site) (static : Static h) (ks : List Item) (m : sourc
             below = omega arith;
             behind = record {
               at = refl;
-              loop = d.loop;
               s = past d.s p;
               here = line-past d.s p ∙ ap (λ (i : ℕ). i + high p) d.here;
               plain = refl;
@@ -239,6 +239,8 @@ module _ (g : Ground) (h : Site) (static : Static h) (ks : List Item) (m : sourc
               calls = c.calls;
               ends = c.ends;
             };
+            outer = d.loop;
+            inner = refl;
             next = d.next;
           };
         },
@@ -286,7 +288,7 @@ module _ (g : Ground) (h : Site) (static : Static h) (ks : List Item) (m : sourc
         alike = going (perform j (call on_self x is absent)) ks m (frame (frame_at h d.x d.n) ∷ g.below) (aligned k m) refl;
         out = refl;
         quiet = quiet;
-      }) (plain_call j x (self_of m) is absent refl (no_splat h (d.r + 1) is d.covered.1))
+      }) (plain_call j x (self_of m) is absent refl (no_splat h (is_some d.loop) (d.r + 1) is d.covered.1))
       (ap by_name (steady.names x d.covered.3.there)) (omega arith)
 
   pub give_receiver : (v : Value) (j : ℕ) (x : Name) (is : Items) (b : Maybe)
@@ -301,7 +303,7 @@ module _ (g : Ground) (h : Site) (static : Static h) (ks : List Item) (m : sourc
       (by_name (symbol m x)) v [] is (record {
         low = low;
         own = false;
-        loop = y.loop;
+        loop = d.loop;
         s = y.s;
         here = y.here;
         r = low + 1;
@@ -316,12 +318,12 @@ module _ (g : Ground) (h : Site) (static : Static h) (ks : List Item) (m : sourc
         calls = y.calls;
         end = d.next.end;
         ends = y.ends;
-        next = d.next.next;
+        next = in_loop g h k.lists ks d.next.end low d.loop d.next.outer d.next.inner d.next.next;
       }) (record {
         alike = going (give v) (part (receiver j x is b) ∷ ks) m (frame (frame_at h d.x d.n) ∷ g.below) (aligned k m) refl;
         out = refl;
         quiet = quiet;
-      }) (plain_call j x v is b y.plain (no_splat h (low + 1) is y.covered))
+      }) (plain_call j x v is b y.plain (no_splat h (is_some d.loop) (low + 1) is y.covered))
       (ap by_name (steady.names x (there_of h low x (item_count is) false y.o y.by))) (omega arith)
 
   pub give_item : (v : Value) (j : ℕ) (sender : Sending) (recv : Value) (vs : List Value) (is : Items) (b : Maybe)
@@ -338,7 +340,7 @@ module _ (g : Ground) (h : Site) (static : Static h) (ks : List Item) (m : sourc
       sender recv (vs ++ v ∷ []) is (record {
         low = low;
         own = y.own;
-        loop = y.loop;
+        loop = d.loop;
         s = y.s;
         here = y.here;
         r = d.r + 1;
@@ -353,7 +355,7 @@ module _ (g : Ground) (h : Site) (static : Static h) (ks : List Item) (m : sourc
         calls = y.calls;
         end = d.next.end;
         ends = y.ends;
-        next = d.next.next;
+        next = in_loop g h k.lists ks d.next.end low d.loop d.next.outer d.next.inner d.next.next;
       }) (record {
         alike = going (give v) (part (items j sender recv vs is b) ∷ ks) m (frame (frame_at h d.x d.n) ∷ g.below) (aligned k m)
             refl;

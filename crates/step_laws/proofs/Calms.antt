@@ -7,6 +7,7 @@ use Rattle.rb_value.specs.declared.value.ObjId.{ObjId}
 use Rattle.rb_value.specs.declared.value.Value.{Value}
 use Rattle.rb_value.specs.declared.value.Value.TheVariants.{Nil, True, False, Int, Sym, Obj}
 use Rattle.rb_value.specs.Value.{is_true}
+use Rattle.def_core.specs.declared.cause.Cause.TheVariants as cause
 use Rattle.def_core.specs.Store.{Store, with_object}
 use Rattle.def_core.specs.Changes.{Interned}
 use Rattle.rb_store.specs.Opening.{main_object}
@@ -14,28 +15,28 @@ use Rattle.def_rows.specs.Answers.{items_object}
 use Rattle.ir_core.specs.CoreForm as form
 use Rattle.ir_core.specs.CoreForm.{Name, Local, CoreForm, Maybe, Forms, Items, Branches}
 use Rattle.def_calls.specs.Seen.{Ended, Uncaught}
-use Rattle.def_calls.specs.World.{World, Activation, activation_at, with_store, write}
-use Rattle.def_calls.specs.Calls.{Sending, by_name, close, unrescued, Unrescued, send_by_core}
+use Rattle.def_calls.specs.World.{World, Activation, main_program, activation_at, fail, with_store, write}
+use Rattle.def_calls.specs.Calls.{Sending, by_name, break_target, close, unrescued, Unrescued, send_by_core}
 use Rattle.def_calls.specs.Calls as calls
 use Rattle.def_calls.specs.Fibers.{Onward, back_to, finish}
 use Rattle.def_calls.specs.Plans.{Iteration, begun, handing, putting, putting_text, printing, printing_text, inspecting, inspecting_text, raising, looping, visiting, counting, initializing, Plan, Planned, finishes, writes, sends, both as both_flat, all_flat, flattened, puts_value, puts_next, puts_flat, sends_named, start, next as next_plan, line, caught}
 use Rattle.def_calls.specs.Plans as plans
 use Rattle.def_calls.specs.Rows
 use Rattle.def_eval.specs.Source.{Source, span, body_at, form_of, locals_of}
-use Rattle.def_eval.specs.Configuration.{arguments_of, Place, Exit, raise, Action, assign, Part, operands, receiver, items, block, elements, hash_key, hash_value, pieces, rest, test, chosen, and_then, or_else, loop_test, loop_body, rescued, clause_class, clause_target, clause_body, ensured, stop_of, Item, part, activation, iteration, ensuring, Kept as KeptFiber, Focus, perform, give, travel, Memory, with_world, Config, Run, Halt, all_nil, opening}
-use Rattle.def_eval.specs.Scopes.{scope_at, scope_of, variable, with_variable}
+use Rattle.def_eval.specs.Configuration.{arguments_of, Place, Exit, raise, break, leave_loop, next, Action, assign, leave_call, leave_round, Part, operands, receiver, items, block, elements, hash_key, hash_value, pieces, rest, test, chosen, and_then, or_else, loop_test, loop_body, rescued, clause_class, clause_target, clause_body, ensured, stop_of, Item, part, activation, iteration, ensuring, Kept as KeptFiber, Focus, perform, give, travel, Memory, with_world, Config, Run, Halt, all_nil, opening}
+use Rattle.def_eval.specs.Scopes.{scope_at, scope_of, variable, with_variable, running}
 use Rattle.def_eval.specs.Entering.{symbol, do_all}
-use Rattle.def_eval.specs.Forms.{has_splat, gather, self_of, perform_call, own_block, with_arguments, next_item, do_call, next_branch, do_loop, next_operand, finish as finish_action, do_form}
+use Rattle.def_eval.specs.Forms.{has_splat, in_loop, leave_to, leave_from, gather, self_of, perform_call, own_block, with_arguments, next_item, do_call, next_branch, do_loop, next_operand, finish as finish_action, do_form}
 use Rattle.def_eval.specs.Giving.{returned, carry_out, choose, go_right, go_left, turn_loop, end_fiber, give_part, do_give}
 use Rattle.def_eval.specs.Exits.{travel_part, travel_caught, end_by, leave_fiber, do_travel}
 use Rattle.def_eval.specs.Transition.{go, go_times}
 use Rattle.step_laws.specs.Site.{number, opening_store}
-use Rattle.step_laws.specs.Calm.{Leaves, IsCalm, StaysCalm}
+use Rattle.step_laws.specs.Calm.{IsAbout, IsAboutNext, Leaves, IsCalm, StaysCalm}
 use Rattle.step_laws.specs.Simple.{IsSimple, AreSimple, AreSimpleItems, AreSimpleBranches}
 use Rattle.step_laws.proofs.Symbols.{IsCoreName, the_symbol, number_is, interned_core, steady_name, opening_objects}
 use Rattle.step_laws.proofs.Found.{operator_known, texts_all, writing, is_writer}
-use Rattle.step_laws.proofs.Outcomes.{IsImmediate, AreImmediate, IsOfPuts, Kept, kept_more, operator_entry, puts_called, text_sent}
-use Rattle.step_laws.proofs.Tame.{VariablesAre, ScopesAre, Sent, PartIs, IsCoreAt, ItemsAre, GivenTo, MemoryIs, IsTame, Fine, quiet_given, given_to, scope_is, variable_is, put_is, set_is, same_grows, core_grows, items_grow, core_closed, main_is, main_closed, entry_fine, operator, puts}
+use Rattle.step_laws.proofs.Outcomes.{IsImmediate, AreImmediate, IsOfPuts, Kept, kept_more, operator_entry, puts_called, text_sent, failed}
+use Rattle.step_laws.proofs.Tame.{VariablesAre, ScopesAre, Sent, PartIs, IsCoreAt, ItemsAre, GivenTo, MemoryIs, IsTame, Fine, quiet_given, given_to, scope_is, variable_is, put_is, set_is, same_grows, core_grows, items_grow, core_closed, main_is, main_closed, entry_fine, operator, puts, Awaits, to_local, to_end, to_round, IsExit, raised, left, anew, answer_fine}
 
 -- Forms.
 
@@ -164,7 +165,7 @@ module _ (s : Source) (ks : List Item) (m : Memory) (kept : Kept s m.world) (all
   perform_fine j (form.own x) is here under = absurd is
   perform_fine j form.exception is here under = absurd is
   perform_fine j (form.set_local x e) is here under = form_fine j e (operands (j + span e) (assign x) [] form.none) is.0
-      (record { name = x; action = refl; first = refl; last = refl }) here under
+      (to_local x refl, refl, refl) here under
   perform_fine j (form.ivar x) is here under = absurd is
   perform_fine j (form.set_ivar x e) is here under = absurd is
   perform_fine j (form.gvar x) is here under = absurd is
@@ -200,8 +201,10 @@ module _ (s : Source) (ks : List Item) (m : Memory) (kept : Kept s m.world) (all
   perform_fine j (form.lambda f) is here under = absurd is
   perform_fine j (form.begin_form b cs o e) is here under = absurd is
   perform_fine j (form.return_form e) is here under = absurd is
-  perform_fine j (form.break_form e) is here under = absurd is
-  perform_fine j (form.next_form e) is here under = absurd is
+  perform_fine j (form.break_form e) is here under =
+      form_fine j e (operands (j + span e) leave_call [] form.none) is (to_end refl, refl, refl) here under
+  perform_fine j (form.next_form e) is here under =
+      form_fine j e (operands (j + span e) leave_round [] form.none) is (to_round refl, refl, refl) here under
   perform_fine j form.retry is here under = absurd is
   perform_fine j (form.define x f) is here under = absurd is
   perform_fine j (form.define_on e x f) is here under = absurd is
@@ -266,14 +269,47 @@ module _ (s : Source) (ks : List Item) (m : Memory) (kept : Kept s m.world) (all
     ),
   )
 
+  -- out of a loop, which is one of the main program
+  leave_fine : (b : Bool) (v : Value) → IsImmediate v → m.place.activation ≡ 1 → ItemsAre s m.world ks m.place
+      → Fine s m (leave_from b v ks m)
+  leave_fine true v i here under = (
+    record { kept = kept; scopes = all; alone = alone; focus = left v refl i; items = under },
+    (refl, refl, same_grows m.world m.world refl),
+  )
+  leave_fine false v i here under =
+      let failure = fail m.world cause.BreakFromProc in
+      subst (λ (o : Option ℕ). Fine s m (leave_to break failure v ks m o)) (sym no_target)
+      (answer_fine s IsImmediate m m m.world ks failure (failed s IsImmediate m.world cause.BreakFromProc kept) refl refl
+      refl all alone under (λ u j. given_to u ks j))
+    where
+      runs_main : (running m).runs ≡ main_program
+      runs_main =
+          ap (λ (a : ℕ). (activation_at m.world a).runs) here
+          ∙ ap (λ (a : Activation). a.runs) (main_is s m.world kept)
+
+      no_target : break_target m.world m.place.activation (running m).runs ≡ None
+      no_target = ap (break_target m.world m.place.activation) runs_main
+
+  action_fine : (v : Value) (a : Action) → IsImmediate v → Awaits a → m.place.activation ≡ 1
+      → ItemsAre s m.world ks m.place → Fine s m (finish_action s a v Nil ks m)
+  unfolding finish_action
+  action_fine v a i (to_local x e) here under =
+      subst (λ (b : Action). Fine s m (finish_action s b v Nil ks m)) (sym e) (assign_fine v x i under)
+  action_fine v a i (to_end e) here under =
+      subst (λ (b : Action). Fine s m (finish_action s b v Nil ks m)) (sym e) (leave_fine (in_loop ks) v i here under)
+  action_fine v a i (to_round e) here under =
+      subst (λ (b : Action). Fine s m (finish_action s b v Nil ks m)) (sym e) (
+        record { kept = kept; scopes = all; alone = alone; focus = anew v refl i; items = under },
+        (refl, refl, same_grows m.world m.world refl),
+      )
+
   part_fine : (v : Value) (p : Part) → IsImmediate v → PartIs s p → m.place.activation ≡ 1
       → ItemsAre s m.world ks m.place → Fine s m (give_part s v p ks m)
   unfolding give_part finish_action
   part_fine v (operands j a vs es) i at here under =
-      subst (λ (x : Action). Fine s m (next_operand s j x (vs ++ v ∷ []) es ks m)) (sym at.action)
-      (subst (λ (us : List Value). Fine s m (next_operand s j (assign at.name) (us ++ v ∷ []) es ks m)) (sym at.first)
-      (subst (λ (fs : Forms). Fine s m (next_operand s j (assign at.name) (v ∷ []) fs ks m)) (sym at.last)
-      (assign_fine v at.name i under)))
+      subst (λ (us : List Value). Fine s m (next_operand s j a (us ++ v ∷ []) es ks m)) (sym at.1)
+      (subst (λ (fs : Forms). Fine s m (next_operand s j a (v ∷ []) fs ks m)) (sym at.2)
+      (action_fine v a i at.0 here under))
   part_fine v (receiver j x is b) i at here under =
       called_fine j (by_name (symbol m x)) v is b
       (operator x (ap by_name (symbol_is x (operator_known x at.0))) at.0 i) at.1 at.2 here under
@@ -452,7 +488,7 @@ module _ (s : Source) (ks : List Item) (m : Memory) (kept : Kept s m.world) (all
       (sym (core_closed m.world a core.runs))
       (subst (λ (o : Option Value). Fine s m (travel_caught e o ks (record m { place = place })))
       (sym (not_caught it e m.world.store is)) (
-        record { kept = kept; scopes = all; alone = alone; focus = record { e = e; is = refl }; items = under },
+        record { kept = kept; scopes = all; alone = alone; focus = raised e refl; items = under },
         (refl, refl, same_grows m.world m.world refl),
       ))
 
@@ -501,18 +537,126 @@ travel_fine s e [] m kept all alone under =
     (ended_fine s m (unrescued m.world.store e) m.world.out)
 travel_fine s e (part p ∷ ks) m kept all alone under =
     subst (Fine s m) (sym (passed_part s p e ks m under.0)) (
-      record { kept = kept; scopes = all; alone = alone; focus = record { e = e; is = refl }; items = under.2 },
+      record { kept = kept; scopes = all; alone = alone; focus = raised e refl; items = under.2 },
       (refl, refl, same_grows m.world m.world refl),
     )
 travel_fine s e (activation a p ∷ ks) m kept all alone under =
     subst (λ (w : World). Fine s m (Run (travel (raise e)) ks (record m { place = p; world = w })))
     (sym (ap (close m.world) under.0 ∙ main_closed s m.world kept)) (
-      record { kept = kept; scopes = all; alone = alone; focus = record { e = e; is = refl }; items = under.1 },
+      record { kept = kept; scopes = all; alone = alone; focus = raised e refl; items = under.1 },
       (refl, refl, same_grows m.world m.world refl),
     )
 travel_fine s e (iteration a it p ∷ ks) m kept all alone under =
     left_by s ks m kept all alone a under.1 p under.2 it e under.0
 travel_fine s e (ensuring o ∷ ks) m kept all alone under = absurd under
+
+-- an exit of a loop passes a part, or comes to its loop
+module _ (s : Source) (ks : List Item) (m : Memory) (kept : Kept s m.world) (all : ScopesAre m.scopes)
+    (alone : m.fibers.resumer ≡ None) (v : Value) (i : IsImmediate v) where
+  -- a break
+  left_on : ItemsAre s m.world ks m.place → Fine s m (Run (travel (leave_loop v)) ks m)
+  left_on under = (
+    record { kept = kept; scopes = all; alone = alone; focus = left v refl i; items = under },
+    (refl, refl, same_grows m.world m.world refl),
+  )
+
+  left_part : (p : Part) → PartIs s p → m.place.activation ≡ 1 → ItemsAre s m.world ks m.place
+      → Fine s m (travel_part (leave_loop v) (stop_of p) ks m)
+  left_part (operands j a vs es) at here under = left_on under
+  left_part (receiver j x is b) at here under = left_on under
+  left_part (items j k recv vs is b) at here under = left_on under
+  left_part (block k recv vs) at here under = absurd at
+  left_part (elements j g o q is) at here under = absurd at
+  left_part (hash_key j o u ps) at here under = absurd at
+  left_part (hash_value j o u ps) at here under = absurd at
+  left_part (pieces j o es) at here under = absurd at
+  left_part (rest j es) at here under = left_on under
+  left_part (test j b bs o) at here under = left_on under
+  left_part chosen at here under = left_on under
+  left_part (and_then j f) at here under = left_on under
+  left_part (or_else j f) at here under = left_on under
+  left_part (loop_test j t b) at here under = value_fine s ks m kept all alone v i under
+  left_part (loop_body j t b) at here under = value_fine s ks m kept all alone v i under
+  left_part (rescued j b cs o) at here under = absurd at
+  left_part (clause_class j f es t b cs r) at here under = absurd at
+  left_part (clause_target j f b r) at here under = absurd at
+  left_part (clause_body r) at here under = absurd at
+  left_part (ensured j f) at here under = absurd at
+
+  -- a next
+  begun_on : ItemsAre s m.world ks m.place → Fine s m (Run (travel (next v)) ks m)
+  begun_on under = (
+    record { kept = kept; scopes = all; alone = alone; focus = anew v refl i; items = under },
+    (refl, refl, same_grows m.world m.world refl),
+  )
+
+  begun_part : (p : Part) → PartIs s p → m.place.activation ≡ 1 → ItemsAre s m.world ks m.place
+      → Fine s m (travel_part (next v) (stop_of p) ks m)
+  begun_part (operands j a vs es) at here under = begun_on under
+  begun_part (receiver j x is b) at here under = begun_on under
+  begun_part (items j k recv vs is b) at here under = begun_on under
+  begun_part (block k recv vs) at here under = absurd at
+  begun_part (elements j g o q is) at here under = absurd at
+  begun_part (hash_key j o u ps) at here under = absurd at
+  begun_part (hash_value j o u ps) at here under = absurd at
+  begun_part (pieces j o es) at here under = absurd at
+  begun_part (rest j es) at here under = begun_on under
+  begun_part (test j b bs o) at here under = begun_on under
+  begun_part chosen at here under = begun_on under
+  begun_part (and_then j f) at here under = begun_on under
+  begun_part (or_else j f) at here under = begun_on under
+  begun_part (loop_test j t b) at here under = form_fine s ks m kept all alone j t (loop_test j t b) at.0 at here under
+  begun_part (loop_body j t b) at here under = form_fine s ks m kept all alone j t (loop_test j t b) at.0 at here under
+  begun_part (rescued j b cs o) at here under = absurd at
+  begun_part (clause_class j f es t b cs r) at here under = absurd at
+  begun_part (clause_target j f b r) at here under = absurd at
+  begun_part (clause_body r) at here under = absurd at
+  begun_part (ensured j f) at here under = absurd at
+
+-- an exit of a loop goes through the items
+loop_left_fine : (s : Source) (v : Value) (ks : List Item) (m : Memory) → IsImmediate v → Kept s m.world
+    → ScopesAre m.scopes → m.fibers.resumer ≡ None → ItemsAre s m.world ks m.place
+    → Fine s m (do_travel (leave_loop v) ks m)
+unfolding do_travel
+loop_left_fine s v [] m i kept all alone under =
+    subst (λ (o : Option (Onward KeptFiber)). Fine s m (end_fiber (give v) o m)) (sym (no_more m alone)) (tt, tt)
+loop_left_fine s v (part p ∷ ks) m i kept all alone under =
+    left_part s ks m kept all alone v i p under.0 under.1 under.2
+loop_left_fine s v (activation a p ∷ ks) m i kept all alone under =
+    subst (λ (w : World). Fine s m (Run (travel (leave_loop v)) ks (record m { place = p; world = w })))
+    (sym (ap (close m.world) under.0 ∙ main_closed s m.world kept)) (
+      record { kept = kept; scopes = all; alone = alone; focus = left v refl i; items = under.1 },
+      (refl, refl, same_grows m.world m.world refl),
+    )
+loop_left_fine s v (iteration a it p ∷ ks) m i kept all alone under =
+    subst (λ (w : World). Fine s m (Run (travel (leave_loop v)) ks (record m { place = p; world = w })))
+    (sym (core_closed m.world a under.1.runs)) (
+      record { kept = kept; scopes = all; alone = alone; focus = left v refl i; items = under.2 },
+      (refl, refl, same_grows m.world m.world refl),
+    )
+loop_left_fine s v (ensuring o ∷ ks) m i kept all alone under = absurd under
+
+round_left_fine : (s : Source) (v : Value) (ks : List Item) (m : Memory) → IsImmediate v → Kept s m.world
+    → ScopesAre m.scopes → m.fibers.resumer ≡ None → ItemsAre s m.world ks m.place
+    → Fine s m (do_travel (next v) ks m)
+unfolding do_travel
+round_left_fine s v [] m i kept all alone under =
+    subst (λ (o : Option (Onward KeptFiber)). Fine s m (end_fiber (give v) o m)) (sym (no_more m alone)) (tt, tt)
+round_left_fine s v (part p ∷ ks) m i kept all alone under =
+    begun_part s ks m kept all alone v i p under.0 under.1 under.2
+round_left_fine s v (activation a p ∷ ks) m i kept all alone under =
+    subst (λ (w : World). Fine s m (Run (give v) ks (record m { place = p; world = w })))
+    (sym (ap (close m.world) under.0 ∙ main_closed s m.world kept)) (
+      record { kept = kept; scopes = all; alone = alone; focus = given_to v ks i; items = under.1 },
+      (refl, quiet_given v ks m (record m { place = p }) refl, same_grows m.world m.world refl),
+    )
+round_left_fine s v (iteration a it p ∷ ks) m i kept all alone under =
+    subst (λ (w : World). Fine s m (Run (give v) ks (record m { place = p; world = w })))
+    (sym (core_closed m.world a under.1.runs)) (
+      record { kept = kept; scopes = all; alone = alone; focus = given_to v ks i; items = under.2 },
+      (refl, quiet_given v ks m (record m { place = p }) refl, same_grows m.world m.world refl),
+    )
+round_left_fine s v (ensuring o ∷ ks) m i kept all alone under = absurd under
 
 give_fine : (s : Source) (v : Value) (ks : List Item) (m : Memory) → Kept s m.world → ScopesAre m.scopes
     → m.fibers.resumer ≡ None → GivenTo v ks → ItemsAre s m.world ks m.place → Fine s m (do_give s v ks m)
@@ -534,9 +678,49 @@ give_fine s v (ensuring o ∷ ks) m kept all alone to under = absurd under
 go_fine : (s : Source) (f : Focus) (ks : List Item) (m : Memory) → MemoryIs s f ks m → Fine s m (go s (Run f ks m))
 go_fine s (perform j e) ks m t = perform_fine s ks m t.kept t.scopes t.alone j e t.focus.0 t.focus.1 t.items
 go_fine s (give v) ks m t = give_fine s v ks m t.kept t.scopes t.alone t.focus t.items
-go_fine s (travel x) ks m t =
-    subst (λ (y : Exit). Fine s m (go s (Run (travel y) ks m))) (sym t.focus.is)
-    (travel_fine s t.focus.e ks m t.kept t.scopes t.alone t.items)
+go_fine s (travel x) ks m t = by t.focus
+  where
+    by : IsExit x → Fine s m (go s (Run (travel x) ks m))
+    by (raised e is) =
+        subst (λ (y : Exit). Fine s m (go s (Run (travel y) ks m))) (sym is)
+        (travel_fine s e ks m t.kept t.scopes t.alone t.items)
+    by (left v is i) =
+        subst (λ (y : Exit). Fine s m (go s (Run (travel y) ks m))) (sym is)
+        (loop_left_fine s v ks m i t.kept t.scopes t.alone t.items)
+    by (anew v is i) =
+        subst (λ (y : Exit). Fine s m (go s (Run (travel y) ks m))) (sym is)
+        (round_left_fine s v ks m i t.kept t.scopes t.alone t.items)
+
+about : (s : Source) (p : Part) (objects : List Object) → PartIs s p → IsAbout p objects
+about s (operands j a vs es) objects at = tt
+about s (receiver j x is b) objects at = tt
+about s (items j k recv vs is b) objects at = tt
+about s (block k recv vs) objects at = absurd at
+about s (elements j g o q is) objects at = absurd at
+about s (hash_key j o v ps) objects at = absurd at
+about s (hash_value j o v ps) objects at = absurd at
+about s (pieces j o es) objects at = absurd at
+about s (rest j es) objects at = tt
+about s (test j b bs o) objects at = tt
+about s chosen objects at = tt
+about s (and_then j f) objects at = tt
+about s (or_else j f) objects at = tt
+about s (loop_test j t b) objects at = tt
+about s (loop_body j t b) objects at = tt
+about s (rescued j b cs o) objects at = absurd at
+about s (clause_class j f es t b cs r) objects at = absurd at
+about s (clause_target j f b r) objects at = absurd at
+about s (clause_body r) objects at = absurd at
+about s (ensured j f) objects at = absurd at
+
+about_next : (s : Source) (f : Focus) (ks : List Item) (m : Memory) → MemoryIs s f ks m → IsAboutNext f ks m
+about_next s (perform j e) ks m t = tt
+about_next s (give v) [] m t = tt
+about_next s (give v) (part p ∷ ks) m t = about s p m.world.store.objects t.items.0
+about_next s (give v) (activation a p ∷ ks) m t = tt
+about_next s (give v) (iteration a it p ∷ ks) m t = tt
+about_next s (give v) (ensuring o ∷ ks) m t = tt
+about_next s (travel x) ks m t = tt
 
 leaves_core : (s : Source) (f : Focus) (ks : List Item) (m : Memory) → MemoryIs s f ks m → Leaves f ks m
 leaves_core s (perform j e) ks m t = tt
@@ -551,6 +735,7 @@ calm_of : (s : Source) (c : Config) → IsTame s c → IsCalm s c
 calm_of s (Halt e) t = tt
 calm_of s (Run f ks m) t = (
   record { names = λ x e. steady_name s m.world.store x t.kept.symbols e },
+  about_next s f ks m t,
   leaves_core s f ks m t,
   (go_fine s f ks m t).1,
 )

@@ -1,6 +1,6 @@
--- The code of a program of simple forms within the limits is code of it.
+-- The code of a program of plain forms within the limits is code of it.
 use Rattle.std.proofs.Common.{◌≡◌, ◌≤◌, ℕ, ◌+◌, List, [], ◌∷◌, ◌++◌, length, map, arith, refl, sym, ap, ◌∙◌, subst, Bool, true}
-use Rattle.std.specs.Prelude.{is_some, Option, Some, None}
+use Rattle.std.specs.Prelude.{Some, None}
 use Rattle.std.proofs.lemmas.List.{append-nil, length-map}
 use Rattle.rite_code.specs.Code.{program}
 use Rattle.rite_code.specs.declared.code.Irep.{Irep}
@@ -25,19 +25,26 @@ use Rattle.gen_forms.specs.Making.{coded_program}
 use Rattle.code_laws.proofs.Shares.{Fits, many}
 use Rattle.code_laws.proofs.Noting.{noted_of, whole}
 use Rattle.code_laws.proofs.Limits.{Counted, within_limits, steps_of}
+use Rattle.text_set.specs.Sets.{is_among}
+use Rattle.def_core.specs.Store.{Store}
 use Rattle.rb_store.specs.Opening.{with_names}
 use Rattle.def_calls.specs.Rows
-use Rattle.def_eval.specs.Source.{Source, body_at as source_body, source_of, all_names}
+use Rattle.def_eval.specs.Source.{over, named_in, body_at as source_body, source_of, all_names}
+use Rattle.def_eval.specs.Configuration.{opening}
 use Rattle.def_machine.specs.State.{all_symbols}
-use Rattle.step_laws.specs.Site.{Site, LineAt, Lines, IsThere}
+use Rattle.step_laws.specs.Site.{Site, LineAt, Lines, IsThere, opening_store}
 use Rattle.step_laws.specs.Simple.{IsSimple}
+use Rattle.step_laws.specs.Plain.{IsPlain}
+use Rattle.step_laws.specs.Calm.{StaysCalm}
 use Rattle.step_laws.specs.Implements.{main_site, IsCodeOf, Implements}
 use Rattle.step_laws.proofs.Placed.{high, Stands, left, right, the_line}
 use Rattle.step_laws.proofs.Apart.{apart}
 use Rattle.step_laws.proofs.Simply.{simply}
+use Rattle.step_laws.proofs.Plainly.{simple_plain}
+use Rattle.step_laws.proofs.Whole.{implements}
 use Rattle.step_laws.proofs.Found.{both_true}
-use Rattle.step_laws.proofs.Symbols.{IsCoreName, core_has, opening_has}
-use Rattle.step_laws.proofs.Naming.{nothing_new, source_core, symbols_core, none_many}
+use Rattle.step_laws.proofs.Names.{Knows, among_known, same_symbols}
+use Rattle.step_laws.proofs.Bodiless.{no_bodies, none_many}
 use Rattle.step_laws.proofs.Catchless.{IsBare, bare}
 use Rattle.step_laws.proofs.Laid.{first_place}
 use Rattle.step_laws.proofs.Fitting as fitting
@@ -51,15 +58,8 @@ fits_main p ls f c = (
       (whole (walked extent.Program [] f)),
 )
 
--- a name of the core methods is in the opening store of each source
-there : (s : Source) (x : Name) → IsCoreName x → IsThere s x
-unfolding IsThere
-there s x c =
-    let h = core_has x c in
-    ap (λ (o : Option ℕ). is_some o) (opening_has s x h.0 h.1).at
-
 module _ (p : Parameters) (ls : List Local) (f : CoreForm) (program_is : IsProgram (form.body p ls f))
-    (limits : first_excess (need (form.body p ls f)) ≡ None) (simple : IsSimple f) where
+    (limits : first_excess (need (form.body p ls f)) ≡ None) (plain : IsPlain f) where
   abbrev b : Body
   b = form.body p ls f
 
@@ -76,7 +76,7 @@ module _ (p : Parameters) (ls : List Local) (f : CoreForm) (program_is : IsProgr
   formed = (both_true (has_no_parameters p) (is_form (within_program ls) f) program_is).1
 
   few : many f ≤ 65535
-  few = let n = none_many f simple in omega (arith, n)
+  few = let n = none_many f plain in omega (arith, n)
 
   abbrev start : ℕ
   start = fitting.start p ls f fits (within_program ls) refl formed few
@@ -104,7 +104,7 @@ module _ (p : Parameters) (ls : List Local) (f : CoreForm) (program_is : IsProgr
   both_stand = placed
 
   no_inner : q.bodies ≡ []
-  no_inner = empty q.bodies (fitting.bodies p ls f fits (within_program ls) refl formed few ∙ none_many f simple)
+  no_inner = empty q.bodies (fitting.bodies p ls f fits (within_program ls) refl formed few ∙ none_many f plain)
     where
       empty : (bs : List Irep) → length bs ≡ 0 → bs ≡ []
       empty [] e = refl
@@ -112,7 +112,7 @@ module _ (p : Parameters) (ls : List Local) (f : CoreForm) (program_is : IsProgr
 
   no_entry : q.catches ≡ []
   unfolding IsBare
-  no_entry = bare f simple around (first_spot 0) start
+  no_entry = bare f plain around (first_spot 0) start
 
   -- the symbols of its bodies are those of the first
   symbols_are : all_symbols (coded_program b) ≡ t.symbols
@@ -120,17 +120,29 @@ module _ (p : Parameters) (ls : List Local) (f : CoreForm) (program_is : IsProgr
   symbols_are =
       ap (λ (bs : List Irep). t.symbols ++ all_symbols (bs ++ [])) no_inner ∙ append-nil t.symbols
 
+  -- both sides have the same symbols
+  names_are : with_names Rows.opening (all_names (source_of b)) ≡ with_names Rows.opening t.symbols
+  names_are =
+      ap (λ (bs : List Body). with_names Rows.opening (all_names (b ∷ bs))) (no_bodies f plain)
+      ∙ ap (with_names Rows.opening) (append-nil (over named_in f))
+      ∙ sym (same_symbols p ls f Rows.opening)
+
+  there : (x : Name) → is_among x t.symbols ≡ true → IsThere (source_of b) x
+  unfolding IsThere opening_store
+  there x e = subst (λ (st : Store). Knows st x) (sym names_are) (among_known x t.symbols Rows.opening e)
+
   has : Has site ls t (start + width f)
   unfolding coded assembled both puts
   has = record {
     scopes = refl;
     symbols = refl;
     integers = refl;
+    texts = refl;
     own_symbols = refl;
     own_pool = refl;
     registers = refl;
     first = omega (arith, length-map ls (λ (x : Local). Some x));
-    there = there (source_of b);
+    there = there;
   }
 
   code_of_it : IsCodeOf (source_of b) (program 2 (coded_program b))
@@ -145,22 +157,34 @@ module _ (p : Parameters) (ls : List Local) (f : CoreForm) (program_is : IsProgr
     some = omega arith;
     room = omega arith;
     no_catches = ap (λ (cs : List Catch). map (entry_by at) (cs ++ [])) no_entry;
-    covered = covered site ls t (start + width f) has f start (within_program ls) refl simple fits.1 formed (omega arith)
+    outside = refl;
+    covered = covered site ls t (start + width f) has f start (within_program ls) refl plain fits.1 formed (omega arith)
         (omega arith);
     code = left site 0 q (does op.Stop) both_stand;
     stop = subst (λ (n : ℕ). LineAt site n (line.Does op.Stop)) (omega arith)
         (the_line site (0 + high q) (line.Does op.Stop) (right site 0 q (does op.Stop) both_stand));
-    names = nothing_new (all_names (source_of b)) (source_core b simple)
-        ∙ sym (ap (with_names Rows.opening) symbols_are ∙ nothing_new t.symbols (symbols_core b simple));
+    names = names_are ∙ sym (ap (with_names Rows.opening) symbols_are);
   }
 
-pub program_is_code : (b : Body) → IsProgram b → first_excess (need b) ≡ None → IsSimple (form_of b)
+pub program_is_code : (b : Body) → IsProgram b → first_excess (need b) ≡ None → IsPlain (form_of b)
     → IsCodeOf (source_of b) (program 2 (coded_program b))
-program_is_code (form.body p ls f) h limits simple = code_of_it p ls f h limits simple
+program_is_code (form.body p ls f) h limits plain = code_of_it p ls f h limits plain
 
 pub program_implements : (b : Body) (input : List ℕ) → IsProgram b → first_excess (need b) ≡ None
+    → IsPlain (form_of b) → StaysCalm (source_of b) (opening (source_of b) input)
+    → Implements (source_of b) (program 2 (coded_program b)) input
+program_implements b input h limits plain calm =
+    implements (source_of b) (program 2 (coded_program b)) input (program_is_code b h limits plain) calm
+
+-- Simple forms are plain ones, and their evaluation stays calm.
+
+pub simple_is_code : (b : Body) → IsProgram b → first_excess (need b) ≡ None → IsSimple (form_of b)
+    → IsCodeOf (source_of b) (program 2 (coded_program b))
+simple_is_code b h limits simple = program_is_code b h limits (simple_plain (form_of b) simple)
+
+pub simple_implements : (b : Body) (input : List ℕ) → IsProgram b → first_excess (need b) ≡ None
     → IsSimple (form_of b) → Implements (source_of b) (program 2 (coded_program b)) input
 unfolding source_body
-program_implements (form.body p ls f) input h limits simple =
+simple_implements (form.body p ls f) input h limits simple =
     simply (source_of (form.body p ls f)) (program 2 (coded_program (form.body p ls f))) input simple
-    (code_of_it p ls f h limits simple)
+    (simple_is_code (form.body p ls f) h limits simple)

@@ -31,8 +31,9 @@ use Rattle.step_laws.specs.Site.{Site, at_line}
 use Rattle.step_laws.specs.Calm.{Grows, Quiet}
 use Rattle.step_laws.specs.Measure.{weight, measure}
 use Rattle.step_laws.proofs.Placed.{Rest, frame_at, turned}
-use Rattle.step_laws.specs.Relation.{Static, EndsBy, stops, returns, Waits, Ground, over_levels, IsPassed, SitesAre, uses, uses_in, Both, Common, GivesIn, GivesOut, Throwing, Alike, Advances, Step}
-use Rattle.step_laws.proofs.Untouched.{sites_grow, grown, without_top}
+use Rattle.step_laws.specs.Behind.{Static}
+use Rattle.step_laws.specs.Relation.{EndsBy, stops, returns, Waits, Ground, over_levels, IsPassed, SitesAre, uses, uses_in, Both, Common, GivesIn, GivesOut, Throwing, raised, Alike, Advances, Step}
+use Rattle.step_laws.proofs.Untouched.{same_activations, grown, without_top}
 use Rattle.step_laws.proofs.Switching.{Onwards, nowhere, onward, finished, ground_in, switched}
 use Rattle.step_laws.proofs.Matching.{no_turn, one_turn, going, going_out, state_at}
 use Rattle.step_laws.proofs.Calling.{From, leaves, falls, given_back, given_on}
@@ -47,9 +48,6 @@ no_more fs e = ap (back_to fs.others) e
 main_closed : (w : World) (a : ℕ) → (activation_at w a).runs ≡ main_program → close w a ≡ w
 unfolding close
 main_closed w a e = ap (close_run w (activation_at w a).self) e
-
-same_activations : (w u : World) → u.activations ≡ w.activations → Grows w u
-same_activations w u e = record { more = []; is = e ∙ sym (append-nil w.activations) }
 
 -- the world in which a fiber has ended
 abbrev ended_in : World → fibers.Name → World
@@ -124,7 +122,7 @@ pub give_activation : (g : Ground) (h : Site) → Static h → (ks : List Item) 
     → Quiet m (go h.source (Run (give v) (activation a place ∷ ks) m))
     → Step h (Run (give v) (activation a place ∷ ks) m) (state_at g h d.x d.n (aligned k m))
 unfolding do_give
-give_activation g h static ks m k both v a place ls d quiet = at d.next.by
+give_activation g h static ks m k both v a place ls d quiet = at d.next.0.by
   where
     conf : Config
     conf = Run (give v) (activation a place ∷ ks) m
@@ -157,7 +155,7 @@ give_activation g h static ks m k both v a place ls d quiet = at d.next.by
     at (stops l main last bare root) =
         let i = both.all.sites.each h both.site in
         let same : close m.world a ≡ m.world =
-        ap (close m.world) d.next.is ∙ main_closed m.world h.activation (i.runs ∙ main) in
+        ap (close m.world) d.next.0.is ∙ main_closed m.world h.activation (i.runs ∙ main) in
         let none : k.fibers.resumer ≡ None = both.all.fibers.resumer ∙ both.all.fibers.rooted root in
         given_back h.source h.program conf (frame (frame_at h d.x d.n) ∷ g.below) (aligned k m) m from v ks m' g []
         (machine.with_world k w) refl
@@ -171,7 +169,7 @@ give_activation g h static ks m k both v a place ls d quiet = at d.next.by
         ∙ ap (λ (u : Value). throw h.program (Return h.activation u) (frame (frame_at h d.x d.n) ∷ g.below) (aligned k m))
         (ap read d.stands)
         ∙ returned_by h static v d.x d.n g.below (aligned k m)
-        ∙ ap (λ (c : ℕ). receive v g.below (machine.with_world k (close m.world c))) (sym d.next.is))
+        ∙ ap (λ (c : ℕ). receive v g.below (machine.with_world k (close m.world c))) (sym d.next.0.is))
         (falls g.below ks m' conf (omega arith)) (back g.below refl) next
 
 -- What a throw does.
@@ -219,7 +217,7 @@ passes_part x (assigns e r) ks m g = refl
 passes_part x (retries r) ks m g = refl
 passes_part x (ensures n e) ks m g = absurd g
 
-weight_pos : (p : Part) → 1 ≤ weight p
+pub weight_pos : (p : Part) → 1 ≤ weight p
 weight_pos (source.operands n a vs es) = omega arith
 weight_pos (source.receiver n x is b) = omega arith
 weight_pos (source.items n s r vs is b) = omega arith
@@ -290,7 +288,7 @@ module _ (s : Source) (p : Program) (m : source.Memory) (ls : List Level) (k : m
           let more : length t.memory.fibers.others ≡ suc (length q.fibers.others) = omega (arith, i.fewer) in
           no_turn s p conf (On ls k)
           (subst (λ (d : Config). measure d < measure conf) (sym goes') (omega (arith, i.lighter)))
-          (subst (λ (d : Config). Alike s p d (On ls k)) (sym goes') (record {
+          (subst (λ (d : Config). Alike s p d (On ls k)) (sym goes') (raised (record {
             g = ground_in t.g o q.kept;
             e = t.e;
             exception = refl;
@@ -303,7 +301,7 @@ module _ (s : Source) (p : Program) (m : source.Memory) (ls : List Level) (k : m
             both = switched s p t.g m t.memory m.fibers.others t.memory.fibers.others o q w u t.both.sites (λ n. omega (arith, t.both.apart n)) i
                 (same_activations m.world w refl) (ends_same s p t.g m t.memory t.both);
             leaving = leaves t.g.sites o.fibers.running t.memory.lists o.kept.items o.kept.place q.kept i.waits;
-          }))
+          })))
 
   -- a part is passed
   pub travel_part_on : (x : Exit) (q : Part) (ks : List Item) → Throwing s p x (part q ∷ ks) m ls k
@@ -316,7 +314,7 @@ module _ (s : Source) (p : Program) (m : source.Memory) (ls : List Level) (k : m
       ∙ passes_part t.e (stop_of q) ks m t.leaving.0 in
       no_turn s p conf (On ls k)
       (subst (λ (d : Config). measure d < measure conf) (sym goes) (omega (arith, weight_pos q)))
-      (subst (λ (d : Config). Alike s p d (On ls k)) (sym goes) (record {
+      (subst (λ (d : Config). Alike s p d (On ls k)) (sym goes) (raised (record {
         g = t.g;
         e = t.e;
         exception = refl;
@@ -325,7 +323,7 @@ module _ (s : Source) (p : Program) (m : source.Memory) (ls : List Level) (k : m
         out = t.out;
         both = t.both;
         leaving = t.leaving.1;
-      }))
+      })))
 
   -- the levels that are left, when they are known
   at_levels : (x : Exit) (ks : List Item) (t : Throwing s p x ks m ls k) (gs : List Level) → t.g.below ≡ gs
@@ -360,7 +358,7 @@ module _ (s : Source) (p : Program) (m : source.Memory) (ls : List Level) (k : m
       (past f.h i.static t.e f.x f.at f.below t.memory) in
       no_turn s p conf (On ls k)
       (subst (λ (d : Config). measure d < measure conf) (sym goes) (omega arith))
-      (subst (λ (d : Config). Alike s p d (On ls k)) (sym goes) (record {
+      (subst (λ (d : Config). Alike s p d (On ls k)) (sym goes) (raised (record {
         g = over_levels t.g f.below;
         e = t.e;
         exception = refl;
@@ -373,7 +371,7 @@ module _ (s : Source) (p : Program) (m : source.Memory) (ls : List Level) (k : m
         out = t.out ∙ sym still.1;
         both = grown (over_levels t.g f.below) m t.memory b place w still.2;
         leaving = leaves t.g.sites t.g.fiber t.memory.lists ks place f.below f.next;
-      }))
+      })))
 
   caught_by : (x : Exit) (a : ℕ) (it : Iteration) (place : Place) (ks : List Item) (e : ObjId) (g : Ground)
       (others : List Level) (k' : machine.Memory) → k.world.out ≡ m.world.out
@@ -386,7 +384,7 @@ module _ (s : Source) (p : Program) (m : source.Memory) (ls : List Level) (k : m
       let conf = Run (travel x) (iteration a it place ∷ ks) m in
       no_turn s p conf (On ls k)
       (subst (λ (d : Config). measure d < measure conf) (sym goes) (omega arith))
-      (subst (λ (d : Config). Alike s p d (On ls k)) (sym goes) (record {
+      (subst (λ (d : Config). Alike s p d (On ls k)) (sym goes) (raised (record {
         g = over_levels g others;
         e = e;
         exception = refl;
@@ -395,7 +393,7 @@ module _ (s : Source) (p : Program) (m : source.Memory) (ls : List Level) (k : m
         out = out;
         both = record { world = b.world; sites = b.sites; fibers = b.fibers; apart = b.apart };
         leaving = leaves g.sites g.fiber k'.lists ks place others waits;
-      }))
+      })))
   caught_by x a it place ks e g others k' out quiet b waits (Some v) goes turns =
       let conf = Run (travel x) (iteration a it place ∷ ks) m in
       let m' : source.Memory = record m { place = place } in

@@ -28,7 +28,7 @@ use Rattle.def_machine.specs.Entering.{answer, in_fiber as in_fiber_machine, res
 use Rattle.def_machine.specs.Turn.{turn}
 use Rattle.step_laws.specs.Calm.{Grows, Quiet}
 use Rattle.step_laws.specs.Measure.{waiting, measure}
-use Rattle.step_laws.specs.Relation.{Waits, Ground, over_levels, WaitsBelow, uses, uses_in, Both, Alike, Advances}
+use Rattle.step_laws.specs.Relation.{Waits, Ground, over_levels, WaitsBelow, uses, uses_in, Both, raised, Alike, Advances}
 use Rattle.step_laws.proofs.Untouched.{sites_grow, grown}
 use Rattle.step_laws.proofs.Switching.{Onwards, nowhere, onward, OnwardIs, Resumes, refuses, starts, goes_on, yielded, resumed, ground_in, switched}
 use Rattle.step_laws.proofs.Matching.{no_turn, one_turn, going}
@@ -202,7 +202,7 @@ module _ (s : Source) (p : Program) (v : Value) (a : ℕ) (it : Iteration) (plac
         let w = close (with_store m.world st) a in
         let still = subst (Quiet m) goes quiet in
         no_turn s p conf (On levels (aligned k m)) (subst (λ (d : Config). measure d < measure conf) (sym goes) (omega arith))
-        (subst (λ (d : Config). Alike s p d (On levels (aligned k m))) (sym goes) (record {
+        (subst (λ (d : Config). Alike s p d (On levels (aligned k m))) (sym goes) (raised (record {
           g = over_levels g g.below;
           e = e;
           exception = refl;
@@ -211,7 +211,7 @@ module _ (s : Source) (p : Program) (v : Value) (a : ℕ) (it : Iteration) (plac
           out = sym still.1;
           both = back w still.2;
           leaving = leaves g.sites g.fiber k.lists ks place g.below waits;
-        }))
+        })))
     planned (sends next u x args b public) st goes turns =
         let w = with_store m.world st in
         entered s p conf levels (aligned k m) m from (send_by_core w u x args b public) (iteration a next place ∷ ks)

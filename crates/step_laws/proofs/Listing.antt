@@ -85,6 +85,50 @@ integer_there z zs ts h =
     ap (λ (b : Bool). slice_get (map pool.Int zs ++ map pool.Text ts) (place_or (if b then Some n else None) (length zs)))
     (lt-ltb n (length zs) a.within) ∙ a.is ts
 
+-- Texts, which stand behind the integers.
+
+record TextAt (x : List ℕ) (ts : List (List ℕ)) (n : ℕ) : Type 0 where
+  pub within : n < length ts
+  pub is : slice_get (map pool.Text ts) n ≡ Some (pool.Text x)
+
+first_text : (x y : List ℕ) (ys : List (List ℕ)) → bytes_eq x y ≡ true → TextAt x (y ∷ ys) 0
+first_text x y ys e = record {
+  within = omega arith;
+  is = ap (λ (t : List ℕ). Some (pool.Text t)) (sym ((bytes_eq-Decides x y).0 e));
+}
+
+later_text : (x y : List ℕ) (ys : List (List ℕ)) (n : ℕ) → TextAt x ys n → TextAt x (y ∷ ys) (1 + n)
+later_text x y ys n a =
+    let e : suc n ≡ 1 + n = omega arith in
+    subst (TextAt x (y ∷ ys)) e (record { within = omega (arith, a.within); is = a.is })
+
+among_texts : (x : List ℕ) (ts : List (List ℕ)) → is_among x ts ≡ true → TextAt x ts (position_or_len (bytes_eq x) ts)
+among_texts x [] h = absurd (true≢false (sym h))
+among_texts x (y ∷ ys) h = by (λ g. among_texts x ys g) (bytes_eq x y) refl h
+  where
+    by : (is_among x ys ≡ true → TextAt x ys (position_or_len (bytes_eq x) ys)) → (b : Bool) → bytes_eq x y ≡ b
+        → (if b then true else is_among x ys) ≡ true
+        → TextAt x (y ∷ ys) (if not b then 1 + position_or_len (bytes_eq x) ys else 0)
+    by further true e g = first_text x y ys e
+    by further false e g = later_text x y ys (position_or_len (bytes_eq x) ys) (further g)
+
+behind_integers : (zs : List ℤ) (ts : List (List ℕ)) (n : ℕ)
+    → slice_get (map pool.Int zs ++ map pool.Text ts) (length zs + n) ≡ slice_get (map pool.Text ts) n
+behind_integers [] ts n = ap (slice_get (map pool.Text ts)) (omega arith)
+behind_integers (z ∷ zs) ts n =
+    let e : length (z ∷ zs) + n ≡ suc (length zs + n) = omega arith in
+    ap (slice_get (map pool.Int (z ∷ zs) ++ map pool.Text ts)) e ∙ behind_integers zs ts n
+
+pub text_there : (x : List ℕ) (zs : List ℤ) (ts : List (List ℕ)) → is_among x ts ≡ true
+    → slice_get (map pool.Int zs ++ map pool.Text ts) (length zs + place_or (position (bytes_eq x) ts) (length ts))
+    ≡ Some (pool.Text x)
+text_there x zs ts h =
+    let a = among_texts x ts h in
+    let n = position_or_len (bytes_eq x) ts in
+    behind_integers zs ts (place_or (position (bytes_eq x) ts) (length ts))
+    ∙ ap (λ (b : Bool). slice_get (map pool.Text ts) (place_or (if b then Some n else None) (length ts)))
+    (lt-ltb n (length ts) a.within) ∙ a.is
+
 -- an integer past 32 bits is in the pool
 pub wide_is : (z : ℤ) → is_within (negsuc 2147483647) z (pos 2147483647) ≡ false → is_wide z ≡ true
 wide_is (pos n) e = lt-ltb 2147483647 n (grind (arith, nat_tests, e))

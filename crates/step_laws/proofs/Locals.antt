@@ -6,7 +6,7 @@ use Rattle.rb_value.specs.declared.exit.Slot.TheVariants.{V}
 use Rattle.rb_value.specs.Slot.{read as read_slot}
 use Rattle.rite_code.specs.declared.operation.Operation.{Operation}
 use Rattle.rite_code.specs.declared.operation.Operation.TheVariants as op
-use Rattle.ir_core.specs.CoreForm.{Name, Local, named, hidden, pattern, rest, CoreForm, local, set_local, Forms}
+use Rattle.ir_core.specs.CoreForm.{Local, CoreForm, local, set_local, Forms}
 use Rattle.scope_resolver.specs.Layout.{place_of}
 use Rattle.gen_parts.specs.declared.line.Line.TheVariants as line
 use Rattle.gen_parts.specs.Pieces.{does, ◌⊕◌}
@@ -22,52 +22,50 @@ use Rattle.def_machine.specs.State.{Level, frame, slot_at, value_at}
 use Rattle.def_machine.specs.Turn.{act}
 use Rattle.step_laws.specs.Site.{Site, within, at_line, LineAt, register, Known}
 use Rattle.step_laws.proofs.Placed.{high, high-puts, heights, left, right, the_line, frame_at, turned}
-use Rattle.step_laws.specs.Relation.{Ground, Static, InFrame, Common, Doing, GivesIn, Related, Step}
+use Rattle.step_laws.specs.Behind.{Static, LocalBehind, to_local}
+use Rattle.step_laws.specs.Relation.{Ground, InFrame, Common, Doing, GivesIn, Related, Step}
 use Rattle.step_laws.proofs.Registers.{slot_other, keeps_local, named_is}
 use Rattle.step_laws.proofs.Untouched.{put_only, frame_kept, same_here, assigned_here}
 use Rattle.step_laws.proofs.Matching.{by_none, by_one, going, state_at, written, stays}
 use Rattle.step_laws.proofs.Literals.{aligned, written_by}
 
 -- the instructions of a local of the body
-pub read_is : (h : Site) (r : ℕ) (x : Name) → Known h x
-    → read r (place_of h.context.scopes (named x)) ≡ op.Move r (register h x)
+pub read_is : (h : Site) (r : ℕ) (x : Local) → Known h x
+    → read r (place_of h.context.scopes x) ≡ op.Move r (register h x)
 read_is h r x k = ap (λ (d : ℕ). if nat_eq d 0 then op.Move r (register h x)
-    else op.GetUpVar r (register h x) ((place_of h.context.scopes (named x)).levels - 1)) k.level
+    else op.GetUpVar r (register h x) ((place_of h.context.scopes x).levels - 1)) k.level
 
-write_is : (h : Site) (r : ℕ) (x : Name) → Known h x
-    → write r (place_of h.context.scopes (named x)) ≡ op.Move (register h x) r
+write_is : (h : Site) (r : ℕ) (x : Local) → Known h x
+    → write r (place_of h.context.scopes x) ≡ op.Move (register h x) r
 write_is h r x k = ap (λ (d : ℕ). if nat_eq d 0 then op.Move (register h x) r
-    else op.SetUpVar r (register h x) ((place_of h.context.scopes (named x)).levels - 1)) k.level
+    else op.SetUpVar r (register h x) ((place_of h.context.scopes x).levels - 1)) k.level
 
 module _ (g : Ground) (h : Site) (static : Static h) (ks : List Item) (m : source.Memory) (ls : List Level)
     (k : machine.Memory) (both : Common g h m (aligned k m)) where
   pub do_local : (j : ℕ) (y : Local) (d : Doing g h (local y) ks m.place ls k.lists)
       → Step h (Run (perform j (local y)) ks m) (state_at g h d.x d.n (aligned k m))
   unfolding do_form
-  do_local j (named x) d =
-      let o = read d.r (place_of h.context.scopes (named x)) in
+  do_local j x d =
+      let o = read d.r (place_of h.context.scopes x) in
       let l = the_line h d.n (line.Does o) d.code in
-      let same : variable m (named x) ≡ value_at k.lists h.list (register h x) =
+      let same : variable m x ≡ value_at k.lists h.list (register h x) =
       named_is h m k.lists x d.there (same_here g h m (aligned k m) both) d.covered.1 in
-      written_by g h static (Run (perform j (local (named x))) ks m) (variable m (named x)) ks m d.x k d.n d.r o
-      (going (perform j (local (named x))) ks m (frame (frame_at h d.x d.n) ∷ g.below) (aligned k m) refl) refl l
+      written_by g h static (Run (perform j (local x)) ks m) (variable m x) ks m d.x k d.n d.r o d.loop
+      (going (perform j (local x)) ks m (frame (frame_at h d.x d.n) ∷ g.below) (aligned k m) refl) refl l
       (ap (λ (q : Operation). act h.program q (at_line h (d.n + 1)) (frame_at h d.x d.n) g.below (aligned k m))
       (read_is h d.r x d.covered.1)
       ∙ ap (λ (v : Value). state_at g h d.x (d.n + 1) (written h (aligned k m) d.r v)) (sym same))
       both d.there d.covered.0
-      (subst (λ (i : ℕ). InFrame g h k.lists ks (d.n + i) d.r) (high-puts (line.Does o)) d.next)
-  do_local j (hidden i) d = absurd d.covered.1
-  do_local j (pattern i) d = absurd d.covered.1
-  do_local j rest d = absurd d.covered.1
+      (subst (λ (i : ℕ). InFrame g h k.lists ks (d.n + i) d.r d.loop) (high-puts (line.Does o)) d.next)
 
   pub do_set_local : (j : ℕ) (y : Local) (e : CoreForm) (d : Doing g h (set_local y e) ks m.place ls k.lists)
       → Step h (Run (perform j (set_local y e)) ks m) (state_at g h d.x d.n (aligned k m))
   unfolding do_form
-  do_set_local j (named x) e d =
+  do_set_local j x e d =
       let p = gen (within h d.loop) d.s d.r e in
-      let o = write d.r (place_of h.context.scopes (named x)) in
+      let o = write d.r (place_of h.context.scopes x) in
       let l = the_line h (d.n + high p) (line.Does o) (right h d.n p (does o) d.code) in
-      by_none h (Run (perform j (set_local (named x) e)) ks m) (state_at g h d.x d.n (aligned k m)) (omega arith) (
+      by_none h (Run (perform j (set_local x e)) ks m) (state_at g h d.x d.n (aligned k m)) (omega arith) (
         g,
         h,
         both,
@@ -88,7 +86,7 @@ module _ (g : Ground) (h : Site) (static : Static h) (ks : List Item) (m : sourc
             end = d.n + high (p ⊕ does o);
             above = d.above;
             below = omega arith;
-            behind = record {
+            behind = to_local (record {
               at = refl;
               name = x;
               action = refl;
@@ -97,27 +95,26 @@ module _ (g : Ground) (h : Site) (static : Static h) (ks : List Item) (m : sourc
               known = d.covered.1;
               move = subst (λ (q : Operation). LineAt h (d.n + high p) (line.Does q)) (write_is h d.r x d.covered.1) l;
               ends = simp heights (omega arith);
-            };
+            });
+            outer = d.loop;
+            inner = refl;
             next = d.next;
           };
         },
       )
-  do_set_local j (hidden i) e d = absurd d.covered.1
-  do_set_local j (pattern i) e d = absurd d.covered.1
-  do_set_local j rest e d = absurd d.covered.1
 
   -- the value of an assignment, which is the last of its operands
-  pub give_operand : (v : Value) (j : ℕ) (a : Action) (vs : List Value) (es : Forms)
+  pub give_local : (v : Value) (j : ℕ) (a : Action) (vs : List Value) (es : Forms)
       (d : GivesIn g h v (part (operands j a vs es) ∷ ks) m.place ls k.lists)
+      → LocalBehind h a vs es d.next.low d.n d.r d.next.end
       → Step h (Run (give v) (part (operands j a vs es) ∷ ks) m) (state_at g h d.x d.n (aligned k m))
   unfolding do_give give_part finish with_variable
-  give_operand v j a vs es d =
-      let b = d.next.behind in
+  give_local v j a vs es d b =
       let c = Run (give v) (part (operands j a vs es) ∷ ks) m in
-      let goes : go h.source c ≡ Run (give v) ks (with_variable m (named b.name) v) =
+      let goes : go h.source c ≡ Run (give v) ks (with_variable m b.name v) =
       ap (λ (x : Action). next_operand h.source j x (vs ++ v ∷ []) es ks m) b.action
-      ∙ ap (λ (us : List Value). next_operand h.source j (assign (named b.name)) (us ++ v ∷ []) es ks m) b.first
-      ∙ ap (λ (fs : Forms). next_operand h.source j (assign (named b.name)) (v ∷ []) fs ks m) b.last in
+      ∙ ap (λ (us : List Value). next_operand h.source j (assign b.name) (us ++ v ∷ []) es ks m) b.first
+      ∙ ap (λ (fs : Forms). next_operand h.source j (assign b.name) (v ∷ []) fs ks m) b.last in
       let k' = written h (aligned k m) (register h b.name) v in
       let stands : slot_at k.lists h.list d.next.low ≡ V v =
       subst (λ (i : ℕ). slot_at k.lists h.list i ≡ V v) (sym b.at) d.stands in
@@ -130,9 +127,9 @@ module _ (g : Ground) (h : Site) (static : Static h) (ks : List Item) (m : sourc
       ∙ ap (λ (u : Value). state_at g h d.x (d.n + 1) (written h (aligned k m) (register h b.name) u))
       (ap read_slot stands))
       (subst (λ (q : Config). Related h q (state_at g h d.x (d.n + 1) k')) (sym goes)
-      (stays g h v ks (with_variable m (named b.name) v) d.x k' (d.n + 1) d.next.low b' d.there
+      (stays g h v ks (with_variable m b.name v) d.x k' (d.n + 1) d.next.low d.next.outer b' d.there
       (slot_other k.lists h.list (register h b.name) d.next.low (V v) s.present apart ∙ stands)
-      (subst (λ (i : ℕ). InFrame g h k'.lists ks i d.next.low) (sym b.ends)
-      (frame_kept g h k.lists k'.lists ks d.next.end d.next.low
+      (subst (λ (i : ℕ). InFrame g h k'.lists ks i d.next.low d.next.outer) (sym b.ends)
+      (frame_kept g h k.lists k'.lists ks d.next.end d.next.low d.next.outer
       (keeps_local h k.lists d.next.low (register h b.name) (V v) s.present b.known.low)
       (put_only k.lists h.list (register h b.name) v) (omega (arith, both.free)) d.next.next))))

@@ -1,6 +1,6 @@
 -- Loops.
-use Rattle.std.proofs.Common.{◌≡◌, ◌⊎◌, ℕ, ◌+◌, List, ◌∷◌, refl, sym, ap, ◌∙◌, subst, inl, inr, arith, Bool, true, false}
-use Rattle.std.specs.Prelude.{if◌then◌else◌, Option, Some}
+use Rattle.std.proofs.Common.{◌≡◌, ◌⊎◌, ℕ, ◌+◌, List, [], ◌∷◌, refl, sym, ap, ◌∙◌, subst, inl, inr, arith, Bool, true, false}
+use Rattle.std.specs.Prelude.{is_some, if◌then◌else◌, Option, Some}
 use Rattle.rb_value.specs.declared.value.Value.{Value}
 use Rattle.rb_value.specs.declared.value.Value.TheVariants.{Nil}
 use Rattle.rb_value.specs.declared.exit.Slot.TheVariants.{V}
@@ -9,6 +9,7 @@ use Rattle.rite_code.specs.declared.operation.Operation.TheVariants as op
 use Rattle.ir_core.specs.CoreForm.{CoreForm, while_form}
 use Rattle.gen_parts.specs.declared.line.Line.TheVariants as line
 use Rattle.gen_parts.specs.declared.emitter.Spot.{Spot}
+use Rattle.gen_parts.specs.declared.emitter.Held.TheVariants as held
 use Rattle.gen_parts.specs.Pieces.{past, behind, puts, does, ◌⊕◌, jump, jump_if}
 use Rattle.gen_forms.specs.declared.context.Loop.{Loop}
 use Rattle.gen_forms.specs.Gen.{gen, loop as loop_code}
@@ -23,7 +24,8 @@ use Rattle.def_machine.specs.Turn.{turn}
 use Rattle.step_laws.specs.Site.{Site, within, place_in, LineAt, Room}
 use Rattle.step_laws.specs.Covered.{Covered}
 use Rattle.step_laws.proofs.Placed.{high, high-both, high-puts, line-past, line-behind, Stands, moved, left, right, the_line, Rest, frame_at, turned, jumped}
-use Rattle.step_laws.specs.Relation.{Ground, Static, LoopAt, InFrame, Common, Doing, GivesIn, Related, Step}
+use Rattle.step_laws.specs.Behind.{Static, LoopAt}
+use Rattle.step_laws.specs.Relation.{Ground, InFrame, Common, Doing, GivesIn, Related, Step}
 use Rattle.step_laws.proofs.Matching.{by_none, by_one, by_two, going, state_at, written, writes}
 use Rattle.step_laws.proofs.Literals.{aligned}
 use Rattle.step_laws.proofs.Branches.{jumped_not, jumped_if}
@@ -38,13 +40,18 @@ pub record Entered (first : Bool) (h : Site) (n r : ℕ) (t b : CoreForm) (end :
   pub enters : LineAt h n (line.Jump (entry first loop))
 
 module _ (h : Site) (n r end : ℕ) (o : Option Loop) (s : Spot) (t b : CoreForm) (here : s.line ≡ n) (room : Room h r)
-    (covers : Covered h r t × Covered h r b) where
+    (covers : Covered h true r t × Covered h true r b) where
+  -- the jump out of the loop leads to its end
+  leads : (at out to : ℕ) → at ≡ out → to ≡ end → LineAt h at (line.Jump to) → LineAt h out (line.Jump end)
+  leads at out to e f l = subst (λ (i : ℕ). LineAt h i (line.Jump end)) e (subst (λ (i : ℕ). LineAt h at (line.Jump i)) f l)
+
   test_first : Stands h n (loop_code false (λ d u i. gen d u i t) (λ d u i. gen d u i b) (within h o) s r)
       → n + high (loop_code false (λ d u i. gen d u i t) (λ d u i. gen d u i b) (within h o) s r) ≡ end
       → Entered false h n r t b end
   test_first code ends =
       let start = behind (behind s) in
-      let inside : Option Loop = Some (record { value = r; out = (behind s).line; round = start.line }) in
+      let target : Loop = record { value = r; out = (behind s).line; round = start.line } in
+      let inside : Option Loop = Some target in
       let p = gen (within h inside) start r t in
       let v = behind (past start p) in
       let q = gen (within h inside) v r b in
@@ -78,6 +85,12 @@ module _ (h : Site) (n r end : ℕ) (o : Option Loop) (s : Spot) (t b : CoreForm
       record {
         loop = record {
           loop = inside;
+          target = target;
+          is = refl;
+          value = refl;
+          leads_out = leads (n + high enter) (behind s).line (past start whole).line (omega (arith, e1, line-behind s, here))
+              (omega (arith, ends, high-both enter (out ⊕ whole), high-both out whole, e1, e2, line-past start whole, begins))
+              (the_line h (n + high enter) (line.Jump (past start whole).line) (left h (n + high enter) out whole rest));
           test_spot = start;
           body_spot = v;
           room = room;
@@ -92,6 +105,7 @@ module _ (h : Site) (n r end : ℕ) (o : Option Loop) (s : Spot) (t b : CoreForm
           );
           back = inl (the_line h (v.line + high q) (line.Jump start.line) (right h v.line q back at_body));
           load = the_line h z (line.Does (op.LoadNil r)) load_line;
+          round = inl refl;
           ends = omega (
             arith,
             ends,
@@ -118,7 +132,8 @@ module _ (h : Site) (n r end : ℕ) (o : Option Loop) (s : Spot) (t b : CoreForm
       → Entered true h n r t b end
   body_first code ends =
       let round = behind (behind s) in
-      let inside : Option Loop = Some (record { value = r; out = (behind s).line; round = round.line }) in
+      let target : Loop = record { value = r; out = (behind s).line; round = round.line } in
+      let inside : Option Loop = Some target in
       let v = behind round in
       let q = gen (within h inside) v r b in
       let leap = puts (line.Jump (past v q).line) in
@@ -152,6 +167,12 @@ module _ (h : Site) (n r end : ℕ) (o : Option Loop) (s : Spot) (t b : CoreForm
       record {
         loop = record {
           loop = inside;
+          target = target;
+          is = refl;
+          value = refl;
+          leads_out = leads (n + high enter) (behind s).line (past round whole).line (omega (arith, e1, line-behind s, here))
+              (omega (arith, ends, high-both enter (out ⊕ whole), high-both out whole, e1, e2, line-past round whole, begins))
+              (the_line h (n + high enter) (line.Jump (past round whole).line) (left h (n + high enter) out whole rest));
           test_spot = w;
           body_spot = v;
           room = room;
@@ -164,6 +185,8 @@ module _ (h : Site) (n r end : ℕ) (o : Option Loop) (s : Spot) (t b : CoreForm
           branches = inr (the_line h (w.line + high p) (line.JumpIf r v.line) (right h w.line p again tests), refl);
           back = inr test_line;
           load = the_line h z (line.Does (op.LoadNil r)) load_line;
+          round = inr (subst (λ (i : ℕ). LineAt h round.line (line.Jump i)) (omega (arith, line-past v q, test_line))
+              (the_line h round.line (line.Jump (past v q).line) (left h round.line leap q bodies)));
           ends = omega (
             arith,
             ends,
@@ -188,11 +211,16 @@ module _ (h : Site) (n r end : ℕ) (o : Option Loop) (s : Spot) (t b : CoreForm
 
 module _ (g : Ground) (h : Site) (static : Static h) (ks : List Item) (m : source.Memory) (ls : List Level)
     (k : machine.Memory) (both : Common g h m (aligned k m)) where
+  -- the loop is around its parts
+  in_loop_covered : (o : Option Loop) (target : Loop) (r : ℕ) (e : CoreForm) → o ≡ Some target → Covered h true r e
+      → Covered h (is_some o) r e
+  in_loop_covered o target r e is c = subst (λ (i : Option Loop). Covered h (is_some i) r e) (sym is) c
+
   -- the test is about to be done, and the body
-  at_test : (x : Rest) (r end : ℕ) (j : ℕ) (t b : CoreForm) (l : LoopAt h r t b end) → m.place ≡ place_in h
-      → InFrame g h k.lists ks end r
+  pub at_test : (x : Rest) (r end : ℕ) (outer : Option Loop) (j : ℕ) (t b : CoreForm) (l : LoopAt h r t b end)
+      → m.place ≡ place_in h → InFrame g h k.lists ks end r outer
       → Related h (Run (perform j t) (part (loop_test j t b) ∷ ks) m) (state_at g h x l.test_spot.line (aligned k m))
-  at_test x r end j t b l there next = (
+  at_test x r end outer j t b l there next = (
     g,
     h,
     both,
@@ -205,7 +233,7 @@ module _ (g : Ground) (h : Site) (static : Static h) (ks : List Item) (m : sourc
       loop = l.loop;
       s = l.test_spot;
       here = refl;
-      covered = l.test_covered;
+      covered = in_loop_covered l.loop l.target r t l.is l.test_covered;
       above = l.room.above;
       code = l.test;
       next = record {
@@ -213,16 +241,18 @@ module _ (g : Ground) (h : Site) (static : Static h) (ks : List Item) (m : sourc
         end = end;
         above = l.room.above;
         below = omega arith;
-        behind = record { at = refl; loop = l; here = refl };
+        behind = record { at = refl; loop = l; inside = refl; here = refl };
+        outer = outer;
+        inner = tt;
         next = next;
       };
     },
   )
 
-  at_body : (x : Rest) (r end : ℕ) (i j : ℕ) (t b : CoreForm) (l : LoopAt h r t b end) → m.place ≡ place_in h
-      → InFrame g h k.lists ks end r
+  at_body : (x : Rest) (r end : ℕ) (outer : Option Loop) (i j : ℕ) (t b : CoreForm) (l : LoopAt h r t b end)
+      → m.place ≡ place_in h → InFrame g h k.lists ks end r outer
       → Related h (Run (perform i b) (part (loop_body j t b) ∷ ks) m) (state_at g h x l.body_spot.line (aligned k m))
-  at_body x r end i j t b l there next = (
+  at_body x r end outer i j t b l there next = (
     g,
     h,
     both,
@@ -235,7 +265,7 @@ module _ (g : Ground) (h : Site) (static : Static h) (ks : List Item) (m : sourc
       loop = l.loop;
       s = l.body_spot;
       here = refl;
-      covered = l.body_covered;
+      covered = in_loop_covered l.loop l.target r b l.is l.body_covered;
       above = l.room.above;
       code = l.body;
       next = record {
@@ -243,7 +273,9 @@ module _ (g : Ground) (h : Site) (static : Static h) (ks : List Item) (m : sourc
         end = end;
         above = l.room.above;
         below = omega arith;
-        behind = record { at = refl; loop = l; here = refl };
+        behind = record { at = refl; loop = l; inside = refl; here = refl };
+        outer = outer;
+        inner = tt;
         next = next;
       };
     },
@@ -260,7 +292,7 @@ module _ (g : Ground) (h : Site) (static : Static h) (ks : List Item) (m : sourc
       (state_at g h d.x e.loop.test_spot.line (aligned k m))
       (going (perform j (while_form false t b)) ks m (frame (frame_at h d.x d.n) ∷ g.below) (aligned k m) refl)
       (jumped h d.x d.n e.loop.test_spot.line g.below (aligned k m) e.enters)
-      (at_test d.x d.r (d.n + high whole) j t b e.loop d.there d.next)
+      (at_test d.x d.r (d.n + high whole) d.loop j t b e.loop d.there d.next)
   do_while j true t b d =
       let whole = loop_code true (λ c u i. gen c u i t) (λ c u i. gen c u i b) (within h d.loop) d.s d.r in
       let e = body_first h d.n d.r (d.n + high whole) d.loop d.s t b d.here d.covered.0
@@ -269,7 +301,7 @@ module _ (g : Ground) (h : Site) (static : Static h) (ks : List Item) (m : sourc
       (state_at g h d.x e.loop.body_spot.line (aligned k m))
       (going (perform j (while_form true t b)) ks m (frame (frame_at h d.x d.n) ∷ g.below) (aligned k m) refl)
       (jumped h d.x d.n e.loop.body_spot.line g.below (aligned k m) e.enters)
-      (at_body d.x d.r (d.n + high whole) (j + span t) j t b e.loop d.there d.next)
+      (at_body d.x d.r (d.n + high whole) d.loop (j + span t) j t b e.loop d.there d.next)
 
   -- where the test leads to
   tested_to : (v : Value) (x : Rest) (r end : ℕ) (t b : CoreForm) (l : LoopAt h r t b end)
@@ -308,7 +340,7 @@ module _ (g : Ground) (h : Site) (static : Static h) (ks : List Item) (m : sourc
       (ap (λ (i : ℕ). turn h.program (state_at g h d.x i (aligned k m))) (sym d.next.behind.here)
       ∙ tested_to v d.x r d.next.end t b l stands true e)
       (subst (λ (u : Bool). Related h (turn_loop u j t b ks m) (state_at g h d.x l.body_spot.line (aligned k m))) (sym e)
-      (at_body d.x r d.next.end (j + span t) j t b l d.there d.next.next))
+      (at_body d.x r d.next.end d.next.outer (j + span t) j t b l d.there d.next.next))
   test_by v j t b d false e =
       let l = d.next.behind.loop in
       let r = d.next.low in
@@ -323,8 +355,8 @@ module _ (g : Ground) (h : Site) (static : Static h) (ks : List Item) (m : sourc
       (turned h d.x l.out o g.below (aligned k m) l.load)
       (subst (λ (u : Bool). Related h (turn_loop u j t b ks m)
       (state_at g h d.x (l.out + 1) (written h (aligned k m) r Nil))) (sym e)
-      (writes g h static Nil ks m d.x (aligned k m) (l.out + 1) r both d.there l.room
-      (subst (λ (i : ℕ). InFrame g h k.lists ks i r) (sym l.ends) d.next.next)))
+      (writes g h static Nil ks m d.x (aligned k m) (l.out + 1) r d.next.outer both d.there l.room
+      (subst (λ (i : ℕ). InFrame g h k.lists ks i r d.next.outer) (sym l.ends) d.next.next)))
 
   pub give_loop_test : (v : Value) (j : ℕ) (t b : CoreForm)
       (d : GivesIn g h v (part (loop_test j t b) ∷ ks) m.place ls k.lists)
@@ -351,8 +383,8 @@ module _ (g : Ground) (h : Site) (static : Static h) (ks : List Item) (m : sourc
           (going (give v) (part (loop_body j t b) ∷ ks) m (frame (frame_at h d.x d.n) ∷ g.below) (aligned k m) refl)
           (ap (λ (i : ℕ). turn h.program (state_at g h d.x i (aligned k m))) (sym d.next.behind.here)
           ∙ jumped h d.x n l.test_spot.line g.below (aligned k m) q)
-          (at_test d.x d.next.low d.next.end j t b l d.there d.next.next)
+          (at_test d.x d.next.low d.next.end d.next.outer j t b l d.there d.next.next)
       by (inr q) =
           by_none h (Run (give v) (part (loop_body j t b) ∷ ks) m) (state_at g h d.x d.n (aligned k m)) (omega arith)
           (subst (λ (i : ℕ). Related h (Run (perform j t) (part (loop_test j t b) ∷ ks) m) (state_at g h d.x i (aligned k m)))
-          (q ∙ d.next.behind.here) (at_test d.x d.next.low d.next.end j t b l d.there d.next.next))
+          (q ∙ d.next.behind.here) (at_test d.x d.next.low d.next.end d.next.outer j t b l d.there d.next.next))

@@ -1,8 +1,10 @@
 -- How a transition is matched by no turn, one turn and two, and how a value is given.
 use Rattle.std.proofs.Common.{◌≡◌, ◌⊎◌, ℕ, zero, suc, ◌<◌, List, [], ◌∷◌, refl, sym, ap, ◌∙◌, subst, inl, arith}
+use Rattle.std.specs.Prelude.{Option}
 use Rattle.rb_value.specs.declared.value.Value.{Value}
 use Rattle.rb_value.specs.declared.exit.Slot.TheVariants.{V}
 use Rattle.rite_code.specs.Code.{Program}
+use Rattle.gen_forms.specs.declared.context.Loop.{Loop}
 use Rattle.path_eval.specs.Steps.{times}
 use Rattle.def_calls.specs.Seen.{Going}
 use Rattle.def_calls.specs.World.{World}
@@ -16,7 +18,8 @@ use Rattle.def_machine.specs.Turn.{turn}
 use Rattle.step_laws.specs.Site.{Site, place_in, Room}
 use Rattle.step_laws.specs.Measure.{poise, measure}
 use Rattle.step_laws.proofs.Placed.{Rest, frame_at}
-use Rattle.step_laws.specs.Relation.{Static, Ground, InFrame, Running, GivesIn, Giving, Alike, Advances, Related, Step}
+use Rattle.step_laws.specs.Behind.{Static}
+use Rattle.step_laws.specs.Relation.{Ground, InFrame, Running, GivesIn, Giving, Alike, Advances, Related, Step}
 use Rattle.step_laws.proofs.Registers.{slot_same, keeps_above}
 use Rattle.step_laws.proofs.Untouched.{put_only, frame_kept, same_here, written_here}
 
@@ -78,14 +81,19 @@ pub going : (f : Focus) (ks : List Item) (m : source.Memory) (ls : List Level) (
 unfolding shown seen
 going f ks m ls k e = ap (λ (w : World). Going w.out) e
 
+-- what waits behind a part is in the same loop
+pub in_loop : (g : Ground) (h : Site) (l : List Registers) (ks : List Item) (n r : ℕ) (around outer : Option Loop)
+    → outer ≡ around → InFrame g h l ks n r outer → InFrame g h l ks n r around
+in_loop g h l ks n r around outer e a = subst (λ (o : Option Loop). InFrame g h l ks n r o) e a
+
 -- no iteration goes on with a value that is given inside of a frame
-pub given_light : (g : Ground) (h : Site) (l : List Registers) (ks : List Item) (n r : ℕ) (v : Value)
-    → InFrame g h l ks n r → poise (give v) ks ≡ 1
-given_light g h l [] n r v a = absurd a
-given_light g h l (part q ∷ ks) n r v a = refl
-given_light g h l (activation c q ∷ ks) n r v a = refl
-given_light g h l (iteration c it q ∷ ks) n r v a = absurd a
-given_light g h l (ensuring o ∷ ks) n r v a = absurd a
+pub given_light : (g : Ground) (h : Site) (l : List Registers) (ks : List Item) (n r : ℕ) (around : Option Loop)
+    (v : Value) → InFrame g h l ks n r around → poise (give v) ks ≡ 1
+given_light g h l [] n r around v a = absurd a
+given_light g h l (part q ∷ ks) n r around v a = refl
+given_light g h l (activation c q ∷ ks) n r around v a = refl
+given_light g h l (iteration c it q ∷ ks) n r around v a = absurd a
+given_light g h l (ensuring o ∷ ks) n r around v a = absurd a
 
 pub going_out : (f : Focus) (ks : List Item) (m : source.Memory) (ls : List Level) (k : machine.Memory)
     → k.world.out ≡ m.world.out → shown (On ls k) ≡ seen (Run f ks m)
@@ -103,24 +111,24 @@ written h k r v = record k { lists = put k.lists h.list r (V v) }
 module _ {s : Source} {p : Program} where
   -- items inside of a frame that a value is given to
   pub gives_in : (g : Ground) (h : Site) (v : Value) (ks : List Item) (m : source.Memory) (ls : List Level)
-      (k : machine.Memory) (n r : ℕ) → InFrame g h k.lists ks n r → Running s p g h m k
+      (k : machine.Memory) (n r : ℕ) (around : Option Loop) → InFrame g h k.lists ks n r around → Running s p g h m k
       → GivesIn g h v ks m.place ls k.lists → Giving s p v ks m ls k
-  gives_in g h v [] m ls k n r a b d = absurd a
-  gives_in g h v (part q ∷ ks) m ls k n r a b d = (g, h, b, d)
-  gives_in g h v (activation c q ∷ ks) m ls k n r a b d = (g, h, b, d)
-  gives_in g h v (iteration c it q ∷ ks) m ls k n r a b d = absurd a
-  gives_in g h v (ensuring o ∷ ks) m ls k n r a b d = absurd a
+  gives_in g h v [] m ls k n r around a b d = absurd a
+  gives_in g h v (part q ∷ ks) m ls k n r around a b d = (g, h, b, d)
+  gives_in g h v (activation c q ∷ ks) m ls k n r around a b d = (g, h, b, d)
+  gives_in g h v (iteration c it q ∷ ks) m ls k n r around a b d = absurd a
+  gives_in g h v (ensuring o ∷ ks) m ls k n r around a b d = absurd a
 
   -- the value of a form is written to its register, and the items go on
   pub writes : (g : Ground) (h : Site) → Static h → (v : Value) (ks : List Item) (m : source.Memory) (x : Rest)
-      (k : machine.Memory) (n r : ℕ) → Running s p g h m k → m.place ≡ place_in h → Room h r
-      → InFrame g h k.lists ks n r → Alike s p (Run (give v) ks m) (state_at g h x n (written h k r v))
-  writes g h static v ks m x k n r b there room a =
+      (k : machine.Memory) (n r : ℕ) (around : Option Loop) → Running s p g h m k → m.place ≡ place_in h → Room h r
+      → InFrame g h k.lists ks n r around → Alike s p (Run (give v) ks m) (state_at g h x n (written h k r v))
+  writes g h static v ks m x k n r around b there room a =
       let l' = put k.lists h.list r (V v) in
       let c = same_here g h m k b in
-      let a' = frame_kept g h k.lists l' ks n r (keeps_above h k.lists r r (V v) c.present (omega arith))
+      let a' = frame_kept g h k.lists l' ks n r around (keeps_above h k.lists r r (V v) c.present (omega arith))
       (put_only k.lists h.list r v) (omega (arith, b.free)) a in
-      gives_in g h v ks m (frame (frame_at h x n) ∷ g.below) (written h k r v) n r a'
+      gives_in g h v ks m (frame (frame_at h x n) ∷ g.below) (written h k r v) n r around a'
       (written_here g h m k b r v room.above) (record {
         x = x;
         n = n;
@@ -128,13 +136,14 @@ module _ {s : Source} {p : Program} where
         is = refl;
         there = there;
         stands = slot_same k.lists h.list r (V v) c.present (omega (arith, c.long, room.within));
+        loop = around;
         next = a';
       })
 
   -- the value stays in the register of its form, and the items go on
   pub stays : (g : Ground) (h : Site) (v : Value) (ks : List Item) (m : source.Memory) (x : Rest) (k : machine.Memory)
-      (n r : ℕ) → Running s p g h m k → m.place ≡ place_in h → slot_at k.lists h.list r ≡ V v
-      → InFrame g h k.lists ks n r → Alike s p (Run (give v) ks m) (state_at g h x n k)
-  stays g h v ks m x k n r b there stands a =
-      gives_in g h v ks m (frame (frame_at h x n) ∷ g.below) k n r a b
-      (record { x = x; n = n; r = r; is = refl; there = there; stands = stands; next = a })
+      (n r : ℕ) (around : Option Loop) → Running s p g h m k → m.place ≡ place_in h → slot_at k.lists h.list r ≡ V v
+      → InFrame g h k.lists ks n r around → Alike s p (Run (give v) ks m) (state_at g h x n k)
+  stays g h v ks m x k n r around b there stands a =
+      gives_in g h v ks m (frame (frame_at h x n) ∷ g.below) k n r around a b
+      (record { x = x; n = n; r = r; is = refl; there = there; stands = stands; loop = around; next = a })

@@ -19,7 +19,8 @@ use Rattle.def_machine.specs.Turn.{act, operate, call, reg, row, arguments, self
 use Rattle.step_laws.specs.Site.{Site, Named, number}
 use Rattle.step_laws.specs.Calm.{IsSteady}
 use Rattle.step_laws.proofs.Placed.{Rest, frame_at}
-use Rattle.step_laws.specs.Relation.{Ground, Holds, CallBy, operates, sends, sends_self}
+use Rattle.step_laws.specs.Behind.{Holds, CallBy, operates, sends, sends_self}
+use Rattle.step_laws.specs.Relation.{Ground}
 
 module _ (p : Program) (x : Name) (r next : ℕ) (f : Frame) (ls : List Level) (m : Memory) (o : Operation) where
   abbrev IsOperate : Type 0

@@ -41,6 +41,10 @@ pub ruleset heights = (line-past, line-behind, high-both, high-puts, high-nothin
 pub moved : (h : Site) (n k : ℕ) (p : Piece) → n ≡ k → Stands h n p → Stands h k p
 moved h n k p e s = subst (λ (i : ℕ). Stands h i p) e s
 
+pub nothing_stands : (h : Site) (n : ℕ) → Stands h n nothing
+unfolding Stands nothing
+nothing_stands h n = tt
+
 cut : (h : Site) (n : ℕ) (ls ks : List Line) → Lines h n (ls ++ ks) → Lines h n ls × Lines h (n + length ls) ks
 cut h n [] ks s = (tt, subst (λ (i : ℕ). Lines h i ks) (omega arith) s)
 cut h n (l ∷ ls) ks s =

@@ -1,18 +1,21 @@
 -- A write to one register, and what it leaves.
 use Rattle.std.proofs.Common.{◌≡◌, ◌≢◌, ℕ, zero, suc, ◌+◌, ◌<◌, ◌≤◌, List, [], ◌∷◌, refl, sym, ap, ◌∙◌, subst, arith, length, get_or, set, Bool, true, false, length-set, get_or-set_same, get_or-set_other, true≢false}
-use Rattle.std.specs.Prelude.{bytes_eq, Option, Some, None, unwrap_or, is_some, if◌then◌else◌}
+use Rattle.std.specs.Prelude.{Option, Some, None, unwrap_or, is_some, if◌then◌else◌}
+use Rattle.std.proofs.lemmas.Bool.{eq-eqb, eqb-true}
 use Rattle.std.proofs.lemmas.Slice.Eq.{bytes_eq-Decides}
 use Rattle.rb_value.specs.declared.value.Value.{Value}
 use Rattle.rb_value.specs.declared.value.Value.TheVariants.{Nil}
 use Rattle.rb_value.specs.declared.exit.Slot.{Slot}
 use Rattle.rb_value.specs.declared.exit.Slot.TheVariants.{V}
 use Rattle.rb_value.specs.Slot.{read}
-use Rattle.ir_core.specs.CoreForm.{Name, Local, named, hidden, pattern, rest}
-use Rattle.def_eval.specs.Configuration.{Place, Scope, Part, operands, receiver, items, block, elements, hash_key, hash_value, pieces, rest as rest_part, test, chosen, and_then, or_else, loop_test, loop_body, rescued, clause_class, clause_target, clause_body, ensured, Item, part, activation, iteration, ensuring, Memory}
+use Rattle.ir_core.specs.CoreForm.{Local, named, hidden, pattern, rest, Forms}
+use Rattle.gen_forms.specs.declared.context.Loop.{Loop}
+use Rattle.def_eval.specs.Configuration.{Place, Scope, Action, Part, operands, receiver, items, block, elements, hash_key, hash_value, pieces, rest as rest_part, test, chosen, and_then, or_else, loop_test, loop_body, rescued, clause_class, clause_target, clause_body, ensured, Item, part, activation, iteration, ensuring, Memory}
 use Rattle.def_eval.specs.Scopes.{same_local, value_in, put_value, no_scope, scope_at, outward, scopes_around, first_with, scope_of, variable, put_in, with_variable}
 use Rattle.def_machine.specs.State.{Registers, no_registers, body_at, list_at, slot_at, value_at, put}
 use Rattle.step_laws.specs.Site.{Site, place_in, register, Known}
-use Rattle.step_laws.specs.Relation.{Static, Holds, HoldsCall, Behind, Inside, Same}
+use Rattle.step_laws.specs.Behind.{Static, Holds, HoldsCall, OperandBehind, Behind, to_local, to_global, strict, breaks, begins_round}
+use Rattle.step_laws.specs.Relation.{Inside, Same}
 
 pub list_same : (l : List Registers) (n i : ℕ) (v : Slot) → n < length l
     → list_at (put l n i v) n ≡ record (list_at l n) { slots = set (list_at l n).slots i v }
@@ -70,16 +73,38 @@ call_kept h l l' false r low recv vs k above le s = holds_kept h l l' r low (rec
 call_kept h l l' true r low recv vs k above le s =
     (s.0, holds_kept h l l' r (low + 1) vs k (omega arith) (omega arith) s.1)
 
-behind_kept : (h : Site) (l l' : List Registers) (p : Part) (low n r end : ℕ) → Keeps h l l' r → h.first ≤ low
-    → Behind h l p low n r end → Behind h l' p low n r end
-behind_kept h l l' (operands j a vs es) low n r end k above b = b
-behind_kept h l l' (receiver j x is o) low n r end k above b = b
-behind_kept h l l' (items j s recv vs is o) low n r end k above b =
+operand_kept : (h : Site) (l l' : List Registers) (a : Action) (vs : List Value) (es : Forms) (low n r end : ℕ)
+    (around : Option Loop) → Keeps h l l' r → h.first ≤ low → OperandBehind h l a vs es low n r end around
+    → OperandBehind h l' a vs es low n r end around
+operand_kept h l l' a vs es low n r end around k above (to_local b) = to_local b
+operand_kept h l l' a vs es low n r end around k above (to_global b) = to_global b
+operand_kept h l l' a vs es low n r end around k above (breaks b) = breaks b
+operand_kept h l l' a vs es low n r end around k above (begins_round b) = begins_round b
+operand_kept h l l' a vs es low n r end around k above (strict b) = strict (record {
+  row = b.row;
+  held = holds_kept h l l' r low vs k above (omega (arith, b.row)) b.held;
+  s = b.s;
+  here = b.here;
+  room = b.room;
+  covered = b.covered;
+  o = b.o;
+  by = b.by;
+  ready = b.ready;
+  count = b.count;
+  code = b.code;
+  calls = b.calls;
+  ends = b.ends;
+})
+
+behind_kept : (h : Site) (l l' : List Registers) (p : Part) (low n r end : ℕ) (around : Option Loop) → Keeps h l l' r
+    → h.first ≤ low → Behind h l p low n r end around → Behind h l' p low n r end around
+behind_kept h l l' (operands j a vs es) low n r end around k above b = operand_kept h l l' a vs es low n r end around k above b
+behind_kept h l l' (receiver j x is o) low n r end around k above b = b
+behind_kept h l l' (items j s recv vs is o) low n r end around k above b =
     let still = call_kept h l l' b.own r low recv vs k above (omega (arith, b.at)) b.held in
     record {
       own = b.own;
       at = b.at;
-      loop = b.loop;
       s = b.s;
       here = b.here;
       plain = b.plain;
@@ -94,39 +119,87 @@ behind_kept h l l' (items j s recv vs is o) low n r end k above b =
       calls = b.calls;
       ends = b.ends;
     }
-behind_kept h l l' (block s recv vs) low n r end k above b = absurd b
-behind_kept h l l' (elements j g o s is) low n r end k above b = absurd b
-behind_kept h l l' (hash_key j o v ps) low n r end k above b = absurd b
-behind_kept h l l' (hash_value j o v ps) low n r end k above b = absurd b
-behind_kept h l l' (pieces j o es) low n r end k above b = absurd b
-behind_kept h l l' (rest_part j es) low n r end k above b = b
-behind_kept h l l' (test j t bs o) low n r end k above b = b
-behind_kept h l l' chosen low n r end k above b = b
-behind_kept h l l' (and_then j e) low n r end k above b = b
-behind_kept h l l' (or_else j e) low n r end k above b = b
-behind_kept h l l' (loop_test j t e) low n r end k above b = b
-behind_kept h l l' (loop_body j t e) low n r end k above b = b
-behind_kept h l l' (rescued j t cs o) low n r end k above b = absurd b
-behind_kept h l l' (clause_class j e es t d cs q) low n r end k above b = absurd b
-behind_kept h l l' (clause_target j e t q) low n r end k above b = absurd b
-behind_kept h l l' (clause_body q) low n r end k above b = absurd b
-behind_kept h l l' (ensured j e) low n r end k above b = absurd b
+behind_kept h l l' (block s recv vs) low n r end around k above b = absurd b
+behind_kept h l l' (elements j g o s is) low n r end around k above b = record {
+  at = b.at;
+  gathers = b.gathers;
+  held = k.same low above (omega (arith, b.at)) ∙ b.held;
+  s = b.s;
+  here = b.here;
+  room = b.room;
+  covered = b.covered;
+  pushes = b.pushes;
+  code = b.code;
+  ends = b.ends;
+}
+behind_kept h l l' (hash_key j o v ps) low n r end around k above b = record {
+  at = b.at;
+  held = k.same low above (omega (arith, b.at)) ∙ b.held;
+  s = b.s;
+  here = b.here;
+  room = b.room;
+  covered = b.covered;
+  value = b.value;
+  next = b.next;
+  next_line = b.next_line;
+  puts = b.puts;
+  code = b.code;
+  ends = b.ends;
+}
+behind_kept h l l' (hash_value j o v ps) low n r end around k above b = record {
+  at = b.at;
+  held = k.same low above (omega (arith, b.at)) ∙ b.held;
+  key = k.same (low + 1) (omega (arith, above)) (omega (arith, b.at)) ∙ b.key;
+  s = b.s;
+  here = b.here;
+  room = b.room;
+  covered = b.covered;
+  puts = b.puts;
+  code = b.code;
+  ends = b.ends;
+}
+behind_kept h l l' (pieces j o es) low n r end around k above b = record {
+  at = b.at;
+  held = k.same low above (omega (arith, b.at)) ∙ b.held;
+  s = b.s;
+  here = b.here;
+  room = b.room;
+  covered = b.covered;
+  adds = b.adds;
+  code = b.code;
+  ends = b.ends;
+}
+behind_kept h l l' (rest_part j es) low n r end around k above b = b
+behind_kept h l l' (test j t bs o) low n r end around k above b = b
+behind_kept h l l' chosen low n r end around k above b = b
+behind_kept h l l' (and_then j e) low n r end around k above b = b
+behind_kept h l l' (or_else j e) low n r end around k above b = b
+behind_kept h l l' (loop_test j t e) low n r end around k above b = b
+behind_kept h l l' (loop_body j t e) low n r end around k above b = b
+behind_kept h l l' (rescued j t cs o) low n r end around k above b = absurd b
+behind_kept h l l' (clause_class j e es t d cs q) low n r end around k above b = absurd b
+behind_kept h l l' (clause_target j e t q) low n r end around k above b = absurd b
+behind_kept h l l' (clause_body q) low n r end around k above b = absurd b
+behind_kept h l l' (ensured j e) low n r end around k above b = absurd b
 
 pub inside_kept : (h : Site) (l l' : List Registers) (AtEnd AtEnd' : ℕ → Place → List Item → ℕ → ℕ → Type 0)
     → ((a : ℕ) (p : Place) (is : List Item) (i t : ℕ) → AtEnd a p is i t → AtEnd' a p is i t)
-    → (ks : List Item) (n r : ℕ) → Keeps h l l' r → Inside h l AtEnd ks n r → Inside h l' AtEnd' ks n r
-inside_kept h l l' E F to [] n r k a = absurd a
-inside_kept h l l' E F to (part p ∷ ks) n r k a = record {
+    → (ks : List Item) (n r : ℕ) (around : Option Loop) → Keeps h l l' r → Inside h l AtEnd ks n r around
+    → Inside h l' AtEnd' ks n r around
+inside_kept h l l' E F to [] n r around k a = absurd a
+inside_kept h l l' E F to (part p ∷ ks) n r around k a = record {
   low = a.low;
   end = a.end;
   above = a.above;
   below = a.below;
-  behind = behind_kept h l l' p a.low n r a.end k a.above a.behind;
-  next = inside_kept h l l' E F to ks a.end a.low (lower h l l' r a.low a.below k) a.next;
+  behind = behind_kept h l l' p a.low n r a.end around k a.above a.behind;
+  outer = a.outer;
+  inner = a.inner;
+  next = inside_kept h l l' E F to ks a.end a.low a.outer (lower h l l' r a.low a.below k) a.next;
 }
-inside_kept h l l' E F to (activation c p ∷ ks) n r k a = to c p ks n r a
-inside_kept h l l' E F to (iteration c it p ∷ ks) n r k a = absurd a
-inside_kept h l l' E F to (ensuring o ∷ ks) n r k a = absurd a
+inside_kept h l l' E F to (activation c p ∷ ks) n r around k a = (to c p ks n r a.0, a.1)
+inside_kept h l l' E F to (iteration c it p ∷ ks) n r around k a = absurd a
+inside_kept h l l' E F to (ensuring o ∷ ks) n r around k a = absurd a
 
 -- A write above the locals.
 pub same_above : (h : Site) (cs : List Scope) (l : List Registers) (r : ℕ) (v : Value) → Static h → h.first ≤ r
@@ -144,41 +217,52 @@ same_above h cs l r v static above s = record {
 
 -- Variables.
 
-same : (x : Name) → bytes_eq x x ≡ true
-same x = (bytes_eq-Decides x x).1 refl
+same : (x : Local) → same_local x x ≡ true
+same (named x) = (bytes_eq-Decides x x).1 refl
+same (hidden d) = eq-eqb d d refl
+same (pattern k) = eq-eqb k k refl
+same rest = refl
 
-value_same : (vs : List (Local × Value)) (x : Name) (u : Value)
-    → value_in (put_value vs (named x) u) (named x) ≡ Some u
+value_same : (vs : List (Local × Value)) (x : Local) (u : Value) → value_in (put_value vs x u) x ≡ Some u
 value_same [] x u = ap (λ (b : Bool). if b then Some u else None) (same x)
-value_same (v ∷ vs) x u = at (value_same vs x u) (same_local (named x) v.0) refl
+value_same (v ∷ vs) x u = at (value_same vs x u) (same_local x v.0) refl
   where
-    at : value_in (put_value vs (named x) u) (named x) ≡ Some u → (b : Bool) → same_local (named x) v.0 ≡ b
-        → value_in (if b then (named x, u) ∷ vs else v ∷ put_value vs (named x) u) (named x) ≡ Some u
-    at further true e = ap (λ (b : Bool). if b then Some u else value_in vs (named x)) (same x)
-    at further false e =
-        ap (λ (b : Bool). if b then Some v.1 else value_in (put_value vs (named x) u) (named x)) e ∙ further
+    at : value_in (put_value vs x u) x ≡ Some u → (b : Bool) → same_local x v.0 ≡ b
+        → value_in (if b then (x, u) ∷ vs else v ∷ put_value vs x u) x ≡ Some u
+    at further true e = ap (λ (b : Bool). if b then Some u else value_in vs x) (same x)
+    at further false e = ap (λ (b : Bool). if b then Some v.1 else value_in (put_value vs x u) x) e ∙ further
 
 -- the local that is the same
-is_named : (x : Name) (y : Local) → same_local (named x) y ≡ true → y ≡ named x
-is_named x (named z) e = ap named (sym ((bytes_eq-Decides x z).0 e))
-is_named x (hidden d) e = absurd (true≢false (sym e))
-is_named x (pattern k) e = absurd (true≢false (sym e))
-is_named x rest e = absurd (true≢false (sym e))
+is_same : (x y : Local) → same_local x y ≡ true → y ≡ x
+is_same (named x) (named z) e = ap named (sym ((bytes_eq-Decides x z).0 e))
+is_same (named x) (hidden d) e = absurd (true≢false (sym e))
+is_same (named x) (pattern k) e = absurd (true≢false (sym e))
+is_same (named x) rest e = absurd (true≢false (sym e))
+is_same (hidden c) (named z) e = absurd (true≢false (sym e))
+is_same (hidden c) (hidden d) e = ap hidden (sym (eqb-true c d e))
+is_same (hidden c) (pattern k) e = absurd (true≢false (sym e))
+is_same (hidden c) rest e = absurd (true≢false (sym e))
+is_same (pattern i) (named z) e = absurd (true≢false (sym e))
+is_same (pattern i) (hidden d) e = absurd (true≢false (sym e))
+is_same (pattern i) (pattern k) e = ap pattern (sym (eqb-true i k e))
+is_same (pattern i) rest e = absurd (true≢false (sym e))
+is_same rest (named z) e = absurd (true≢false (sym e))
+is_same rest (hidden d) e = absurd (true≢false (sym e))
+is_same rest (pattern k) e = absurd (true≢false (sym e))
+is_same rest rest e = refl
 
-value_other : (vs : List (Local × Value)) (x y : Name) (u : Value) → bytes_eq y x ≡ false
-    → value_in (put_value vs (named x) u) (named y) ≡ value_in vs (named y)
+value_other : (vs : List (Local × Value)) (x y : Local) (u : Value) → same_local y x ≡ false
+    → value_in (put_value vs x u) y ≡ value_in vs y
 value_other [] x y u ne = ap (λ (b : Bool). if b then Some u else None) ne
-value_other (v ∷ vs) x y u ne = at (value_other vs x y u ne) (same_local (named x) v.0) refl
+value_other (v ∷ vs) x y u ne = at (value_other vs x y u ne) (same_local x v.0) refl
   where
-    at : value_in (put_value vs (named x) u) (named y) ≡ value_in vs (named y) → (b : Bool)
-        → same_local (named x) v.0 ≡ b
-        → value_in (if b then (named x, u) ∷ vs else v ∷ put_value vs (named x) u) (named y)
-        ≡ (if same_local (named y) v.0 then Some v.1 else value_in vs (named y))
+    at : value_in (put_value vs x u) y ≡ value_in vs y → (b : Bool) → same_local x v.0 ≡ b
+        → value_in (if b then (x, u) ∷ vs else v ∷ put_value vs x u) y
+        ≡ (if same_local y v.0 then Some v.1 else value_in vs y)
     at further true e =
-        ap (λ (b : Bool). if b then Some u else value_in vs (named y)) ne
-        ∙ sym (ap (λ (b : Bool). if b then Some v.1 else value_in vs (named y))
-        (ap (same_local (named y)) (is_named x v.0 e) ∙ ne))
-    at further false e = ap (λ (o : Option Value). if same_local (named y) v.0 then Some v.1 else o) further
+        ap (λ (b : Bool). if b then Some u else value_in vs y) ne
+        ∙ sym (ap (λ (b : Bool). if b then Some v.1 else value_in vs y) (ap (same_local y) (is_same x v.0 e) ∙ ne))
+    at further false e = ap (λ (o : Option Value). if same_local y v.0 then Some v.1 else o) further
 
 -- the scope of a name is that of the body, which has none around
 none_out : (n : ℕ) (cs : List Scope) → outward n cs None ≡ []
@@ -197,19 +281,21 @@ the_scope cs n x e =
     at true = refl
     at false = refl
 
-pub scope_is : (m : Memory) (x : Name) → (scope_at m.scopes m.place.scope).parent ≡ None
-    → scope_of m (named x) ≡ m.place.scope
-scope_is m x e = the_scope m.scopes m.place.scope (named x) e
+pub scope_is : (m : Memory) (x : Local) → (scope_at m.scopes m.place.scope).parent ≡ None → scope_of m x ≡ m.place.scope
+scope_is m (named x) e = the_scope m.scopes m.place.scope (named x) e
+scope_is m (hidden d) e = refl
+scope_is m (pattern k) e = the_scope m.scopes m.place.scope (pattern k) e
+scope_is m rest e = the_scope m.scopes m.place.scope rest e
 
--- what a name reads as
-pub named_is : (h : Site) (m : Memory) (l : List Registers) (x : Name) → m.place ≡ place_in h → Same h m.scopes l
-    → Known h x → variable m (named x) ≡ value_at l h.list (register h x)
+-- what a local reads as
+pub named_is : (h : Site) (m : Memory) (l : List Registers) (x : Local) → m.place ≡ place_in h → Same h m.scopes l
+    → Known h x → variable m x ≡ value_at l h.list (register h x)
 unfolding variable
 named_is h m l x there s k =
     let e : m.place.scope ≡ h.list = ap (λ (p : Place). p.scope) there in
     let none : (scope_at m.scopes m.place.scope).parent ≡ None =
     subst (λ (n : ℕ). (scope_at m.scopes n).parent ≡ None) (sym e) s.parent in
-    ap (λ (n : ℕ). unwrap_or (value_in (scope_at m.scopes n).variables (named x)) Nil) (scope_is m x none ∙ e)
+    ap (λ (n : ℕ). unwrap_or (value_in (scope_at m.scopes n).variables x) Nil) (scope_is m x none ∙ e)
     ∙ s.alike x k
 
 scope_put : (cs : List Scope) (n : ℕ) (x : Local) (v : Value) → n < length cs
@@ -223,18 +309,18 @@ scope_other cs n j x v ne =
     get_or-set_other cs n j (record (scope_at cs n) { variables = put_value (scope_at cs n).variables x v }) no_scope ne
 
 -- an assignment on both sides
-pub put_alike : (h : Site) (cs : List Scope) (l : List Registers) (x : Name) (v : Value) → Static h → Same h cs l
+pub put_alike : (h : Site) (cs : List Scope) (l : List Registers) (x : Local) (v : Value) → Static h → Same h cs l
     → Known h x → register h x < (body_at h.program h.body).registers
-    → Same h (put_in cs h.list (named x) v) (put l h.list (register h x) (V v))
+    → Same h (put_in cs h.list x v) (put l h.list (register h x) (V v))
 put_alike h cs l x v static s k within =
-    let now = scope_put cs h.list (named x) v s.scope in
+    let now = scope_put cs h.list x v s.scope in
     let old = (scope_at cs h.list).variables in
     record {
       scope = omega (
         arith,
         s.scope,
         length-set cs h.list
-            (record (scope_at cs h.list) { variables = put_value old (named x) v }),
+            (record (scope_at cs h.list) { variables = put_value old x v }),
       );
       parent = ap (λ (c : Scope). c.parent) now ∙ s.parent;
       present = omega (arith, s.present, length_put l h.list (register h x) (V v));
@@ -242,30 +328,30 @@ put_alike h cs l x v static s k within =
           ∙ length-set (list_at l h.list).slots (register h x) (V v) ∙ s.long;
       self = ap read (slot_other l h.list (register h x) 0 (V v) s.present (omega (arith, k.behind_self))) ∙ s.self;
       alike = λ y known.
-          ap (λ (c : Scope). unwrap_or (value_in c.variables (named y)) Nil) now
-          ∙ at y known (bytes_eq y x) refl;
+          ap (λ (c : Scope). unwrap_or (value_in c.variables y) Nil) now
+          ∙ at y known (same_local y x) refl;
     }
   where
-    at : (y : Name) → Known h y → (b : Bool) → bytes_eq y x ≡ b
-        → unwrap_or (value_in (put_value (scope_at cs h.list).variables (named x) v) (named y)) Nil
+    at : (y : Local) → Known h y → (b : Bool) → same_local y x ≡ b
+        → unwrap_or (value_in (put_value (scope_at cs h.list).variables x v) y) Nil
         ≡ value_at (put l h.list (register h x) (V v)) h.list (register h y)
     at y known true e =
-        let is : y ≡ x = (bytes_eq-Decides y x).0 e in
-        ap (λ (z : Name). unwrap_or (value_in (put_value (scope_at cs h.list).variables (named x) v) (named z)) Nil) is
+        let is : y ≡ x = sym (is_same y x e) in
+        ap (λ (z : Local). unwrap_or (value_in (put_value (scope_at cs h.list).variables x v) z) Nil) is
         ∙ ap (λ (o : Option Value). unwrap_or o Nil) (value_same (scope_at cs h.list).variables x v)
         ∙ sym (ap read (slot_same l h.list (register h x) (V v) s.present (omega (arith, s.long, within))))
-        ∙ ap (λ (z : Name). value_at (put l h.list (register h x) (V v)) h.list (register h z)) (sym is)
+        ∙ ap (λ (z : Local). value_at (put l h.list (register h x) (V v)) h.list (register h z)) (sym is)
     at y known false e =
         ap (λ (o : Option Value). unwrap_or o Nil) (value_other (scope_at cs h.list).variables x y v e)
         ∙ s.alike y known
         ∙ sym (ap read (slot_other l h.list (register h x) (register h y) (V v) s.present (static.apart y x known k e)))
 
--- the scope of the body is that in which a name is assigned
-pub assigned : (h : Site) (m : Memory) (x : Name) (v : Value) → m.place ≡ place_in h
-    → (scope_at m.scopes h.list).parent ≡ None → (with_variable m (named x) v).scopes ≡ put_in m.scopes h.list (named x) v
+-- the scope of the body is that in which a local is assigned
+pub assigned : (h : Site) (m : Memory) (x : Local) (v : Value) → m.place ≡ place_in h
+    → (scope_at m.scopes h.list).parent ≡ None → (with_variable m x v).scopes ≡ put_in m.scopes h.list x v
 unfolding with_variable
 assigned h m x v there none =
     let e : m.place.scope ≡ h.list = ap (λ (p : Place). p.scope) there in
     let none' : (scope_at m.scopes m.place.scope).parent ≡ None =
     subst (λ (n : ℕ). (scope_at m.scopes n).parent ≡ None) (sym e) none in
-    ap (λ (n : ℕ). put_in m.scopes n (named x) v) (scope_is m x none' ∙ e)
+    ap (λ (n : ℕ). put_in m.scopes n x v) (scope_is m x none' ∙ e)

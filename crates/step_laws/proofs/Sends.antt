@@ -1,12 +1,13 @@
 -- Calls: the receiver, the items one after the other, and the call.
 use Rattle.std.proofs.Common.{◌≡◌, ℕ, ◌+◌, ◌<◌, List, [], ◌∷◌, refl, sym, ap, ◌∙◌, subst, arith, length, Bool, true, false}
-use Rattle.std.specs.Prelude.{if◌then◌else◌, Option, None, nat_lt}
+use Rattle.std.specs.Prelude.{is_some, if◌then◌else◌, Option, None, nat_lt}
 use Rattle.rb_value.specs.declared.value.Value.{Value}
 use Rattle.rb_value.specs.declared.exit.Slot.TheVariants.{V}
 use Rattle.rb_value.specs.Slot.{read}
 use Rattle.rite_code.specs.declared.operation.Operation.{Operation}
+use Rattle.rite_code.specs.declared.operation.Operation.TheVariants as op
 use Rattle.ir_counts.specs.Tables.{item_count}
-use Rattle.ir_core.specs.CoreForm.{Name, absent, Items, no_items, plain, splat}
+use Rattle.ir_core.specs.CoreForm.{Name, absent, there, Items, no_items, plain, splat}
 use Rattle.gen_parts.specs.declared.line.Line.TheVariants as line
 use Rattle.gen_parts.specs.declared.emitter.Spot.{Spot}
 use Rattle.gen_parts.specs.Pieces.{past}
@@ -25,16 +26,17 @@ use Rattle.def_eval.specs.Transition.{go}
 use Rattle.def_machine.specs.State as machine
 use Rattle.def_machine.specs.State.{Registers, Frame, frame, value_at, put}
 use Rattle.def_machine.specs.Entering.{enter as enter_machine}
-use Rattle.def_machine.specs.Turn.{call as call_machine, arguments}
+use Rattle.def_machine.specs.Turn.{turn, call as call_machine, arguments}
 use Rattle.step_laws.specs.Site.{Site, within, place_in, at_line, LineAt, Room, number}
 use Rattle.step_laws.specs.Covered.{CoveredItems}
 use Rattle.step_laws.specs.Calm.{IsSteady}
 use Rattle.step_laws.specs.Measure.{size_items, burden, measure}
 use Rattle.step_laws.proofs.Placed.{high, high-both, high-nothing, line-past, Stands, left, right, Rest, frame_at, turned}
-use Rattle.step_laws.specs.Relation.{Waits, Ground, over_levels, Static, Holds, HoldsCall, CallBy, InFrame, Common, Related, Step}
+use Rattle.step_laws.proofs.Matching.{by_none, state_at, written}
+use Rattle.step_laws.specs.Behind.{Static, Holds, HoldsCall, CallBy}
+use Rattle.step_laws.specs.Relation.{Waits, Ground, over_levels, InFrame, Common, Related, Step}
 use Rattle.step_laws.proofs.Registers.{slot_same, slot_other, keeps_above}
 use Rattle.step_laws.proofs.Untouched.{put_only, frame_kept, grown, same_here, written_here, below_running}
-use Rattle.step_laws.proofs.Matching.{by_none, state_at, written}
 use Rattle.step_laws.proofs.Calling.{From, Worlds, entered}
 use Rattle.step_laws.proofs.Literals.{aligned}
 use Rattle.step_laws.proofs.Operators.{few, arguments_are, calls_value, calls_self}
@@ -50,7 +52,7 @@ pub record CallSite (g : Ground) (h : Site) (l : List Registers) (recv : Value) 
   pub r : ℕ
   pub row : low + 1 + length vs ≡ r
   pub room : Room h low
-  pub covered : CoveredItems h r is
+  pub covered : CoveredItems h (is_some loop) r is
   pub name : Name
   pub held : HoldsCall h l own low recv vs
   pub o : Operation
@@ -59,7 +61,7 @@ pub record CallSite (g : Ground) (h : Site) (l : List Registers) (recv : Value) 
   pub calls : LineAt h (n + high (pass_in_registers (within h loop) s r is)) (line.Does o)
   pub end : ℕ
   pub ends : n + high (pass_in_registers (within h loop) s r is) + 1 ≡ end
-  pub next : InFrame g h l ks end low
+  pub next : InFrame g h l ks end low loop
 
 -- a frame that waits in a register for what its instruction calls
 abbrev asking : Site → Rest → ℕ → ℕ → Rest
@@ -112,10 +114,10 @@ module _ (g : Ground) (h : Site) (static : Static h) (ks : List Item) (m : sourc
   waiting_worlds k' b f e w grows =
       grown (over_levels g (frame f ∷ g.below)) m k' (below_running g h m k' b f e) m.place w grows
 
-  waiting_frame : (x : Rest) (n r : ℕ) (k' : machine.Memory) → Common g h m k' → Room h r
-      → InFrame g h k'.lists ks (n + 1) r
+  waiting_frame : (x : Rest) (n r : ℕ) (around : Option Loop) (k' : machine.Memory) → Common g h m k' → Room h r
+      → InFrame g h k'.lists ks (n + 1) r around
       → Waits g.sites g.fiber k'.lists ks m.place (frame (frame_at h (asking h x n r) n) ∷ g.below)
-  waiting_frame x n r k' b room next = record {
+  waiting_frame x n r around k' b room next = record {
     h = h;
     x = asking h x n r;
     at = n;
@@ -125,6 +127,7 @@ module _ (g : Ground) (h : Site) (static : Static h) (ks : List Item) (m : sourc
     after = refl;
     room = room;
     there = at_home;
+    around = around;
     next = next;
   }
 
@@ -143,11 +146,13 @@ module _ (g : Ground) (h : Site) (static : Static h) (ks : List Item) (m : sourc
       omega (arith, high-nothing) in
       let at : LineAt h n (line.Does b.o) = subst (λ (i : ℕ). LineAt h i (line.Does b.o)) here b.calls in
       let ends : b.end ≡ n + 1 = omega (arith, here, b.ends) in
-      let next : InFrame g h k.lists ks (n + 1) b.low = subst (λ (i : ℕ). InFrame g h k.lists ks i b.low) ends b.next in
+      let next : InFrame g h k.lists ks (n + 1) b.low b.loop =
+      subst (λ (i : ℕ). InFrame g h k.lists ks i b.low b.loop) ends b.next in
       by b.own b.by b.held at next goes' count n253
     where
       by : (own : Bool) → CallBy h b.low b.name (length vs + item_count no_items) own b.o
-          → HoldsCall h k.lists own b.low recv vs → LineAt h n (line.Does b.o) → InFrame g h k.lists ks (n + 1) b.low
+          → HoldsCall h k.lists own b.low recv vs → LineAt h n (line.Does b.o)
+          → InFrame g h k.lists ks (n + 1) b.low b.loop
           → go h.source c ≡ enter h.source (the_entry b.name recv vs) None ks m
           → length vs + item_count no_items ≡ length vs → nat_lt 253 (length vs + item_count no_items) ≡ false
           → Step h c (state_at g h x n (aligned k m))
@@ -160,7 +165,7 @@ module _ (g : Ground) (h : Site) (static : Static h) (ks : List Item) (m : sourc
           let f = frame_at h (asking h x n b.low) n in
           entered h.source h.program c (frame (frame_at h x n) ∷ g.below) (aligned k m) m from (the_entry b.name recv vs) ks
           m g (frame f ∷ g.below) (aligned k m) goes' turns less refl (waiting_worlds (aligned k m) both f refl)
-          (waiting_frame x n b.low (aligned k m) both b.room next)
+          (waiting_frame x n b.low b.loop (aligned k m) both b.room next)
       by true by_that held at next goes' count n253 =
           let s = same_here g h m (aligned k m) both in
           let v = value_at k.lists h.list 0 in
@@ -174,13 +179,13 @@ module _ (g : Ground) (h : Site) (static : Static h) (ks : List Item) (m : sourc
           by_that
           ∙ turns_in x n b.low (length vs + item_count no_items) k' recv vs b.name first
           (items_kept h k.lists (b.low + 1) b.low v vs s.present (omega arith) held.1) count n253 refl in
-          let next' = frame_kept g h k.lists k'.lists ks (n + 1) b.low
+          let next' = frame_kept g h k.lists k'.lists ks (n + 1) b.low b.loop
           (keeps_above h k.lists b.low b.low (V v) s.present (omega arith)) (put_only k.lists h.list b.low v)
           (omega (arith, both.free)) next in
           let f = frame_at h (asking h x n b.low) n in
           entered h.source h.program c (frame (frame_at h x n) ∷ g.below) (aligned k m) m from (the_entry b.name recv vs) ks
           m g (frame f ∷ g.below) k' goes' turns less refl (waiting_worlds k' both' f refl)
-          (waiting_frame x n b.low k' both' b.room next')
+          (waiting_frame x n b.low b.loop k' both' b.room next')
 
   -- the next item, or the call
   pub items_on : (c : Config) (x : Rest) (n j : ℕ) (sender : Sending) (recv : Value) (vs : List Value) (is : Items)
@@ -223,7 +228,6 @@ module _ (g : Ground) (h : Site) (static : Static h) (ks : List Item) (m : sourc
             behind = record {
               own = b.own;
               at = b.row;
-              loop = b.loop;
               s = past b.s p;
               here = line-past b.s p ∙ ap (λ (l : ℕ). l + high p) b.here;
               plain = refl;
@@ -238,6 +242,8 @@ module _ (g : Ground) (h : Site) (static : Static h) (ks : List Item) (m : sourc
               calls = subst (λ (l : ℕ). LineAt h l (line.Does b.o)) (omega (arith, high-both p q)) b.calls;
               ends = omega (arith, high-both p q, b.ends);
             };
+            outer = b.loop;
+            inner = refl;
             next = b.next;
           };
         },

@@ -1,5 +1,5 @@
 -- Sequences.
-use Rattle.std.proofs.Common.{◌≡◌, ℕ, ◌+◌, List, ◌∷◌, refl, sym, ap, ◌∙◌, subst, arith}
+use Rattle.std.proofs.Common.{◌≡◌, ℕ, ◌+◌, List, [], ◌∷◌, refl, sym, ap, ◌∙◌, subst, arith}
 use Rattle.rb_value.specs.declared.value.Value.{Value}
 use Rattle.rb_value.specs.declared.value.Value.TheVariants.{Nil}
 use Rattle.rb_value.specs.declared.exit.Slot.TheVariants.{V}
@@ -17,7 +17,8 @@ use Rattle.def_machine.specs.State.{Level, frame, slot_at}
 use Rattle.step_laws.specs.Site.{Site, within}
 use Rattle.step_laws.proofs.Placed.{high, high-both, high-puts, high-nothing, heights, line-past, left, right, the_line, frame_at}
 use Rattle.step_laws.specs.Measure.{poise}
-use Rattle.step_laws.specs.Relation.{Ground, Static, InFrame, Common, Doing, GivesIn, Step}
+use Rattle.step_laws.specs.Behind.{Static}
+use Rattle.step_laws.specs.Relation.{Ground, InFrame, Common, Doing, GivesIn, Step}
 use Rattle.step_laws.proofs.Matching.{by_none, going, given_light, state_at, stays}
 use Rattle.step_laws.proofs.Literals.{aligned, written_by}
 
@@ -28,10 +29,10 @@ module _ (g : Ground) (h : Site) (static : Static h) (ks : List Item) (m : sourc
   unfolding do_form
   do_seq j none d =
       let o = op.LoadNil d.r in
-      written_by g h static (Run (perform j (seq none)) ks m) Nil ks m d.x k d.n d.r o
+      written_by g h static (Run (perform j (seq none)) ks m) Nil ks m d.x k d.n d.r o d.loop
       (going (perform j (seq none)) ks m (frame (frame_at h d.x d.n) ∷ g.below) (aligned k m) refl) refl
       (the_line h d.n (line.Does o) d.code) refl both d.there d.covered.0
-      (subst (λ (i : ℕ). InFrame g h k.lists ks (d.n + i) d.r) (high-puts (line.Does o)) d.next)
+      (subst (λ (i : ℕ). InFrame g h k.lists ks (d.n + i) d.r d.loop) (high-puts (line.Does o)) d.next)
   do_seq j (more e es) d =
       let p = gen (within h d.loop) d.s d.r e in
       let q = others_in_turn (within h d.loop) (past d.s p) d.r es in
@@ -58,13 +59,14 @@ module _ (g : Ground) (h : Site) (static : Static h) (ks : List Item) (m : sourc
             below = omega arith;
             behind = record {
               at = refl;
-              loop = d.loop;
               s = past d.s p;
               here = line-past d.s p ∙ ap (λ (i : ℕ). i + high p) d.here;
               covered = d.covered.1.1;
               code = right h d.n p q d.code;
               ends = simp heights (omega arith);
             };
+            outer = d.loop;
+            inner = refl;
             next = d.next;
           };
         },
@@ -75,15 +77,16 @@ module _ (g : Ground) (h : Site) (static : Static h) (ks : List Item) (m : sourc
   unfolding do_give give_part
   give_rest v j none d =
       let b = d.next.behind in
-      let light : poise (give v) ks ≡ 1 = given_light g h k.lists ks d.next.end d.next.low v d.next.next in
+      let light : poise (give v) ks ≡ 1 =
+      given_light g h k.lists ks d.next.end d.next.low d.next.outer v d.next.next in
       by_none h (Run (give v) (part (rest j none) ∷ ks) m) (state_at g h d.x d.n (aligned k m)) (omega (arith, light))
-      (stays g h v ks m d.x (aligned k m) d.n d.next.low both d.there
+      (stays g h v ks m d.x (aligned k m) d.n d.next.low d.next.outer both d.there
       (subst (λ (i : ℕ). slot_at k.lists h.list i ≡ V v) (sym b.at) d.stands)
-      (subst (λ (i : ℕ). InFrame g h k.lists ks i d.next.low) (sym (omega (arith, high-nothing, b.ends))) d.next.next))
+      (subst (λ (i : ℕ). InFrame g h k.lists ks i d.next.low d.next.outer) (sym (omega (arith, high-nothing, b.ends))) d.next.next))
   give_rest v j (more e es) d =
       let b = d.next.behind in
-      let p = gen (within h b.loop) b.s d.next.low e in
-      let q = others_in_turn (within h b.loop) (past b.s p) d.next.low es in
+      let p = gen (within h d.loop) b.s d.next.low e in
+      let q = others_in_turn (within h d.loop) (past b.s p) d.next.low es in
       by_none h (Run (give v) (part (rest j (more e es)) ∷ ks) m) (state_at g h d.x d.n (aligned k m)) (omega arith) (
         g,
         h,
@@ -94,7 +97,7 @@ module _ (g : Ground) (h : Site) (static : Static h) (ks : List Item) (m : sourc
           r = d.next.low;
           is = refl;
           there = d.there;
-          loop = b.loop;
+          loop = d.loop;
           s = b.s;
           here = b.here;
           covered = b.covered.0;
@@ -107,13 +110,14 @@ module _ (g : Ground) (h : Site) (static : Static h) (ks : List Item) (m : sourc
             below = omega arith;
             behind = record {
               at = refl;
-              loop = b.loop;
               s = past b.s p;
               here = line-past b.s p ∙ ap (λ (i : ℕ). i + high p) b.here;
               covered = b.covered.1;
               code = right h d.n p q b.code;
               ends = omega (arith, high-both p q, b.ends);
             };
+            outer = d.next.outer;
+            inner = d.next.inner;
             next = d.next.next;
           };
         },

@@ -64,7 +64,7 @@ has_interned st x y i h = by (position (bytes_eq y) st.symbols)
     by None = record { at = position_more (bytes_eq x) st.symbols (y ∷ []) i h.at }
     by (Some k) = h
 
-has_named : (ns : List Name) (st : Store) (x : Name) (i : ℕ) → Has st x i → Has (with_names st ns) x i
+pub has_named : (ns : List Name) (st : Store) (x : Name) (i : ℕ) → Has st x i → Has (with_names st ns) x i
 unfolding with_names
 has_named [] st x i h = h
 has_named (n ∷ ns) st x i h = has_named ns (intern st n).store x i (has_interned st x n i h)

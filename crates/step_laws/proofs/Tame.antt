@@ -13,7 +13,7 @@ use Rattle.def_calls.specs.World.{World, Answer, Result as Given, gives, raises,
 use Rattle.def_calls.specs.Calls.{Sending, by_name, Entry, answers, enters, begins, is_full, settle, main_activation, close_run, close}
 use Rattle.def_calls.specs.Plans.{Iteration}
 use Rattle.def_eval.specs.Source.{Source}
-use Rattle.def_eval.specs.Configuration.{Place, Scope, raise, assign, Part, operands, receiver, items, block, elements, hash_key, hash_value, pieces, rest, test, chosen, and_then, or_else, loop_test, loop_body, rescued, clause_class, clause_target, clause_body, ensured, Item, part, activation, iteration, ensuring, Focus, perform, give, travel, Memory, with_world, Config, Run, Halt}
+use Rattle.def_eval.specs.Configuration.{Place, Scope, raise, assign, Part, operands, receiver, items, block, elements, hash_key, hash_value, pieces, rest, test, chosen, and_then, or_else, loop_test, loop_body, rescued, clause_class, clause_target, clause_body, ensured, Item, part, activation, iteration, ensuring, Focus, perform, give, travel, Memory, with_world, Config, Run, Halt, Exit, leave_loop, next, Action, leave_call, leave_round}
 use Rattle.def_eval.specs.Scopes.{same_local, value_in, put_value, scope_at, scope_of, variable}
 use Rattle.def_eval.specs.Entering.{after_result, depth, open_iteration, enter}
 use Rattle.step_laws.specs.Site.{number}
@@ -36,9 +36,14 @@ pub data Sent (s : Source) (k : Sending) (recv : Value) : Type 0 where
   operator : (x : Name) → k ≡ by_name (number s x) → IsOperator x → IsImmediate recv → Sent s k recv
   puts : k ≡ by_name (number s (codes "puts")) → recv ≡ Obj main_object → Sent s k recv
 
+-- a local that is assigned, and an exit of a loop
+pub data Awaits (a : Action) : Type 0 where
+  to_local : (x : Local) → a ≡ assign x → Awaits a
+  to_end : a ≡ leave_call → Awaits a
+  to_round : a ≡ leave_round → Awaits a
+
 abbrev pub PartIs : Source → Part → Type 0
-PartIs s (operands j a vs es) =
-    record { name : Local; action : a ≡ assign name; first : vs ≡ []; last : es ≡ form.none }
+PartIs s (operands j a vs es) = Awaits a × (vs ≡ []) × (es ≡ form.none)
 PartIs s (receiver j x is b) = IsOperator x × AreSimpleItems is × (b ≡ form.absent)
 PartIs s (items j k recv vs is b) = Sent s k recv × AreImmediate vs × AreSimpleItems is × (b ≡ form.absent)
 PartIs s (block k recv vs) = ⊥
@@ -80,10 +85,15 @@ GivenTo v (activation a p ∷ ks) = IsImmediate v
 GivenTo v (iteration a it p ∷ ks) = Unit {0}
 GivenTo v (ensuring o ∷ ks) = IsImmediate v
 
+pub data IsExit (x : Exit) : Type 0 where
+  raised : (e : ObjId) → x ≡ raise e → IsExit x
+  left : (v : Value) → x ≡ leave_loop v → IsImmediate v → IsExit x
+  anew : (v : Value) → x ≡ next v → IsImmediate v → IsExit x
+
 abbrev pub FocusIs : Focus → List Item → Place → Type 0
 FocusIs (perform j e) ks place = IsSimple e × (place.activation ≡ 1)
 FocusIs (give v) ks place = GivenTo v ks
-FocusIs (travel x) ks place = record { e : ObjId; is : x ≡ raise e }
+FocusIs (travel x) ks place = IsExit x
 
 pub record MemoryIs (s : Source) (f : Focus) (ks : List Item) (m : Memory) : Type 0 where
   pub kept : Kept s m.world
@@ -189,7 +199,8 @@ main_closed s w k = ap (λ (a : Activation). close_run w a.self a.runs) (main_is
 
 pub answer_fine : (s : Source) (Is : Value → Type 0) (m l : Memory) (w : World) (ks : List Item) (a : Answer)
     → AnswerIs s Is w a → w.out ≡ m.world.out → w.activations ≡ m.world.activations
-    → length l.scopes ≡ length m.scopes → ScopesAre l.scopes → l.fibers.resumer ≡ None → ItemsAre s w ks l.place → ((v : Value) → Is v → GivenTo v ks)
+    → length l.scopes ≡ length m.scopes → ScopesAre l.scopes → l.fibers.resumer ≡ None → ItemsAre s w ks l.place
+    → ((v : Value) → Is v → GivenTo v ks)
     → Fine s m (after_result a.result a.world ks l)
 answer_fine s Is m l w ks a g out same scopes all alone under to = by a.result g.result
   where
@@ -205,13 +216,14 @@ answer_fine s Is m l w ks a g out same scopes all alone under to = by a.result g
       (scopes, quiet_given v ks m (with_world l a.world) (g.out ∙ out), grows),
     )
     by (raises e) i = (
-      record { kept = g.kept; scopes = all; alone = alone; focus = record { e = e; is = refl }; items = still },
+      record { kept = g.kept; scopes = all; alone = alone; focus = raised e refl; items = still },
       (scopes, g.out ∙ out, grows),
     )
 
 pub opened_fine : (s : Source) (m l : Memory) (ks : List Item) (it : Iteration) (a : Activation) → IsOfPuts it
     → a.runs ≡ core_method → Kept s l.world → l.world.activations ≡ m.world.activations
-    → length l.scopes ≡ length m.scopes → ScopesAre l.scopes → l.fibers.resumer ≡ None → ItemsAre s l.world ks l.place → Fine s m (open_iteration it a ks l l.world)
+    → length l.scopes ≡ length m.scopes → ScopesAre l.scopes → l.fibers.resumer ≡ None → ItemsAre s l.world ks l.place
+    → Fine s m (open_iteration it a ks l l.world)
 unfolding activation_at
 opened_fine s m l ks it a is core k same scopes all alone under =
     let acts = l.world.activations in

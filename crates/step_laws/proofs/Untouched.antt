@@ -3,13 +3,14 @@
 use Rattle.std.proofs.Common.{◌≡◌, ◌≢◌, ℕ, ◌+◌, ◌-◌, ◌≤◌, List, [], ◌∷◌, refl, sym, ap, ◌∙◌, subst, arith, length, length-set, length-append, get_or, Bool, true, false, ⊎_elim}
 use Rattle.std.specs.Prelude.{nat_eq, if◌then◌else◌, Option, unwrap_or, slice_get}
 use Rattle.std.proofs.lemmas.Bool.{cases_eq, eqb-true, eqb-false}
-use Rattle.std.proofs.lemmas.List.{get_or_append_left}
+use Rattle.std.proofs.lemmas.List.{append-nil, get_or_append_left}
 use Rattle.rb_value.specs.declared.value.Value.{Value}
 use Rattle.rb_value.specs.declared.value.Value.TheVariants.{Nil}
 use Rattle.rb_value.specs.declared.exit.Slot.TheVariants.{V}
 use Rattle.rb_value.specs.Slot.{read}
 use Rattle.rite_code.specs.Code.{Program}
-use Rattle.ir_core.specs.CoreForm.{Name, named}
+use Rattle.ir_core.specs.CoreForm.{Local}
+use Rattle.gen_forms.specs.declared.context.Loop.{Loop}
 use Rattle.def_calls.specs.World.{World, Activation, no_activation, activation_at}
 use Rattle.def_calls.specs.Fibers as fibers
 use Rattle.def_eval.specs.Source.{Source}
@@ -78,10 +79,11 @@ waits_kept hs fiber l l' c o ks place (frame f ∷ ls) u w =
       after = w.after;
       room = w.room;
       there = w.there;
+      around = w.around;
       next = inside_kept w.h l l' (λ b p is i t. Ends w.h fiber ls (λ q js. Waits hs fiber l js q ls) b p is i t)
           (λ b p is i t. Ends w.h fiber ls (λ q js. Waits hs fiber l' js q ls) b p is i t)
           (ends_kept w.h fiber ls (λ q js. Waits hs fiber l js q ls) (λ q js. Waits hs fiber l' js q ls)
-          (λ q js. waits_kept hs fiber l l' c o js q ls a.1)) ks w.n w.x.waits
+          (λ q js. waits_kept hs fiber l l' c o js q ls a.1)) ks w.n w.x.waits w.around
           (keeps_other w.h l l' c w.x.waits o ne) w.next;
     }
 waits_kept hs fiber l l' c o ks place (machine.iteration a it v ∷ ls) u w = record {
@@ -110,14 +112,15 @@ fibers_kept hs l l' c o (f ∷ fs) (g ∷ gs) u a =
     )
 
 -- The items of the frame that runs, where its list changes behind them.
-pub frame_kept : (g : Ground) (h : Site) (l l' : List Registers) (ks : List Item) (n r : ℕ) → Keeps h l l' r
-    → OnlyIn h.list l l' → uses h.list g.below ≡ 0 → InFrame g h l ks n r → InFrame g h l' ks n r
-frame_kept g h l l' ks n r k o u a =
+pub frame_kept : (g : Ground) (h : Site) (l l' : List Registers) (ks : List Item) (n r : ℕ) (around : Option Loop)
+    → Keeps h l l' r → OnlyIn h.list l l' → uses h.list g.below ≡ 0 → InFrame g h l ks n r around
+    → InFrame g h l' ks n r around
+frame_kept g h l l' ks n r around k o u a =
     inside_kept h l l' (λ b p is i t. Ends h g.fiber g.below (λ q js. Waits g.sites g.fiber l js q g.below) b p is i t)
     (λ b p is i t. Ends h g.fiber g.below (λ q js. Waits g.sites g.fiber l' js q g.below) b p is i t)
     (ends_kept h g.fiber g.below (λ q js. Waits g.sites g.fiber l js q g.below)
     (λ q js. Waits g.sites g.fiber l' js q g.below)
-    (λ q js. waits_kept g.sites g.fiber l l' h.list o js q g.below u)) ks n r k a
+    (λ q js. waits_kept g.sites g.fiber l l' h.list o js q g.below u)) ks n r around k a
 
 -- Sites.
 
@@ -135,7 +138,7 @@ same_elsewhere h cs cs' l l' s scope scopes list lists = record {
   present = omega (arith, s.present, lists);
   long = ap (λ (g : Registers). length g.slots) list ∙ s.long;
   self = ap (λ (g : Registers). read (get_or g.slots 0 (V Nil))) list ∙ s.self;
-  alike = λ x k. ap (λ (c : Scope). unwrap_or (value_in c.variables (named x)) Nil) scope ∙ s.alike x k
+  alike = λ x k. ap (λ (c : Scope). unwrap_or (value_in c.variables (x)) Nil) scope ∙ s.alike x k
       ∙ sym (ap (λ (g : Registers). read (get_or g.slots (register h x) (V Nil))) list);
 }
 
@@ -170,6 +173,9 @@ unfolding activation_at
 activation_kept w u a g low high =
     ap (λ (xs : List Activation). get_or xs (a - 1) no_activation) g.is
     ∙ get_or_append_left w.activations g.more no_activation (a - 1) (omega (arith, low, high))
+
+pub same_activations : (w u : World) → u.activations ≡ w.activations → Grows w u
+same_activations w u e = record { more = []; is = e ∙ sym (append-nil w.activations) }
 
 pub sites_grow : (s : Source) (p : Program) (hs : List Site) (cs : List Scope) (l : List Registers) (w u : World)
     → Grows w u → SitesAre s p hs cs l w → SitesAre s p hs cs l u
@@ -252,21 +258,21 @@ module _ {s : Source} {p : Program} where
       o
 
   -- a local of the body is assigned
-  pub assigned_here : (g : Ground) (h : Site) (m : source.Memory) (k : machine.Memory) → Running s p g h m k → (x : Name)
+  pub assigned_here : (g : Ground) (h : Site) (m : source.Memory) (k : machine.Memory) → Running s p g h m k → (x : Local)
       (v : Value) → m.place ≡ place_in h → Known h x
-      → Running s p g h (with_variable m (named x) v) (record k { lists = put k.lists h.list (register h x) (V v) })
+      → Running s p g h (with_variable m (x) v) (record k { lists = put k.lists h.list (register h x) (V v) })
   unfolding with_variable
   assigned_here g h m k b x v there known =
       let i = b.all.sites.each h b.site in
       let l' = put k.lists h.list (register h x) (V v) in
-      let cs' = put_in m.scopes h.list (named x) v in
+      let cs' = put_in m.scopes h.list (x) v in
       let o = put_only k.lists h.list (register h x) v in
-      changed g h m (with_variable m (named x) v) k (record k { lists = l' }) b b.all.world refl refl refl
+      changed g h m (with_variable m (x) v) k (record k { lists = l' }) b b.all.world refl refl refl
       (subst (λ (cs : List Scope). SitesAre s p g.sites cs l' m.world) (sym (assigned h m x v there i.same.parent))
       (sites_changed s p g.sites m.scopes cs' k.lists l' m.world h b.all.sites b.site
       (put_alike h m.scopes k.lists x v i.static i.same known (omega (arith, known.low, i.static.room)))
       (length-set m.scopes h.list _) (length_put k.lists h.list (register h x) (V v))
-      (λ n ne. scope_other m.scopes h.list n (named x) v ne) o)) o
+      (λ n ne. scope_other m.scopes h.list n (x) v ne) o)) o
 
   -- The frame that runs begins to wait, and one that waits runs again.
 

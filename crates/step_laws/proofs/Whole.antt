@@ -1,6 +1,6 @@
 -- The step law, by cases on the focus, and the theorem for a main program.
 use Rattle.std.proofs.Common.{◌≡◌, ℕ, zero, suc, List, [], ◌∷◌, refl, sym, ap, ◌∙◌, subst, arith, length, length-set, get_or, get_or-set_same, get_or-set_other, replicate, Bool, true, false, true≢false}
-use Rattle.std.specs.Prelude.{Option, Some, None, unwrap_or, if◌then◌else◌, slice_get}
+use Rattle.std.specs.Prelude.{is_some, Option, Some, None, unwrap_or, if◌then◌else◌, slice_get}
 use Rattle.std.proofs.lemmas.List.{length-replicate}
 use Rattle.rb_value.specs.declared.value.Value.{Value}
 use Rattle.rb_value.specs.declared.value.Value.TheVariants.{Nil, Obj}
@@ -14,36 +14,48 @@ use Rattle.path_eval.proofs.Induction.{follows}
 use Rattle.def_core.specs.declared.bound.BindKind.TheVariants as bind
 use Rattle.gen_parts.specs.declared.line.Line.TheVariants as line
 use Rattle.rite_code.specs.declared.operation.Operation.TheVariants as op
+use Rattle.gen_forms.specs.declared.context.Loop.{Loop}
 use Rattle.gen_forms.specs.Gen.{gen, first_spot}
 use Rattle.def_calls.specs.Seen.{Going, Over, over}
-use Rattle.def_core.specs.Store.{Store}
-use Rattle.def_calls.specs.World.{World, activation_at}
 use Rattle.def_calls.specs.Calls.{main_activation, opening_world}
-use Rattle.def_calls.specs.Fibers as fibers
 use Rattle.def_eval.specs.Source.{Source, body_at, form_of, locals_of, all_names}
 use Rattle.def_eval.specs.Scopes.{same_local, value_in}
 use Rattle.def_eval.specs.Configuration as source
-use Rattle.def_eval.specs.Configuration.{Part, operands, receiver, items, block, elements, hash_key, hash_value, pieces, rest, test, chosen, and_then, or_else, loop_test, loop_body, rescued, clause_class, clause_target, clause_body, ensured, Item, part, activation, iteration, ensuring, Focus, perform, give, travel, Config, Run, Halt, all_nil, opening, seen}
+use Rattle.def_eval.specs.Configuration.{Exit, Part, operands, receiver, items, block, elements, hash_key, hash_value, pieces, rest, test, chosen, and_then, or_else, loop_test, loop_body, rescued, clause_class, clause_target, clause_body, ensured, Item, part, activation, iteration, ensuring, Focus, perform, give, travel, Config, Run, Halt, all_nil, opening, seen}
 use Rattle.def_eval.specs.Transition.{go}
 use Rattle.def_machine.specs.State as machine
-use Rattle.def_machine.specs.State.{Level, frame, State, On, Off, Stuck, start, shown}
+use Rattle.def_machine.specs.State.{Level, State, On, Off, Stuck, start, shown, frame}
 use Rattle.def_machine.specs.Turn.{turn}
 use Rattle.step_laws.specs.Site.{Site, LineAt, register}
+use Rattle.step_laws.specs.Covered.{Covered}
 use Rattle.step_laws.specs.Calm.{IsCalm, StaysCalm}
 use Rattle.step_laws.specs.Measure.{measure}
 use Rattle.step_laws.specs.Implements.{main_site, IsCodeOf, Implements}
-use Rattle.step_laws.specs.Relation.{Static, stops, Ground, Same, SiteIs, SitesAre, Both, Running, Common, Doing, GivesIn, Alike, Advances, Step, Shared}
+use Rattle.step_laws.specs.Behind.{Static}
+use Rattle.step_laws.specs.Relation.{Same, Common, Doing, GivesIn, raised, leaping, Step, stops, Ground, SiteIs, SitesAre, Both, Running, Alike, Advances, Shared, Throwing, Leaps, Travels}
 use Rattle.step_laws.proofs.Placed.{high, Stands, Rest, frame_at}
 use Rattle.step_laws.proofs.Matching.{state_at}
 use Rattle.step_laws.proofs.Literals.{aligned, do_nil, do_truth, do_falsehood, do_self, do_int}
 use Rattle.step_laws.proofs.Answers.{do_symbol, do_gvar, do_ivar, do_str, do_constant}
-use Rattle.step_laws.proofs.Locals.{do_local, do_set_local, give_operand}
+use Rattle.step_laws.proofs.Locals.{do_local, do_set_local}
+use Rattle.step_laws.proofs.Globals.{do_set_gvar}
+use Rattle.step_laws.proofs.Operands.{do_set_ivar, do_in_constant, do_set_constant, do_set_in_constant, do_range, do_intern, do_item, do_rest_of, do_tail_of, give_operand}
+use Rattle.step_laws.proofs.Aliases.{do_alias, do_undef}
+use Rattle.step_laws.proofs.Arrays.{do_array, give_element}
+use Rattle.step_laws.proofs.Defined.{do_defined, do_defined_of}
+use Rattle.step_laws.proofs.Hashes.{do_hash, give_key, give_pair}
+use Rattle.step_laws.proofs.Texts.{do_text, give_piece}
 use Rattle.step_laws.proofs.Sequences.{do_seq, give_rest}
+use Rattle.step_laws.proofs.Bare.{do_call_bare}
 use Rattle.step_laws.proofs.Branches.{do_cond, give_test, give_chosen, do_and, do_or, give_and, give_or}
+use Rattle.step_laws.proofs.Jumps.{do_break, do_next, leap_on}
 use Rattle.step_laws.proofs.Loops.{do_while, give_loop_test, give_loop_body}
 use Rattle.step_laws.proofs.Calls.{do_call_to, do_call_self, give_receiver, give_item}
 use Rattle.step_laws.proofs.Iterations.{give_iteration}
 use Rattle.step_laws.proofs.Exits.{give_end, give_activation, travel_end, travel_part_on, travel_activation_on, travel_iteration_on}
+use Rattle.def_core.specs.Store.{Store}
+use Rattle.def_calls.specs.World.{World, activation_at}
+use Rattle.def_calls.specs.Fibers as fibers
 
 module _ (g : Ground) (h : Site) (static : Static h) (ks : List Item) (m : source.Memory) (ls : List Level) (k : machine.Memory)
     (both : Common g h m (aligned k m)) where
@@ -55,26 +67,26 @@ module _ (g : Ground) (h : Site) (static : Static h) (ks : List Item) (m : sourc
   form_matched j form.falsehood c d = do_falsehood g h static j ks m ls k both d
   form_matched j form.self_ref c d = do_self g h static j ks m ls k both d
   form_matched j (form.int z) c d = do_int g h static j ks m ls k both z d
-  form_matched j (form.str t) c d = do_str g h static j ks m ls k both t d c.2
+  form_matched j (form.str t) c d = do_str g h static j ks m ls k both t d c.3
   form_matched j (form.sym x) c d = do_symbol g h static j ks m ls k both x d
   form_matched j (form.local x) c d = do_local g h static ks m ls k both j x d
   form_matched j (form.own x) c d = absurd d.covered
   form_matched j form.exception c d = absurd d.covered
   form_matched j (form.set_local x e) c d = do_set_local g h static ks m ls k both j x e d
   form_matched j (form.ivar x) c d = do_ivar g h static j ks m ls k both x d
-  form_matched j (form.set_ivar x e) c d = absurd d.covered
+  form_matched j (form.set_ivar x e) c d = do_set_ivar g h static j ks m ls k both c.0 x e d
   form_matched j (form.gvar x) c d = do_gvar g h static j ks m ls k both x d
-  form_matched j (form.set_gvar x e) c d = absurd d.covered
-  form_matched j (form.constant x) c d = do_constant g h static j ks m ls k both x d c.2
+  form_matched j (form.set_gvar x e) c d = do_set_gvar g h static ks m ls k both j x e d
+  form_matched j (form.constant x) c d = do_constant g h static j ks m ls k both x d c.3
   form_matched j (form.top_constant x) c d = absurd d.covered
-  form_matched j (form.in_constant e x) c d = absurd d.covered
-  form_matched j (form.set_constant x e) c d = absurd d.covered
-  form_matched j (form.set_in_constant e x v) c d = absurd d.covered
-  form_matched j (form.array is) c d = absurd d.covered
-  form_matched j (form.hash ps) c d = absurd d.covered
-  form_matched j (form.range a b x) c d = absurd d.covered
-  form_matched j (form.text es) c d = absurd d.covered
-  form_matched j (form.intern e) c d = absurd d.covered
+  form_matched j (form.in_constant e x) c d = do_in_constant g h static j ks m ls k both c.0 e x d
+  form_matched j (form.set_constant x e) c d = do_set_constant g h static j ks m ls k both c.0 x e d
+  form_matched j (form.set_in_constant e x v) c d = do_set_in_constant g h static j ks m ls k both c.0 e x v d
+  form_matched j (form.array is) c d = do_array g h static j ks m ls k both is d
+  form_matched j (form.hash ps) c d = do_hash g h static ks m ls k both j ps d
+  form_matched j (form.range a b x) c d = do_range g h static j ks m ls k both c.0 a b x d
+  form_matched j (form.text es) c d = do_text g h static ks m ls k both j es d
+  form_matched j (form.intern e) c d = do_intern g h static j ks m ls k both c.0 e d
   form_matched j (form.seq es) c d = do_seq g h static ks m ls k both j es d
   form_matched j (form.cond bs o) c d = do_cond g h static ks m ls k both j bs o d
   form_matched j (form.and_form a b) c d = do_and g h static ks m ls k both j a b d
@@ -83,41 +95,45 @@ module _ (g : Ground) (h : Site) (static : Static h) (ks : List Item) (m : sourc
   form_matched j (form.call (form.to e) x is form.absent) c d = do_call_to g h static ks m ls k both c.0 j e x is d
   form_matched j (form.call (form.to e) x is (form.there b)) c d = absurd d.covered
   form_matched j (form.call form.on_self x is form.absent) c d =
-      do_call_self g h static ks m ls k both c.0 j x is d c.2
+      do_call_self g h static ks m ls k both c.0 j x is d c.3
   form_matched j (form.call form.on_self x is (form.there b)) c d = absurd d.covered
-  form_matched j (form.call form.bare x is b) c d = absurd d.covered
+  form_matched j (form.call form.bare x form.no_items form.absent) c d = do_call_bare g h static ks m ls k both c.0 j x d c.3
+  form_matched j (form.call form.bare x form.no_items (form.there b)) c d = absurd d.covered
+  form_matched j (form.call form.bare x (form.plain e is) b) c d = absurd d.covered
+  form_matched j (form.call form.bare x (form.splat e is) b) c d = absurd d.covered
   form_matched j (form.yield_form is) c d = absurd d.covered
   form_matched j (form.super_form is b) c d = absurd d.covered
   form_matched j (form.function f) c d = absurd d.covered
   form_matched j (form.lambda f) c d = absurd d.covered
   form_matched j (form.begin_form b cs o e) c d = absurd d.covered
   form_matched j (form.return_form e) c d = absurd d.covered
-  form_matched j (form.break_form e) c d = absurd d.covered
-  form_matched j (form.next_form e) c d = absurd d.covered
+  form_matched j (form.break_form e) c d = do_break g h static ks m ls k both j e d
+  form_matched j (form.next_form e) c d = do_next g h static ks m ls k both j e d
   form_matched j form.retry c d = absurd d.covered
   form_matched j (form.define x f) c d = absurd d.covered
   form_matched j (form.define_on e x f) c d = absurd d.covered
   form_matched j (form.class_form s x p f) c d = absurd d.covered
   form_matched j (form.module_form s x f) c d = absurd d.covered
   form_matched j (form.singleton_class e f) c d = absurd d.covered
-  form_matched j (form.alias_form x y) c d = absurd d.covered
-  form_matched j (form.undef_form x) c d = absurd d.covered
-  form_matched j (form.defined q x e) c d = absurd d.covered
-  form_matched j (form.item e i) c d = absurd d.covered
-  form_matched j (form.rest_of e from post) c d = absurd d.covered
-  form_matched j (form.tail_of e from count) c d = absurd d.covered
+  form_matched j (form.alias_form x y) c d = do_alias g h static ks m ls k both j x y d c.3
+  form_matched j (form.undef_form x) c d = do_undef g h static ks m ls k both j x d c.3
+  form_matched j (form.defined q x form.absent) c d = do_defined g h static ks m ls k both c.0 j q x d c.3
+  form_matched j (form.defined q x (form.there e)) c d = do_defined_of g h static ks m ls k both c.0 j q x e d
+  form_matched j (form.item e i) c d = do_item g h static j ks m ls k both c.0 e i d
+  form_matched j (form.rest_of e from post) c d = do_rest_of g h static j ks m ls k both c.0 e from post d
+  form_matched j (form.tail_of e from count) c d = do_tail_of g h static j ks m ls k both c.0 e from count d
 
   part_matched : (v : Value) (p : Part) → IsCalm h.source (Run (give v) (part p ∷ ks) m)
       → (d : GivesIn g h v (part p ∷ ks) m.place ls k.lists)
       → Step h (Run (give v) (part p ∷ ks) m) (state_at g h d.x d.n (aligned k m))
-  part_matched v (operands j a vs es) c d = give_operand g h static ks m ls k both v j a vs es d
-  part_matched v (receiver j x is b) c d = give_receiver g h static ks m ls k both c.0 v j x is b d c.2
-  part_matched v (items j s recv vs is b) c d = give_item g h static ks m ls k both c.0 v j s recv vs is b d c.2
+  part_matched v (operands j a vs es) c d = give_operand g h static j ks m ls k both c.0 v j a vs es d c.3
+  part_matched v (receiver j x is b) c d = give_receiver g h static ks m ls k both c.0 v j x is b d c.3
+  part_matched v (items j s recv vs is b) c d = give_item g h static ks m ls k both c.0 v j s recv vs is b d c.3
   part_matched v (block s recv vs) c d = absurd d.next.behind
-  part_matched v (elements j g o s is) c d = absurd d.next.behind
-  part_matched v (hash_key j o e ps) c d = absurd d.next.behind
-  part_matched v (hash_value j o u ps) c d = absurd d.next.behind
-  part_matched v (pieces j o es) c d = absurd d.next.behind
+  part_matched v (elements j q o s is) c d = give_element g h static j ks m ls k both v j q o s is d c.1
+  part_matched v (hash_key j o e ps) c d = give_key g h static ks m ls k both v j o e ps d
+  part_matched v (hash_value j o u ps) c d = give_pair g h static ks m ls k both v j o u ps d c.1 c.3
+  part_matched v (pieces j o es) c d = give_piece g h static ks m ls k both v j o es d c.1
   part_matched v (rest j es) c d = give_rest g h static ks m ls k both v j es d
   part_matched v (test j b bs o) c d = give_test g h static ks m ls k both v j b bs o d
   part_matched v chosen c d = give_chosen g h static ks m ls k both v d
@@ -164,6 +180,35 @@ module _ (s : Source) (p : Program) (ks : List Item) (m : source.Memory) (ls : L
       → Step h (Run f ks m) (On ls (aligned k m))
   on_levels f h gs e a = subst (λ (is : List Level). Step h (Run f ks m) (On is (aligned k m))) (sym e) a
 
+-- an exit, thrown or at a jump
+thrown_on : (s : Source) (p : Program) (x : Exit) (ks : List Item) (m : source.Memory) (ls : List Level)
+    (k : machine.Memory) → Throwing s p x ks m ls k → IsCalm s (Run (travel x) ks m)
+    → Advances s p (Run (travel x) ks m) (On ls k)
+thrown_on s p x [] m ls k z calm = travel_end s p m ls k x z
+thrown_on s p x (part q ∷ ks) m ls k z calm = travel_part_on s p m ls k x q ks z
+thrown_on s p x (activation a q ∷ ks) m ls k z calm = travel_activation_on s p m ls k x a q ks z calm.3
+thrown_on s p x (iteration a it q ∷ ks) m ls k z calm = travel_iteration_on s p m ls k x a it q ks z calm.2 calm.3
+thrown_on s p x (ensuring y ∷ ks) m ls k z calm = absurd z.leaving
+
+leapt_on : (s : Source) (p : Program) (x : Exit) (ks : List Item) (m : source.Memory) (ls : List Level)
+    (k : machine.Memory) → Leaps s p x ks m ls k → IsCalm s (Run (travel x) ks m)
+    → Advances s p (Run (travel x) ks m) (On ls k)
+leapt_on s p x [] m ls k z calm = absurd z.way
+leapt_on s p x (part q ∷ ks) m ls k z calm =
+    in_frame s p (part q ∷ ks) m ls k (travel x) z.g z.h z.both (λ static both here.
+    on_levels s p (part q ∷ ks) m ls k (travel x) z.h (frame (frame_at z.h z.x z.n) ∷ z.g.below) z.is
+    (leap_on z.g z.h static ks m ls k both x q
+    (record { x = z.x; n = z.n; there = z.there; target = z.target; by = z.by; way = z.way }))) calm
+leapt_on s p x (activation a q ∷ ks) m ls k z calm = absurd z.way
+leapt_on s p x (iteration a it q ∷ ks) m ls k z calm = absurd z.way
+leapt_on s p x (ensuring y ∷ ks) m ls k z calm = absurd z.way
+
+travel_on : (s : Source) (p : Program) (x : Exit) (ks : List Item) (m : source.Memory) (ls : List Level)
+    (k : machine.Memory) → Travels s p x ks m ls k → IsCalm s (Run (travel x) ks m)
+    → Advances s p (Run (travel x) ks m) (On ls k)
+travel_on s p x ks m ls k (raised z) calm = thrown_on s p x ks m ls k z calm
+travel_on s p x ks m ls k (leaping z) calm = leapt_on s p x ks m ls k z calm
+
 matched : (s : Source) (p : Program) (c : Config) (t : State) → Alike s p c t → IsCalm s c → over (seen c) ≡ false
     → Advances s p c t
 unfolding seen
@@ -184,19 +229,13 @@ matched s p (Run (give v) (part q ∷ ks) m) (On ls k) r calm o =
 matched s p (Run (give v) (activation a q ∷ ks) m) (On ls k) r calm o =
     in_frame s p (activation a q ∷ ks) m ls k (give v) r.0 r.1 r.2 (λ static both here.
     on_levels s p (activation a q ∷ ks) m ls k (give v) r.1 (frame (frame_at r.1 r.3.x r.3.n) ∷ r.0.below) r.3.is
-    (give_activation r.0 r.1 static ks m k both v a q ls r.3 here.2)) calm
+    (give_activation r.0 r.1 static ks m k both v a q ls r.3 here.3)) calm
 matched s p (Run (give v) (iteration a it q ∷ ks) m) (On ls k) r calm o =
     realigned s p (give v) (iteration a it q ∷ ks) m ls k r.both.world
     (subst (λ (gs : List Level). Advances s p (Run (give v) (iteration a it q ∷ ks) m) (On gs (aligned k m))) (sym r.is)
-    (give_iteration s p v a it q ks m r.g k (aligned_both s p r.g m k r.both) r.waits calm.2))
+    (give_iteration s p v a it q ks m r.g k (aligned_both s p r.g m k r.both) r.waits calm.3))
 matched s p (Run (give v) (ensuring x ∷ ks) m) (On ls k) r calm o = absurd r
-matched s p (Run (travel x) [] m) (On ls k) r calm o = travel_end s p m ls k x r
-matched s p (Run (travel x) (part q ∷ ks) m) (On ls k) r calm o = travel_part_on s p m ls k x q ks r
-matched s p (Run (travel x) (activation a q ∷ ks) m) (On ls k) r calm o =
-    travel_activation_on s p m ls k x a q ks r calm.2
-matched s p (Run (travel x) (iteration a it q ∷ ks) m) (On ls k) r calm o =
-    travel_iteration_on s p m ls k x a it q ks r calm.1 calm.2
-matched s p (Run (travel x) (ensuring y ∷ ks) m) (On ls k) r calm o = absurd r.leaving
+matched s p (Run (travel x) ks m) (On ls k) r calm o = travel_on s p x ks m ls k r calm
 
 alike : (s : Source) (p : Program) (c : Config) (t : State) → Alike s p c t → shown t ≡ seen c
 unfolding shown seen
@@ -211,7 +250,8 @@ alike s p (Run (give v) (part q ∷ ks) m) (On ls k) r = ap (λ (w : World). Goi
 alike s p (Run (give v) (activation a q ∷ ks) m) (On ls k) r = ap (λ (w : World). Going w.out) r.2.all.world
 alike s p (Run (give v) (iteration a it q ∷ ks) m) (On ls k) r = ap (λ (w : World). Going w.out) r.both.world
 alike s p (Run (give v) (ensuring x ∷ ks) m) (On ls k) r = absurd r
-alike s p (Run (travel x) ks m) (On ls k) r = ap Going r.out
+alike s p (Run (travel x) ks m) (On ls k) (raised r) = ap Going r.out
+alike s p (Run (travel x) ks m) (On ls k) (leaping r) = ap (λ (w : World). Going w.out) r.both.all.world
 
 ended : (s : Source) (c : Config) → over (seen c) ≡ true → go s c ≡ c
 unfolding seen
@@ -292,7 +332,7 @@ module _ (s : Source) (p : Program) (input : List ℕ) (c : IsCodeOf s p) where
         long = length-set nils 0 (V (Obj main_object)) ∙ long;
         self = ap read (get_or-set_same nils 0 (V (Obj main_object)) (V Nil) (omega (arith, long, c.some, c.room)));
         alike = λ x k.
-            all_nils (locals_of (body_at s 0)) (form.named x)
+            all_nils (locals_of (body_at s 0)) x
             ∙ sym (ap read (get_or-set_other nils 0 (register h x) (V (Obj main_object)) (V Nil)
             (omega (arith, k.behind_self)) ∙ nil_at registers (register h x)));
       }
@@ -361,13 +401,17 @@ module _ (s : Source) (p : Program) (input : List ℕ) (c : IsCodeOf s p) where
           loop = c.context.loop;
           s = first_spot 0;
           here = refl;
-          covered = c.covered;
+          covered = subst (λ (i : Option Loop). Covered h (is_some i) c.first (form_of (body_at s 0))) (sym c.outside)
+              c.covered;
           above = omega arith;
           code = c.code;
-          next = record {
-            is = refl;
-            by = stops (subst (λ (i : ℕ). LineAt h i (line.Does op.Stop)) (omega arith) c.stop) refl refl refl refl;
-          };
+          next = (
+            record {
+              is = refl;
+              by = stops (subst (λ (i : ℕ). LineAt h i (line.Does op.Stop)) (omega arith) c.stop) refl refl refl refl;
+            },
+            c.outside,
+          );
         },
       )
 

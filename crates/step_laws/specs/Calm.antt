@@ -1,15 +1,50 @@
 -- What an evaluation keeps that calls no body of the source.
-use Rattle.std.specs.Prelude.{◌≡◌, ℕ, List, [], ◌∷◌, ◌++◌, length}
+use Rattle.std.specs.Prelude.{◌≡◌, ℕ, List, [], ◌∷◌, ◌++◌, length, Some}
+use Rattle.rb_value.specs.Object.{Object}
+use Rattle.rb_value.specs.declared.value.Value.{Value}
+use Rattle.rb_value.specs.declared.value.Value.TheVariants.{Obj}
 use Rattle.def_core.specs.Changes.{intern}
 use Rattle.ir_core.specs.CoreForm.{Name}
 use Rattle.def_calls.specs.World.{World, Activation}
 use Rattle.def_calls.specs.Calls.{close}
-use Rattle.def_calls.specs.Plans.{Iteration, Plan, finishes, fails, raises, sends, calls, writes, reads, resumes, yields}
-use Rattle.def_calls.specs.Plans as plans
+use Rattle.def_calls.specs.Views.{an_array, a_hash, a_string}
 use Rattle.def_eval.specs.Source.{Source}
-use Rattle.def_eval.specs.Configuration.{Item, part, activation, iteration, ensuring, Focus, perform, give, travel, Memory, Config, Run, Halt}
+use Rattle.def_eval.specs.Configuration.{Exit, Part, operands, receiver, items, block, elements, hash_key, hash_value, pieces, rest, test, chosen, and_then, or_else, loop_test, loop_body, rescued, clause_class, clause_target, clause_body, ensured, Item, part, activation, iteration, ensuring, Focus, perform, give, travel, Memory, Config, Run, Halt, opening}
 use Rattle.def_eval.specs.Transition.{go, go_times}
 use Rattle.step_laws.specs.Site.{IsThere, number}
+
+-- the object that a literal gathers into is still one of its kind
+abbrev pub IsAbout : Part → List Object → Type 0
+IsAbout (operands n a vs es) objects = Unit {0}
+IsAbout (receiver n x is b) objects = Unit {0}
+IsAbout (items n k recv vs is b) objects = Unit {0}
+IsAbout (block k recv vs) objects = Unit {0}
+IsAbout (elements n g id s is) objects = an_array objects (Obj id) ≡ Some id
+IsAbout (hash_key n id e ps) objects = Unit {0}
+IsAbout (hash_value n id k ps) objects = a_hash objects (Obj id) ≡ Some id
+IsAbout (pieces n id es) objects = a_string objects (Obj id) ≡ Some id
+IsAbout (rest n es) objects = Unit {0}
+IsAbout (test n b bs o) objects = Unit {0}
+IsAbout chosen objects = Unit {0}
+IsAbout (and_then n e) objects = Unit {0}
+IsAbout (or_else n e) objects = Unit {0}
+IsAbout (loop_test n t b) objects = Unit {0}
+IsAbout (loop_body n t b) objects = Unit {0}
+IsAbout (rescued n b cs o) objects = Unit {0}
+IsAbout (clause_class n e es t b cs r) objects = Unit {0}
+IsAbout (clause_target n e b r) objects = Unit {0}
+IsAbout (clause_body r) objects = Unit {0}
+IsAbout (ensured n e) objects = Unit {0}
+
+-- and so it is where a value goes to it
+abbrev pub IsAboutNext : Focus → List Item → Memory → Type 0
+IsAboutNext (perform n e) ks m = Unit {0}
+IsAboutNext (give v) [] m = Unit {0}
+IsAboutNext (give v) (part k ∷ ks) m = IsAbout k m.world.store.objects
+IsAboutNext (give v) (activation a place ∷ ks) m = Unit {0}
+IsAboutNext (give v) (iteration a it place ∷ ks) m = Unit {0}
+IsAboutNext (give v) (ensuring o ∷ ks) m = Unit {0}
+IsAboutNext (travel x) ks m = Unit {0}
 
 -- an exit leaves an iteration as it leaves any core method
 abbrev pub Leaves : Focus → List Item → Memory → Type 0
@@ -44,7 +79,7 @@ pub record IsSteady (s : Source) (w : World) : Type 0 where
 
 abbrev pub IsCalm : Source → Config → Type 0
 IsCalm s (Halt e) = Unit {0}
-IsCalm s (Run f ks m) = IsSteady s m.world × Leaves f ks m × Quiet m (go s (Run f ks m))
+IsCalm s (Run f ks m) = IsSteady s m.world × IsAboutNext f ks m × Leaves f ks m × Quiet m (go s (Run f ks m))
 
 -- so it is all along
 abbrev pub StaysCalm : Source → Config → Type 0

@@ -1,16 +1,17 @@
--- A program of simple forms, and what is shown of it.
+-- Programs of simple and of plain forms, and what is shown of them.
 use Rattle.std.specs.Prelude.{◌≡◌, ℕ, pos, false, List, [], ◌∷◌, codes, None}
 use Rattle.rite_code.specs.Code.{Program, program}
-use Rattle.ir_core.specs.CoreForm.{named, Local, CoreForm, int, local, set_local, seq, while_form, call, Body, plain_body, form_of, absent, two, no_items, plain, to, on_self}
+use Rattle.ir_core.specs.CoreForm.{named, hidden, Local, CoreForm, nil, truth, int, str, sym, local, set_local, gvar, set_gvar, array, hash, text, seq, cond, while_form, call, break_form, item, Body, plain_body, form_of, absent, Forms, more, two, no_items, plain, splat, no_pairs, pair, no_branches, branch, to, on_self}
 use Rattle.ir_core.specs.Program.{IsProgram}
 use Rattle.ir_counts.specs.Counts.{need}
 use Rattle.ir_counts.specs.Limits.{first_excess}
 use Rattle.gen_forms.specs.Making.{coded_program}
-use Rattle.def_calls.specs.Seen.{Ended, Over}
+use Rattle.def_calls.specs.Seen.{Ended, Uncaught, Over}
 use Rattle.def_eval.specs.Source.{source_of}
 use Rattle.def_eval.specs.Transition.{evaluation}
 use Rattle.def_machine.specs.Turn.{machine}
 use Rattle.step_laws.specs.Simple.{IsSimple}
+use Rattle.step_laws.specs.Plain.{IsPlain}
 
 abbrev pub code_of : Body → Program
 code_of b = program 2 (coded_program b)
@@ -31,6 +32,52 @@ countdown = plain_body (i ∷ []) (seq (two (set_local i (int (pos 2)))
     (while_form false (on (local i) (codes ">") (int (pos 0)))
     (seq (two (call on_self (codes "puts") (plain (local i) no_items) absent)
     (set_local i (on (local i) (codes "-") (int (pos 1)))))))))
+
+abbrev pub three : CoreForm → CoreForm → CoreForm → Forms
+three e f g = more e (two f g)
+
+abbrev pub six : CoreForm → CoreForm → CoreForm → CoreForm → CoreForm → CoreForm → Forms
+six e f g u v w = more e (more f (more g (three u v w)))
+
+-- a = [2, *[3]]
+-- h = {:k => 4}
+-- i, = 0
+-- while true
+--   i = i + 1
+--   break if i > 1
+--   $g = i
+-- end
+-- puts a[1], $g, "in #{"one"}"
+-- i / 0
+abbrev pub a : Local
+a = named (codes "a")
+
+abbrev pub h : Local
+h = named (codes "h")
+
+abbrev pub gatherer : Body
+gatherer = plain_body (a ∷ h ∷ i ∷ []) (seq (six
+    (set_local a (array (plain (int (pos 2)) (splat (array (plain (int (pos 3)) no_items)) no_items))))
+    (set_local h (hash (pair (sym (codes "k")) (int (pos 4)) no_pairs)))
+    (set_local i (item (set_local (hidden 0) (array (plain (int (pos 0)) no_items))) (pos 0)))
+    (while_form false truth (seq (three
+    (set_local i (on (local i) (codes "+") (int (pos 1))))
+    (cond (branch (on (local i) (codes ">") (int (pos 1))) (break_form nil) no_branches) nil)
+    (set_gvar (codes "$g") (local i)))))
+    (call on_self (codes "puts") (plain (on (local a) (codes "[]") (int (pos 1)))
+    (plain (gvar (codes "$g"))
+    (plain (text (two (str (codes "in ")) (str (codes "one")))) no_items))) absent)
+    (on (local i) (codes "/") (int (pos 0)))))
+
+-- it is such a program within the limits, and both sides end with the exception and the same lines before
+pub record IsPlainWitness (b : Body) : Type 0 where
+  pub program : IsProgram b
+  pub within : first_excess (need b) ≡ None
+  pub plain : IsPlain (form_of b)
+  pub evaluates : evaluation (source_of b) [] 400
+      ≡ Over (Uncaught (codes "3\n1\nin one\n") (codes "ZeroDivisionError") (codes "divided by 0"))
+  pub runs : machine (code_of b) [] 400
+      ≡ Over (Uncaught (codes "3\n1\nin one\n") (codes "ZeroDivisionError") (codes "divided by 0"))
 
 -- it is such a program within the limits, and both sides end with the lines 2 and 1
 pub record IsWitness (b : Body) : Type 0 where

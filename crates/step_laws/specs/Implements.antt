@@ -1,11 +1,12 @@
 -- What it means that code implements a source, and what is asked of the code of a main program.
-use Rattle.std.specs.Prelude.{◌≡◌, ◌≢◌, ◌<◌, ◌≤◌, ℕ, List, [], length, Bool, false, bytes_eq}
+use Rattle.std.specs.Prelude.{◌≡◌, ◌≢◌, ◌<◌, ◌≤◌, ℕ, zero, List, [], ◌∷◌, length, Bool, false, Option, None}
 use Rattle.rb_value.specs.declared.value.Value.TheVariants.{Obj}
 use Rattle.rb_store.specs.Opening.{main_object, with_names}
 use Rattle.rite_code.specs.Code.{Program}
 use Rattle.rite_code.specs.declared.operation.Operation.TheVariants as op
-use Rattle.ir_core.specs.CoreForm.{Name}
+use Rattle.ir_core.specs.CoreForm.{Local}
 use Rattle.gen_parts.specs.declared.line.Line.TheVariants as line
+use Rattle.gen_parts.specs.declared.emitter.Spot.{Spot}
 use Rattle.gen_forms.specs.Gen.{Context, gen, first_spot}
 use Rattle.path_eval.specs.Steps.{Follows}
 use Rattle.def_calls.specs.World.{main_program}
@@ -13,6 +14,7 @@ use Rattle.def_calls.specs.Rows
 use Rattle.def_calls.specs.Seen.{over}
 use Rattle.def_eval.specs.Source.{Source, body_at, form_of, all_names}
 use Rattle.def_eval.specs.Configuration.{opening, seen}
+use Rattle.def_eval.specs.Scopes.{same_local}
 use Rattle.def_eval.specs.Transition.{go}
 use Rattle.def_machine.specs.State as machine
 use Rattle.def_machine.specs.State.{all_symbols, start, shown}
@@ -43,14 +45,15 @@ pub record IsCodeOf (s : Source) (p : Program) : Type 0 where
   pub context : Context
   pub first : ℕ
   -- two locals have two registers
-  pub apart : (x y : Name) → Known (main_site s p wide at context first) x
-      → Known (main_site s p wide at context first) y → bytes_eq x y ≡ false
+  pub apart : (x y : Local) → Known (main_site s p wide at context first) x
+      → Known (main_site s p wide at context first) y → same_local x y ≡ false
       → register (main_site s p wide at context first) x ≢ register (main_site s p wide at context first) y
   pub begins : at_line (main_site s p wide at context first) 0 ≡ 0
   pub some : 0 < first
   pub room : first ≤ (machine.body_at p 0).registers
   pub no_catches : (machine.body_at p 0).catches ≡ []
-  pub covered : Covered (main_site s p wide at context first) first (form_of (body_at s 0))
+  pub outside : context.loop ≡ None
+  pub covered : Covered (main_site s p wide at context first) false first (form_of (body_at s 0))
   pub code : Lines (main_site s p wide at context first) 0
       (gen context (first_spot 0) first (form_of (body_at s 0))).lines
   pub stop : LineAt (main_site s p wide at context first)

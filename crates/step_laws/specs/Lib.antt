@@ -1,9 +1,12 @@
 pub mod Site
+pub mod Strict
 pub mod Covered
 pub mod Calm
 pub mod Simple
+pub mod Plain
 pub mod Measure
 pub mod Standing
+pub mod Behind
 pub mod Relation
 pub mod Implements
 pub mod Example

@@ -1,6 +1,6 @@
 -- What falls in a transition that no turn of the machine matches.
 use Rattle.std.specs.Prelude.{ℕ, ◌+◌, List, [], ◌∷◌}
-use Rattle.ir_core.specs.CoreForm.{CoreForm, nil, truth, falsehood, self_ref, int, str, sym, local, own, exception, set_local, ivar, set_ivar, gvar, set_gvar, constant, top_constant, in_constant, set_constant, set_in_constant, array, hash, range, text, intern, seq, cond, and_form, or_form, while_form, call, yield_form, super_form, function, lambda, begin_form, return_form, break_form, next_form, retry, define, define_on, class_form, module_form, singleton_class, alias_form, undef_form, defined, item, rest_of, tail_of, Forms, none, more, Items, no_items, plain, splat, Branches, no_branches, branch, Receiver, to, on_self, bare}
+use Rattle.ir_core.specs.CoreForm.{CoreForm, nil, truth, falsehood, self_ref, int, str, sym, local, own, exception, set_local, ivar, set_ivar, gvar, set_gvar, constant, top_constant, in_constant, set_constant, set_in_constant, array, hash, range, text, intern, seq, cond, and_form, or_form, while_form, call, yield_form, super_form, function, lambda, begin_form, return_form, break_form, next_form, retry, define, define_on, class_form, module_form, singleton_class, alias_form, undef_form, defined, item, rest_of, tail_of, Maybe, absent, there, Forms, none, more, Items, no_items, plain, splat, Branches, no_branches, branch, Receiver, to, on_self, bare}
 use Rattle.def_calls.specs.Fibers.{Fiber}
 use Rattle.def_eval.specs.Configuration.{Part, operands, receiver, items, block, elements, hash_key, hash_value, pieces, rest, test, chosen, and_then, or_else, loop_test, loop_body, rescued, clause_class, clause_target, clause_body, ensured, Item, part, activation, iteration, ensuring, Kept, Focus, perform, give, travel, Memory, Config, Run, Halt}
 
@@ -19,19 +19,19 @@ abbrev mutual
   size exception = 1
   size (set_local x e) = 3 + size e
   size (ivar x) = 1
-  size (set_ivar x e) = 1
+  size (set_ivar x e) = 3 + size e
   size (gvar x) = 1
-  size (set_gvar x e) = 1
+  size (set_gvar x e) = 3 + size e
   size (constant x) = 1
   size (top_constant x) = 1
-  size (in_constant e x) = 1
-  size (set_constant x e) = 1
-  size (set_in_constant e x v) = 1
+  size (in_constant e x) = 3 + size e
+  size (set_constant x e) = 3 + size e
+  size (set_in_constant e x v) = 6 + size e + size v
   size (array is) = 1
   size (hash ps) = 1
-  size (range a b x) = 1
+  size (range a b x) = 6 + size a + size b
   size (text es) = 1
-  size (intern e) = 1
+  size (intern e) = 3 + size e
   size (seq es) = 3 + sizes es
   size (cond bs o) = 3 + size_first bs + size o
   size (and_form a b) = 3 + size a
@@ -44,8 +44,8 @@ abbrev mutual
   size (lambda f) = 1
   size (begin_form b cs o e) = 1
   size (return_form e) = 1
-  size (break_form e) = 1
-  size (next_form e) = 1
+  size (break_form e) = 3 + size e
+  size (next_form e) = 3 + size e
   size retry = 1
   size (define x f) = 1
   size (define_on e x f) = 1
@@ -54,10 +54,10 @@ abbrev mutual
   size (singleton_class e f) = 1
   size (alias_form x y) = 1
   size (undef_form x) = 1
-  size (defined k x e) = 1
-  size (item e k) = 1
-  size (rest_of e from post) = 1
-  size (tail_of e from count) = 1
+  size (defined k x e) = 3 + size_maybe e
+  size (item e k) = 3 + size e
+  size (rest_of e from post) = 3 + size e
+  size (tail_of e from count) = 3 + size e
 
   pub sizes : Forms → ℕ
   sizes none = 0
@@ -72,6 +72,10 @@ abbrev mutual
   size_first no_branches = 0
   size_first (branch t b bs) = size t
 
+  pub size_maybe : Maybe → ℕ
+  size_maybe absent = 0
+  size_maybe (there e) = size e
+
   pub size_receiver : Receiver → ℕ
   size_receiver (to e) = size e
   size_receiver on_self = 0
@@ -83,7 +87,7 @@ weight (receiver n x is b) = 3 + size_items is
 weight (items n k r vs is b) = 1 + size_items is
 weight (block k r vs) = 1
 weight (elements n g o s is) = 1
-weight (hash_key n o v ps) = 1
+weight (hash_key n o e ps) = 2 + size e
 weight (hash_value n o k ps) = 1
 weight (pieces n o es) = 1
 weight (rest n es) = 1 + sizes es

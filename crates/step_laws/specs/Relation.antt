@@ -1,215 +1,57 @@
 -- When a configuration of the evaluation and a state of the machine are alike: the fiber that runs, whose focus goes
 -- with its frame or its iteration, all that waits below, each other fiber, and each scope with its list of registers.
-use Rattle.std.specs.Prelude.{◌≡◌, ◌≢◌, ◌⊎◌, ◌<◌, ◌≤◌, ℕ, ◌+◌, List, [], ◌∷◌, length, Bool, true, false, nat_lt, nat_eq, bytes_eq, if◌then◌else◌, Option, Some, None, unwrap_or, slice_get}
+use Rattle.std.specs.Prelude.{◌≡◌, ◌<◌, ◌≤◌, ℕ, ◌+◌, List, [], ◌∷◌, length, is_some, Option, Some, None, unwrap_or, nat_eq, if◌then◌else◌, slice_get}
 use Rattle.rb_value.specs.declared.value.Value.{Value}
 use Rattle.rb_value.specs.declared.value.Value.TheVariants.{Nil}
 use Rattle.rb_value.specs.declared.value.ObjId.{ObjId}
 use Rattle.rb_value.specs.declared.exit.Exit.TheVariants.{Raise}
 use Rattle.rb_value.specs.declared.exit.Slot.TheVariants.{V}
 use Rattle.rite_code.specs.Code.{Program}
-use Rattle.rite_code.specs.declared.operation.Operation.{Operation}
 use Rattle.rite_code.specs.declared.operation.Operation.TheVariants as op
-use Rattle.ir_counts.specs.Tables.{item_count}
-use Rattle.ir_core.specs.CoreForm.{Name, named, CoreForm, absent, none, Branches}
+use Rattle.ir_core.specs.CoreForm.{Local, CoreForm}
 use Rattle.gen_parts.specs.declared.line.Line.TheVariants as line
 use Rattle.gen_parts.specs.declared.emitter.Spot.{Spot}
-use Rattle.gen_parts.specs.declared.emitter.Held.TheVariants as held
-use Rattle.gen_parts.specs.Pieces.{Piece, past, behind, ◌⊕◌, jump, jump_not}
 use Rattle.gen_forms.specs.declared.context.Loop.{Loop}
-use Rattle.gen_forms.specs.Gen.{Context, gen, others_in_turn, pass_in_registers, choose, over, operator, symbol}
+use Rattle.gen_forms.specs.Gen.{gen}
 use Rattle.path_eval.specs.Steps.{Matched}
 use Rattle.def_calls.specs.World.{World, main_program, activation_at}
-use Rattle.def_calls.specs.Calls.{by_name}
 use Rattle.def_calls.specs.Plans.{Iteration}
 use Rattle.def_calls.specs.Fibers.{Fibers}
 use Rattle.def_calls.specs.Fibers as fibers
 use Rattle.def_eval.specs.Source.{Source}
 use Rattle.def_eval.specs.Configuration as source
-use Rattle.def_eval.specs.Configuration.{Place, Scope, Exit, raise, next, assign, Part, operands, receiver, items, block, elements, hash_key, hash_value, pieces, rest, test, chosen, and_then, or_else, loop_test, loop_body, rescued, clause_class, clause_target, clause_body, ensured, Stop, passes, loops, rescues, assigns, retries, ensures, stop_of, Item, part, activation, iteration, ensuring, Kept, Focus, perform, give, travel, Config, Run, Halt, seen}
+use Rattle.def_eval.specs.Configuration.{Place, Scope, Exit, raise, leave_loop, next, Stop, passes, loops, rescues, assigns, retries, ensures, stop_of, Item, part, activation, iteration, ensuring, Kept, Focus, perform, give, travel, Config, Run, Halt, seen}
 use Rattle.def_eval.specs.Scopes.{value_in, scope_at}
 use Rattle.def_eval.specs.Transition.{go}
 use Rattle.def_machine.specs.State as machine
 use Rattle.def_machine.specs.State.{Registers, Frame, Level, frame, State, On, Off, Stuck, body_at, list_at, slot_at, value_at, shown}
 use Rattle.def_machine.specs.Unwind.{receive, throw}
 use Rattle.def_machine.specs.Turn.{turn}
-use Rattle.step_laws.specs.Site.{Site, within, place_in, at_line, LineAt, Room, register, Known, IsThere, Named, number}
-use Rattle.step_laws.specs.Covered.{Covered, CoveredForms, CoveredItems, CoveredBranches}
+use Rattle.step_laws.specs.Site.{Site, within, place_in, at_line, LineAt, Room, register, Known}
+use Rattle.step_laws.specs.Covered.{Covered}
 use Rattle.step_laws.specs.Calm.{StaysCalm}
 use Rattle.step_laws.specs.Measure.{measure}
 use Rattle.step_laws.specs.Standing.{high, Stands, Rest, frame_at}
+use Rattle.step_laws.specs.Behind.{Static, LoopAt, Behind, IsAround}
 
--- what holds of the body all along
-pub record Static (h : Site) : Type 0 where
-  pub apart : (x y : Name) → Known h x → Known h y → bytes_eq x y ≡ false → register h x ≢ register h y
-  pub some : 0 < h.first
-  pub room : h.first ≤ (body_at h.program h.body).registers
-  pub no_catches : (body_at h.program h.body).catches ≡ []
-
--- these values stand in a row of registers
-abbrev pub Holds : List Registers → ℕ → ℕ → List Value → Type 0
-Holds l n r [] = Unit {0}
-Holds l n r (v ∷ vs) = (slot_at l n r ≡ V v) × Holds l n (r + 1) vs
-
--- those of a call: self is no value of a register
-abbrev pub HoldsCall : Site → List Registers → Bool → ℕ → Value → List Value → Type 0
-HoldsCall h l false r recv vs = Holds l h.list r (recv ∷ vs)
-HoldsCall h l true r recv vs = (recv ≡ h.self) × Holds l h.list (r + 1) vs
-
--- the instruction of a call by that name, of so many items, of self or of a value in register r
-pub data CallBy (h : Site) (r : ℕ) (x : Name) (count : ℕ) (own : Bool) (o : Operation) : Type 0 where
-  operates : operator x r ≡ Some o → count ≡ 1 → own ≡ false → IsThere h.source x → CallBy h r x count own o
-  sends : o ≡ op.Send r (symbol h.context x) count → nat_lt 253 count ≡ false → own ≡ false → Named h x
-      → CallBy h r x count own o
-  sends_self : o ≡ op.SSend r (symbol h.context x) count → nat_lt 253 count ≡ false → own ≡ true → Named h x
-      → CallBy h r x count own o
-
--- what stands behind a test
-abbrev pub after_test : Context → Spot → ℕ → CoreForm → Branches → CoreForm → Piece
-after_test c s r b bs o =
-    let q = gen c (behind s) r b in
-    let further = behind (past (behind s) q) in
-    let others = choose c further r bs (λ d t n. gen d t n o) in
-    jump_not r further.line ⊕ q ⊕ jump (past further others).line ⊕ others
-
--- A loop, by the spots of its test and its body.
-pub record LoopAt (h : Site) (r : ℕ) (t b : CoreForm) (end : ℕ) : Type 0 where
-  pub loop : Option Loop
-  pub test_spot : Spot
-  pub body_spot : Spot
-  pub room : Room h r
-  pub test_covered : Covered h r t
-  pub body_covered : Covered h r b
-  pub test : Stands h test_spot.line (gen (within h loop) test_spot r t)
-  pub body : Stands h body_spot.line (gen (within h loop) body_spot r b)
-  pub out : ℕ
-  -- from the test to the body or out of the loop, and from the body to the test
-  pub branches : (LineAt h (test_spot.line + high (gen (within h loop) test_spot r t)) (line.JumpNot r out)
-      × (body_spot.line ≡ test_spot.line + high (gen (within h loop) test_spot r t) + 1))
-      ⊎ (LineAt h (test_spot.line + high (gen (within h loop) test_spot r t)) (line.JumpIf r body_spot.line)
-      × (out ≡ test_spot.line + high (gen (within h loop) test_spot r t) + 1))
-  pub back : LineAt h (body_spot.line + high (gen (within h loop) body_spot r b)) (line.Jump test_spot.line)
-      ⊎ (test_spot.line ≡ body_spot.line + high (gen (within h loop) body_spot r b))
-  pub load : LineAt h out (line.Does (op.LoadNil r))
-  pub ends : out + 1 ≡ end
-
--- The code behind a part, from the line at which its value is awaited in register r to the end of its form, whose value
--- is to stand in register low.
-abbrev pub Behind : Site → List Registers → Part → ℕ → ℕ → ℕ → ℕ → Type 0
-Behind h l (operands j a vs es) low n r end = record {
-  at : low ≡ r;
-  name : Name;
-  action : a ≡ assign (named name);
-  first : vs ≡ [];
-  last : es ≡ none;
-  known : Known h name;
-  move : LineAt h n (line.Does (op.Move (register h name) low));
-  ends : n + 1 ≡ end;
-}
-Behind h l (receiver j x is b) low n r end = record {
-  at : low ≡ r;
-  loop : Option Loop;
-  s : Spot;
-  here : s.line ≡ n;
-  plain : b ≡ absent;
-  room : Room h low;
-  covered : CoveredItems h (low + 1) is;
-  o : Operation;
-  by : CallBy h low x (item_count is) false o;
-  code : Stands h n (pass_in_registers (within h loop) s (low + 1) is);
-  calls : LineAt h (n + high (pass_in_registers (within h loop) s (low + 1) is)) (line.Does o);
-  ends : n + high (pass_in_registers (within h loop) s (low + 1) is) + 1 ≡ end;
-}
-Behind h l (items j k recv vs is b) low n r end = record {
-  own : Bool;
-  at : low + 1 + length vs ≡ r;
-  loop : Option Loop;
-  s : Spot;
-  here : s.line ≡ n;
-  plain : b ≡ absent;
-  room : Room h low;
-  covered : CoveredItems h (r + 1) is;
-  name : Name;
-  sending : k ≡ by_name (number h.source name);
-  held : HoldsCall h l own low recv vs;
-  o : Operation;
-  by : CallBy h low name (length vs + 1 + item_count is) own o;
-  code : Stands h n (pass_in_registers (within h loop) s (r + 1) is);
-  calls : LineAt h (n + high (pass_in_registers (within h loop) s (r + 1) is)) (line.Does o);
-  ends : n + high (pass_in_registers (within h loop) s (r + 1) is) + 1 ≡ end;
-}
-Behind h l (block k r vs) low n at end = ⊥
-Behind h l (elements j g o s is) low n r end = ⊥
-Behind h l (hash_key j o v ps) low n r end = ⊥
-Behind h l (hash_value j o k ps) low n r end = ⊥
-Behind h l (pieces j o es) low n r end = ⊥
-Behind h l (rest j es) low n r end = record {
-  at : low ≡ r;
-  loop : Option Loop;
-  s : Spot;
-  here : s.line ≡ n;
-  covered : CoveredForms h low es;
-  code : Stands h n (others_in_turn (within h loop) s low es);
-  ends : n + high (others_in_turn (within h loop) s low es) ≡ end;
-}
-Behind h l (test j b bs o) low n r end = record {
-  at : low ≡ r;
-  loop : Option Loop;
-  s : Spot;
-  here : s.line ≡ n;
-  covered : Covered h low b × CoveredBranches h low bs × Covered h low o;
-  code : Stands h n (after_test (within h loop) s low b bs o);
-  ends : n + high (after_test (within h loop) s low b bs o) ≡ end;
-}
-Behind h l chosen low n r end = record { at : low ≡ r; jump : LineAt h n (line.Jump end) }
-Behind h l (and_then j e) low n r end = record {
-  at : low ≡ r;
-  loop : Option Loop;
-  s : Spot;
-  here : s.line ≡ n;
-  covered : Covered h low e;
-  code : Stands h n (over (held.JumpNot low) s (λ t. gen (within h loop) t low e));
-  ends : n + high (over (held.JumpNot low) s (λ t. gen (within h loop) t low e)) ≡ end;
-}
-Behind h l (or_else j e) low n r end = record {
-  at : low ≡ r;
-  loop : Option Loop;
-  s : Spot;
-  here : s.line ≡ n;
-  covered : Covered h low e;
-  code : Stands h n (over (held.JumpIf low) s (λ t. gen (within h loop) t low e));
-  ends : n + high (over (held.JumpIf low) s (λ t. gen (within h loop) t low e)) ≡ end;
-}
-Behind h l (loop_test j t b) low n r end = record {
-  at : low ≡ r;
-  loop : LoopAt h low t b end;
-  here : loop.test_spot.line + high (gen (within h loop.loop) loop.test_spot low t) ≡ n;
-}
-Behind h l (loop_body j t b) low n r end = record {
-  at : low ≡ r;
-  loop : LoopAt h low t b end;
-  here : loop.body_spot.line + high (gen (within h loop.loop) loop.body_spot low b) ≡ n;
-}
-Behind h l (rescued j b cs o) low n r end = ⊥
-Behind h l (clause_class j e es t b cs q) low n r end = ⊥
-Behind h l (clause_target j e b q) low n r end = ⊥
-Behind h l (clause_body q) low n r end = ⊥
-Behind h l (ensured j e) low n r end = ⊥
-
--- The items inside of an activation, where a value is awaited in register r at line n. What holds at its end, of its
--- number, the place of its caller and the items below, is a parameter.
-abbrev pub Inside : Site → List Registers → (ℕ → Place → List Item → ℕ → ℕ → Type 0) → List Item → ℕ → ℕ → Type 0
-Inside h l AtEnd [] n r = ⊥
-Inside h l AtEnd (part k ∷ ks) n r = record {
+-- The items inside of an activation, where a value is awaited in register r at line n in the code of that loop. What holds
+-- at its end, of its number, the place of its caller and the items below, is a parameter.
+abbrev pub Inside : Site → List Registers → (ℕ → Place → List Item → ℕ → ℕ → Type 0) → List Item → ℕ → ℕ → Option Loop
+    → Type 0
+Inside h l AtEnd [] n r around = ⊥
+Inside h l AtEnd (part k ∷ ks) n r around = record {
   low : ℕ;
   end : ℕ;
   above : h.first ≤ low;
   below : low ≤ r;
-  behind : Behind h l k low n r end;
-  next : Inside h l AtEnd ks end low;
+  behind : Behind h l k low n r end around;
+  outer : Option Loop;
+  inner : IsAround (stop_of k) around outer;
+  next : Inside h l AtEnd ks end low outer;
 }
-Inside h l AtEnd (activation a place ∷ ks) n r = AtEnd a place ks n r
-Inside h l AtEnd (iteration a it place ∷ ks) n r = ⊥
-Inside h l AtEnd (ensuring o ∷ ks) n r = ⊥
+Inside h l AtEnd (activation a place ∷ ks) n r around = AtEnd a place ks n r × (around ≡ None)
+Inside h l AtEnd (iteration a it place ∷ ks) n r around = ⊥
+Inside h l AtEnd (ensuring o ∷ ks) n r around = ⊥
 
 -- The end of the code of a body: the main program stops, and is the last of the fiber that has no Fiber object; every
 -- other body returns its value to what is below.
@@ -240,7 +82,8 @@ pub record WaitsIn (hs : List Site) (fiber : fibers.Name) (l : List Registers) (
   pub after : x.after ≡ at_line h n
   pub room : Room h x.waits
   pub there : place ≡ place_in h
-  pub next : Inside h l (λ a p is i r. Ends h fiber below Further a p is i r) ks n x.waits
+  pub around : Option Loop
+  pub next : Inside h l (λ a p is i r. Ends h fiber below Further a p is i r) ks n x.waits around
 
 -- The levels of a fiber that wait for a value as its items do, from that place on: frames and iterations, down to the
 -- last.
@@ -270,9 +113,10 @@ abbrev pub WaitsBelow : Ground → List Registers → List Item → Place → Ty
 WaitsBelow g l ks place = Waits g.sites g.fiber l ks place g.below
 
 -- the items of the frame that runs, and what waits below them
-abbrev pub InFrame : Ground → Site → List Registers → List Item → ℕ → ℕ → Type 0
-InFrame g h l ks n r =
+abbrev pub InFrame : Ground → Site → List Registers → List Item → ℕ → ℕ → Option Loop → Type 0
+InFrame g h l ks n r around =
     Inside h l (λ a p is i t. Ends h g.fiber g.below (λ q js. Waits g.sites g.fiber l js q g.below) a p is i t) ks n r
+    around
 
 -- parts that an exception passes
 abbrev pub IsPassed : Stop → Type 0
@@ -312,8 +156,8 @@ pub record Same (h : Site) (cs : List Scope) (l : List Registers) : Type 0 where
   pub present : h.list < length l
   pub long : length (list_at l h.list).slots ≡ (body_at h.program h.body).registers
   pub self : value_at l h.list 0 ≡ h.self
-  pub alike : (x : Name) → Known h x
-      → unwrap_or (value_in (scope_at cs h.list).variables (named x)) Nil ≡ value_at l h.list (register h x)
+  pub alike : (x : Local) → Known h x
+      → unwrap_or (value_in (scope_at cs h.list).variables x) Nil ≡ value_at l h.list (register h x)
 
 -- What holds of a site of the source and its code: its scope and its list, and the activation, which is as it was opened.
 pub record SiteIs (s : Source) (p : Program) (h : Site) (cs : List Scope) (l : List Registers) (w : World) : Type 0
@@ -398,10 +242,10 @@ pub record Doing (g : Ground) (h : Site) (e : CoreForm) (ks : List Item) (place 
   pub loop : Option Loop
   pub s : Spot
   pub here : s.line ≡ n
-  pub covered : Covered h r e
+  pub covered : Covered h (is_some loop) r e
   pub above : h.first ≤ r
   pub code : Stands h n (gen (within h loop) s r e)
-  pub next : InFrame g h l ks (n + high (gen (within h loop) s r e)) r
+  pub next : InFrame g h l ks (n + high (gen (within h loop) s r e)) r loop
 
 -- the value stands in register r at line n
 pub record GivesIn (g : Ground) (h : Site) (v : Value) (ks : List Item) (place : Place) (ls : List Level)
@@ -412,7 +256,8 @@ pub record GivesIn (g : Ground) (h : Site) (v : Value) (ks : List Item) (place :
   pub is : ls ≡ frame (frame_at h x n) ∷ g.below
   pub there : place ≡ place_in h
   pub stands : slot_at l h.list r ≡ V v
-  pub next : InFrame g h l ks n r
+  pub loop : Option Loop
+  pub next : InFrame g h l ks n r loop
 
 -- a frame runs to which a value is given
 abbrev pub GivenIn : Source → Program → Value → List Item → source.Memory → List Level → machine.Memory → Type 0
@@ -455,11 +300,60 @@ pub record Throwing (s : Source) (p : Program) (x : Exit) (ks : List Item) (m : 
   pub both : Both s p g m memory
   pub leaving : Leaving g.sites g.fiber memory.lists ks g.below
 
+-- The way out of the loop with that target: parts that the exit passes, and the loop among its items.
+pub record LoopWay (g : Ground) (h : Site) (l : List Registers) (t b : CoreForm) (ks : List Item) (target : Loop) : Type 0 where
+  pub low : ℕ
+  pub end : ℕ
+  pub loop : LoopAt h low t b end
+  pub inside : loop.target ≡ target
+  pub outer : Option Loop
+  pub next : InFrame g h l ks end low outer
+
+abbrev pub WayBy : Stop → Type 0 → (CoreForm → CoreForm → Type 0) → Type 0
+WayBy passes further at = further
+WayBy (loops n t b) further at = at t b
+WayBy (rescues n r) further at = ⊥
+WayBy (assigns e r) further at = ⊥
+WayBy (retries r) further at = ⊥
+WayBy (ensures n e) further at = ⊥
+
+abbrev pub Way : Ground → Site → List Registers → List Item → Loop → Type 0
+Way g h l [] target = ⊥
+Way g h l (part k ∷ ks) target = WayBy (stop_of k) (Way g h l ks target) (λ t b. LoopWay g h l t b ks target)
+Way g h l (activation a place ∷ ks) target = ⊥
+Way g h l (iteration a it place ∷ ks) target = ⊥
+Way g h l (ensuring o ∷ ks) target = ⊥
+
+-- an exit to the end of the loop, whose value stands in its register, or to its next round
+pub data LeavesTo (h : Site) (l : List Registers) (x : Exit) (n : ℕ) (target : Loop) : Type 0 where
+  to_end : (v : Value) → x ≡ leave_loop v → LineAt h n (line.Leave target.out) → slot_at l h.list target.value ≡ V v
+      → LeavesTo h l x n target
+  to_round : (v : Value) → x ≡ next v → LineAt h n (line.Leave target.round) → LeavesTo h l x n target
+
+-- The frame stands at the jump that leaves the innermost loop, or begins its next round.
+pub record Leaps (s : Source) (p : Program) (e : Exit) (ks : List Item) (m : source.Memory) (ls : List Level)
+    (k : machine.Memory) : Type 0 where
+  pub g : Ground
+  pub h : Site
+  pub both : Running s p g h m k
+  pub x : Rest
+  pub n : ℕ
+  pub is : ls ≡ frame (frame_at h x n) ∷ g.below
+  pub there : m.place ≡ place_in h
+  pub target : Loop
+  pub by : LeavesTo h k.lists e n target
+  pub way : Way g h k.lists ks target
+
+pub data Travels (s : Source) (p : Program) (x : Exit) (ks : List Item) (m : source.Memory) (ls : List Level)
+    (k : machine.Memory) : Type 0 where
+  raised : Throwing s p x ks m ls k → Travels s p x ks m ls k
+  leaping : Leaps s p x ks m ls k → Travels s p x ks m ls k
+
 abbrev pub Agree : Source → Program → Focus → List Item → source.Memory → List Level → machine.Memory → Type 0
 Agree s p (perform j e) ks m ls k =
     (g : Ground) × (h : Site) × Running s p g h m k × Doing g h e ks m.place ls k.lists
 Agree s p (give v) ks m ls k = Giving s p v ks m ls k
-Agree s p (travel x) ks m ls k = Throwing s p x ks m ls k
+Agree s p (travel x) ks m ls k = Travels s p x ks m ls k
 
 -- A configuration of the evaluation of a source and a state of its code.
 abbrev pub Alike : Source → Program → Config → State → Type 0

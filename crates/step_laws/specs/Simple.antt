@@ -1,5 +1,5 @@
--- Forms over nil, true, false and integers: literals, locals of the source, sequences, branches, loops, operators, and
--- `puts`. A call has no more items than go into registers.
+-- Forms over nil, true, false and integers: literals, locals of the source, sequences, branches, loops with break and
+-- next, operators, and `puts`. A call has no more items than go into registers.
 use Rattle.std.specs.Prelude.{◌≡◌, ℕ, List, [], ◌∷◌, codes, bytes_eq, nat_lt, true, false}
 use Rattle.std.specs.List.{list_any}
 use Rattle.ir_counts.specs.Tables.{item_count}
@@ -64,8 +64,8 @@ abbrev mutual
   IsSimple (lambda f) = ⊥
   IsSimple (begin_form b cs o e) = ⊥
   IsSimple (return_form e) = ⊥
-  IsSimple (break_form e) = ⊥
-  IsSimple (next_form e) = ⊥
+  IsSimple (break_form e) = IsSimple e
+  IsSimple (next_form e) = IsSimple e
   IsSimple retry = ⊥
   IsSimple (define x f) = ⊥
   IsSimple (define_on e x f) = ⊥

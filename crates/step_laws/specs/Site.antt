@@ -1,12 +1,13 @@
 -- Where the code of a body stands, and what its activation has: what is the same all over a body.
-use Rattle.std.specs.Prelude.{◌≡◌, ◌<◌, ◌≤◌, ℕ, ◌+◌, List, [], ◌∷◌, get_or, position, bytes_eq, is_some, Bool, true, Option, Some}
+use Rattle.std.specs.Prelude.{◌≡◌, ◌<◌, ◌≤◌, ℕ, ◌+◌, List, [], ◌∷◌, get_or, position, bytes_eq, is_some, Bool, true, Option, Some, None}
 use Rattle.rb_value.specs.declared.value.Value.{Value}
 use Rattle.rb_value.specs.declared.value.SymId.{SymId}
 use Rattle.rite_code.specs.Code.{Program}
+use Rattle.rite_code.specs.Instruction.{Instruction}
 use Rattle.def_core.specs.Store.{Store}
 use Rattle.def_core.specs.Changes.{intern}
 use Rattle.rb_store.specs.Opening.{with_names}
-use Rattle.ir_core.specs.CoreForm.{Name, named}
+use Rattle.ir_core.specs.CoreForm.{Name, Local, named, hidden, pattern, rest}
 use Rattle.scope_resolver.specs.Layout.{place_of}
 use Rattle.gen_parts.specs.declared.line.Line.{Line}
 use Rattle.gen_parts.specs.Assembly.{instruction_before}
@@ -65,11 +66,20 @@ pub record Room (h : Site) (r : ℕ) : Type 0 where
 
 -- Locals.
 
-abbrev pub register : Site → Name → ℕ
-register h x = (place_of h.context.scopes (named x)).register
+-- one of the source, or a hidden one of the body
+abbrev pub IsScoped : Local → Type 0
+IsScoped (named x) = Unit {0}
+IsScoped (hidden d) = Unit {0}
+IsScoped (pattern k) = ⊥
+IsScoped rest = ⊥
 
-pub record Known (h : Site) (x : Name) : Type 0 where
-  pub level : (place_of h.context.scopes (named x)).levels ≡ 0
+abbrev pub register : Site → Local → ℕ
+register h x = (place_of h.context.scopes x).register
+
+-- the local has a register of the body
+pub record Known (h : Site) (x : Local) : Type 0 where
+  pub scoped : IsScoped x
+  pub level : (place_of h.context.scopes x).levels ≡ 0
   pub behind_self : 1 ≤ register h x
   pub low : register h x < h.first
 

@@ -1,20 +1,23 @@
-//! The step law of the six first forms, over the whole definitions: the code that gen_forms gives for a form goes with the
+//! The step law of forms without bodies, over the whole definitions: the code that gen_forms gives for a form goes with the
 //! evaluation of the form, transition by transition. There is no code here.
 //!
 //! - `specs::Covered`: the forms whose code is followed: nil, true, false, self, integers, strings, symbols, variables and
-//!   constants that are read, locals, sequences, branches, `and` and `or`, loops, calls of a value and of self with plain
-//!   items and no block. Operators are calls by look-up and row, and `puts` is the iteration that it is, plan by plan.
+//!   constants with their assignments, locals, Arrays with splats, Hashes, Ranges, texts, sequences, branches, `and` and
+//!   `or`, loops with break and next, elements of multiple assignments, `defined?`, other names of methods, calls of a
+//!   name alone, calls of a value and of self with plain items and no block. Operators are calls by look-up and row, and
+//!   `puts` is the iteration that it is, plan by plan.
+//! - `specs::Plain`: the same as a condition on a form alone
 //! - `specs::Simple`: those over nil, true, false and integers, with operators and `puts`, whose evaluation calls no body
 //! - `specs::Calm`: what is asked of an evaluation otherwise: it calls no body of the source
 //! - `specs::Implements`: code of a source, and what it means that code implements a source
+//! - `specs::Behind`: the code behind each part of a form that waits for its value
 //! - `specs::Relation`: when a configuration and a state are alike (`Alike`): one world on both sides; the focus goes with
 //!   the frame or the iteration that runs; below it frames and iterations wait for values as the items do, whichever and
 //!   however many; so in each other fiber; each scope has the list of registers of its number, of a body that has a
 //!   `Site`, and no two frames have one list
 //!
-//! The step law is of any such pair, not only of those that a simple program comes to. A form of more adds a case to
-//! `Behind` in the relation, to proofs/Whole.antt, and a file of its own; what it leaves as it is stands in
-//! proofs/Untouched.antt.
+//! The step law is of any such pair, not only of those that a program of such forms comes to. A form of more adds a case
+//! to `Behind`, to proofs/Whole.antt, and a file of its own; what it leaves as it is stands in proofs/Untouched.antt.
 #![tactic(auto)]
 
 ghost use Rattle.std.specs.Prelude.{◌≡◌, List, ℕ, None};
@@ -36,8 +39,9 @@ ghost use Rattle.step_laws.specs.Calm.{StaysCalm};
 ghost use Rattle.step_laws.specs.Measure.{measure};
 ghost use Rattle.step_laws.specs.Relation.{Alike, Shared};
 ghost use Rattle.step_laws.specs.Simple.{IsSimple};
+ghost use Rattle.step_laws.specs.Plain.{IsPlain};
 ghost use Rattle.step_laws.specs.Implements.{IsCodeOf, Implements};
-ghost use Rattle.step_laws.specs.Example.{countdown, IsWitness};
+ghost use Rattle.step_laws.specs.Example.{countdown, gatherer, IsWitness, IsPlainWitness};
 
 /// From a configuration and a state that are alike a transition is matched by few turns, after which they are alike again;
 /// what waits below the running frame, and in other fibers, may be anything that is alike. Both begin alike.
@@ -62,8 +66,19 @@ pub fn simple_code_implements()
         → Implements s p input }
 {}
 
-/// The code that gen_forms gives for a program of simple forms within the limits is code of it, so it implements it.
+/// The code that gen_forms gives for a program of plain forms within the limits is code of it, so it implements it for
+/// each input with which the evaluation calls no body.
 #[tactic(auto, using(crate::proofs::Coded::program_is_code, crate::proofs::Coded::program_implements))]
+pub fn plain_programs_are_coded()
+    ensures coded { (b : Body) → IsProgram b → first_excess (need b) ≡ None → IsPlain (form.form_of b)
+        → IsCodeOf (source_of b) (program 2 (coded_program b)) }
+    ensures implemented { (b : Body) (input : List ℕ) → IsProgram b → first_excess (need b) ≡ None
+        → IsPlain (form.form_of b) → StaysCalm (source_of b) (opening (source_of b) input)
+        → Implements (source_of b) (program 2 (coded_program b)) input }
+{}
+
+/// For a program of simple forms it does so for every input.
+#[tactic(auto, using(crate::proofs::Coded::simple_is_code, crate::proofs::Coded::simple_implements))]
 pub fn simple_programs_are_implemented()
     ensures coded { (b : Body) → IsProgram b → first_excess (need b) ≡ None → IsSimple (form.form_of b)
         → IsCodeOf (source_of b) (program 2 (coded_program b)) }
@@ -76,4 +91,11 @@ pub fn simple_programs_are_implemented()
 #[tactic(auto, using(crate::proofs::Example::witness))]
 pub fn a_program_counts_down()
     ensures { IsWitness countdown }
+{}
+
+/// There is a plain one with an Array, a Hash, variables, a loop that is left by a break, and an exception that nothing
+/// rescues; its evaluation and its code come to the same end.
+#[tactic(auto, using(crate::proofs::Example::gathers))]
+pub fn a_program_gathers()
+    ensures { IsPlainWitness gatherer }
 {}
