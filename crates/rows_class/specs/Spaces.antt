@@ -1,9 +1,10 @@
 -- What a class or module is called, what stands above it, and its methods and constants.
-use Rattle.std.specs.Prelude.{ℕ, List, [], Bool, true, false, if◌then◌else◌, Option, Some, None}
+use Rattle.std.specs.Prelude.{ℕ, List, [], ◌∷◌, map, reverse, Bool, true, false, if◌then◌else◌, Option, Some, None}
 use Rattle.rb_value.specs.declared.value.Value.{Value}
 use Rattle.rb_value.specs.declared.value.Value.TheVariants.{Nil, True, False, Obj}
 use Rattle.rb_value.specs.declared.value.ObjId.{ObjId}
 use Rattle.rb_value.specs.declared.value.SymId.{SymId}
+use Rattle.rb_value.specs.declared.kind.Sort.{Sort}
 use Rattle.rb_value.specs.declared.method.Method.{Method}
 use Rattle.rb_value.specs.declared.method.Method.TheVariants as method
 use Rattle.rb_value.specs.declared.method.MethodEntry.{MethodEntry}
@@ -14,14 +15,19 @@ use Rattle.rb_value.specs.Value.{truth}
 use Rattle.def_core.specs.declared.found.Found.{Found}
 use Rattle.def_core.specs.Store.{Store, Done, same_object}
 use Rattle.def_core.specs.Classes.{class_at}
+use Rattle.def_core.specs.Changes as changes
 use Rattle.def_core.specs.Changes.{gives}
+use Rattle.def_calls.specs.World.{World, Answer, answer, give}
 use Rattle.def_core.specs.Find.{entry_of}
 use Rattle.def_core.specs.Texts as texts
 use Rattle.def_rows.specs.Answers.{makes, text_object}
 use Rattle.def_calls.specs.Definitions.{space_in}
+use Rattle.heap.specs.Operands as heap
 use Rattle.heap.specs.Operands.{own, has_space, is_in_chain}
+use Rattle.heap.specs.Reading.{sort_of_value}
 use Rattle.heap.specs.Finding.{find}
 use Rattle.rows_object.specs.Answered.{refused}
+use Rattle.rows_object.specs.Follows.{array, in_turn, refuse}
 
 -- Names.
 
@@ -29,7 +35,7 @@ abbrev pub class_name : Store → ObjId → List ℕ
 class_name st c = if has_space st c then texts.class_name st c else []
 
 -- `to_s` and `inspect`
-abbrev pub text : ObjId → Store → Done
+unfoldable pub text : ObjId → Store → Done
 text c st = makes st (text_object (class_name st c))
 
 abbrev pub name_by : ObjId → Store → Option SymId → Done
@@ -67,6 +73,39 @@ object_or_nil (Some id) = Obj id
 -- `superclass`
 abbrev pub superclass : Store → ObjId → Value
 superclass st c = object_or_nil (class_at st.objects c).superclass
+
+-- `ancestors`
+abbrev pub ancestors : ObjId → World → Answer
+ancestors c w = array (map (λ id. Obj id) (heap.ancestors w.store c)) w
+
+-- `include`: the last of the modules first, so that the first stands first among the ancestors; none is included where
+-- one is no module
+
+abbrev pub is_module : Option Sort → Bool
+is_module None = false
+is_module (Some s) = changes.is_module_sort s
+
+abbrev pub unless_module : Value → Bool → Option Value → Option Value
+unless_module v true rest = rest
+unless_module v false rest = Some v
+
+unfoldable pub no_module : Store → List Value → Option Value
+no_module st [] = None
+no_module st (v ∷ vs) = unless_module v (is_module (sort_of_value st v)) (no_module st vs)
+
+abbrev pub include_one : ObjId → Value → World → Answer
+include_one c mixin w =
+    heap.with_space c (λ u. answer u (changes.include u.store c (own w.store mixin))) w
+
+abbrev pub include_all : ObjId → List Value → World → Answer
+include_all c mixins = in_turn (include_one c) (reverse mixins) (λ w. give w (Obj c))
+
+abbrev pub include_unless : ObjId → List Value → Option Value → World → Answer
+include_unless c mixins None = include_all c mixins
+include_unless c mixins (Some other) = refuse class.Module other
+
+abbrev pub include : ObjId → List Value → World → Answer
+include c mixins w = include_unless c mixins (no_module w.store mixins) w
 
 -- Methods.
 

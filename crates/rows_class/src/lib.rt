@@ -8,6 +8,7 @@ pub mod calling;
 mod constants;
 pub mod making;
 mod methods;
+mod naming;
 pub mod row;
 mod spaces;
 mod visibility;

@@ -1,5 +1,6 @@
 //! New classes and modules, and new objects of a class.
 ghost use Rattle.std.specs.Prelude.{◌≡◌};
+ghost use Rattle.rows_object.specs.Follows.{Follows};
 ghost use Rattle.rows_class.specs.Making as defined;
 
 use core_calls::heap::{Blank, Given, Heap};
@@ -61,7 +62,9 @@ pub fn blank_of(heap: &Heap, class: ObjId) -> Option<Blank>
 }
 
 /// `allocate`: an object of a class with nothing in it.
-pub(crate) fn allocate(heap: &mut Heap, class: ObjId) -> Result<Given, AllocError> {
+pub(crate) fn allocate(heap: &mut Heap, class: ObjId) -> Result<Given, AllocError>
+    ensures { Follows heap.old heap.new result (defined.allocate class) }
+{
     match blank_of(heap, class) {
         Some(blank) => Ok(Given::Gives(heap.make_blank(class, blank)?)),
         None => {
@@ -73,7 +76,9 @@ pub(crate) fn allocate(heap: &mut Heap, class: ObjId) -> Result<Given, AllocErro
 }
 
 /// The class that a value is, and no singleton class.
-fn a_class(heap: &Heap, value: Value) -> Option<ObjId> {
+fn a_class(heap: &Heap, value: Value) -> Option<ObjId>
+    ensures { result ≡ defined.class_in heap.now.store value }
+{
     match heap.sort(value) {
         Some(Sort::Class) => heap.space_in(value),
         _ => None,
@@ -81,7 +86,9 @@ fn a_class(heap: &Heap, value: Value) -> Option<ObjId> {
 }
 
 /// `new` of Class: a class without a name under another, and under Object where none is given.
-pub(crate) fn new_class(heap: &mut Heap, args: &[Value]) -> Result<Given, AllocError> {
+pub(crate) fn new_class(heap: &mut Heap, args: &[Value]) -> Result<Given, AllocError>
+    ensures { Follows heap.old heap.new result (defined.new_class args.now) }
+{
     let superclass = match args.first() {
         Some(value) => a_class(heap, *value),
         None => Some(heap.class_object(CoreClass::Object)),
@@ -93,6 +100,8 @@ pub(crate) fn new_class(heap: &mut Heap, args: &[Value]) -> Result<Given, AllocE
 }
 
 /// `new` of Module: a module without a name.
-pub(crate) fn new_module(heap: &mut Heap) -> Result<Given, AllocError> {
+pub(crate) fn new_module(heap: &mut Heap) -> Result<Given, AllocError>
+    ensures { Follows heap.old heap.new result defined.new_module }
+{
     Ok(Given::Gives(Value::Obj(heap.make_module()?)))
 }

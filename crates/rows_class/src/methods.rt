@@ -1,15 +1,23 @@
 //! Methods on the methods of a class or module.
 ghost use Rattle.std.specs.Prelude.{◌≡◌, IfOk};
 ghost use Rattle.run_values.specs.declared.given.Given.TheVariants.{Gives};
+ghost use Rattle.rows_object.specs.Follows.{Follows};
 ghost use Rattle.rows_class.specs.Spaces as defined;
+ghost use Rattle.rows_class.specs.Methods as changed;
 
-use crate::accessors::names_in;
-use crate::row::ClassRow;
+use crate::naming::names_in;
 use core_calls::heap::{Given, Heap};
 use core_calls::name_in;
 use def_core::Cause;
 use rb_value::{Method, ObjId, SymId, Value, Visibility};
 use std::alloc::AllocError;
+
+/// How a method is taken away: so that what stands above is found, or nothing.
+#[derive(Clone, Copy, Debug, PartialEq, Eq)]
+pub(crate) enum Taking {
+    Removed,
+    Undefined,
+}
 
 /// `method_defined?`: whether a public or protected method of that name is found.
 pub(crate) fn has(heap: &mut Heap, space: ObjId, name: SymId) -> Result<Given, AllocError>
@@ -29,7 +37,9 @@ pub(crate) fn define(
     space: ObjId,
     name: SymId,
     block: Option<ObjId>,
-) -> Result<Given, AllocError> {
+) -> Result<Given, AllocError>
+    ensures { Follows heap.old heap.new result (changed.define space name block) }
+{
     match block {
         Some(block) => {
             let visibility = heap.default_visibility(space);
@@ -46,7 +56,9 @@ pub(crate) fn alias(
     space: ObjId,
     alias: SymId,
     name: Value,
-) -> Result<Given, AllocError> {
+) -> Result<Given, AllocError>
+    ensures { Follows heap.old heap.new result (changed.alias_method space alias name) }
+{
     match name_in(heap, name)? {
         Ok(name) => match heap.alias_method(space, alias, name)? {
             Given::Gives(_) => Ok(Given::Gives(Value::Sym(alias))),
@@ -67,7 +79,9 @@ fn is_own(heap: &Heap, space: ObjId, name: SymId) -> bool
 }
 
 /// Takes a method that a class or module has itself away, so that what stands above is found.
-fn remove(heap: &mut Heap, space: ObjId, name: SymId) -> Result<Given, AllocError> {
+fn remove(heap: &mut Heap, space: ObjId, name: SymId) -> Result<Given, AllocError>
+    ensures { Follows heap.old heap.new result (changed.remove space name) }
+{
     if !is_own(heap, space, name) {
         return heap.fail(Cause::UndefinedInClass { name, class: space });
     }
@@ -75,27 +89,46 @@ fn remove(heap: &mut Heap, space: ObjId, name: SymId) -> Result<Given, AllocErro
     Ok(Given::Gives(Value::Nil))
 }
 
-/// `undef_method` of names, which then aren't found, and `remove_method`, by which a class or module loses what it has
-/// itself. The class or module is given.
-pub(crate) fn take_away(
+/// Takes a method away.
+fn take_one(heap: &mut Heap, taking: Taking, space: ObjId, name: SymId) -> Result<Given, AllocError>
+    ensures { Follows heap.old heap.new result (changed.take_one taking space name) }
+{
+    match taking {
+        Taking::Removed => remove(heap, space, name),
+        Taking::Undefined => heap.undefine_method(space, name),
+    }
+}
+
+/// Takes methods away, and gives the class or module.
+#[tactic(auto, unfolding(rows_object::specs::Follows::in_turn))]
+fn take_all(
     heap: &mut Heap,
-    row: ClassRow,
+    taking: Taking,
     space: ObjId,
-    args: &[Value],
-) -> Result<Given, AllocError> {
-    let names = match names_in(heap, args)? {
-        Ok(names) => names,
-        Err(cause) => return heap.fail(cause),
-    };
-    'names: for name in &names {
-        let done = if row == ClassRow::RemoveMethod {
-            remove(heap, space, *name)?
-        } else {
-            heap.undefine_method(space, *name)?
-        };
-        if let Given::Raises(exception) = done {
+    names: &[SymId],
+) -> Result<Given, AllocError>
+    ensures { Follows heap.old heap.new result (changed.take_all taking space names.now) }
+{
+    'names: for name in names {
+        if let Given::Raises(exception) = take_one(heap, taking, space, *name)? {
             return Ok(Given::Raises(exception));
         }
     }
     Ok(Given::Gives(Value::Obj(space)))
+}
+
+/// `undef_method` of names, which then aren't found, and `remove_method`, by which a class or module loses what it has
+/// itself. The class or module is given.
+pub(crate) fn take_away(
+    heap: &mut Heap,
+    taking: Taking,
+    space: ObjId,
+    args: &[Value],
+) -> Result<Given, AllocError>
+    ensures { Follows heap.old heap.new result (changed.take_away taking space args.now) }
+{
+    match names_in(heap, args)? {
+        Ok(names) => take_all(heap, taking, space, &names),
+        Err(cause) => heap.fail(cause),
+    }
 }

@@ -1,4 +1,7 @@
 //! The core methods by their names.
+ghost use Rattle.std.specs.Prelude.{◌≡◌, map};
+ghost use Rattle.rows_class.specs.Named as named;
+ghost use Rattle.rows_class.specs.Rows as rows;
 
 /// A core method of this crate.
 #[derive(Clone, Copy, Debug, PartialEq, Eq)]
@@ -76,7 +79,10 @@ pub const MAIN_ROWS: [Named; 4] = [
 ];
 
 /// The methods of this crate that a segment of the rows has, by their names.
-pub fn rows_of(segment: u16) -> &'static [(&'static [u8], ClassRow)] {
+#[tactic(auto, unfolding(crate::specs::Named::module_rows, crate::specs::Named::module_class_rows, crate::specs::Named::class_rows, crate::specs::Named::class_class_rows, crate::specs::Named::main_rows))]
+pub fn rows_of(segment: u16) -> &'static [(&'static [u8], ClassRow)]
+    ensures { map (λ r. (r.0.now, r.1)) result.now ≡ named.rows segment }
+{
     match segment {
         4 => &MODULE_ROWS,
         5 => &MODULE_CLASS_ROWS,
@@ -88,8 +94,17 @@ pub fn rows_of(segment: u16) -> &'static [(&'static [u8], ClassRow)] {
 }
 
 impl ClassRow {
+    /// Whether it needs a block.
+    pub(crate) fn wants_block(self) -> bool
+        ensures { result ≡ rows.wants_block self }
+    {
+        matches!(self, ClassRow::DefineMethod)
+    }
+
     /// At least and at most how many arguments it takes; none stands for no bound.
-    pub(crate) fn counts(self) -> (u64, Option<u64>) {
+    pub(crate) fn counts(self) -> (u64, Option<u64>)
+        ensures { result ≡ rows.counts self }
+    {
         match self {
             ClassRow::Matches
             | ClassRow::IsBelow

@@ -1,15 +1,19 @@
 //! What a class or module is called, what stands above it, and what it includes.
-ghost use Rattle.std.specs.Prelude.{◌≡◌};
+ghost use Rattle.std.specs.Prelude.{◌≡◌, map, IfOk};
+ghost use Rattle.rb_value.specs.declared.value.Value.TheVariants.{Obj};
 ghost use Rattle.def_core.specs.Classes.{class_at};
 ghost use Rattle.run_values.specs.declared.given.Given.TheVariants.{Gives};
 ghost use Rattle.rows_object.specs.Answered.{Answered};
+ghost use Rattle.rows_object.specs.Follows.{Follows};
 ghost use Rattle.rows_class.specs.Spaces as defined;
 
 use core_calls::heap::{Given, Heap};
 use rb_value::{CoreClass, Kind, ObjId, Sort, SymId, Value};
-use std::alloc::AllocError;
+use rows_object::giving::give_array;
+use std::alloc::{AllocError, Global};
 
 /// What a class or module is called by texts.
+#[tactic(auto, unfolding(crate::specs::Spaces::text))]
 pub(crate) fn text(heap: &mut Heap, space: ObjId) -> Result<Given, AllocError>
     ensures { Answered heap.old heap.new result (defined.text space) }
 {
@@ -78,41 +82,61 @@ pub(crate) fn is_below(heap: &mut Heap, space: ObjId, other: Value) -> Result<Gi
     }
 }
 
-/// `ancestors`: a class or module and what stands above it, the nearest first.
-pub(crate) fn ancestors(heap: &mut Heap, space: ObjId) -> Result<Given, AllocError> {
-    let mut all = Vec::new(heap.alloc());
-    let above = heap.ancestors(space)?;
-    'ancestors: for id in &above {
-        all.push(Value::Obj(*id))?;
+/// These classes and modules as values.
+fn values_of(alloc: Global, ids: &[ObjId]) -> Result<Vec<Value>, AllocError>
+    ensures { IfOk result (λ values. values.items ≡ map (λ id. Obj id) ids.now) }
+{
+    let mut values = Vec::with_capacity(alloc, ids.len())?;
+    'ids: for id in ids {
+        values.push(Value::Obj(*id))?;
     }
-    Ok(Given::Gives(heap.make_array(all)?))
+    Ok(values)
+}
+
+/// `ancestors`: a class or module and what stands above it, the nearest first.
+pub(crate) fn ancestors(heap: &mut Heap, space: ObjId) -> Result<Given, AllocError>
+    ensures { Follows heap.old heap.new result (defined.ancestors space) }
+{
+    let above = heap.ancestors(space)?;
+    let values = values_of(heap.alloc(), &above)?;
+    give_array(heap, values)
 }
 
 /// The first of some values that is no module.
-fn no_module(heap: &Heap, values: &[Value]) -> Option<Value> {
+#[tactic(auto, unfolding(crate::specs::Spaces::no_module))]
+fn no_module(heap: &Heap, values: &[Value]) -> Option<Value>
+    ensures { result ≡ defined.no_module heap.now.store values.now }
+{
     'values: for value in values {
-        if heap.sort(*value) != Some(Sort::Module) {
-            return Some(*value);
+        match heap.sort(*value) {
+            Some(Sort::Module) => {}
+            _ => return Some(*value),
         }
     }
     None
 }
 
-/// `include`: the last of the modules first, so that the first stands first among the ancestors.
-pub(crate) fn include(
-    heap: &mut Heap,
-    space: ObjId,
-    mixins: &[Value],
-) -> Result<Given, AllocError> {
-    if let Some(other) = no_module(heap, mixins) {
-        return heap.unexpected(CoreClass::Module, other);
-    }
-    'mixins: for mixin in mixins.iter().rev() {
-        if let Given::Raises(exception) = heap.include(space, *mixin)? {
+/// Includes modules, the last of them first, and gives the class or module.
+#[tactic(auto, unfolding(rows_object::specs::Follows::in_turn), using(crate::proofs::Listing::last_first))]
+fn include_all(heap: &mut Heap, space: ObjId, mixins: &[Value]) -> Result<Given, AllocError>
+    ensures { Follows heap.old heap.new result (defined.include_all space mixins.now) }
+{
+    'mixins: for place in (0..mixins.len()).rev() {
+        if let Given::Raises(exception) = heap.include(space, mixins[place])? {
             return Ok(Given::Raises(exception));
         }
     }
     Ok(Given::Gives(Value::Obj(space)))
+}
+
+/// `include`: the last of the modules first, so that the first stands first among the ancestors.
+pub(crate) fn include(heap: &mut Heap, space: ObjId, mixins: &[Value]) -> Result<Given, AllocError>
+    ensures { Follows heap.old heap.new result (defined.include space mixins.now) }
+{
+    match no_module(heap, mixins) {
+        Some(other) => heap.unexpected(CoreClass::Module, other),
+        None => include_all(heap, space, mixins),
+    }
 }
 
 /// `superclass`: that of a class, and nil where it has none.
