@@ -1,5 +1,10 @@
 //! Numbers up to a limit, one after another: `times`, `upto`, `downto` and `step` of an Integer, `each` and `step` of a
 //! Range.
+ghost use Rattle.std.specs.Prelude.{◌≡◌, IfOk, OnOk};
+ghost use Rattle.def_plans.specs.Plan.{Plans};
+ghost use Rattle.core_iter.specs.Counting as counting;
+ghost use Rattle.core_iter.specs.Sending.{IsBeat};
+ghost use Rattle.core_iter.specs.Stage.{stage_of};
 
 use crate::iteration::Iteration;
 use crate::sending::{call_beat, refuse};
@@ -23,7 +28,10 @@ pub struct Count {
 }
 
 /// What is shown of a number: it, or a new String of the byte that it is.
-fn shown(heap: &mut Heap, number: i64, of_byte: bool) -> Result<Value, AllocError> {
+fn shown(heap: &mut Heap, number: i64, of_byte: bool) -> Result<Value, AllocError>
+    ensures value { IfOk result (λ v. v ≡ (counting.shown heap.old number of_byte).value) }
+    ensures made { OnOk result (heap.new ≡ (counting.shown heap.old number of_byte).held) }
+{
     if !of_byte {
         return Ok(Value::Int(number));
     }
@@ -33,19 +41,33 @@ fn shown(heap: &mut Heap, number: i64, of_byte: bool) -> Result<Value, AllocErro
     }
 }
 
-/// The next number, where it doesn't pass the last one.
-fn due(count: Count) -> Option<i64> {
-    let number = count.next?;
-    let passed = if count.by > 0 {
+/// Whether a number passes the last one.
+fn is_past(count: Count, number: i64) -> bool
+    ensures { result ≡ counting.is_past count number }
+{
+    if count.by > 0 {
         number > count.last
     } else {
         number < count.last
-    };
-    if passed { None } else { Some(number) }
+    }
+}
+
+/// The next number, where it doesn't pass the last one.
+fn due(count: Count) -> Option<i64>
+    ensures { result ≡ counting.due count }
+{
+    let number = count.next?;
+    if is_past(count, number) {
+        None
+    } else {
+        Some(number)
+    }
 }
 
 /// The call of the block with the next number, which is passed; nothing where none is left.
-pub(crate) fn count_beat(heap: &mut Heap, count: &mut Count) -> Result<Option<Beat>, AllocError> {
+pub(crate) fn count_beat(heap: &mut Heap, count: &mut Count) -> Result<Option<Beat>, AllocError>
+    ensures { IsBeat (counting.count_beat heap.old count.old) result count.new heap.new }
+{
     let Some(number) = due(*count) else {
         return Ok(None);
     };
@@ -57,7 +79,9 @@ pub(crate) fn count_beat(heap: &mut Heap, count: &mut Count) -> Result<Option<Be
 }
 
 /// Calls the block with the next number, or gives the value.
-pub(crate) fn count_next(heap: &mut Heap, count: Count) -> Result<Plan<Iteration>, AllocError> {
+pub(crate) fn count_next(heap: &mut Heap, count: Count) -> Result<Plan<Iteration>, AllocError>
+    ensures { Plans stage_of heap.new result (counting.count_next heap.old count) }
+{
     let mut count = count;
     match count_beat(heap, &mut count)? {
         Some(beat) => call_beat(heap, Iteration::Counting(count), beat),
@@ -65,43 +89,50 @@ pub(crate) fn count_next(heap: &mut Heap, count: Count) -> Result<Plan<Iteration
     }
 }
 
-/// The numbers that an Integer counts for its rows.
-fn integers(heap: &Heap, row: VisitRow, call: Call<'_>, block: ObjId) -> Result<Count, Cause> {
-    let own = integer(heap, call.receiver)?;
-    let count = Count {
-        next: Some(own),
-        last: own,
-        by: 1,
+/// Integers from one to another by steps.
+fn from_to(call: Call<'_>, block: ObjId, first: i64, last: i64, by: i64) -> Count
+    ensures { result ≡ counting.from_to call.entry.receiver block first last by }
+{
+    Count {
+        next: Some(first),
+        last,
+        by,
         of_bytes: false,
         block,
         gives: call.receiver,
-    };
+    }
+}
+
+/// Integers from one to another by steps, which aren't of no size.
+fn by_steps(call: Call<'_>, block: ObjId, first: i64, last: i64, by: i64) -> Result<Count, Cause>
+    ensures { result ≡ counting.by_steps call.entry.receiver block first last by }
+{
+    if by == 0 {
+        return Err(Cause::NegativeCount);
+    }
+    Ok(from_to(call, block, first, last, by))
+}
+
+/// The numbers that an Integer counts for its rows.
+fn integers(heap: &Heap, row: VisitRow, call: Call<'_>, block: ObjId) -> Result<Count, Cause>
+    ensures { result ≡ counting.integers row heap.now.store call.entry.receiver call.entry.args.now block }
+{
+    let own = integer(heap, call.receiver)?;
     match row {
         VisitRow::Upto => {
             let last = integer(heap, argument(call.args, 0))?;
-            Ok(Count { last, ..count })
+            Ok(from_to(call, block, own, last, 1))
         }
         VisitRow::Downto => {
             let last = integer(heap, argument(call.args, 0))?;
-            Ok(Count {
-                last,
-                by: -1,
-                ..count
-            })
+            Ok(from_to(call, block, own, last, -1))
         }
         VisitRow::Step => {
             let last = integer(heap, argument(call.args, 0))?;
             let by = integer(heap, argument(call.args, 1))?;
-            if by == 0 {
-                return Err(Cause::NegativeCount);
-            }
-            Ok(Count { last, by, ..count })
+            by_steps(call, block, own, last, by)
         }
-        _ => Ok(Count {
-            next: Some(0),
-            last: own.saturating_sub(1),
-            ..count
-        }),
+        _ => Ok(from_to(call, block, 0, own.saturating_sub(1), 1)),
     }
 }
 
@@ -111,31 +142,43 @@ pub(crate) fn begin_integers(
     row: VisitRow,
     call: Call<'_>,
     block: ObjId,
-) -> Result<Plan<Iteration>, AllocError> {
+) -> Result<Plan<Iteration>, AllocError>
+    ensures { Plans stage_of heap.new result
+        (counting.begin_integers row heap.old call.entry.receiver call.entry.args.now block) }
+{
     match integers(heap, row, call, block) {
         Ok(count) => count_next(heap, count),
         Err(cause) => Ok(Plan::Fails(cause)),
     }
 }
 
-/// The numbers of a Range, by steps of one.
-fn numbers_of(range: RangeContents, receiver: Value, block: ObjId) -> Count {
+/// The numbers of a Range up to its last, by steps.
+fn up_to_end(range: RangeContents, receiver: Value, block: ObjId, by: i64) -> Count
+    ensures { result ≡ counting.up_to_end range receiver block by }
+{
     let (first, last, of_bytes) = match range.ends {
         RangeEnds::Integers { first, last } => (first, last, false),
         RangeEnds::Bytes { first, last } => (i64::from(first), i64::from(last), true),
     };
-    let count = Count {
+    Count {
         next: Some(first),
         last,
-        by: 1,
+        by,
         of_bytes,
         block,
         gives: receiver,
-    };
+    }
+}
+
+/// The numbers of a Range, by steps: those before its end, where that is excluded.
+fn numbers_of(range: RangeContents, receiver: Value, block: ObjId, by: i64) -> Count
+    ensures { result ≡ counting.numbers_of range receiver block by }
+{
+    let count = up_to_end(range, receiver, block, by);
     if !range.exclusive {
         return count;
     }
-    match last.checked_sub(1) {
+    match count.last.checked_sub(1) {
         Some(last) => Count { last, ..count },
         None => Count {
             next: None,
@@ -149,9 +192,11 @@ pub(crate) fn begin_range(
     heap: &mut Heap,
     receiver: Value,
     block: ObjId,
-) -> Result<Plan<Iteration>, AllocError> {
+) -> Result<Plan<Iteration>, AllocError>
+    ensures { Plans stage_of heap.new result (counting.begin_range heap.old receiver block) }
+{
     match heap.range_of(receiver) {
-        Some(range) => count_next(heap, numbers_of(range, receiver, block)),
+        Some(range) => count_next(heap, numbers_of(range, receiver, block, 1)),
         None => Ok(refuse(heap, CoreClass::Range, receiver)),
     }
 }
@@ -161,14 +206,16 @@ pub(crate) fn begin_range_step(
     heap: &mut Heap,
     call: Call<'_>,
     block: ObjId,
-) -> Result<Plan<Iteration>, AllocError> {
+) -> Result<Plan<Iteration>, AllocError>
+    ensures { Plans stage_of heap.new result
+        (counting.begin_range_step heap.old call.entry.receiver call.entry.args.now block) }
+{
     let Some(range) = heap.range_of(call.receiver) else {
         return Ok(refuse(heap, CoreClass::Range, call.receiver));
     };
     match integer(heap, argument(call.args, 0)) {
         Ok(by) => if by > 0 {
-            let count = numbers_of(range, call.receiver, block);
-            count_next(heap, Count { by, ..count })
+            count_next(heap, numbers_of(range, call.receiver, block, by))
         } else {
             Ok(Plan::Fails(Cause::NegativeCount))
         },

@@ -1,11 +1,17 @@
 //! Plans of the iterations over items.
+ghost use Rattle.std.specs.Prelude.{◌≡◌};
+ghost use Rattle.def_plans.specs.Plan.{plan_of};
+ghost use Rattle.iter_items.specs.Stage as over_items;
+ghost use Rattle.core_iter.specs.Stage.{stage_of, items};
 
 use crate::iteration::Iteration;
 use run_rows::core_calls::Plan;
 use run_rows::iter_items::ItemsState;
 
 /// The plan of an iteration over items, as one of all iterations.
-pub(crate) fn lift(plan: Plan<ItemsState>) -> Plan<Iteration> {
+pub(crate) fn lift(plan: Plan<ItemsState>) -> Plan<Iteration>
+    ensures { plan_of stage_of result ≡ plan_of (λ s. items (over_items.stage_of s)) plan }
+{
     match plan {
         Plan::Finishes(value) => Plan::Finishes(value),
         Plan::Fails(cause) => Plan::Fails(cause),

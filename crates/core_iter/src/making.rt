@@ -1,4 +1,8 @@
 //! `new` of a class: an object of the class's kind, then its method `initialize`.
+ghost use Rattle.std.specs.Prelude.{◌≡◌};
+ghost use Rattle.def_plans.specs.Plan.{Plans};
+ghost use Rattle.core_iter.specs.Making as making;
+ghost use Rattle.core_iter.specs.Stage.{stage_of};
 
 use crate::iteration::Iteration;
 use crate::sending::{refuse, send_named};
@@ -16,9 +20,12 @@ const CORE: u64 = 38;
 const NEAR: u64 = 64;
 
 /// The nearest core class among a class and those above it, and the class itself where there is none near.
-fn core_above(heap: &Heap, class: ObjId) -> ObjId {
+#[tactic(auto, unfolding(crate::specs::Making::core_from))]
+fn core_above(heap: &Heap, class: ObjId) -> ObjId
+    ensures { result ≡ making.core_above heap.now.store class }
+{
     let mut above = class;
-    'classes: for _ in 0..NEAR {
+    'classes: for _taken in 0..NEAR {
         if above.0 < CORE {
             return above;
         }
@@ -31,7 +38,9 @@ fn core_above(heap: &Heap, class: ObjId) -> ObjId {
 }
 
 /// What a new object of a class holds; none where there is no `new` of it.
-pub fn blank_for(heap: &Heap, class: ObjId) -> Option<Blank> {
+pub fn blank_for(heap: &Heap, class: ObjId) -> Option<Blank>
+    ensures { result ≡ making.blank_for heap.now.store class }
+{
     let core = core_above(heap, class);
     if core == heap.class_object(CoreClass::Object) {
         Some(Blank::Plain)
@@ -41,7 +50,9 @@ pub fn blank_for(heap: &Heap, class: ObjId) -> Option<Blank> {
 }
 
 /// Fails since there is no `new` of a class.
-fn without_new(heap: &mut Heap, receiver: Value) -> Result<Plan<Iteration>, AllocError> {
+fn without_new(heap: &mut Heap, receiver: Value) -> Result<Plan<Iteration>, AllocError>
+    ensures { Plans stage_of heap.new result (making.no_new heap.old receiver) }
+{
     Ok(Plan::Fails(Cause::UndefinedMethod {
         name: heap.intern(b"new")?,
         class: heap.plain_class_of(receiver),
@@ -49,7 +60,10 @@ fn without_new(heap: &mut Heap, receiver: Value) -> Result<Plan<Iteration>, Allo
 }
 
 /// Begins to make an object of a class, whose `initialize` is called.
-pub(crate) fn begin_new(heap: &mut Heap, call: Call<'_>) -> Result<Plan<Iteration>, AllocError> {
+pub(crate) fn begin_new(heap: &mut Heap, call: Call<'_>) -> Result<Plan<Iteration>, AllocError>
+    ensures { Plans stage_of heap.new result
+        (making.new heap.old call.entry.receiver call.entry.args.now call.entry.block) }
+{
     let (Some(Sort::Class), Value::Obj(class)) = (heap.sort(call.receiver), call.receiver) else {
         return Ok(refuse(heap, CoreClass::Class, call.receiver));
     };

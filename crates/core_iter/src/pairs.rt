@@ -1,17 +1,24 @@
 //! `each`, `each_key`, `each_value` and `delete_if` of a Hash, over the pairs that were there at the start.
+ghost use Rattle.std.specs.Prelude.{◌≡◌, IfOk, OnOk};
+ghost use Rattle.def_plans.specs.Plan.{Plans, Meets};
+ghost use Rattle.core_iter.specs.Pairs as pairs;
+ghost use Rattle.core_iter.specs.Sending.{IsBeat};
+ghost use Rattle.core_iter.specs.Stage.{stage_of};
 
 use crate::iteration::Iteration;
 use crate::sending::{call_beat, refuse};
+use rb_base::List;
 use rb_value::{CoreClass, HashItem, Key, ObjId, Value};
 use run_rows::VisitRow;
 use run_rows::core_calls::{Beat, Passed, Plan};
 use run_rows::heap::Heap;
+use run_rows::iter_items::iter_comparing::pairs_of;
 use std::alloc::AllocError;
 
 /// The pairs of a Hash from a place on, how many of those before are deleted, and what is done with each.
 #[derive(Drop)]
 pub struct PairWalk {
-    pub pairs: Vec<HashItem>,
+    pub pairs: List<HashItem>,
     pub place: usize,
     pub deleted: usize,
     pub hash: ObjId,
@@ -19,19 +26,11 @@ pub struct PairWalk {
     pub block: ObjId,
 }
 
-/// The pairs of a Hash.
-fn pairs_of(heap: &Heap, hash: ObjId) -> Result<Vec<HashItem>, AllocError> {
-    let mut pairs = Vec::new(heap.alloc());
-    'pairs: for place in 0..heap.pair_count(hash) {
-        if let Some(item) = heap.pair_at(hash, place) {
-            pairs.push(item)?;
-        }
-    }
-    Ok(pairs)
-}
-
 /// What a block is called with for a pair.
-fn passed_for(heap: &mut Heap, row: VisitRow, item: HashItem) -> Result<Passed, AllocError> {
+fn passed_for(heap: &mut Heap, row: VisitRow, item: HashItem) -> Result<Passed, AllocError>
+    ensures passed { IfOk result (λ p. p ≡ (pairs.passed_for row heap.old item).passed) }
+    ensures made { OnOk result (heap.new ≡ (pairs.passed_for row heap.old item).held) }
+{
     match row {
         VisitRow::EachKey => Ok(Passed::One(item.shown)),
         VisitRow::EachValue => Ok(Passed::One(item.value)),
@@ -44,8 +43,10 @@ fn passed_for(heap: &mut Heap, row: VisitRow, item: HashItem) -> Result<Passed, 
 }
 
 /// The call of the block for the pair at the place, where there is one.
-fn beat_at(heap: &mut Heap, walk: &PairWalk) -> Result<Option<Beat>, AllocError> {
-    match walk.pairs.get(walk.place).copied() {
+fn beat_at(heap: &mut Heap, walk: &PairWalk) -> Result<Option<Beat>, AllocError>
+    ensures { IsBeat (pairs.beat_at heap.old walk.now) result walk.now heap.new }
+{
+    match walk.pairs.as_slice().get(walk.place).copied() {
         Some(item) => Ok(Some(Beat {
             callee: walk.block,
             passed: passed_for(heap, walk.row, item)?,
@@ -55,7 +56,9 @@ fn beat_at(heap: &mut Heap, walk: &PairWalk) -> Result<Option<Beat>, AllocError>
 }
 
 /// Calls the block for the next pair; at the end the Hash is given.
-fn pair_next(heap: &mut Heap, walk: PairWalk) -> Result<Plan<Iteration>, AllocError> {
+fn pair_next(heap: &mut Heap, walk: PairWalk) -> Result<Plan<Iteration>, AllocError>
+    ensures { Plans stage_of heap.new result (pairs.pair_next heap.old walk) }
+{
     match beat_at(heap, &walk)? {
         Some(beat) => call_beat(heap, Iteration::Pairs(walk), beat),
         None => Ok(Plan::Finishes(Value::Obj(walk.hash))),
@@ -77,8 +80,10 @@ fn key_of_pair(
 }
 
 /// Takes the pair at the place out of the Hash.
-fn delete(heap: &mut Heap, walk: &mut PairWalk) -> Result<(), AllocError> {
-    let Some(item) = walk.pairs.get(walk.place).copied() else {
+fn delete(heap: &mut Heap, walk: &mut PairWalk) -> Result<(), AllocError>
+    ensures { OnOk result (walk.new ≡ pairs.with_deleted walk.old walk.new.deleted) }
+{
+    let Some(item) = walk.pairs.as_slice().get(walk.place).copied() else {
         return Ok(());
     };
     let place = walk.place.saturating_sub(walk.deleted);
@@ -90,9 +95,21 @@ fn delete(heap: &mut Heap, walk: &mut PairWalk) -> Result<(), AllocError> {
     Ok(())
 }
 
+/// Whether pairs are taken out.
+fn is_deleting(row: VisitRow) -> bool
+    ensures { result ≡ pairs.is_deleting row }
+{
+    match row {
+        VisitRow::DeletePairs => true,
+        _ => false,
+    }
+}
+
 /// Deletes the pair where the answer says so, and goes on behind it.
-fn pass(heap: &mut Heap, walk: &mut PairWalk, answer: Value) -> Result<(), AllocError> {
-    if walk.row == VisitRow::DeletePairs && answer.is_true() {
+fn pass(heap: &mut Heap, walk: &mut PairWalk, answer: Value) -> Result<(), AllocError>
+    ensures { OnOk result (pairs.Passes heap.old walk.old answer heap.new walk.new) }
+{
+    if is_deleting(walk.row) && answer.is_true() {
         delete(heap, walk)?;
     }
     walk.place = walk.place.saturating_add(1);
@@ -100,11 +117,14 @@ fn pass(heap: &mut Heap, walk: &mut PairWalk, answer: Value) -> Result<(), Alloc
 }
 
 /// The next plan of a walk.
+#[tactic(auto, using(crate::specs::Pairs::next))]
 pub(crate) fn pair_then(
     heap: &mut Heap,
     walk: PairWalk,
     answer: Value,
-) -> Result<Plan<Iteration>, AllocError> {
+) -> Result<Plan<Iteration>, AllocError>
+    ensures { Meets stage_of heap.new result (pairs.Next heap.old walk answer) }
+{
     let mut walk = walk;
     pass(heap, &mut walk, answer)?;
     pair_next(heap, walk)
@@ -115,7 +135,9 @@ pub(crate) fn pair_beat(
     heap: &mut Heap,
     walk: &mut PairWalk,
     answer: Value,
-) -> Result<Option<Beat>, AllocError> {
+) -> Result<Option<Beat>, AllocError>
+    ensures { pairs.IsBeaten heap.old walk.old answer result walk.new heap.new }
+{
     if walk.place.saturating_add(1) < walk.pairs.len() {
         pass(heap, walk, answer)?;
         beat_at(heap, walk)
@@ -130,11 +152,13 @@ pub(crate) fn begin_pairs(
     row: VisitRow,
     receiver: Value,
     block: ObjId,
-) -> Result<Plan<Iteration>, AllocError> {
+) -> Result<Plan<Iteration>, AllocError>
+    ensures { Plans stage_of heap.new result (pairs.begin row heap.old receiver block) }
+{
     match heap.a_hash(receiver) {
         Some(hash) => {
             let walk = PairWalk {
-                pairs: pairs_of(heap, hash)?,
+                pairs: List::from_vec(pairs_of(heap, hash)?),
                 place: 0,
                 deleted: 0,
                 hash,

@@ -1,4 +1,8 @@
 //! The first plan of each row, and the next with the answer to the one before.
+ghost use Rattle.std.specs.Prelude.{◌≡◌, Ok, IfOk};
+ghost use Rattle.def_plans.specs.Plan.{Plans, Meets};
+ghost use Rattle.core_iter.specs.Rows as rows;
+ghost use Rattle.core_iter.specs.Stage.{stage_of};
 
 use crate::counting::{begin_integers, begin_range, begin_range_step, count_beat, count_next};
 use crate::filling::{begin_array, begin_hash, fill_beat, fill_then};
@@ -31,7 +35,9 @@ use run_rows::{KernelRow, StarRow, VisitRow};
 use std::alloc::AllocError;
 
 /// Why a row of Kernel, Class, Proc or Fiber can't take so many arguments.
-fn refused_by_kernel(row: KernelRow, given: usize) -> Option<Cause> {
+fn refused_by_kernel(row: KernelRow, given: usize) -> Option<Cause>
+    ensures { result ≡ rows.refused_by_kernel row given }
+{
     match row {
         KernelRow::Gets
         | KernelRow::Loop
@@ -46,7 +52,9 @@ fn refused_by_kernel(row: KernelRow, given: usize) -> Option<Cause> {
 }
 
 /// Why a row that visits can't take so many arguments.
-fn refused_by_visit(row: VisitRow, given: usize) -> Option<Cause> {
+fn refused_by_visit(row: VisitRow, given: usize) -> Option<Cause>
+    ensures { result ≡ rows.refused_by_visit row given }
+{
     match row {
         VisitRow::Upto | VisitRow::Downto | VisitRow::StepOfRange => miscounted(given, 1, Some(1)),
         VisitRow::Step => miscounted(given, 2, Some(2)),
@@ -61,7 +69,10 @@ fn begin_with_block(
     heap: &Heap,
     row: KernelRow,
     call: Call<'_>,
-) -> Result<Plan<Iteration>, AllocError> {
+) -> Result<Plan<Iteration>, AllocError>
+    ensures { Plans stage_of heap.now result
+        (rows.with_block row heap.now call.entry.receiver call.entry.block) }
+{
     let Some(block) = call.block else {
         return Ok(blockless());
     };
@@ -77,7 +88,10 @@ fn begin_kernel(
     heap: &mut Heap,
     row: KernelRow,
     call: Call<'_>,
-) -> Result<Plan<Iteration>, AllocError> {
+) -> Result<Plan<Iteration>, AllocError>
+    ensures { Meets stage_of heap.new result (rows.StartsKernel row heap.old
+        call.entry.receiver call.entry.args.now call.entry.block) }
+{
     match row {
         KernelRow::Puts => put_all(heap, call.args),
         KernelRow::Print => {
@@ -113,7 +127,10 @@ fn begin_visit_with(
     row: VisitRow,
     call: Call<'_>,
     block: ObjId,
-) -> Result<Plan<Iteration>, AllocError> {
+) -> Result<Plan<Iteration>, AllocError>
+    ensures { Plans stage_of heap.new result
+        (rows.visiting_with row heap.old call.entry.receiver call.entry.args.now block) }
+{
     match row {
         VisitRow::Times | VisitRow::Upto | VisitRow::Downto | VisitRow::Step => begin_integers(
             heap, row, call, block,
@@ -138,7 +155,10 @@ fn begin_any_visit(
     heap: &mut Heap,
     row: VisitRow,
     call: Call<'_>,
-) -> Result<Plan<Iteration>, AllocError> {
+) -> Result<Plan<Iteration>, AllocError>
+    ensures { Plans stage_of heap.new result
+        (rows.visited row heap.old call.entry.receiver call.entry.args.now call.entry.block) }
+{
     match (row, call.block) {
         (VisitRow::InitializeArray, _) => begin_array(heap, call),
         (VisitRow::InitializeHash, _) => Ok(begin_hash(heap, call)),
@@ -148,7 +168,10 @@ fn begin_any_visit(
 }
 
 /// The first plan of a row.
-pub fn start(heap: &mut Heap, row: StarRow, call: Call<'_>) -> Result<Plan<Iteration>, AllocError> {
+pub fn start(heap: &mut Heap, row: StarRow, call: Call<'_>) -> Result<Plan<Iteration>, AllocError>
+    ensures { Meets stage_of heap.new result (rows.Starts row heap.old
+        call.entry.receiver call.entry.args.now call.entry.block) }
+{
     match row {
         StarRow::Kernel(row) => match refused_by_kernel(row, call.args.len()) {
             Some(cause) => Ok(Plan::Fails(cause)),
@@ -163,25 +186,10 @@ pub fn start(heap: &mut Heap, row: StarRow, call: Call<'_>) -> Result<Plan<Itera
 }
 
 /// The next plan, with the answer to the one before.
-pub fn next(
-    heap: &mut Heap,
-    state: Iteration,
-    answer: Value,
-) -> Result<Plan<Iteration>, AllocError> {
+pub fn next(heap: &mut Heap, state: Iteration, answer: Value) -> Result<Plan<Iteration>, AllocError>
+    ensures { Meets stage_of heap.new result (rows.GoesOn heap.old (stage_of state) answer) }
+{
     match state {
-        Iteration::Begun {
-            row,
-            receiver,
-            args,
-            block,
-        } => {
-            let call = Call {
-                receiver,
-                args: args.as_slice(),
-                block,
-            };
-            start(heap, row, call)
-        }
         Iteration::Handing => Ok(Plan::Finishes(answer)),
         Iteration::Giving(value) => Ok(Plan::Finishes(value)),
         Iteration::Putting(rest) => put_next(heap, rest),
@@ -217,7 +225,9 @@ pub fn beat(
     heap: &mut Heap,
     state: &mut Iteration,
     answer: Value,
-) -> Result<Option<Beat>, AllocError> {
+) -> Result<Option<Beat>, AllocError>
+    ensures { IfOk result (rows.Beats heap.old state.old answer heap.new state.new) }
+{
     match state {
         Iteration::Looping(block) => Ok(Some(Beat {
             callee: *block,
@@ -239,7 +249,9 @@ pub fn beat(
 
 /// What an iteration gives where an exception comes to it: `loop` ends with the result of a StopIteration, and no other
 /// iteration stops an exception. It takes no memory.
-pub fn caught(heap: &Heap, state: &Iteration, exception: ObjId) -> Option<Value> {
+pub fn caught(heap: &Heap, state: &Iteration, exception: ObjId) -> Option<Value>
+    ensures { result ≡ rows.caught heap.now.store state.now exception }
+{
     match state {
         Iteration::Looping(_) => {
             let class = heap.plain_class_of(Value::Obj(exception));

@@ -1,4 +1,9 @@
 //! `raise`.
+ghost use Rattle.std.specs.Prelude.{◌≡◌, Ok};
+ghost use Rattle.def_plans.specs.Plan.{Plans, Meets};
+ghost use Rattle.heap.specs.Reading.{sort_of_value};
+ghost use Rattle.core_iter.specs.Raising as raising;
+ghost use Rattle.core_iter.specs.Stage.{stage_of};
 
 use crate::iteration::Iteration;
 use crate::sending::send_named;
@@ -9,7 +14,9 @@ use run_rows::heap::Heap;
 use std::alloc::AllocError;
 
 /// Raises a RuntimeError with a String as its message.
-fn raise_text(heap: &mut Heap, text: Value) -> Result<Plan<Iteration>, AllocError> {
+fn raise_text(heap: &mut Heap, text: Value) -> Result<Plan<Iteration>, AllocError>
+    ensures { Plans stage_of heap.new result (raising.text heap.old text) }
+{
     let class = heap.class_object(CoreClass::RuntimeError);
     let id = heap.make_exception(class, text, Value::Nil)?;
     Ok(Plan::Raises(id))
@@ -36,7 +43,10 @@ fn raise_object(
     heap: &mut Heap,
     raised: Value,
     more: &[Value],
-) -> Result<Plan<Iteration>, AllocError> {
+) -> Result<Plan<Iteration>, AllocError>
+    ensures { Meets stage_of heap.new result
+        (raising.Object heap.old raised (sort_of_value heap.old.store raised) more.now) }
+{
     match (heap.sort(raised), more) {
         (Some(Sort::Exception), []) => Ok(raise_made(heap, raised)),
         (Some(Sort::Exception), [message]) => raise_copy(heap, raised, *message),
@@ -46,7 +56,9 @@ fn raise_object(
 }
 
 /// Begins `raise` with its arguments; without any a RuntimeError is raised.
-pub(crate) fn raise_all(heap: &mut Heap, args: &[Value]) -> Result<Plan<Iteration>, AllocError> {
+pub(crate) fn raise_all(heap: &mut Heap, args: &[Value]) -> Result<Plan<Iteration>, AllocError>
+    ensures { Meets stage_of heap.new result (raising.Raises heap.old args.now) }
+{
     let [first, more @ ..] = args else {
         return Ok(Plan::Fails(Cause::Unhandled));
     };
@@ -60,7 +72,9 @@ pub(crate) fn raise_all(heap: &mut Heap, args: &[Value]) -> Result<Plan<Iteratio
 }
 
 /// Raises an exception, such as a class made.
-pub(crate) fn raise_made(heap: &Heap, made: Value) -> Plan<Iteration> {
+pub(crate) fn raise_made(heap: &Heap, made: Value) -> Plan<Iteration>
+    ensures { Plans stage_of heap.now (Ok result) (raising.made heap.now made) }
+{
     match heap.an_exception(made) {
         Some(id) => Plan::Raises(id),
         None => Plan::Fails(Cause::NotException),

@@ -1,4 +1,10 @@
 //! Calls of methods and Procs.
+ghost use Rattle.std.specs.Prelude.{◌≡◌, drop, get_or, false, Ok};
+ghost use Rattle.rb_value.specs.declared.value.Value.TheVariants.{Nil};
+ghost use Rattle.def_core.specs.declared.cause.Cause.TheVariants.{NoBlockGiven};
+ghost use Rattle.def_plans.specs.Plan.{Plans, Meets, plan_of, fails, refuses, expected};
+ghost use Rattle.core_iter.specs.Sending as sending;
+ghost use Rattle.core_iter.specs.Stage.{stage_of};
 
 use crate::iteration::Iteration;
 use def_core::Cause;
@@ -8,7 +14,9 @@ use run_rows::heap::Heap;
 use std::alloc::AllocError;
 
 /// Fails since a value isn't of the class that is wanted.
-pub(crate) fn refuse(heap: &Heap, class: CoreClass, value: Value) -> Plan<Iteration> {
+pub(crate) fn refuse(heap: &Heap, class: CoreClass, value: Value) -> Plan<Iteration>
+    ensures { Plans stage_of heap.now (Ok result) (refuses heap.now (expected heap.now class value)) }
+{
     Plan::Fails(heap.refusal(class, value))
 }
 
@@ -20,7 +28,10 @@ pub(crate) fn send_named(
     name: &[u8],
     args: Vec<Value>,
     block: Option<ObjId>,
-) -> Result<Plan<Iteration>, AllocError> {
+) -> Result<Plan<Iteration>, AllocError>
+    ensures { Plans stage_of heap.new result
+        (sending.send_named heap.old (stage_of then) receiver name.now args.items block) }
+{
     let name = heap.intern(name)?;
     Ok(Plan::Sends {
         then,
@@ -38,7 +49,9 @@ pub(crate) fn ask(
     then: Iteration,
     receiver: Value,
     name: &[u8],
-) -> Result<Plan<Iteration>, AllocError> {
+) -> Result<Plan<Iteration>, AllocError>
+    ensures { Plans stage_of heap.new result (sending.ask heap.old (stage_of then) receiver name.now) }
+{
     let args = Vec::new(heap.alloc());
     send_named(heap, then, receiver, name, args, None)
 }
@@ -48,7 +61,9 @@ pub(crate) fn call_beat(
     heap: &Heap,
     then: Iteration,
     beat: Beat,
-) -> Result<Plan<Iteration>, AllocError> {
+) -> Result<Plan<Iteration>, AllocError>
+    ensures { Plans stage_of heap.now result (sending.call_beat heap.now (stage_of then) beat) }
+{
     Ok(Plan::Calls {
         then,
         callee: beat.callee,
@@ -58,7 +73,9 @@ pub(crate) fn call_beat(
 }
 
 /// The call of a block with one value.
-pub(crate) fn with_one(callee: ObjId, value: Value) -> Beat {
+pub(crate) fn with_one(callee: ObjId, value: Value) -> Beat
+    ensures { result ≡ sending.with_one callee value }
+{
     Beat {
         callee,
         passed: Passed::One(value),
@@ -71,12 +88,16 @@ pub(crate) fn call_with(
     then: Iteration,
     callee: ObjId,
     value: Value,
-) -> Result<Plan<Iteration>, AllocError> {
+) -> Result<Plan<Iteration>, AllocError>
+    ensures { Plans stage_of heap.now result (sending.call_with heap.now (stage_of then) callee value) }
+{
     call_beat(heap, then, with_one(callee, value))
 }
 
 /// The arguments behind the first.
-fn behind_first(args: &[Value]) -> &[Value] {
+fn behind_first(args: &[Value]) -> &[Value]
+    ensures { result.now ≡ drop 1 args.now }
+{
     match args {
         [_, more @ ..] => more,
         [] => &[],
@@ -90,7 +111,10 @@ fn send_to(
     name: Value,
     call: Call<'_>,
     public: bool,
-) -> Result<Plan<Iteration>, AllocError> {
+) -> Result<Plan<Iteration>, AllocError>
+    ensures { Meets stage_of heap.new result
+        (sending.Sends heap.old receiver name call.entry.args.now call.entry.block public) }
+{
     match name_in(heap, name)? {
         Ok(name) => Ok(Plan::Sends {
             then: Iteration::Handing,
@@ -109,17 +133,25 @@ pub(crate) fn begin_send(
     heap: &mut Heap,
     call: Call<'_>,
     public: bool,
-) -> Result<Plan<Iteration>, AllocError> {
+) -> Result<Plan<Iteration>, AllocError>
+    ensures { Meets stage_of heap.new result (sending.Sends heap.old call.entry.receiver
+        (get_or call.entry.args.now 0 Nil) call.entry.args.now call.entry.block public) }
+{
     send_to(heap, call.receiver, argument(call.args, 0), call, public)
 }
 
 /// Begins to send the kept name to the first argument.
-pub(crate) fn begin_kept(heap: &mut Heap, call: Call<'_>) -> Result<Plan<Iteration>, AllocError> {
+pub(crate) fn begin_kept(heap: &mut Heap, call: Call<'_>) -> Result<Plan<Iteration>, AllocError>
+    ensures { Meets stage_of heap.new result (sending.Sends heap.old (get_or call.entry.args.now 0 Nil)
+        call.entry.receiver call.entry.args.now call.entry.block false) }
+{
     send_to(heap, argument(call.args, 0), call.receiver, call, false)
 }
 
 /// Calls a Proc without arguments, again and again.
-pub(crate) fn loop_next(heap: &Heap, block: ObjId) -> Plan<Iteration> {
+pub(crate) fn loop_next(heap: &Heap, block: ObjId) -> Plan<Iteration>
+    ensures { Plans stage_of heap.now (Ok result) (sending.looped heap.now block) }
+{
     Plan::Calls {
         then: Iteration::Looping(block),
         callee: block,
@@ -129,7 +161,10 @@ pub(crate) fn loop_next(heap: &Heap, block: ObjId) -> Plan<Iteration> {
 }
 
 /// Begins the call of a Proc.
-pub(crate) fn begin_call(heap: &Heap, call: Call<'_>) -> Result<Plan<Iteration>, AllocError> {
+pub(crate) fn begin_call(heap: &Heap, call: Call<'_>) -> Result<Plan<Iteration>, AllocError>
+    ensures { Plans stage_of heap.now result
+        (sending.call heap.now call.entry.receiver call.entry.args.now call.entry.block) }
+{
     match heap.a_proc(call.receiver) {
         Some(callee) => Ok(Plan::Calls {
             then: Iteration::Handing,
@@ -142,7 +177,9 @@ pub(crate) fn begin_call(heap: &Heap, call: Call<'_>) -> Result<Plan<Iteration>,
 }
 
 /// Begins to resume a fiber.
-pub(crate) fn begin_resume(heap: &Heap, call: Call<'_>) -> Result<Plan<Iteration>, AllocError> {
+pub(crate) fn begin_resume(heap: &Heap, call: Call<'_>) -> Result<Plan<Iteration>, AllocError>
+    ensures { Plans stage_of heap.now result (sending.resume heap.now call.entry.receiver call.entry.args.now) }
+{
     match heap.a_fiber(call.receiver) {
         Some(fiber) => Ok(Plan::Resumes {
             then: Iteration::Handing,
@@ -154,7 +191,9 @@ pub(crate) fn begin_resume(heap: &Heap, call: Call<'_>) -> Result<Plan<Iteration
 }
 
 /// Yields the arguments to what resumed the fiber.
-pub(crate) fn begin_yield(heap: &Heap, args: &[Value]) -> Result<Plan<Iteration>, AllocError> {
+pub(crate) fn begin_yield(heap: &Heap, args: &[Value]) -> Result<Plan<Iteration>, AllocError>
+    ensures { Plans stage_of heap.now result (sending.yields_all heap.now args.now) }
+{
     Ok(Plan::Yields {
         then: Iteration::Handing,
         args: Vec::from_slice(heap.alloc(), args)?,
@@ -162,6 +201,8 @@ pub(crate) fn begin_yield(heap: &Heap, args: &[Value]) -> Result<Plan<Iteration>
 }
 
 /// Fails since a block is wanted and none is given.
-pub(crate) fn blockless() -> Plan<Iteration> {
+pub(crate) fn blockless() -> Plan<Iteration>
+    ensures { plan_of stage_of result ≡ fails NoBlockGiven }
+{
     Plan::Fails(Cause::NoBlockGiven)
 }

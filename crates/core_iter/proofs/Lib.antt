@@ -1,0 +1,4 @@
+pub mod Lifted
+pub mod Passed
+pub mod Flat
+pub mod Above

@@ -1,0 +1,13 @@
+pub mod Stage
+pub mod Sending
+pub mod Flat
+pub mod Writing
+pub mod Raising
+pub mod Telling
+pub mod Making
+pub mod Counting
+pub mod Strings
+pub mod Pairs
+pub mod Filling
+pub mod Visiting
+pub mod Rows
