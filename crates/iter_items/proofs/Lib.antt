@@ -3,3 +3,4 @@ pub mod Visited
 pub mod Wanted
 pub mod Started
 pub mod Lifted
+pub mod Ended

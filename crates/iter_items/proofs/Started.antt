@@ -1,5 +1,5 @@
 -- Methods whose arguments were read.
-use Rattle.std.proofs.Common.{◌≡◌, refl, ap, sym, ◌∙◌, subst}
+use Rattle.std.proofs.Common.{◌≡◌, refl, ap, sym, subst}
 use Rattle.std.specs.Prelude.{List, Option, Some, None, Result, Ok, Err}
 use Rattle.std.specs.declared.alloc.AllocError.{AllocError}
 use Rattle.rb_value.specs.declared.value.Value.{Value}
@@ -10,6 +10,10 @@ use Rattle.def_core.specs.declared.cause.Cause.{Cause}
 use Rattle.rb_store.specs.Held.{Held}
 use Rattle.core_calls.specs.declared.plan.Plan as code
 use Rattle.def_plans.specs.Plan.{Planned, Plans, Meets, plan_of, refuses, expected}
+use Rattle.run_values.specs.declared.given.Given.{Given}
+use Rattle.rows_items.specs.declared.rows.ItemRow.{ItemRow}
+use Rattle.rows_items.specs.Outcome.{Called}
+use Rattle.rows_items.specs.Rows.{Calls}
 use Rattle.iter_comparing.specs.declared.row.ComparingRow.{ComparingRow}
 use Rattle.iter_comparing.specs.declared.row.ComparingRow.TheVariants.{ArrayIncludes}
 use Rattle.iter_comparing.specs.declared.state.ComparingState.{ComparingState}
@@ -116,6 +120,13 @@ includes_so held later g a vs p q e v f m =
     (lifted_comparing (comparing_rows.Starts ArrayIncludes held (Obj a) g.args g.block) later p q f
     (subst (λ (us : List Value). comparing_rows.Starts ArrayIncludes held (Obj a) us g.block
     (record { plan = plan_of comparing.stage_of p; held = later })) v m))
+
+-- a method that calls none gives or raises of the items that were collected
+pub settled_so : (held after : Held) (r : ItemRow) (recv : Value) (vs us : List Value) (g h : Given) → vs ≡ us → g ≡ h
+    → Called (Calls r held recv vs) g after → Called (Calls r held recv us) h after
+settled_so held after r recv vs us g h e f called =
+    subst (λ (ws : List Value). Called (Calls r held recv ws) h after) e
+    (subst (λ (x : Given). Called (Calls r held recv vs) x after) f called)
 
 -- methods that compare or show values
 

@@ -1,6 +1,6 @@
 -- What is done with an item that was passed.
 use Rattle.std.proofs.Common.{◌≡◌, ap, sym, ◌∙◌}
-use Rattle.std.specs.Prelude.{Option, Some, None}
+use Rattle.std.specs.Prelude.{Option, Some}
 use Rattle.rb_value.specs.declared.value.Value.{Value}
 use Rattle.rb_store.specs.Held.{Held}
 use Rattle.iter_items.specs.declared.visit.Visit.{Visit}

@@ -4,7 +4,6 @@ use Rattle.std.specs.Prelude.{Option, Some, None, Result, Ok, Err}
 use Rattle.std.specs.declared.alloc.AllocError.{AllocError}
 use Rattle.rb_value.specs.declared.value.Value.{Value}
 use Rattle.rb_value.specs.declared.value.ObjId.{ObjId}
-use Rattle.heap.specs.declared.finding.Site.{Site}
 use Rattle.def_core.specs.declared.cause.Cause.{Cause}
 use Rattle.rb_store.specs.Held.{Held}
 use Rattle.run_values.specs.declared.given.Given.{Given}
@@ -21,8 +20,8 @@ use Rattle.iter_items.specs.declared.state.ItemsState.{ItemsState}
 use Rattle.iter_items.specs.declared.visit.Visit.{Visit}
 use Rattle.iter_items.specs.declared.wish.Wish.{Wish}
 use Rattle.iter_items.specs.declared.wish.Wish.TheVariants as wish
-use Rattle.iter_items.specs.Asking.{Wished, asked}
-use Rattle.iter_items.specs.Hearing.{Heard, going, failing, IsWish, heard}
+use Rattle.iter_items.specs.Asking.{Wished}
+use Rattle.iter_items.specs.Hearing.{Heard, going, failing, IsWish}
 use Rattle.iter_items.specs.Driving.{Wants, WantsOf, Hears, HearsOf, Ends, Comes, stops, raises_at_once, goes_on, at_site, at_once, planned, Begins, begins, BeginsWith, with_hash_for, hash_for, visit_of, GoesOn, goes, Next, NextBy, Beats, calls_block, keeps_wish}
 use Rattle.iter_comparing.specs.Outright.{Stays}
 use Rattle.iter_items.specs.Steps.{Leads, Halts, Steps}
@@ -48,7 +47,7 @@ going_some a w u h e = subst (λ (x : Wished). HearsOf (going x) w u h) (sym e) 
 
 pub hears_some : (x : Heard) (w : Wish) (u : Visit) (h : Held) → IsWish x (Some w) u h → HearsOf x w u h
 hears_some (going a) w u h e = going_some a w u h e
-hears_some (failing c) w u h e = same_wish w c e
+hears_some (failing c k) w u h e = (same_wish w c e.0, e.1)
 
 going_none : (a : Wished) (w : Wish) (m u : Visit) (k h : Held) → a ≡ record { wish = None; visit = m; held = k }
     → Wants k m w u h → HearsOf (going a) w u h
@@ -57,7 +56,7 @@ going_none a w m u k h e x = subst (λ (y : Wished). HearsOf (going y) w u h) (s
 pub hears_none : (x : Heard) (w : Wish) (m u : Visit) (k h : Held) → IsWish x None m k → Wants k m w u h
     → HearsOf x w u h
 hears_none (going a) w m u k h e y = going_none a w m u k h e y
-hears_none (failing c) w m u k h e y = no_wish c e
+hears_none (failing c l) w m u k h e y = no_wish c e.0
 
 pub halts_here : (held : Held) (v : Visit) (w : Wish) → Halts held v w held v w
 halts_here held v w = stops held v v.site w

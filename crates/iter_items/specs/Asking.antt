@@ -1,5 +1,5 @@
 -- What a method over items wants for the next item.
-use Rattle.std.specs.Prelude.{◌≡◌, ℕ, ℤ, pos, ◌-◌, ◌^◌, min, zero, suc, List, [], ◌∷◌, ◌++◌, length, drop, nat_eq, not, Bool, true, false, ◌&&◌, if◌then◌else◌, Option, Some, None, is_some, is_none, unwrap_or, Result, Ok, Err}
+use Rattle.std.specs.Prelude.{◌≡◌, ℕ, pos, ◌-◌, ◌^◌, min, zero, suc, List, [], ◌∷◌, ◌++◌, length, drop, nat_eq, not, Bool, true, false, ◌&&◌, if◌then◌else◌, Option, Some, None, is_some, is_none, unwrap_or, Result, Ok, Err}
 use Rattle.std.specs.declared.alloc.AllocError.{AllocError}
 use Rattle.rb_value.specs.declared.value.Value.{Value}
 use Rattle.rb_value.specs.declared.value.Value.TheVariants.{Nil, Int}
@@ -14,7 +14,7 @@ use Rattle.iter_items.specs.declared.row.Task.TheVariants as task
 use Rattle.iter_items.specs.declared.source.Source.{Source}
 use Rattle.iter_items.specs.declared.visit.Visit.{Visit}
 use Rattle.iter_items.specs.declared.wish.Wish.{Wish}
-use Rattle.iter_items.specs.declared.wish.Wish.TheVariants.{Ends, Fails, Raises, Calls, Asks}
+use Rattle.iter_items.specs.declared.wish.Wish.TheVariants.{Ends, Calls, Asks}
 use Rattle.iter_items.specs.Sources as sources
 
 -- a visit at its beginning

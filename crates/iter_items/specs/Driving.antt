@@ -1,16 +1,20 @@
 -- Visits of items: what each wants by an answer, and where they stop.
-use Rattle.std.specs.Prelude.{◌≡◌, ℕ, List, [], ◌∷◌, ◌++◌, codes, not, Bool, true, false, ◌&&◌, if◌then◌else◌, Option, Some, None}
+use Rattle.std.specs.Prelude.{◌≡◌, List, [], ◌∷◌, codes, Bool, true, false, ◌&&◌, if◌then◌else◌, Option, Some, None, Result, Ok, Err}
 use Rattle.rb_value.specs.declared.value.Value.{Value}
 use Rattle.rb_value.specs.declared.value.Value.TheVariants.{Nil, True, False, Obj}
 use Rattle.rb_value.specs.declared.value.ObjId.{ObjId}
 use Rattle.rb_value.specs.declared.value.SymId.{SymId}
-use Rattle.rb_value.specs.Value.{truth}
 use Rattle.heap.specs.declared.finding.Site.{Site}
 use Rattle.rb_value.specs.declared.kind.Kind.TheVariants as kind
 use Rattle.rb_value.specs.declared.core_class.CoreClass.TheVariants as class
 use Rattle.def_core.specs.Store.{Store, core, next_number}
 use Rattle.def_core.specs.Parts.{no_pairs}
+use Rattle.def_core.specs.declared.cause.Cause.{Cause}
 use Rattle.rb_store.specs.Held.{Held}
+use Rattle.rows_items.specs.declared.error.RowError.{RowError}
+use Rattle.rows_items.specs.declared.error.RowError.TheVariants.{Fails, NoMemory}
+use Rattle.rows_items.specs.declared.sorting.Extreme.{Extreme}
+use Rattle.rows_items.specs.declared.sorting.Extreme.TheVariants.{Least, Greatest}
 use Rattle.heap.specs.Made.{array_given, with_array, with_new}
 use Rattle.run_values.specs.declared.given.Given.{Given}
 use Rattle.run_values.specs.declared.given.Given.TheVariants.{Gives, Raises}
@@ -29,6 +33,7 @@ use Rattle.iter_items.specs.declared.wish.Wish.{Wish}
 use Rattle.iter_items.specs.declared.wish.Wish.TheVariants as wish
 use Rattle.iter_items.specs.Asking.{Wished, wishes, value_or_nil, tally_value, asked, begun}
 use Rattle.iter_items.specs.Hearing.{Heard, going, failing, heard}
+use Rattle.iter_items.specs.Keyed.{extreme_item, SortsItems, GivesArray}
 use Rattle.iter_items.specs.Stage.{Stage, visits}
 
 -- What a visit gives once all items were visited.
@@ -60,18 +65,28 @@ both_parts held v = ends (with_array (with_parts held v.kept v.others) (parts he
 abbrev pub IsLeft : Wished → Wish → Visit → Held → Type 0
 IsLeft w wanted visit held = w ≡ record { wish = Some wanted; visit = visit; held = held }
 
--- What `min_by`, `max_by` and `sort_by` make of the order of the answers isn't said yet, but that they end, the visit is
--- as it was, and only `sort_by` makes an object.
+-- The item of the least or the greatest answer, the first of such, and the items in the order of their answers.
 
-abbrev pub IsEnd : Wish → Type 0
-IsEnd (wish.Ends u) = Unit {0}
-IsEnd (wish.Fails c) = Unit {0}
-IsEnd (wish.Raises e) = ⊥
-IsEnd (wish.Calls b) = ⊥
-IsEnd (wish.Asks recv argument) = ⊥
+abbrev pub ended_by : Result Value Cause → Wish
+ended_by (Ok u) = wish.Ends u
+ended_by (Err c) = wish.Fails c
 
-abbrev pub IsExtreme : Held → Visit → Wish → Visit → Held → Type 0
-IsExtreme held v w u h = IsEnd w × (u ≡ v) × (h ≡ held)
+-- the same of what a call gives; memory may have run out
+abbrev pub IsEndOf : Result Value RowError → Wish → Type 0
+IsEndOf (Ok u) w = w ≡ wish.Ends u
+IsEndOf (Err (Fails c)) w = w ≡ wish.Fails c
+IsEndOf (Err NoMemory) w = ⊥
+
+abbrev pub extreme : Held → Visit → Extreme → Wished
+extreme held v e = wishes held v (ended_by (extreme_item held.store v.kept v.others e))
+
+-- a new Array of them, or why there is no order
+abbrev pub IsSorted : Held → Visit → Wish → Visit → Held → Type 0
+IsSorted held v (wish.Ends u) x h = (x ≡ v) × GivesArray held (SortsItems held.store v.kept v.others) u h
+IsSorted held v (wish.Fails c) x h = (x ≡ v) × (h ≡ held) × SortsItems held.store v.kept v.others (Err c)
+IsSorted held v (wish.Raises e) x h = ⊥
+IsSorted held v (wish.Calls b) x h = ⊥
+IsSorted held v (wish.Asks recv argument) x h = ⊥
 
 abbrev pub Ends : Task → Held → Visit → Wish → Visit → Held → Type 0
 Ends task.Map held v w u h = IsLeft (kept_given held v) w u h
@@ -89,9 +104,9 @@ Ends task.EachCons held v w u h = IsLeft (ends held v v.receiver) w u h
 Ends task.ReverseEach held v w u h = IsLeft (ends held v v.receiver) w u h
 Ends task.TakeWhile held v w u h = IsLeft (kept_given held v) w u h
 Ends task.DropWhile held v w u h = IsLeft (kept_given held v) w u h
-Ends task.MinBy held v w u h = IsExtreme held v w u h
-Ends task.MaxBy held v w u h = IsExtreme held v w u h
-Ends task.SortBy held v w u h = IsEnd w × (u ≡ v)
+Ends task.MinBy held v w u h = IsLeft (extreme held v Least) w u h
+Ends task.MaxBy held v w u h = IsLeft (extreme held v Greatest) w u h
+Ends task.SortBy held v w u h = IsSorted held v w u h
 Ends task.All held v w u h = IsLeft (ends held v True) w u h
 Ends task.Any held v w u h = IsLeft (ends held v False) w u h
 Ends task.Never held v w u h = IsLeft (ends held v True) w u h
@@ -117,7 +132,7 @@ HearsBy held v None w u h = Wants held v w u h
 
 abbrev pub HearsOf : Heard → Wish → Visit → Held → Type 0
 HearsOf (going a) w u h = HearsBy a.held a.visit a.wish w u h
-HearsOf (failing c) w u h = w ≡ wish.Fails c
+HearsOf (failing c left) w u h = (w ≡ wish.Fails c) × (h ≡ left)
 
 abbrev pub Hears : Held → Visit → Value → Wish → Visit → Held → Type 0
 Hears held v answer w u h = HearsOf (heard held v answer) w u h

@@ -1,5 +1,5 @@
 -- What an answer comes to for a method over items.
-use Rattle.std.specs.Prelude.{◌≡◌, ℕ, List, [], ◌∷◌, ◌++◌, not, Bool, true, false, if◌then◌else◌, Option, Some, None, Result, Ok, Err}
+use Rattle.std.specs.Prelude.{◌≡◌, List, [], ◌∷◌, ◌++◌, Bool, true, false, if◌then◌else◌, Option, Some, None, Result, Ok, Err}
 use Rattle.std.specs.declared.alloc.AllocError.{AllocError}
 use Rattle.rb_value.specs.declared.value.Value.{Value}
 use Rattle.rb_value.specs.declared.value.Value.TheVariants.{True, False}
@@ -26,10 +26,10 @@ use Rattle.iter_items.specs.declared.wish.Wish.TheVariants.{Ends, Fails, Asks}
 use Rattle.iter_items.specs.Asking.{Wished, wishes, nothing, value_or_nil, tally_value, taken, Taken}
 use Rattle.iter_items.specs.Sources as sources
 
--- what is wished, visited and left; or a failure, after which a heap with some objects more may be left
+-- what is wished, visited and left; or a failure, and the heap that is left
 pub data Heard : Type 0 where
   going : Wished → Heard
-  failing : Cause → Heard
+  failing : Cause → Held → Heard
 
 abbrev pub onward : Held → Visit → Heard
 onward held v = going (nothing held v)
@@ -37,7 +37,7 @@ onward held v = going (nothing held v)
 -- the answer comes to that; memory may run out
 abbrev pub IsWish : Heard → Option Wish → Visit → Held → Type 0
 IsWish (going w) wish visit held = w ≡ record { wish = wish; visit = visit; held = held }
-IsWish (failing c) wish visit held = wish ≡ Some (Fails c)
+IsWish (failing c left) wish visit held = (wish ≡ Some (Fails c)) × (held ≡ left)
 
 abbrev pub Hears : Heard → Result (Option Wish) AllocError → Visit → Held → Type 0
 Hears h (Ok wish) visit held = IsWish h wish visit held
@@ -67,16 +67,16 @@ keeping v vs = record v { kept = v.kept ++ vs }
 abbrev pub setting_aside : Visit → List Value → Visit
 setting_aside v vs = record v { others = v.others ++ vs }
 
--- the pairs of a Hash are kept in a Hash
+-- the pairs of a Hash are kept in a Hash; where a key is refused all is as before
 
-abbrev pub put : Visit → Result Held Cause → Heard
-put v (Ok held) = onward held v
-put v (Err c) = failing c
+abbrev pub put : Visit → Held → Result Held Cause → Heard
+put v held (Ok after) = onward after v
+put v held (Err c) = failing c held
 
 abbrev pub keep_pair : Held → Visit → Option ObjId → Option HashItem → Heard
 keep_pair held v None p = onward held (keeping v (v.item ∷ []))
 keep_pair held v (Some h) None = onward held (keeping v (v.item ∷ []))
-keep_pair held v (Some h) (Some p) = put v (keyed.put held h p.shown p.value)
+keep_pair held v (Some h) (Some p) = put v held (keyed.put held h p.shown p.value)
 
 abbrev pub keep_item : Held → Visit → Heard
 keep_item held v = keep_pair held v v.made (sources.passed_pair v.source)
@@ -100,14 +100,14 @@ into_group held v (Some group) = onward (pushed held group v.item) v
 
 abbrev pub begin_group : Held → Visit → ObjId → Value → Heard
 begin_group held v h a =
-    put v (keyed.put (with_array held (v.item ∷ [])) h a (array_given held.store (v.item ∷ [])))
+    put v (with_array held (v.item ∷ [])) (keyed.put (with_array held (v.item ∷ [])) h a (array_given held.store (v.item ∷ [])))
 
 abbrev pub group_beside : Held → Visit → ObjId → Value → Option HashItem → Heard
 group_beside held v h a (Some p) = into_group held v (an_array held.store.objects p.value)
 group_beside held v h a None = begin_group held v h a
 
 abbrev pub group_under : Held → Visit → ObjId → Value → Option Key → Heard
-group_under held v h a None = failing cause.StackTooDeep
+group_under held v h a None = failing cause.StackTooDeep held
 group_under held v h a (Some k) = group_beside held v h a (pair_of held.store.objects h k)
 
 abbrev pub group_in : Held → Visit → Value → Option ObjId → Heard

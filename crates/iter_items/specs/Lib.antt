@@ -3,6 +3,7 @@ pub mod Sources
 pub mod Asking
 pub mod Hearing
 pub mod Stage
+pub mod Keyed
 pub mod Driving
 pub mod Steps
 pub mod Moved

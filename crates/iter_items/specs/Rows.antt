@@ -1,11 +1,11 @@
 -- What each row over items wants first, and next with the answer to what it wanted before.
-use Rattle.std.specs.Prelude.{◌≡◌, ℕ, ◌+◌, ◌*◌, List, [], ◌∷◌, length, codes, false, Option, Some, None, Result, Ok, Err}
+use Rattle.std.specs.Prelude.{◌≡◌, ℕ, ◌+◌, ◌*◌, List, [], length, codes, false, Option, Some, None, Result, Ok, Err}
 use Rattle.rb_value.specs.declared.value.Value.{Value}
 use Rattle.rb_value.specs.declared.value.Value.TheVariants.{Nil, Obj}
 use Rattle.rb_value.specs.declared.value.ObjId.{ObjId}
 use Rattle.rb_value.specs.declared.core_class.CoreClass.TheVariants as class
 use Rattle.def_core.specs.declared.cause.Cause.{Cause}
-use Rattle.def_core.specs.Store.{Store, next_number}
+use Rattle.def_core.specs.Store.{next_number}
 use Rattle.def_core.specs.Parts.{elements_at}
 use Rattle.def_core.specs.Changes.{intern, Interned}
 use Rattle.def_calls.specs.Rows.{hidden_number}
@@ -14,7 +14,11 @@ use Rattle.rb_store.specs.Held.{Held}
 use Rattle.heap.specs.Made.{array_given, with_array, with_items, with_core_proc}
 use Rattle.core_calls.specs.Checks.{miscounted}
 use Rattle.def_plans.specs.Plan.{Plan, Planned, finishes, raises, sends, gives, refuses, expected}
+use Rattle.run_values.specs.declared.given.Given.{Given}
+use Rattle.run_values.specs.declared.given.Given.TheVariants.{Gives, Raises}
 use Rattle.rows_items.specs.declared.rows.ItemRow.{ItemRow}
+use Rattle.rows_items.specs.Outcome.{Called}
+use Rattle.rows_items.specs.Rows.{Calls}
 use Rattle.iter_comparing.specs.declared.row.ComparingRow.TheVariants as comparing_row
 use Rattle.iter_comparing.specs.Rows as comparing
 use Rattle.iter_enumerators.specs.Rows as enumerators
@@ -96,14 +100,17 @@ abbrev pub CollectsUnless : Held → GatheringRow → Value → List Value → O
 CollectsUnless held r recv args block (Some c) p = p ≡ refuses held c
 CollectsUnless held r recv args block None p = p ≡ collects held r recv args block
 
+-- what a method that calls none gives or raises of a new empty Array
+abbrev pub Tried : Held → ItemRow → List Value → Given → Held → Type 0
+Tried held r args g after = Called (Calls r (with_array held []) (array_given held.store []) args) g after
+
 -- A method that calls none is tried on a new empty Array, so that it refuses its arguments before anything is called.
--- What it makes of the items isn't said yet, nor which arguments it refuses.
 pub data StartsOutright (held : Held) (r : ItemRow) (recv : Value) (args : List Value) (block : Option ObjId)
     : Planned Stage → Type 0 where
-  refuses_outright : (after : Held) (e : ObjId)
+  refuses_outright : (after : Held) (e : ObjId) → Tried held r args (Raises e) after
       → StartsOutright held r recv args block (record { plan = raises e; held = after })
-  collects_outright : (after : Held) (p : Planned Stage) → p ≡ collects after (gathering.Outright r) recv args block
-      → StartsOutright held r recv args block p
+  collects_outright : (after : Held) (v : Value) (p : Planned Stage) → Tried held r args (Gives v) after
+      → p ≡ collects after (gathering.Outright r) recv args block → StartsOutright held r recv args block p
 
 abbrev pub StartsGathering : GatheringRow → Held → Value → List Value → Option ObjId → Planned Stage → Type 0
 StartsGathering (gathering.Visits t) held recv args block p = Collects held t recv args block p
@@ -119,17 +126,20 @@ pub data GathersVisit (held : Held) (t : Task) (g : Gathering) (a : ObjId) : Pla
       (given t held g.args g.block).arguments g.block p
       → GathersVisit held t g a p
 
--- it gives a value or raises
-abbrev pub IsSettled : Plan Stage → Type 0
-IsSettled (finishes v) = Unit {0}
-IsSettled (raises e) = Unit {0}
-IsSettled _ = ⊥
+-- what a method that calls none gives or raises of them
+abbrev pub IsSettled : Held → ItemRow → Gathering → ObjId → Plan Stage → Held → Type 0
+IsSettled held r g a (finishes v) after = Called (Calls r held (Obj a) g.args) (Gives v) after
+IsSettled held r g a (raises e) after = Called (Calls r held (Obj a) g.args) (Raises e) after
+IsSettled held r g a _ after = ⊥
+
+abbrev pub SettledBy : Held → ItemRow → Gathering → ObjId → Planned Stage → Type 0
+SettledBy held r g a p = IsSettled held r g a p.plan p.held
 
 abbrev pub GathersBy : GatheringRow → Held → Gathering → ObjId → Planned Stage → Type 0
 GathersBy (gathering.Visits t) held g a p = GathersVisit held t g a p
 GathersBy gathering.Includes held g a p =
     Moved compares (comparing.Starts comparing_row.ArrayIncludes held (Obj a) g.args g.block) p
-GathersBy (gathering.Outright r) held g a p = IsSettled p.plan
+GathersBy (gathering.Outright r) held g a p = SettledBy held r g a p
 
 abbrev pub GathersIn : Held → Gathering → Option ObjId → Planned Stage → Type 0
 GathersIn held g None p = p ≡ gives held Nil

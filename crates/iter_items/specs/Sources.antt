@@ -1,5 +1,5 @@
 -- The items of an Array, a Hash or a Range, one after another.
-use Rattle.std.specs.Prelude.{ℕ, ◌-◌, ◌+◌, ◌^◌, min, ℤ, pos, negsuc, ◌-ℤ◌, int_lt, int_le, unsigned_abs, List, [], ◌∷◌, length, slice_get, nat_eq, nat_lt, Bool, true, false, if◌then◌else◌, Option, Some, None}
+use Rattle.std.specs.Prelude.{ℕ, ◌-◌, ◌^◌, min, ℤ, pos, negsuc, ◌-ℤ◌, int_lt, int_le, unsigned_abs, List, [], ◌∷◌, length, slice_get, nat_eq, nat_lt, Bool, true, false, if◌then◌else◌, Option, Some, None}
 use Rattle.std.specs.Int.{w64, int_wrapping_add, int_wrapping_sub}
 use Rattle.rb_value.specs.declared.value.Value.{Value}
 use Rattle.rb_value.specs.declared.value.Value.TheVariants.{Int, Obj}

@@ -1,5 +1,4 @@
 -- How far a visit goes at once.
-use Rattle.std.specs.Prelude.{Option, Some, None}
 use Rattle.rb_store.specs.Held.{Held}
 use Rattle.def_plans.specs.Plan.{Planned}
 use Rattle.iter_items.specs.declared.driving.Step.{Step}

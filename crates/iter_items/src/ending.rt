@@ -1,16 +1,16 @@
 //! What a visit gives once all items were visited.
-ghost use Rattle.std.specs.Prelude.{◌≡◌, IfOk, OnOk};
+ghost use Rattle.std.specs.Prelude.{◌≡◌, IfOk};
 ghost use Rattle.iter_items.specs.Driving as driving;
 
+use crate::keyed::{extreme_item, sorted_items};
 use crate::row::Task;
 use crate::visit::Visit;
 use crate::wish::Wish;
 use rb_base::List;
 use rb_value::Value;
 use rows_items::heap::Heap;
-use rows_items::{Extreme, RowError, extreme_place, order_of};
+use rows_items::{Extreme, RowError};
 use std::alloc::AllocError;
-use std::cmp::Ordering;
 use std::mem;
 
 /// A new Array of what was kept.
@@ -33,89 +33,33 @@ fn both_parts(heap: &mut Heap, visit: &mut Visit) -> Result<Wish, AllocError>
     Ok(Wish::Ends(heap.make_array(parts)?))
 }
 
-/// The item whose key is the least or the greatest.
-fn extreme(heap: &Heap, visit: &Visit, wanted: Extreme) -> Result<Value, RowError> {
-    match extreme_place(heap, visit.others.as_slice(), wanted)? {
-        Some(place) => Ok(
-            visit
-                .kept
-                .as_slice()
-                .get(place)
-                .copied()
-                .unwrap_or(Value::Nil),
-        ),
-        None => Ok(Value::Nil),
-    }
-}
-
-/// An item with the key that orders it.
-#[derive(Clone, Copy)]
-struct Keyed {
-    key: Value,
-    item: Value,
-}
-
-/// The items with their keys.
-fn with_keys(heap: &Heap, visit: &Visit) -> Result<Vec<Keyed>, AllocError> {
-    let mut all = Vec::with_capacity(heap.alloc(), visit.kept.len())?;
-    'items: for (item, key) in visit
-        .kept
-        .as_slice()
-        .iter()
-        .zip(visit.others.as_slice().iter())
-    {
-        all.push(Keyed {
-            key: *key,
-            item: *item,
-        })?;
-    }
-    Ok(all)
-}
-
-/// The order of two keys as a sort wants it: where there is none they count as equal, and why is kept.
-fn kept_order(
-    heap: &Heap,
-    left: &Keyed,
-    right: &Keyed,
-    failure: &mut Option<RowError>,
-) -> Ordering {
-    match order_of(heap, left.key, right.key) {
-        Ok(order) => order,
-        Err(error) => {
-            *failure = Some(error);
-            Ordering::Equal
-        }
-    }
-}
-
-/// The items in the order of their keys; those of equal keys keep theirs.
-fn sorted_items(heap: &Heap, visit: &Visit) -> Result<Vec<Value>, RowError> {
-    extreme_place(heap, visit.others.as_slice(), Extreme::Least)?;
-    let mut all = with_keys(heap, visit)?;
-    let mut failure = None;
-    all.sort_by(|left, right| kept_order(heap, left, right, &mut failure))?;
-    if let Some(error) = failure {
-        return Err(error);
-    }
-    let mut items = Vec::with_capacity(heap.alloc(), all.len())?;
-    'items: for keyed in &all {
-        items.push(keyed.item)?;
-    }
-    Ok(items)
-}
-
-/// A new Array of the items in the order of their keys.
-fn sorted_array(heap: &mut Heap, visit: &Visit) -> Result<Value, RowError> {
-    let items = sorted_items(heap, visit)?;
-    Ok(heap.make_array(items)?)
-}
-
-/// What a method that orders items comes to.
-fn settled(outcome: Result<Value, RowError>) -> Result<Wish, AllocError>
-    ensures { IfOk result driving.IsEnd }
+/// What an item of the least or greatest key comes to.
+fn ended_by(outcome: Result<Value, RowError>) -> Result<Wish, AllocError>
+    ensures { IfOk result (λ wish. driving.IsEndOf outcome wish) }
 {
     match outcome {
         Ok(value) => Ok(Wish::Ends(value)),
+        Err(RowError::Fails(cause)) => Ok(Wish::Fails(cause)),
+        Err(RowError::NoMemory) => Err(AllocError),
+    }
+}
+
+/// The item whose key is the least or the greatest.
+#[tactic(auto, using(crate::proofs::Ended::extreme_so))]
+fn extreme(heap: &Heap, visit: &Visit, wanted: Extreme) -> Result<Wish, AllocError>
+    ensures { IfOk result (λ wish. driving.IsLeft (driving.extreme heap.now visit.now wanted) wish visit.now heap.now) }
+{
+    let outcome = extreme_item(heap, visit.kept.as_slice(), visit.others.as_slice(), wanted);
+    ended_by(outcome)
+}
+
+/// A new Array of the items in the order of their keys.
+#[tactic(auto, using(crate::proofs::Ended::sorts_so, crate::proofs::Ended::gives_so))]
+fn sorted(heap: &mut Heap, visit: &Visit) -> Result<Wish, AllocError>
+    ensures { IfOk result (λ wish. driving.IsSorted heap.old visit.now wish visit.now heap.new) }
+{
+    match sorted_items(heap, visit.kept.as_slice(), visit.others.as_slice()) {
+        Ok(items) => Ok(Wish::Ends(heap.make_array(items)?)),
         Err(RowError::Fails(cause)) => Ok(Wish::Fails(cause)),
         Err(RowError::NoMemory) => Err(AllocError),
     }
@@ -145,9 +89,9 @@ pub(crate) fn end(heap: &mut Heap, visit: &mut Visit) -> Result<Wish, AllocError
         | Task::TakeWhile
         | Task::DropWhile => gathered(heap, visit),
         Task::Partition => both_parts(heap, visit),
-        Task::MinBy => settled(extreme(heap, visit, Extreme::Least)),
-        Task::MaxBy => settled(extreme(heap, visit, Extreme::Greatest)),
-        Task::SortBy => settled(sorted_array(heap, visit)),
+        Task::MinBy => extreme(heap, visit, Extreme::Least),
+        Task::MaxBy => extreme(heap, visit, Extreme::Greatest),
+        Task::SortBy => sorted(heap, visit),
         Task::EachWithIndex | Task::EachSlice | Task::EachCons | Task::ReverseEach => {
             Ok(Wish::Ends(visit.receiver))
         }

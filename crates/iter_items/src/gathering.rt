@@ -47,18 +47,14 @@ fn array_of(heap: &mut Heap, values: Vec<Value>) -> Result<Option<ObjId>, AllocE
     }
 }
 
-/// What a method that calls none raises for its arguments whatever the items are.
-fn refuse_outright(
-    heap: &mut Heap,
-    row: ItemRow,
-    call: Call<'_>,
-) -> Result<Option<ObjId>, AllocError> {
+/// What a method that calls none gives or raises of a new empty Array: it raises for its arguments whatever the items
+/// are.
+fn try_outright(heap: &mut Heap, row: ItemRow, call: Call<'_>) -> Result<Given, AllocError>
+    ensures { IfOk result (λ g. rows.Tried heap.old row call.entry.args.now g heap.new) }
+{
     let none = Vec::new(heap.alloc());
     let receiver = heap.make_array(none)?;
-    match rows_items::call(heap, row, Call { receiver, ..call })? {
-        Given::Gives(_) => Ok(None),
-        Given::Raises(id) => Ok(Some(id)),
-    }
+    rows_items::call(heap, row, Call { receiver, ..call })
 }
 
 /// The new Proc that collects the items in an Array.
@@ -135,9 +131,9 @@ fn start_outright(
     ensures { Meets stage_of heap.new result (rows.StartsOutright heap.old row
         call.entry.receiver call.entry.args.now call.entry.block) }
 {
-    match refuse_outright(heap, row, call)? {
-        Some(id) => Ok(Plan::Raises(id)),
-        None => collect(heap, GatheringRow::Outright(row), call),
+    match try_outright(heap, row, call)? {
+        Given::Gives(_) => collect(heap, GatheringRow::Outright(row), call),
+        Given::Raises(id) => Ok(Plan::Raises(id)),
     }
 }
 
@@ -183,6 +179,27 @@ fn begin_visit(
     )
 }
 
+/// What a method that calls none gives or raises of the items that were collected.
+#[tactic(auto, using(crate::proofs::Started::settled_so))]
+fn settle_outright(
+    heap: &mut Heap,
+    row: ItemRow,
+    gathering: &Gathering,
+    array: ObjId,
+) -> Result<Plan<ItemsState>, AllocError>
+    ensures { Meets stage_of heap.new result (rows.SettledBy heap.old row gathering.now array) }
+{
+    let call = Call {
+        receiver: Value::Obj(array),
+        args: gathering.args.as_slice(),
+        block: gathering.block,
+    };
+    match rows_items::call(heap, row, call)? {
+        Given::Gives(value) => Ok(Plan::Finishes(value)),
+        Given::Raises(id) => Ok(Plan::Raises(id)),
+    }
+}
+
 /// What the items that were collected come to.
 #[tactic(auto, using(crate::proofs::Lifted::lifted_comparing))]
 fn gather(
@@ -202,10 +219,7 @@ fn gather(
         GatheringRow::Includes => {
             Ok(lift(iter_comparing::start(heap, ComparingRow::ArrayIncludes, call)?))
         }
-        GatheringRow::Outright(row) => match rows_items::call(heap, row, call)? {
-            Given::Gives(value) => Ok(Plan::Finishes(value)),
-            Given::Raises(id) => Ok(Plan::Raises(id)),
-        },
+        GatheringRow::Outright(row) => settle_outright(heap, row, gathering, array),
     }
 }
 

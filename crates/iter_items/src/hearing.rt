@@ -17,7 +17,7 @@ use rows_items::{RowError, put_pair};
 use std::alloc::AllocError;
 use std::mem;
 
-/// Puts a pair into the Hash that is made.
+/// Puts a pair into the Hash that is made; where the key is refused all is as before.
 fn put(
     heap: &mut Heap,
     visit: &Visit,
@@ -25,7 +25,7 @@ fn put(
     key: Value,
     value: Value,
 ) -> Result<Option<Wish>, AllocError>
-    ensures { hearing.Hears (hearing.put visit.now (keyed.put heap.old hash key value)) result visit.now heap.new }
+    ensures { hearing.Hears (hearing.put visit.now heap.old (keyed.put heap.old hash key value)) result visit.now heap.new }
 {
     match put_pair(heap, hash, key, value) {
         Ok(()) => Ok(None),

@@ -13,6 +13,7 @@ mod gathering;
 mod groups;
 mod hearing;
 mod items;
+mod keyed;
 mod lifting;
 pub mod row;
 mod source;

@@ -1,4 +1,3 @@
-use Rattle.std.proofs.Common.{◌≡◌}
 use Rattle.iter_items.proofs.Visited.{visits_item}
 use Rattle.iter_items.proofs.asking.ask_item.Goals as goal
 

@@ -1,4 +1,3 @@
-use Rattle.std.proofs.Common.{◌≡◌}
 use Rattle.iter_items.specs.declared.wish.Wish.TheVariants.{Asks}
 use Rattle.iter_items.proofs.Wanted.{halts_still, halts_raising, stays_none}
 use Rattle.iter_items.proofs.driving.take_step.Goals as goal

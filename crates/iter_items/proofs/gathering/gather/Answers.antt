@@ -1,4 +1,3 @@
-use Rattle.std.proofs.Common.{◌≡◌}
 use Rattle.iter_items.proofs.Started.{includes_so}
 use Rattle.iter_items.proofs.gathering.gather.Goals as goal
 

@@ -1,4 +1,3 @@
-use Rattle.std.proofs.Common.{◌≡◌}
 use Rattle.iter_items.proofs.Started.{compares_next}
 use Rattle.iter_items.proofs.items.next.Goals as goal
 

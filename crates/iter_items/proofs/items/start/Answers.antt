@@ -1,4 +1,3 @@
-use Rattle.std.proofs.Common.{◌≡◌}
 use Rattle.iter_items.proofs.Started.{compares_start}
 use Rattle.iter_items.proofs.items.start.Goals as goal
 

@@ -1,4 +1,3 @@
-use Rattle.std.proofs.Common.{◌≡◌}
 use Rattle.iter_items.proofs.Started.{without_items}
 use Rattle.iter_items.proofs.items.start_visit.Goals as goal
 
