@@ -1,6 +1,6 @@
 -- Methods that get another name, and that are undefined: no register gets what the instruction answers, and the form
 -- is nil.
-use Rattle.std.proofs.Common.{◌≡◌, ℕ, ◌+◌, ◌<◌, List, [], ◌∷◌, refl, sym, ap, ◌∙◌, subst, arith}
+use Rattle.std.proofs.Common.{◌≡◌, ℕ, ◌+◌, ◌<◌, List, ◌∷◌, refl, sym, ap, ◌∙◌, subst, arith}
 use Rattle.std.specs.Prelude.{Option, Some, None}
 use Rattle.rb_value.specs.declared.value.Value.TheVariants.{Nil}
 use Rattle.rb_value.specs.declared.value.ObjId.{ObjId}

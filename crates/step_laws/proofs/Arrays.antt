@@ -27,7 +27,7 @@ use Rattle.def_eval.specs.Giving.{with_element, give_part, do_give}
 use Rattle.def_eval.specs.Transition.{go}
 use Rattle.def_machine.specs.State as machine
 use Rattle.def_machine.specs.State.{Level, frame, State, slot_at, value_at}
-use Rattle.def_machine.specs.Turn.{turn, act, on_object}
+use Rattle.def_machine.specs.Turn.{act, on_object}
 use Rattle.step_laws.specs.Site.{Site, within, place_in, at_line, Room}
 use Rattle.step_laws.specs.Covered.{Covered, CoveredElements}
 use Rattle.step_laws.proofs.Placed.{high, high-both, high-puts, high-nothing, line-past, Stands, moved, left, right, the_line, Rest, frame_at, turned}

@@ -1,5 +1,5 @@
 -- Calls of a name alone: a method of self without arguments, or what else the name is said to be where there is none.
-use Rattle.std.proofs.Common.{◌≡◌, ◌≤◌, ℕ, ◌+◌, List, [], ◌∷◌, refl, sym, ap, ◌∙◌, subst, arith}
+use Rattle.std.proofs.Common.{◌≡◌, ℕ, ◌+◌, List, [], ◌∷◌, refl, sym, ap, ◌∙◌, subst, arith}
 use Rattle.std.specs.Prelude.{None}
 use Rattle.rb_value.specs.declared.value.Value.{Value}
 use Rattle.rb_value.specs.declared.value.SymId.{SymId}
@@ -10,7 +10,7 @@ use Rattle.ir_core.specs.CoreForm.{Name, call, absent, no_items, bare}
 use Rattle.gen_parts.specs.declared.line.Line.TheVariants as line
 use Rattle.gen_parts.specs.Pieces.{nothing, does, ◌⊕◌}
 use Rattle.gen_forms.specs.Gen.{gen, symbol as entry_of}
-use Rattle.def_calls.specs.World.{World, Activation, activation_at}
+use Rattle.def_calls.specs.World.{Activation, activation_at}
 use Rattle.def_calls.specs.Calls.{by_bare_name, Entry}
 use Rattle.def_calls.specs.Calls as calls
 use Rattle.def_eval.specs.Configuration as source

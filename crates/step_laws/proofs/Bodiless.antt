@@ -1,5 +1,5 @@
 -- No body stands in a plain form.
-use Rattle.std.proofs.Common.{◌≡◌, ◌+◌, arith, List, [], ◌++◌, refl, ap, ◌∙◌}
+use Rattle.std.proofs.Common.{◌≡◌, arith, List, [], ◌++◌, refl, ap, ◌∙◌}
 use Rattle.rb_syntax.specs.declared.core_form.DefinedKind.{DefinedKind}
 use Rattle.rb_syntax.specs.declared.core_form.DefinedKind.TheVariants as asks
 use Rattle.ir_core.specs.CoreForm as form

@@ -14,7 +14,6 @@ use Rattle.ir_walk.specs.declared.extent.Extent.TheVariants as extent
 use Rattle.ir_counts.specs.declared.tally.Tally.{Tally}
 use Rattle.ir_counts.specs.Counts.{need, tally}
 use Rattle.ir_counts.specs.Limits.{first_excess}
-use Rattle.scope_resolver.specs.declared.body_kind.BodyKind.TheVariants as kind
 use Rattle.gen_parts.specs.declared.line.Line.TheVariants as line
 use Rattle.gen_parts.specs.declared.line.Catch.{Catch}
 use Rattle.gen_parts.specs.Pieces.{Piece, both, puts, does, ◌⊕◌}

@@ -7,7 +7,6 @@ use Rattle.rite_code.specs.declared.code.PoolItem.{PoolItem}
 use Rattle.rite_code.specs.declared.code.PoolItem.TheVariants as pool
 use Rattle.rite_code.specs.declared.operation.Operation.{Operation}
 use Rattle.text_set.specs.Sets.{is_among}
-use Rattle.integer_set.specs.Sets as integers
 use Rattle.rb_syntax.specs.declared.core_form.DefinedKind.{DefinedKind}
 use Rattle.rb_syntax.specs.declared.core_form.DefinedKind.TheVariants as asks
 use Rattle.ir_core.specs.CoreForm as form

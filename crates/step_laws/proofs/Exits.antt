@@ -3,7 +3,6 @@ use Rattle.std.proofs.Common.{◌≡◌, ℕ, suc, ◌+◌, ◌<◌, ◌≤◌, 
 use Rattle.std.specs.List.{filter}
 use Rattle.std.specs.Prelude.{if◌then◌else◌, Option, Some, None}
 use Rattle.std.proofs.lemmas.Bool.{eq-eqb}
-use Rattle.std.proofs.lemmas.List.{append-nil}
 use Rattle.rb_value.specs.declared.value.Value.{Value}
 use Rattle.rb_value.specs.declared.value.ObjId.{ObjId}
 use Rattle.rb_value.specs.declared.exit.Exit.TheVariants.{Raise, Return}
@@ -28,11 +27,11 @@ use Rattle.def_machine.specs.State.{Level, frame, State, On, Off}
 use Rattle.def_machine.specs.Unwind.{covers, covering, handler, reach, at_frame, unwind, closed, receive, receive_in_resumer, end_program, fallen, land, throw_within, throw, end_by as end_by_machine, end_fiber as end_fiber_machine}
 use Rattle.def_machine.specs.Turn.{turn}
 use Rattle.step_laws.specs.Site.{Site, at_line}
-use Rattle.step_laws.specs.Calm.{Grows, Quiet}
+use Rattle.step_laws.specs.Calm.{Quiet}
 use Rattle.step_laws.specs.Measure.{weight, measure}
 use Rattle.step_laws.proofs.Placed.{Rest, frame_at, turned}
 use Rattle.step_laws.specs.Behind.{Static}
-use Rattle.step_laws.specs.Relation.{EndsBy, stops, returns, Waits, Ground, over_levels, IsPassed, SitesAre, uses, uses_in, Both, Common, GivesIn, GivesOut, Throwing, raised, Alike, Advances, Step}
+use Rattle.step_laws.specs.Relation.{EndsBy, stops, returns, Waits, Ground, over_levels, IsPassed, uses, uses_in, Both, Common, GivesIn, GivesOut, Throwing, raised, Alike, Advances, Step}
 use Rattle.step_laws.proofs.Untouched.{same_activations, grown, without_top}
 use Rattle.step_laws.proofs.Switching.{Onwards, nowhere, onward, finished, ground_in, switched}
 use Rattle.step_laws.proofs.Matching.{no_turn, one_turn, going, going_out, state_at}

@@ -1,5 +1,5 @@
 -- The lines of the code of a main program stand where they are placed.
-use Rattle.std.proofs.Common.{◌≡◌, ◌≤◌, ℕ, ◌+◌, ◌-◌, List, [], ◌∷◌, ◌++◌, length, arith, refl, sym, ap, ◌∙◌, subst, length-append, Bool, true, false, nat_lt}
+use Rattle.std.proofs.Common.{◌≡◌, ◌≤◌, ℕ, ◌+◌, List, [], ◌∷◌, ◌++◌, length, arith, refl, sym, ap, ◌∙◌, subst, length-append, Bool, true, false, nat_lt}
 use Rattle.std.specs.Prelude.{◌||◌}
 use Rattle.std.proofs.lemmas.Bool.{ltb-false}
 use Rattle.rite_code.specs.Code.{program}
@@ -32,7 +32,6 @@ use Rattle.code_laws.proofs.Forms.{gen_well}
 use Rattle.code_laws.proofs.Assembled.{AllFit, sizes, sizes_weights, place_most}
 use Rattle.code_laws.proofs.Encoding.{AllFew, all_few, lines_fit}
 use Rattle.def_eval.specs.Source.{Source}
-use Rattle.step_laws.specs.Site as laws
 use Rattle.step_laws.specs.Site.{at_line, Lines}
 use Rattle.step_laws.specs.Implements.{main_site}
 use Rattle.step_laws.proofs.Laid.{lines_stand}

@@ -1,5 +1,5 @@
 -- What a literal gathers into: an object in a register, which an instruction with the value behind it changes.
-use Rattle.std.proofs.Common.{◌≡◌, ℕ, ◌+◌, List, [], ◌∷◌, refl, arith}
+use Rattle.std.proofs.Common.{◌≡◌, ℕ, List, arith}
 use Rattle.rb_value.specs.declared.value.Value.{Value}
 use Rattle.rb_value.specs.declared.exit.Slot.TheVariants.{V}
 use Rattle.std.specs.Prelude.{Option}

@@ -1,5 +1,5 @@
 -- Breaks and nexts in a loop: to the loop part by part, and there to its end or to its next round.
-use Rattle.std.proofs.Common.{◌≡◌, ◌⊎◌, inl, inr, ℕ, ◌+◌, ◌<◌, List, [], ◌∷◌, ◌++◌, refl, sym, ap, ◌∙◌, subst, arith, length, reverse, Bool, true, false, true≢false}
+use Rattle.std.proofs.Common.{◌≡◌, ◌⊎◌, inl, inr, ℕ, ◌+◌, ◌<◌, List, [], ◌∷◌, ◌++◌, refl, sym, ap, ◌∙◌, subst, arith, length, reverse, Bool, true, true≢false}
 use Rattle.std.proofs.lemmas.Bool.{eq-eqb}
 use Rattle.std.specs.List.{filter}
 use Rattle.std.specs.Prelude.{pos, ◌-ℤ◌, ◌||◌, is_some, unwrap_or, if◌then◌else◌, Option, Some, None}
@@ -11,7 +11,7 @@ use Rattle.rb_value.specs.Slot.{read}
 use Rattle.rite_code.specs.Instruction.{Instruction}
 use Rattle.rite_code.specs.declared.code.CatchEntry.{CatchEntry}
 use Rattle.rite_code.specs.declared.operation.Operation.TheVariants as op
-use Rattle.ir_core.specs.CoreForm.{CoreForm, break_form, next_form, Forms, none}
+use Rattle.ir_core.specs.CoreForm.{CoreForm, break_form, next_form, Forms}
 use Rattle.gen_parts.specs.declared.line.Line.TheVariants as line
 use Rattle.gen_parts.specs.Pieces.{does, leave, ◌⊕◌}
 use Rattle.gen_parts.specs.Assembly.{instruction_before}
@@ -31,7 +31,7 @@ use Rattle.step_laws.specs.Site.{Site, within, place_in, at_line, LineAt, Room}
 use Rattle.step_laws.specs.Measure.{measure}
 use Rattle.step_laws.proofs.Placed.{high, high-puts, Stands, moved, left, right, the_line, Rest, frame_at, turned, leads, jumped}
 use Rattle.step_laws.specs.Behind.{Static, LoopAt, BreakBehind, NextBehind, breaks, begins_round}
-use Rattle.step_laws.specs.Relation.{Ground, uses, InFrame, Common, Doing, GivesIn, LoopWay, WayBy, Way, LeavesTo, to_end, to_round, Leaps, leaping, Related, Step}
+use Rattle.step_laws.specs.Relation.{Ground, uses, InFrame, Common, Doing, GivesIn, LoopWay, WayBy, Way, LeavesTo, to_end, to_round, leaping, Related, Step}
 use Rattle.step_laws.proofs.Registers.{slot_same, keeps_above}
 use Rattle.step_laws.proofs.Untouched.{put_only, frame_kept, same_here, written_here}
 use Rattle.step_laws.proofs.Matching.{by_none, by_one, by_two, going, state_at, written, stays}

@@ -1,5 +1,5 @@
 -- Forms of one operand and of two, with one instruction behind them, and what goes on with the value of an operand.
-use Rattle.std.proofs.Common.{◌≡◌, ℕ, ◌+◌, ℤ, List, [], ◌∷◌, refl, arith, Bool}
+use Rattle.std.proofs.Common.{ℕ, ℤ, List, ◌∷◌, refl, arith, Bool}
 use Rattle.std.specs.Prelude.{pos, neg_ℤ}
 use Rattle.rb_value.specs.declared.value.Value.{Value}
 use Rattle.rite_code.specs.declared.operation.Operation.TheVariants as op

@@ -1,6 +1,6 @@
 -- What the operators, `puts` and `to_s` come to on nil, true, false and integers: a value or an exception. The objects
 -- that were there stay, no symbol is new, and nothing is written.
-use Rattle.std.proofs.Common.{◌≡◌, ℕ, ◌+◌, ℤ, List, [], ◌∷◌, ◌++◌, refl, sym, ap, ◌∙◌, subst, length, get_or, Bool, true, false, true≢false, append_assoc}
+use Rattle.std.proofs.Common.{◌≡◌, ℕ, ℤ, List, [], ◌∷◌, ◌++◌, refl, sym, ap, ◌∙◌, subst, length, get_or, Bool, true, false, true≢false, append_assoc}
 use Rattle.std.specs.Prelude.{◌&&◌, nat_eq, nat_le, codes, if◌then◌else◌, Option, Some, None, Result, Ok, Err}
 use Rattle.std.proofs.lemmas.List.{append-nil}
 use Rattle.rb_value.specs.Object.{Object}

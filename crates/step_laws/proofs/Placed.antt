@@ -4,7 +4,6 @@ use Rattle.std.specs.Prelude.{pos, ◌+ℤ◌, ◌-ℤ◌, Option}
 use Rattle.std.proofs.lemmas.Int.{ints}
 use Rattle.rite_code.specs.Instruction.{Instruction}
 use Rattle.rite_code.specs.declared.operation.Operation.{Operation}
-use Rattle.rite_code.specs.declared.operation.Operation.TheVariants as op
 use Rattle.gen_parts.specs.declared.line.Line.{Line}
 use Rattle.gen_parts.specs.declared.line.Line.TheVariants as line
 use Rattle.gen_parts.specs.declared.emitter.Spot.{Spot}

@@ -5,9 +5,8 @@ use Rattle.rb_value.specs.declared.value.Value.{Value}
 use Rattle.rb_value.specs.declared.exit.Slot.TheVariants.{V}
 use Rattle.rb_value.specs.Slot.{read}
 use Rattle.rite_code.specs.declared.operation.Operation.{Operation}
-use Rattle.rite_code.specs.declared.operation.Operation.TheVariants as op
 use Rattle.ir_counts.specs.Tables.{item_count}
-use Rattle.ir_core.specs.CoreForm.{Name, absent, there, Items, no_items, plain, splat}
+use Rattle.ir_core.specs.CoreForm.{Name, absent, Items, no_items, plain, splat}
 use Rattle.gen_parts.specs.declared.line.Line.TheVariants as line
 use Rattle.gen_parts.specs.declared.emitter.Spot.{Spot}
 use Rattle.gen_parts.specs.Pieces.{past}
@@ -26,7 +25,7 @@ use Rattle.def_eval.specs.Transition.{go}
 use Rattle.def_machine.specs.State as machine
 use Rattle.def_machine.specs.State.{Registers, Frame, frame, value_at, put}
 use Rattle.def_machine.specs.Entering.{enter as enter_machine}
-use Rattle.def_machine.specs.Turn.{turn, call as call_machine, arguments}
+use Rattle.def_machine.specs.Turn.{call as call_machine, arguments}
 use Rattle.step_laws.specs.Site.{Site, within, place_in, at_line, LineAt, Room, number}
 use Rattle.step_laws.specs.Covered.{CoveredItems}
 use Rattle.step_laws.specs.Calm.{IsSteady}

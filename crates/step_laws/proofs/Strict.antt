@@ -1,5 +1,5 @@
 -- Strict forms: the operands from left to right, and then an outcome of their values.
-use Rattle.std.proofs.Common.{◌≡◌, ℕ, zero, suc, ◌+◌, ◌<◌, ◌≤◌, List, [], ◌∷◌, ◌++◌, refl, sym, ap, ◌∙◌, subst, arith, length, length-append, get_or, true, false}
+use Rattle.std.proofs.Common.{◌≡◌, ℕ, zero, suc, ◌+◌, ◌<◌, List, [], ◌∷◌, ◌++◌, refl, sym, ap, ◌∙◌, subst, arith, length, length-append, get_or, true, false}
 use Rattle.std.specs.Prelude.{is_some, codes, unwrap_or, Option, Some}
 use Rattle.rb_value.specs.declared.value.Value.{Value}
 use Rattle.rb_value.specs.declared.value.Value.TheVariants.{Nil}
@@ -7,11 +7,10 @@ use Rattle.rb_value.specs.declared.value.SymId.{SymId}
 use Rattle.rb_value.specs.Slot.{read}
 use Rattle.rb_syntax.specs.declared.core_form.DefinedKind.TheVariants as asks
 use Rattle.rite_code.specs.declared.operation.Operation.{Operation}
-use Rattle.rite_code.specs.declared.operation.Operation.TheVariants as op
 use Rattle.ir_core.specs.CoreForm.{Name, CoreForm, Forms, none, more}
 use Rattle.gen_parts.specs.declared.line.Line.TheVariants as line
 use Rattle.gen_parts.specs.declared.emitter.Spot.{Spot}
-use Rattle.gen_parts.specs.Pieces.{past, nothing, does, ◌⊕◌}
+use Rattle.gen_parts.specs.Pieces.{past, does, ◌⊕◌}
 use Rattle.gen_forms.specs.declared.context.Loop.{Loop}
 use Rattle.gen_forms.specs.Gen.{gen, symbol as entry_of}
 use Rattle.def_calls.specs.World as world

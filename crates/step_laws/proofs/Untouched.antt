@@ -21,7 +21,7 @@ use Rattle.def_machine.specs.State as machine
 use Rattle.def_machine.specs.State.{Registers, Frame, Level, frame, body_at, list_at, slot_at, value_at, put}
 use Rattle.step_laws.specs.Site.{Site, place_in, register, Known}
 use Rattle.step_laws.specs.Calm.{Grows}
-use Rattle.step_laws.specs.Relation.{Inside, EndsBy, stops, returns, Ends, IsSite, Waits, Ground, over_levels, InFrame, Same, SiteIs, SitesAre, FibersAre, AllFibers, uses, uses_in, Both, Running}
+use Rattle.step_laws.specs.Relation.{EndsBy, stops, returns, Ends, IsSite, Waits, Ground, over_levels, InFrame, Same, SiteIs, SitesAre, FibersAre, AllFibers, uses, uses_in, Both, Running}
 use Rattle.step_laws.proofs.Registers.{Keeps, inside_kept, list_other, length_put, scope_other, same_above, put_alike, assigned}
 
 -- lists that differ in that of one number alone

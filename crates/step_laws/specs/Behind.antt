@@ -15,7 +15,7 @@ use Rattle.gen_parts.specs.Pieces.{Piece, past, behind, nothing, ◌⊕◌, jump
 use Rattle.gen_forms.specs.declared.context.Loop.{Loop}
 use Rattle.gen_forms.specs.Gen.{Context, gen, gather, gather_pairs, gather_text, others_in_turn, pass_in_registers, choose, over, operator, symbol}
 use Rattle.def_calls.specs.Calls.{by_name}
-use Rattle.def_eval.specs.Configuration.{next, Action, assign, assign_gvar, leave_call, leave_round, Gathering, an_array, Part, operands, receiver, items, block, elements, hash_key, hash_value, pieces, rest, test, chosen, and_then, or_else, loop_test, loop_body, rescued, clause_class, clause_target, clause_body, ensured, Stop, passes, loops, rescues, assigns, retries, ensures, part}
+use Rattle.def_eval.specs.Configuration.{Action, assign, assign_gvar, leave_call, leave_round, Gathering, an_array, Part, operands, receiver, items, block, elements, hash_key, hash_value, pieces, rest, test, chosen, and_then, or_else, loop_test, loop_body, rescued, clause_class, clause_target, clause_body, ensured, Stop, passes, loops, rescues, assigns, retries, ensures}
 use Rattle.def_eval.specs.Scopes.{same_local}
 use Rattle.def_machine.specs.State.{Registers, body_at, slot_at}
 use Rattle.step_laws.specs.Site.{Site, within, LineAt, Room, register, Known, IsThere, Named, number}

@@ -1,7 +1,6 @@
 -- What an evaluation keeps that calls no body of the source.
 use Rattle.std.specs.Prelude.{◌≡◌, ℕ, List, [], ◌∷◌, ◌++◌, length, Some}
 use Rattle.rb_value.specs.Object.{Object}
-use Rattle.rb_value.specs.declared.value.Value.{Value}
 use Rattle.rb_value.specs.declared.value.Value.TheVariants.{Obj}
 use Rattle.def_core.specs.Changes.{intern}
 use Rattle.ir_core.specs.CoreForm.{Name}
@@ -9,7 +8,7 @@ use Rattle.def_calls.specs.World.{World, Activation}
 use Rattle.def_calls.specs.Calls.{close}
 use Rattle.def_calls.specs.Views.{an_array, a_hash, a_string}
 use Rattle.def_eval.specs.Source.{Source}
-use Rattle.def_eval.specs.Configuration.{Exit, Part, operands, receiver, items, block, elements, hash_key, hash_value, pieces, rest, test, chosen, and_then, or_else, loop_test, loop_body, rescued, clause_class, clause_target, clause_body, ensured, Item, part, activation, iteration, ensuring, Focus, perform, give, travel, Memory, Config, Run, Halt, opening}
+use Rattle.def_eval.specs.Configuration.{Part, operands, receiver, items, block, elements, hash_key, hash_value, pieces, rest, test, chosen, and_then, or_else, loop_test, loop_body, rescued, clause_class, clause_target, clause_body, ensured, Item, part, activation, iteration, ensuring, Focus, perform, give, travel, Memory, Config, Run, Halt}
 use Rattle.def_eval.specs.Transition.{go, go_times}
 use Rattle.step_laws.specs.Site.{IsThere, number}
 

@@ -1,12 +1,11 @@
 -- What it means that code implements a source, and what is asked of the code of a main program.
-use Rattle.std.specs.Prelude.{◌≡◌, ◌≢◌, ◌<◌, ◌≤◌, ℕ, zero, List, [], ◌∷◌, length, Bool, false, Option, None}
+use Rattle.std.specs.Prelude.{◌≡◌, ◌≢◌, ◌<◌, ◌≤◌, ℕ, List, [], length, Bool, false, None}
 use Rattle.rb_value.specs.declared.value.Value.TheVariants.{Obj}
 use Rattle.rb_store.specs.Opening.{main_object, with_names}
 use Rattle.rite_code.specs.Code.{Program}
 use Rattle.rite_code.specs.declared.operation.Operation.TheVariants as op
 use Rattle.ir_core.specs.CoreForm.{Local}
 use Rattle.gen_parts.specs.declared.line.Line.TheVariants as line
-use Rattle.gen_parts.specs.declared.emitter.Spot.{Spot}
 use Rattle.gen_forms.specs.Gen.{Context, gen, first_spot}
 use Rattle.path_eval.specs.Steps.{Follows}
 use Rattle.def_calls.specs.World.{main_program}

@@ -1,9 +1,9 @@
 -- Forms over nil, true, false and integers: literals, locals of the source, sequences, branches, loops with break and
 -- next, operators, and `puts`. A call has no more items than go into registers.
-use Rattle.std.specs.Prelude.{◌≡◌, ℕ, List, [], ◌∷◌, codes, bytes_eq, nat_lt, true, false}
+use Rattle.std.specs.Prelude.{◌≡◌, List, [], ◌∷◌, codes, bytes_eq, nat_lt, true, false}
 use Rattle.std.specs.List.{list_any}
 use Rattle.ir_counts.specs.Tables.{item_count}
-use Rattle.ir_core.specs.CoreForm.{Name, Local, named, hidden, pattern, rest, CoreForm, nil, truth, falsehood, self_ref, int, str, sym, local, own, exception, set_local, ivar, set_ivar, gvar, set_gvar, constant, top_constant, in_constant, set_constant, set_in_constant, array, hash, range, text, intern, seq, cond, and_form, or_form, while_form, call, yield_form, super_form, function, lambda, begin_form, return_form, break_form, next_form, retry, define, define_on, class_form, module_form, singleton_class, alias_form, undef_form, defined, item, rest_of, tail_of, absent, there, Forms, none, more, Items, no_items, plain, splat, Branches, no_branches, branch, Receiver, to, on_self, bare}
+use Rattle.ir_core.specs.CoreForm.{Name, Local, named, hidden, pattern, rest, CoreForm, nil, truth, falsehood, self_ref, int, str, sym, local, own, exception, set_local, ivar, set_ivar, gvar, set_gvar, constant, top_constant, in_constant, set_constant, set_in_constant, array, hash, range, text, intern, seq, cond, and_form, or_form, while_form, call, yield_form, super_form, function, lambda, begin_form, return_form, break_form, next_form, retry, define, define_on, class_form, module_form, singleton_class, alias_form, undef_form, defined, item, rest_of, tail_of, absent, there, Forms, none, more, Items, no_items, plain, splat, Branches, no_branches, branch, to, on_self, bare}
 
 abbrev pub operators : List Name
 operators =

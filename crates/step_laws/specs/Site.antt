@@ -1,9 +1,8 @@
 -- Where the code of a body stands, and what its activation has: what is the same all over a body.
-use Rattle.std.specs.Prelude.{◌≡◌, ◌<◌, ◌≤◌, ℕ, ◌+◌, List, [], ◌∷◌, get_or, position, bytes_eq, is_some, Bool, true, Option, Some, None}
+use Rattle.std.specs.Prelude.{◌≡◌, ◌<◌, ◌≤◌, ℕ, ◌+◌, List, [], ◌∷◌, get_or, position, bytes_eq, is_some, Bool, true, Option, Some}
 use Rattle.rb_value.specs.declared.value.Value.{Value}
 use Rattle.rb_value.specs.declared.value.SymId.{SymId}
 use Rattle.rite_code.specs.Code.{Program}
-use Rattle.rite_code.specs.Instruction.{Instruction}
 use Rattle.def_core.specs.Store.{Store}
 use Rattle.def_core.specs.Changes.{intern}
 use Rattle.rb_store.specs.Opening.{with_names}
