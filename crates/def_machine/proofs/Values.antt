@@ -6,6 +6,7 @@ use Rattle.rite_code.specs.Operation.{no_parameters}
 use Rattle.rite_code.specs.declared.code.PoolItem.TheVariants.{Text}
 use Rattle.rite_code.specs.declared.operation.Operation.TheVariants as op
 use Rattle.def_calls.specs.Seen.{Over, Ended}
+use Rattle.def_machine.specs.Peak.{peak}
 use Rattle.def_machine.specs.Turn.{machine}
 use Rattle.def_machine.proofs.Running.{run}
 use Rattle.def_machine.proofs.Writing.{bytes}
@@ -28,6 +29,11 @@ sum = program 2
 sum_runs : machine sum [] 30 ≡ Over (Ended (codes "3\n") 0)
 unfolding run
 sum_runs = refl
+
+-- six registers are one block
+sum_needs : peak sum [] 4 ≡ 1
+unfolding run peak
+sum_needs = refl
 
 -- f = Fiber.new {
 --   [1, 2].each { |x| Fiber.yield(x) }
@@ -77,6 +83,11 @@ fibers = program 2
 fibers_runs : machine fibers [] 300 ≡ Over (Ended (codes "1\n2\n3\n") 0)
 unfolding run
 fibers_runs = refl
+
+-- the fiber that runs has registers of its own beside those of the main program
+fibers_need : peak fibers [] 16 ≡ 2
+unfolding run peak
+fibers_need = refl
 
 -- f = Fiber.new { raise "lost" }
 -- begin

@@ -3,3 +3,4 @@ pub mod Unwind
 pub mod Entering
 pub mod Turn
 pub mod Fits
+pub mod Peak
