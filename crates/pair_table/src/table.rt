@@ -3,15 +3,16 @@ ghost use Rattle.std.specs.Map.{lookup, remove_entry};
 ghost use Rattle.indexmap.specs.IndexMap.{insert_entry};
 ghost use Rattle.pair_table.specs.Pairs.{shown_pair};
 
+use crate::hasher::NearHasher;
 use indexmap::IndexMap;
 use std::alloc::{AllocError, Global};
-use std::hash::Hash;
+use std::hash::{BuildHasherDefault, Hash};
 use std::marker::Model;
 
 /// Pairs of a key and a value in the order in which their keys came. No key is there twice.
 #[derive(Drop)]
 pub struct PairTable<K: Eq + Hash, V> {
-    pairs: IndexMap<K, V>,
+    pairs: IndexMap<K, V, BuildHasherDefault<NearHasher>>,
 }
 
 impl<K: Eq + Hash, V> Model for PairTable<K, V> {
@@ -28,7 +29,7 @@ impl<K: Eq + Hash, V> PairTable<K, V> {
         ensures { result ≡ [] }
     {
         PairTable {
-            pairs: IndexMap::new(alloc),
+            pairs: IndexMap::with_hasher(alloc, BuildHasherDefault::new()),
         }
     }
 
