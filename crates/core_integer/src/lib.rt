@@ -6,4 +6,5 @@
 pub mod answers;
 pub mod rows;
 
+pub use core_rows;
 pub use rows::give;

@@ -6,6 +6,8 @@ ghost use Rattle.core_rows.specs.Belonging.{SoundAnswer};
 ghost use Rattle.core_rows.specs.Completes.{Completes};
 
 use core_rows::Row;
+use core_string::core_range;
+use core_string::core_range::core_integer;
 use def_rows::Answer;
 use rb_store::Store;
 use rb_value::{ObjId, Outcome, Value};

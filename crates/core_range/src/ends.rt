@@ -2,7 +2,7 @@
 ghost use Rattle.std.specs.Prelude.{◌≡◌};
 ghost use Rattle.def_rows.specs.RangeRows as rows;
 
-use core_rows::operands::{place_of, text};
+use core_integer::core_rows::operands::{place_of, text};
 use rb_integer::{Bounds, Ends, Item};
 use rb_store::Store;
 use rb_value::{Kind, RangeEnds, Sort, Value};

@@ -9,6 +9,7 @@ mod items;
 mod making;
 pub mod rows;
 
+pub use core_integer;
 pub use ends::range_of;
 pub use making::new_range;
 pub use rows::give;

@@ -3,8 +3,8 @@ ghost use Rattle.std.specs.Prelude.{◌≡◌};
 ghost use Rattle.def_rows.specs.RangeRows as rows;
 
 use crate::ends::item_of;
-use core_rows::checking::plain_class;
-use core_rows::operands::{argument, place_of};
+use core_integer::core_rows::checking::plain_class;
+use core_integer::core_rows::operands::{argument, place_of};
 use def_core::Cause;
 use def_rows::Answer;
 use rb_integer::Item;

@@ -7,7 +7,7 @@ use crate::ends::{has_item, range, same_ends};
 use crate::inspection::shown;
 use crate::items::{item, items};
 use core_integer::answers::{fault_of, number, text};
-use core_rows::operands::{argument, integer};
+use core_integer::core_rows::operands::{argument, integer};
 use rb_base::Bytes;
 use rb_integer::{Ends, IntegerFailure};
 use rb_store::Store;

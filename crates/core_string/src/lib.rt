@@ -10,5 +10,6 @@ mod others;
 mod parts;
 pub mod rows;
 
+pub use core_range;
 pub use making::new_string;
 pub use rows::give;
