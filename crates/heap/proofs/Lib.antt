@@ -5,3 +5,4 @@ pub mod Raised
 pub mod Told
 pub mod Spaces
 pub mod Sorted
+pub mod Copied

@@ -7,3 +7,4 @@ pub mod Made
 pub mod Rows
 pub mod Finding
 pub mod Constants
+pub mod Copies

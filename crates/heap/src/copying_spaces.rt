@@ -1,5 +1,9 @@
 //! Copies of classes, modules and Procs.
-ghost use Rattle.std.specs.Prelude.{◌≡◌, IfOk, OnOk, OnErr};
+ghost use Rattle.std.specs.Prelude.{◌≡◌, length, IfOk, OnOk, OnErr};
+ghost use Rattle.def_core.specs.Store.{next_number};
+ghost use Rattle.def_core.specs.Classes.{class_at};
+ghost use Rattle.def_core.specs.Find.{entry_of};
+ghost use Rattle.heap.specs.Copies as copies;
 ghost use Rattle.heap.specs.Made as made;
 
 use crate::heap::Heap;
@@ -47,24 +51,41 @@ impl Heap {
     }
 
     /// A class without a name, under the same superclass, that has what another has.
-    pub(crate) fn copy_class(&mut self, id: ObjId) -> Result<ObjId, AllocError> {
-        let made = match self.superclass_of(id) {
-            Some(superclass) => self.make_class(superclass)?,
-            None => self.make_root()?,
-        };
+    pub(crate) fn copy_class(&mut self, id: ObjId) -> Result<ObjId, AllocError>
+        ensures number { IfOk result (λ own. own ≡ next_number self.old.store) }
+        ensures made { OnOk result (self.new.store ≡ copies.class_copied self.old.store id) }
+    {
+        let made = self.make_class_like(id)?;
         self.fill_space(made, id)?;
         Ok(made)
     }
 
+    /// A class without anything, under the superclass of another.
+    fn make_class_like(&mut self, id: ObjId) -> Result<ObjId, AllocError>
+        ensures number { IfOk result (λ own. own ≡ next_number self.old.store) }
+        ensures made { OnOk result (self.new.store
+            ≡ copies.class_made self.old.store (class_at self.old.store.objects id).superclass) }
+    {
+        match self.superclass_of(id) {
+            Some(superclass) => self.make_class(superclass),
+            None => self.make_root(),
+        }
+    }
+
     /// A module without a name that has what another has.
-    pub(crate) fn copy_module(&mut self, id: ObjId) -> Result<ObjId, AllocError> {
+    pub(crate) fn copy_module(&mut self, id: ObjId) -> Result<ObjId, AllocError>
+        ensures number { IfOk result (λ own. own ≡ next_number self.old.store) }
+        ensures made { OnOk result (self.new.store ≡ copies.module_copied self.old.store id) }
+    {
         let made = self.make_module()?;
         self.fill_space(made, id)?;
         Ok(made)
     }
 
     /// Gives a class or module the methods, constants, modules and default visibility of another.
-    fn fill_space(&mut self, made: ObjId, id: ObjId) -> Result<(), AllocError> {
+    fn fill_space(&mut self, made: ObjId, id: ObjId) -> Result<(), AllocError>
+        ensures { OnOk result (self.new.store ≡ copies.filled self.old.store made id) }
+    {
         self.copy_methods(made, id)?;
         self.copy_constants(made, id)?;
         self.copy_included(made, id)?;
@@ -73,19 +94,33 @@ impl Heap {
         Ok(())
     }
 
+    /// Gives a class or module the method that another has itself under a name, if there is one.
+    fn copy_method(&mut self, made: ObjId, id: ObjId, name: SymId) -> Result<(), AllocError>
+        ensures { OnOk result (self.new.store
+            ≡ copies.with_entry self.old.store made name (entry_of self.old.store.objects id name)) }
+    {
+        match self.own_entry(id, name) {
+            Some(entry) => self.set_method(made, name, entry.method, entry.visibility),
+            None => Ok(()),
+        }
+    }
+
     /// Gives a class or module the methods that another has itself.
-    fn copy_methods(&mut self, made: ObjId, id: ObjId) -> Result<(), AllocError> {
-        'names: for number in 0..self.symbol_count() {
-            let name = SymId(number);
-            if let Some(entry) = self.own_entry(id, name) {
-                self.set_method(made, name, entry.method, entry.visibility)?;
-            }
+    #[tactic(auto, using(crate::proofs::Copied::steps_more, crate::proofs::Copied::steps_end))]
+    fn copy_methods(&mut self, made: ObjId, id: ObjId) -> Result<(), AllocError>
+        ensures { OnOk result (self.new.store ≡ copies.with_methods self.old.store made id) }
+    {
+        let count = self.symbol_count();
+        'names: for number in 0..count {
+            self.copy_method(made, id, SymId(number))?;
         }
         Ok(())
     }
 
     /// How many constants a class or module has itself.
-    fn constant_count(&self, id: ObjId) -> usize {
+    fn constant_count(&self, id: ObjId) -> usize
+        ensures { result ≡ length (class_at self.now.store.objects id).constants }
+    {
         match self.kind(id) {
             Some(Kind::Class(contents)) => contents.get().constants.len(),
             _ => 0,
@@ -93,7 +128,9 @@ impl Heap {
     }
 
     /// The constant at a place of those that a class or module has itself.
-    fn constant_at(&self, id: ObjId, place: usize) -> Option<(SymId, Value)> {
+    fn constant_at(&self, id: ObjId, place: usize) -> Option<(SymId, Value)>
+        ensures { result ≡ copies.constant_at self.now.store id place }
+    {
         match self.kind(id)? {
             Kind::Class(contents) => {
                 let (name, value) = contents.get().constants.pair_at(place)?;
@@ -103,18 +140,35 @@ impl Heap {
         }
     }
 
+    /// Gives a class or module the constant at a place of those that another has itself, if there is one.
+    #[tactic(auto, using(crate::proofs::Copied::store_left))]
+    fn copy_constant(&mut self, made: ObjId, id: ObjId, place: usize) -> Result<(), AllocError>
+        ensures { OnOk result (self.new.store ≡ copies.with_constant_at made id place self.old.store) }
+    {
+        let Some((name, value)) = self.constant_at(id, place) else {
+            return Ok(());
+        };
+        self.set_constant_in(made, name, value)?;
+        Ok(())
+    }
+
     /// Gives a class or module the constants that another has itself.
-    fn copy_constants(&mut self, made: ObjId, id: ObjId) -> Result<(), AllocError> {
-        'constants: for place in 0..self.constant_count(id) {
-            if let Some((name, value)) = self.constant_at(id, place) {
-                self.set_constant_in(made, name, value)?;
-            }
+    #[tactic(auto, using(crate::proofs::Copied::steps_more, crate::proofs::Copied::steps_end))]
+    fn copy_constants(&mut self, made: ObjId, id: ObjId) -> Result<(), AllocError>
+        ensures { OnOk result (self.new.store ≡ copies.with_constants self.old.store made id) }
+    {
+        let count = self.constant_count(id);
+        'constants: for place in 0..count {
+            self.copy_constant(made, id, place)?;
         }
         Ok(())
     }
 
     /// The modules that a class or module includes, in the order of look-up.
-    fn included(&self, id: ObjId) -> &[ObjId] {
+    #[tactic(auto, using(crate::proofs::Spaces::no_space))]
+    fn included(&self, id: ObjId) -> &[ObjId]
+        ensures { result.now ≡ (class_at self.now.store.objects id).included }
+    {
         match space(&self.st, id) {
             Some(class) => class_model::included_in(&self.st, class),
             None => &[],
@@ -122,11 +176,32 @@ impl Heap {
     }
 
     /// Includes the modules of a class or module in another, those first that are found last.
-    fn copy_included(&mut self, made: ObjId, id: ObjId) -> Result<(), AllocError> {
+    fn copy_included(&mut self, made: ObjId, id: ObjId) -> Result<(), AllocError>
+        ensures { OnOk result (self.new.store ≡ copies.with_included self.old.store made id) }
+    {
         let included = Vec::from_slice(self.alloc(), self.included(id))?;
-        'modules: for module in included.iter().rev() {
-            self.include(made, Value::Obj(*module))?;
+        self.include_all(made, &included)
+    }
+
+    /// Includes modules in a class or module, the last of them first.
+    #[tactic(auto, using(crate::proofs::Copied::mixin_before, crate::proofs::Copied::all_mixins, crate::proofs::Copied::no_mixin))]
+    fn include_all(&mut self, made: ObjId, modules: &[ObjId]) -> Result<(), AllocError>
+        ensures { OnOk result (self.new.store ≡ copies.with_mixins self.old.store made modules.now) }
+    {
+        let mut at = modules.len();
+        'modules: while at > 0 {
+            at -= 1;
+            self.include_one(made, modules[at])?;
         }
+        Ok(())
+    }
+
+    /// Includes a module in a class or module.
+    #[tactic(auto, using(crate::proofs::Copied::store_left))]
+    fn include_one(&mut self, made: ObjId, mixin: ObjId) -> Result<(), AllocError>
+        ensures { OnOk result (self.new.store ≡ copies.with_mixin self.old.store made mixin) }
+    {
+        self.include(made, Value::Obj(mixin))?;
         Ok(())
     }
 }

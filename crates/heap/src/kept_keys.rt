@@ -1,7 +1,8 @@
 //! Keys of Hashes as they were when they were put in.
-ghost use Rattle.std.specs.Prelude.{IfOk};
+ghost use Rattle.std.specs.Prelude.{◌≡◌, map, IfOk, OnOk};
 ghost use Rattle.def_core.specs.Sound.{Sound, SoundKey, SoundPart, census, AllAre, OptionIs};
 ghost use Rattle.rb_store.specs.Keeps.{Keeps};
+ghost use Rattle.heap.specs.Copies as copies;
 
 use crate::heap::Heap;
 use crate::testing::{hash, object, own};
@@ -12,7 +13,8 @@ use std::alloc::AllocError;
 
 /// A copy of a part of a key.
 fn part_copy(st: &Store, part: &KeyPart) -> Result<KeyPart, AllocError>
-    ensures { IfOk result (SoundPart (census st.now.store)) }
+    ensures sound { IfOk result (SoundPart (census st.now.store)) }
+    ensures copy { IfOk result (λ copy. copy ≡ copies.own_part st.now.store part.now) }
 {
     match part {
         KeyPart::Plain(value) => Ok(KeyPart::Plain(own(st, *value))),
@@ -24,7 +26,8 @@ fn part_copy(st: &Store, part: &KeyPart) -> Result<KeyPart, AllocError>
 /// A copy of the parts of a key.
 #[tactic(auto, using(crate::proofs::Scanned::one_part_more))]
 fn parts_copy(st: &Store, parts: &[KeyPart]) -> Result<Vec<KeyPart>, AllocError>
-    ensures { IfOk result (λ copy. AllAre (SoundPart (census st.now.store)) copy.items) }
+    ensures sound { IfOk result (λ copy. AllAre (SoundPart (census st.now.store)) copy.items) }
+    ensures copy { IfOk result (λ copy. copy.items ≡ map (copies.own_part st.now.store) parts.now) }
 {
     let mut copy = Vec::new(st.alloc());
     let mut at = 0;
@@ -38,7 +41,8 @@ fn parts_copy(st: &Store, parts: &[KeyPart]) -> Result<Vec<KeyPart>, AllocError>
 
 /// A copy of a key.
 fn key_copy(st: &Store, key: &Key) -> Result<Key, AllocError>
-    ensures { IfOk result (SoundKey (census st.now.store)) }
+    ensures sound { IfOk result (SoundKey (census st.now.store)) }
+    ensures copy { IfOk result (λ copy. copy ≡ copies.own_key st.now.store key.now) }
 {
     match key {
         Key::Plain(value) => Ok(Key::Plain(own(st, *value))),
@@ -51,9 +55,10 @@ fn key_copy(st: &Store, key: &Key) -> Result<Key, AllocError>
 }
 
 /// The key of the pair at a place of a Hash, as it was when it was put in.
-#[tactic(auto, using(def_core::proofs::Good::is_good))]
+#[tactic(auto, using(def_core::proofs::Good::is_good, def_core::proofs::Good::absent_where_none))]
 pub(crate) fn key_at(st: &Store, id: ObjId, place: usize) -> Result<Option<Key>, AllocError>
-    ensures { IfOk result (OptionIs (SoundKey (census st.now.store))) }
+    ensures sound { IfOk result (OptionIs (SoundKey (census st.now.store))) }
+    ensures key { IfOk result (λ key. key ≡ copies.key_at st.now.store id place) }
 {
     let Some(id) = object(st, id) else {
         return Ok(None);
@@ -72,6 +77,8 @@ pub(crate) fn key_at(st: &Store, id: ObjId, place: usize) -> Result<Option<Key>,
 fn put_kept(st: &mut Store, id: ObjId, key: Key, item: HashItem) -> Result<(), AllocError>
     requires sound { Sound st.old.store }
     requires key { SoundKey (census st.old.store) key }
+    ensures put { OnOk result (st.new.store ≡ copies.with_kept st.old.store id key item) }
+    ensures count { OnOk result (st.new.changes ≡ st.old.changes) }
     ensures keeps { Keeps st.old st.new }
 {
     let shown = own(st, item.shown);
@@ -82,8 +89,17 @@ fn put_kept(st: &mut Store, id: ObjId, key: Key, item: HashItem) -> Result<(), A
     }
 }
 
+/// The pair at a place of a Hash.
+#[tactic(auto, using(def_core::proofs::Good::is_good, def_core::proofs::Good::absent_where_none))]
+fn item_at(st: &Store, id: ObjId, place: usize) -> Option<HashItem>
+    ensures { result ≡ copies.item_at st.now.store id place }
+{
+    let id = object(st, id)?;
+    st.pair_at(id, place)
+}
+
 /// Puts the pair at a place of a Hash into another, under the key that it has there.
-#[tactic(auto, using(rb_store::proofs::Keeping::keeps_itself, def_core::proofs::Good::is_good))]
+#[tactic(auto, using(rb_store::proofs::Keeping::keeps_itself))]
 pub(crate) fn add_pair(
     st: &mut Store,
     to: ObjId,
@@ -91,12 +107,11 @@ pub(crate) fn add_pair(
     place: usize,
 ) -> Result<(), AllocError>
     requires sound { Sound st.old.store }
+    ensures put { OnOk result (st.new.store ≡ copies.with_pair_at to from place st.old.store) }
+    ensures count { OnOk result (st.new.changes ≡ st.old.changes) }
     ensures keeps { Keeps st.old st.new }
 {
-    let Some(from) = hash(st, from) else {
-        return Ok(());
-    };
-    match (key_at(st, from, place)?, st.pair_at(from, place)) {
+    match (key_at(st, from, place)?, item_at(st, from, place)) {
         (Some(key), Some(item)) => put_kept(st, to, key, item),
         _ => Ok(()),
     }
@@ -104,12 +119,22 @@ pub(crate) fn add_pair(
 
 impl Heap {
     /// Puts the pair at a place of a Hash into another, under the key that it has there.
-    pub fn add_pair(&mut self, to: ObjId, from: ObjId, place: usize) -> Result<(), AllocError> {
+    pub(crate) fn add_pair(
+        &mut self,
+        to: ObjId,
+        from: ObjId,
+        place: usize,
+    ) -> Result<(), AllocError>
+        ensures put { OnOk result (self.new.store ≡ copies.with_pair_at to from place self.old.store) }
+        ensures count { OnOk result (self.new.changes ≡ self.old.changes) }
+    {
         add_pair(&mut self.st, to, from, place)
     }
 
     /// The key of the pair at a place of a Hash, as it was when it was put in.
-    pub fn key_at(&self, id: ObjId, place: usize) -> Result<Option<Key>, AllocError> {
+    pub fn key_at(&self, id: ObjId, place: usize) -> Result<Option<Key>, AllocError>
+        ensures { IfOk result (λ key. key ≡ copies.key_at self.now.store id place) }
+    {
         key_at(&self.st, id, place)
     }
 }
