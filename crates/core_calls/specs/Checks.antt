@@ -11,7 +11,7 @@ use Rattle.def_core.specs.Classes.{plain_class_of}
 use Rattle.def_core.specs.Changes.{intern, Interned}
 use Rattle.def_calls.specs.Checks.{at_most, wanted}
 use Rattle.def_calls.specs.Views.{integer_in, string_of, kind_in}
-use Rattle.heap.specs.Operands.{own}
+pub use Rattle.heap.specs.Operands.{own}
 
 -- why so many arguments don't do
 abbrev pub miscounted : ℕ → ℕ → Option ℕ → Option Cause
