@@ -1,5 +1,5 @@
 -- What a call does, by what is found (ISO/IEC 30170:2012, 11.3 and 13.3).
-use Rattle.std.specs.Prelude.{ℕ, ℤ, pos, negsuc, ◌+◌, ◌^◌, List, [], ◌∷◌, ◌++◌, length, get_or, take, drop, codes, nat_eq, nat_lt, Bool, true, false, if◌then◌else◌, Option, Some, None}
+use Rattle.std.specs.Prelude.{ℕ, ℤ, pos, negsuc, ◌+◌, ◌-◌, ◌^◌, List, [], ◌∷◌, ◌++◌, length, get_or, take, drop, codes, nat_eq, nat_lt, Bool, true, false, not, ◌&&◌, ◌||◌, if◌then◌else◌, Option, Some, None, is_some}
 use Rattle.rb_value.specs.declared.value.Value.{Value}
 use Rattle.rb_value.specs.declared.value.Value.TheVariants.{Nil, True, False, Int, Sym, Obj}
 use Rattle.rb_value.specs.declared.value.ObjId.{ObjId}
@@ -18,7 +18,7 @@ use Rattle.def_core.specs.declared.cause.Cause.TheVariants as cause
 use Rattle.def_core.specs.declared.found.Found.{Found}
 use Rattle.rb_value.specs.Value.{truth}
 use Rattle.rb_value.specs.Sending as sending
-use Rattle.def_core.specs.Store.{Store, core, fresh, next_number, with_object}
+use Rattle.def_core.specs.Store.{Store, core, fresh, name_at, next_number, with_object}
 use Rattle.def_core.specs.Parts.{with_objects, with_sent}
 use Rattle.def_core.specs.Classes.{class_of, plain_class_of, chain, lineage, is_member}
 use Rattle.def_core.specs.Texts.{class_name}
@@ -27,7 +27,7 @@ use Rattle.def_core.specs.Changes.{intern, Interned}
 use Rattle.def_rows.specs.Answers.{items_object, text_object}
 use Rattle.def_rows.specs.Rows.{prim}
 use Rattle.def_calls.specs.World.{World, Answer, Runs, main_program, method_body, block_body, lambda_body, class_body, core_method, Activation, answer, give, make, fail, activation_at, next_activation, next_classes, with_activation, with_enclosing, with_store}
-use Rattle.def_calls.specs.Views.{Callable, by_body, by_row, object_in, integer_in, present, kind_in, callable_of, message_of, detail_of}
+use Rattle.def_calls.specs.Views.{Callable, by_body, by_row, object_in, integer_in, present, kind_in, string_of, callable_of, message_of, detail_of}
 use Rattle.def_calls.specs.Values.{wrong_value, instance_variable, set_instance_variable, text_of_value}
 use Rattle.def_calls.specs.Definitions.{super_of, space_in, with_public_default}
 use Rattle.def_calls.specs.Rows.{row_at, method_missing_row, send_kept_row}
@@ -259,13 +259,21 @@ abbrev pub enter_value : World → List Value → Option ObjId → Option ObjId 
 enter_value w args block None = answers (wrong_value w (codes "CALL"))
 enter_value w args block (Some p) = enter_proc w p args block
 
+-- why a name alone fails that names no method: one that ends with `!` or `?` is that of no variable
+abbrev pub is_mark : ℕ → Bool
+is_mark b = nat_eq b 33 || nat_eq b 63
+
+abbrev pub unknown_name : List ℕ → SymId → ObjId → Cause
+unknown_name text name c =
+    if is_mark (get_or text (length text - 1) 0) then cause.UndefinedMethod name c else cause.UndefinedName name c
+
 -- The call of a form or an instruction in an activation (11.3.1, 13.3.3 and 13.3.4).
 unfoldable pub call : World → Activation → Sending → Value → List Value → Option ObjId → Entry
 call w a (by_name s) recv args block =
     enter_allowed w a.self s (cause.UndefinedMethod s (plain_class_of w.store.objects recv)) recv args block
     (find_for w recv s)
 call w a (by_bare_name s) recv args block =
-    enter_allowed w a.self s (cause.UndefinedName s (plain_class_of w.store.objects recv)) recv args block
+    enter_allowed w a.self s (unknown_name (name_at w.store s) s (plain_class_of w.store.objects recv)) recv args block
     (find_for w recv s)
 call w a to_proc recv args block = enter_value w args block (object_in recv)
 call w a to_super recv args block = enter_super w recv args block a.name (super_of w a.self a.owner a.name)
@@ -363,7 +371,39 @@ break_target w a lambda_body = Some a
 break_target w a class_body = None
 break_target w a core_method = None
 
--- What is seen of an exception that nothing rescued (14.3): SystemExit ends the program with its status.
+-- What is seen of an exception that nothing rescued (14.3): SystemExit ends the program with its status. Where the
+-- program says what the message is, which it does by a method `message` or `to_s` or by an object that is no String, the
+-- exception is asked for it first, once.
+
+abbrev pub is_exit : Store → ObjId → Bool
+is_exit st e = is_member (lineage st.objects (plain_class_of st.objects (Obj e))) (core class.SystemExit)
+
+abbrev pub is_written : Method → Bool
+is_written (method.Body b classes) = true
+is_written (method.Core r) = false
+is_written (method.Reader n) = true
+is_written (method.Writer n) = true
+is_written (method.Block p) = true
+is_written method.Undefined = false
+
+abbrev pub finds_written : Option Found → Bool
+finds_written None = false
+finds_written (Some f) = is_written f.method
+
+abbrev pub writes : World → ObjId → List ℕ → Bool
+writes w e name = finds_written (find_for w (Obj e) (intern w.store name).symbol)
+
+abbrev pub has_text : Store → Option Value → Bool
+has_text st None = true
+has_text st (Some v) = is_some (string_of (kind_in st.objects v))
+
+unfoldable pub is_asked : World → ObjId → Bool
+is_asked w e = not w.asked && not (is_exit w.store e)
+    && (writes w e (codes "message") || writes w e (codes "to_s")
+    || not (has_text w.store (present (message_of (kind_in w.store.objects (Obj e))))))
+
+abbrev pub asking : World → World
+asking w = record w { asked = true }
 
 abbrev pub natural : ℤ → ℕ
 natural (pos n) = n
@@ -385,7 +425,7 @@ pub record Unrescued : Type 0 where
 
 unfoldable pub unrescued : Store → ObjId → Unrescued
 unrescued st e = record {
-  exits = is_member (lineage st.objects (plain_class_of st.objects (Obj e))) (core class.SystemExit);
+  exits = is_exit st e;
   status = status_of (integer_in (detail_of (kind_in st.objects (Obj e))));
   class = class_name st (plain_class_of st.objects (Obj e));
   message =
@@ -431,4 +471,5 @@ opening_world names input = record {
   activations = main_activation ∷ [];
   input = input;
   out = [];
+  asked = false;
 }

@@ -1,6 +1,6 @@
 -- Constants: where they are looked up, and how they are set (ISO/IEC 30170:2012, 11.5.4.2, 11.5.4.3 and
 -- 11.4.2.2).
-use Rattle.std.specs.Prelude.{ℕ, List, [], ◌∷◌, ◌++◌, Bool, not, filter, Option, Some, None}
+use Rattle.std.specs.Prelude.{ℕ, List, [], ◌∷◌, ◌++◌, Bool, not, filter, if◌then◌else◌, Option, Some, None}
 use Rattle.rb_value.specs.declared.value.Value.{Value}
 use Rattle.rb_value.specs.declared.value.ObjId.{ObjId}
 use Rattle.rb_value.specs.declared.value.SymId.{SymId}
@@ -33,19 +33,24 @@ constant_path w classes = filter (λ c. not (same_object c (core class.Object)))
 unfoldable pub find_constant : World → ℕ → SymId → Option Value
 find_constant w classes name = first_constant w.store.objects (constant_path w classes) name
 
-abbrev pub constant_or_fail : World → Option ObjId → SymId → Option Value → Answer
-constant_or_fail w scope name None = fail w (cause.UninitializedConstant scope name)
+-- what is told of the scope of a constant that isn't found: nothing of Object
+abbrev pub scope_told : ObjId → Option ObjId
+scope_told scope = if same_object scope (core class.Object) then None else Some scope
+
+abbrev pub constant_or_fail : World → ObjId → SymId → Option Value → Answer
+constant_or_fail w scope name None = fail w (cause.UninitializedConstant (scope_told scope) name)
 constant_or_fail w scope name (Some v) = give w v
 
+-- one that isn't found is told as one of the innermost class
 unfoldable pub get_constant : World → ℕ → SymId → Answer
-get_constant w classes name = constant_or_fail w None name (find_constant w classes name)
+get_constant w classes name = constant_or_fail w (class_around w classes) name (find_constant w classes name)
 
 -- a constant of a class or module and its ancestors
 unfoldable pub constant_within : World → ObjId → SymId → Option Value
 constant_within w c name = first_constant w.store.objects (ancestors w.store.objects c) name
 
 abbrev pub get_constant_in : World → ObjId → SymId → Answer
-get_constant_in w c name = constant_or_fail w (Some c) name (constant_within w c name)
+get_constant_in w c name = constant_or_fail w c name (constant_within w c name)
 
 -- Setting.
 

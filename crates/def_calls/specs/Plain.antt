@@ -19,10 +19,10 @@ use Rattle.def_core.specs.Texts.{class_name}
 use Rattle.def_core.specs.Parts.{with_objects, with_kind}
 use Rattle.rb_store.specs.Opening.{main_object}
 use Rattle.def_rows.specs.Answers.{makes, text_object}
-use Rattle.def_calls.specs.Views.{Callable, by_body, by_row, integer_in, symbol_in, present, kind_in, callable_of, message_of, detail_of, fiber_of, an_array, an_exception}
+use Rattle.def_calls.specs.Views.{Callable, by_body, by_row, integer_in, symbol_in, kind_in, callable_of, message_of, detail_of, fiber_of, an_array, an_exception}
 use Rattle.def_calls.specs.Checks.{counted, with_block, wanted}
 use Rattle.def_calls.specs.Constants.{is_space_sort}
-use Rattle.def_calls.specs.Values.{element_at, pushed}
+use Rattle.def_calls.specs.Values.{element_at, pushed, shown}
 use Rattle.def_calls.specs.Rows
 
 abbrev pub makes_text : Store → List ℕ → Done
@@ -55,10 +55,14 @@ as_lambda st p None = gives (Obj p) st
 as_lambda st p (Some (by_row r v)) = gives (Obj p) st
 as_lambda st p (Some (by_body c)) = makes st (fresh (core class.Proc) (kind.Proc (record c { lambda = true })))
 
--- an exception without a message has the name of its class
-abbrev pub message_or_class : Store → Value → Option Value → Done
-message_or_class st e None = makes_text st (class_name st (plain_class_of st.objects e))
-message_or_class st e (Some m) = gives m st
+-- what an exception is made with, as its text: an object itself, and where there is nothing the name of the class
+abbrev pub message_text : Store → Value → Value → Done
+message_text st e Nil = makes_text st (class_name st (plain_class_of st.objects e))
+message_text st e True = makes_text st (shown st True)
+message_text st e False = makes_text st (shown st False)
+message_text st e (Int z) = makes_text st (shown st (Int z))
+message_text st e (Sym s) = makes_text st (shown st (Sym s))
+message_text st e (Obj id) = gives (Obj id) st
 
 abbrev pub with_message : List Object → ObjId → Value → List Object
 with_message objects id m =
@@ -127,8 +131,9 @@ outright Rows.initialize_exception st recv args block =
     counted (fails st) 0 (Some 1) args (wanted (fails st) st.objects class.Exception recv
     (an_exception st.objects recv)
     (λ id. gives Nil (with_objects st (with_message st.objects id (get_or args 0 Nil)))))
-outright Rows.exception_message st recv args block =
-    counted (fails st) 0 (Some 0) args (message_or_class st recv (present (message_of (kind_in st.objects recv))))
+outright Rows.exception_text st recv args block =
+    counted (fails st) 0 (Some 0) args (wanted (fails st) st.objects class.Exception recv
+    (an_exception st.objects recv) (λ id. message_text st recv (message_of (kind_in st.objects recv))))
 -- Fiber, an addition
 outright Rows.new_fiber st recv args block =
     counted (fails st) 0 (Some 0) args (with_block (fails st) block

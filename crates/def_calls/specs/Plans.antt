@@ -12,15 +12,18 @@ use Rattle.rb_value.specs.declared.core_class.CoreClass.{CoreClass}
 use Rattle.rb_value.specs.declared.core_class.CoreClass.TheVariants as class
 use Rattle.def_core.specs.declared.cause.Cause.{Cause}
 use Rattle.def_core.specs.declared.cause.Cause.TheVariants as cause
-use Rattle.def_core.specs.Store.{Store, core, fresh, next_number, with_object}
+use Rattle.def_core.specs.Store.{Store, core, fresh, next_number, object_at, with_object}
 use Rattle.def_core.specs.Classes.{plain_class_of, lineage, is_member}
 use Rattle.def_core.specs.Bind.{elements_in}
-use Rattle.def_core.specs.Parts.{no_pairs}
+use Rattle.def_core.specs.Find.{same_value}
+use Rattle.def_core.specs.Texts.{class_name}
+use Rattle.def_core.specs.Parts.{no_pairs, with_objects}
 use Rattle.def_core.specs.Changes.{intern, Interned, is_class_sort, object_of_sort}
-use Rattle.def_rows.specs.Answers.{items_object}
-use Rattle.def_calls.specs.Views.{object_in, integer_in, symbol_in, present, kind_in, string_of, detail_of, an_array, a_proc, a_fiber, an_exception}
+use Rattle.def_rows.specs.Answers.{items_object, text_object}
+use Rattle.def_calls.specs.Views.{object_in, integer_in, symbol_in, present, kind_in, string_of, message_of, detail_of, an_array, a_proc, a_fiber, an_exception}
 use Rattle.def_calls.specs.Checks.{counted, with_block, wanted}
-use Rattle.def_calls.specs.Values.{text_of_value}
+use Rattle.def_calls.specs.Values.{text_of_value, shown}
+use Rattle.def_calls.specs.Plain.{with_message}
 use Rattle.def_calls.specs.Rows.{StarRow}
 use Rattle.def_calls.specs.Rows
 
@@ -48,6 +51,13 @@ pub data Iteration : Type 0 where
   counting : ℤ → ℕ → ObjId → Iteration
   -- gives the object
   initializing : Value → Iteration
+  -- an exception waits for its message, or for the one by which it is shown, or for the text of that
+  messaging : Value → Iteration
+  telling : Value → Iteration
+  telling_text : Value → Iteration
+  -- an exception that nothing rescued is asked for its message, and is raised again with that
+  reporting : ObjId → Iteration
+  reported : ObjId → Iteration
 
 -- What an iteration wants next, and where it stands then.
 pub data Plan : Type 0 where
@@ -79,7 +89,7 @@ sends_named it recv args block named = plans named.store (sends it recv named.sy
 
 -- puts, print and p (15.3.1.2.10 to 15.3.1.2.12).
 
--- the elements of an Array, down to 10,000 levels; an empty one counts as nil
+-- the elements of an Array, down to 10,000 levels
 abbrev pub both : Option (List Value) → Option (List Value) → Option (List Value)
 both None rest = None
 both (Some vs) None = None
@@ -91,8 +101,7 @@ all_flat flat (v ∷ vs) = both (flat v) (all_flat flat vs)
 
 abbrev pub flat_by : (Value → Option (List Value)) → Value → Option (List Value) → Option (List Value)
 flat_by flat v None = Some (v ∷ [])
-flat_by flat v (Some []) = Some (Nil ∷ [])
-flat_by flat v (Some (u ∷ us)) = all_flat flat (u ∷ us)
+flat_by flat v (Some vs) = all_flat flat vs
 
 unfoldable pub flattened : ℕ → List Object → Value → Option (List Value)
 flattened zero objects v = flat_by (λ u. None) v (elements_in objects v)
@@ -135,18 +144,29 @@ abbrev pub inspect_next : Store → List Value → List Value → Planned
 inspect_next st [] all = gives_all st all
 inspect_next st (v ∷ rest) all = sends_named (inspecting_text rest all) v [] None (intern st (codes "inspect"))
 
--- raise (15.3.1.2.12): of a String, of a class by its method new, or of an exception.
+-- raise (15.3.1.2.12): of a String, of a class by its method new, or of an exception, which another message makes a
+-- copy.
 
 abbrev pub raise_text : Store → ObjId → Option (List ℕ) → Planned
 raise_text st id None = refuse st cause.NotException
 raise_text st id (Some bytes) =
     plans (with_object st (fresh (core class.RuntimeError) (kind.Exception (Obj id) Nil))) (raises (next_number st))
 
+-- a copy of an exception with another message
+abbrev pub with_another : List Object → ObjId → Value → Object
+with_another objects id m = record (object_at objects id) {
+  singleton = None;
+  kind = kind.Exception m (detail_of (object_at objects id).kind);
+}
+
 abbrev pub raise_by : Store → ObjId → List Value → Option ObjId → Option ObjId → Planned
 raise_by st id more (Some c) e = sends_named raising (Obj id) more None (intern st (codes "new"))
 raise_by st id [] None (Some e) = plans st (raises id)
 raise_by st id [] None None = raise_text st id (string_of (kind_in st.objects (Obj id)))
-raise_by st id (m ∷ ms) None e = refuse st cause.NotException
+raise_by st id (m ∷ ms) None None = refuse st cause.NotException
+raise_by st id (m ∷ []) None (Some e) =
+    plans (with_object st (with_another st.objects id m)) (raises (next_number st))
+raise_by st id (m ∷ n ∷ ms) None (Some e) = refuse st cause.NotException
 
 abbrev pub raise_value : Store → List Value → Option ObjId → Planned
 raise_value st more None = refuse st cause.NotException
@@ -186,18 +206,83 @@ count_next st z i p =
 
 -- Class#new (15.2.3.3.3): an object of the class's kind, then its method initialize.
 
-abbrev pub kind_by : List (CoreClass × Kind) → List ObjId → Kind
-kind_by [] above = kind.Plain
+abbrev pub kind_by : List (CoreClass × Option Kind) → List ObjId → Option Kind
+kind_by [] above = Some kind.Plain
 kind_by (k ∷ ks) above = if is_member above (core k.0) then k.1 else kind_by ks above
 
-unfoldable pub kind_for : List Object → ObjId → Kind
-kind_for objects c = kind_by
-    ((class.Exception, kind.Exception Nil Nil) ∷ (class.Array, kind.Array []) ∷ (class.String, kind.String [])
-    ∷ (class.Hash, kind.Hash no_pairs) ∷ [])
-    (lineage objects c)
+-- none where the language makes the objects itself, or a `new` of their own does
+abbrev pub new_kinds : List (CoreClass × Option Kind)
+new_kinds =
+    (class.Exception, Some (kind.Exception Nil Nil)) ∷ (class.Array, Some (kind.Array []))
+    ∷ (class.String, Some (kind.String [])) ∷ (class.Hash, Some (kind.Hash no_pairs)) ∷ (class.Numeric, None)
+    ∷ (class.NilClass, None) ∷ (class.TrueClass, None) ∷ (class.FalseClass, None) ∷ (class.Symbol, None)
+    ∷ (class.Module, None) ∷ (class.Proc, None) ∷ (class.Fiber, None) ∷ (class.Range, None)
+    ∷ (class.Enumerator, None) ∷ (class.Yielder, None) ∷ []
+
+unfoldable pub kind_for : List Object → ObjId → Option Kind
+kind_for objects c = kind_by new_kinds (lineage objects c)
 
 abbrev pub initialize_new : Store → Value → List Value → Option ObjId → Planned
 initialize_new st v args block = sends_named (initializing v) v args block (intern st (codes "initialize"))
+
+abbrev pub without_new : ObjId → Interned → Planned
+without_new c named =
+    refuse named.store (cause.UndefinedMethod named.symbol (plain_class_of named.store.objects (Obj c)))
+
+abbrev pub new_of : Store → ObjId → List Value → Option ObjId → Option Kind → Planned
+new_of st c args block None = without_new c (intern st (codes "new"))
+new_of st c args block (Some k) =
+    initialize_new (with_object st (fresh c k)) (Obj (next_number st)) args block
+
+-- message and inspect (15.2.22.5.3, 15.2.22.5.2) go by what to_s gives. The object that an exception was made with,
+-- where that is no String, is asked for its own to_s.
+
+abbrev pub unless_text : ObjId → Option (List ℕ) → Option Value
+unless_text o None = Some (Obj o)
+unless_text o (Some bytes) = None
+
+abbrev pub other_in : Store → Option ObjId → Option Value
+other_in st None = None
+other_in st (Some o) = unless_text o (string_of (kind_in st.objects (Obj o)))
+
+abbrev pub other_object : Store → Value → Option Value
+other_object st e = other_in st (object_in (message_of (kind_in st.objects e)))
+
+abbrev pub is_it : Option Value → Value → Bool
+is_it None v = false
+is_it (Some o) v = same_value o v
+
+abbrev pub ask : Store → Iteration → Value → Planned
+ask st it v = sends_named it v [] None (intern st (codes "to_s"))
+
+abbrev pub ask_exception : Store → Iteration → Value → Planned
+ask_exception st it e =
+    wanted (refuse st) st.objects class.Exception e (an_exception st.objects e) (λ id. ask st it e)
+
+abbrev pub messaging_by : Value → Option Value → Iteration
+messaging_by e None = handing
+messaging_by e (Some o) = messaging e
+
+abbrev pub give_message : Store → Value → Value → Planned
+give_message st e v = if is_it (other_object st e) v then ask st handing v else plans st (finishes v)
+
+-- the class and the message, and the class alone where the message is empty
+abbrev pub inspected : List ℕ → List ℕ → List ℕ
+inspected name [] = name
+inspected name (b ∷ bs) = codes "#<" ++ name ++ codes ": " ++ (b ∷ bs) ++ codes ">"
+
+abbrev pub told : Store → Value → Value → Planned
+told st e v =
+    plans (with_object st (text_object (inspected (class_name st (plain_class_of st.objects e)) (shown st v))))
+    (finishes (Obj (next_number st)))
+
+abbrev pub tell : Store → Value → Value → Planned
+tell st e v = if is_it (other_object st e) v then ask st (telling_text e) v else told st e v
+
+-- the message that is seen of one that nothing rescued: none where what it gave is no String
+abbrev pub text_or_nil : Value → Option (List ℕ) → Value
+text_or_nil v None = Nil
+text_or_nil v (Some bytes) = v
 
 -- send and its kin (15.3.1.3.44), the call of a Proc (15.2.17.4.3), and fibers.
 
@@ -226,7 +311,7 @@ start Rows.count_up recv args block st =
     (λ p. wanted (refuse st) st.objects class.Integer recv (integer_in recv) (λ z. count_next st z 0 p)))
 start Rows.new_object recv args block st =
     wanted (refuse st) st.objects class.Class recv (object_of_sort is_class_sort st.objects recv)
-    (λ c. initialize_new (with_object st (fresh c (kind_for st.objects c))) (Obj (next_number st)) args block)
+    (λ c. new_of st c args block (kind_for st.objects c))
 start Rows.call_proc recv args block st =
     wanted (refuse st) st.objects class.Proc recv (a_proc st.objects recv) (λ p. plans st (calls handing p args block))
 start Rows.resume recv args block st =
@@ -234,6 +319,10 @@ start Rows.resume recv args block st =
 start Rows.yield recv args block st = plans st (yields handing args)
 start Rows.send_kept recv args block st =
     counted (refuse st) 1 None args (send_to st (get_or args 0 Nil) recv (drop 1 args) block false)
+start Rows.exception_message recv args block st =
+    counted (refuse st) 0 (Some 0) args (ask_exception st (messaging_by recv (other_object st recv)) recv)
+start Rows.exception_inspection recv args block st =
+    counted (refuse st) 0 (Some 0) args (ask_exception st (telling recv) recv)
 
 -- The next plan, with the answer to the one before.
 unfoldable pub next : Iteration → Value → Store → Planned
@@ -250,6 +339,12 @@ next (looping p) v st = plans st (calls (looping p) p [] None)
 next (visiting a i p) v st = visit_next st a i p
 next (counting z i p) v st = count_next st z i p
 next (initializing o) v st = plans st (finishes o)
+next (messaging e) v st = give_message st e v
+next (telling e) v st = tell st e v
+next (telling_text e) v st = told st e v
+next (reporting e) v st = sends_named (reported e) (Obj e) [] None (intern st (codes "message"))
+next (reported e) v st =
+    plans (with_objects st (with_message st.objects e (text_or_nil v (string_of (kind_in st.objects v))))) (raises e)
 
 -- loop ends with the result of a StopIteration that leaves its block; no other iteration stops an exception
 abbrev pub result_if_stop : Store → ObjId → Option Value
@@ -271,6 +366,11 @@ caught (looping p) e st = result_if_stop st e
 caught (visiting a i p) e st = None
 caught (counting z i p) e st = None
 caught (initializing o) e st = None
+caught (messaging x) e st = None
+caught (telling x) e st = None
+caught (telling_text x) e st = None
+caught (reporting x) e st = None
+caught (reported x) e st = None
 
 -- A read takes a line with its newline, or what is left; nil at the end. A line past 2^28 bytes fails.
 

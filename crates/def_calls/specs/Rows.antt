@@ -37,7 +37,7 @@ pub data PlainRow : Type 0 where
   class_text : PlainRow
   method_of_block : PlainRow
   initialize_exception : PlainRow
-  exception_message : PlainRow
+  exception_text : PlainRow
   new_fiber : PlainRow
   is_alive : PlainRow
 
@@ -58,6 +58,8 @@ pub data StarRow : Type 0 where
   resume : StarRow
   yield : StarRow
   send_kept : StarRow
+  exception_message : StarRow
+  exception_inspection : StarRow
 
 -- what the row of a number is
 pub data Row : Type 0 where
@@ -111,8 +113,8 @@ segments =
     ∷ own_methods_of class.Fiber
     ((codes "new", outright new_fiber) ∷ (codes "yield", iterates yield) ∷ [])
     ∷ methods_of class.Exception
-    ((codes "initialize", outright initialize_exception) ∷ (codes "message", outright exception_message)
-    ∷ (codes "to_s", outright exception_message) ∷ [])
+    ((codes "initialize", outright initialize_exception) ∷ (codes "message", iterates exception_message)
+    ∷ (codes "to_s", outright exception_text) ∷ (codes "inspect", iterates exception_inspection) ∷ [])
     ∷ []
 
 -- rows that no name leads to, only Procs that keep them

@@ -1,7 +1,8 @@
 -- What forms and instructions do with values alone: variables of objects, elements, splats, texts and Hashes.
 use Rattle.std.specs.Prelude.{ℕ, ℤ, pos, negsuc, zero, suc, ◌+◌, ◌-◌, max, List, [], ◌∷◌, ◌++◌, take, drop, length, map, get_or, nat_lt, codes, Bool, if◌then◌else◌, Option, Some, None, unwrap_or}
+use Rattle.std.specs.Fmt.{signed_decimal}
 use Rattle.rb_value.specs.declared.value.Value.{Value}
-use Rattle.rb_value.specs.declared.value.Value.TheVariants.{Nil, Int, Sym, Obj}
+use Rattle.rb_value.specs.declared.value.Value.TheVariants.{Nil, True, False, Int, Sym, Obj}
 use Rattle.rb_value.specs.declared.value.ObjId.{ObjId}
 use Rattle.rb_value.specs.declared.value.SymId.{SymId}
 use Rattle.rb_value.specs.declared.key.KeyPart.{KeyPart}
@@ -15,18 +16,18 @@ use Rattle.rb_value.specs.declared.hash.HashContents.{HashContents}
 use Rattle.rb_value.specs.declared.hash.HashItem.{HashItem}
 use Rattle.rb_value.specs.declared.core_class.CoreClass.TheVariants as class
 use Rattle.def_core.specs.declared.cause.Cause.TheVariants as cause
-use Rattle.def_core.specs.Store.{Store, core, next_number, object_at, with_object}
+use Rattle.def_core.specs.Store.{Store, core, name_at, next_number, object_at, same_object, with_object}
 use Rattle.def_core.specs.Classes.{plain_class_of}
 use Rattle.def_core.specs.Bind.{elements_in}
 use Rattle.def_core.specs.Changes.{intern, Interned}
 use Rattle.def_core.specs.Texts.{class_name}
-use Rattle.def_core.specs.Parts.{with_objects, with_variable, with_more, with_text, text_at, with_pair as put_pair}
+use Rattle.def_core.specs.Parts.{with_objects, with_variable, with_more, with_text, text_at, pair_of, with_pair as put_pair}
 use Rattle.rb_integer.specs.declared.ends.Bounds.{Bounds}
 use Rattle.rb_integer.specs.declared.ends.Bounds.TheVariants.{Integers, Bytes}
 use Rattle.rb_integer.specs.declared.ends.Ends.{Ends}
 use Rattle.rb_integer.specs.declared.ends.Item.{Item}
 use Rattle.rb_integer.specs.Ends as ends
-use Rattle.def_rows.specs.Answers.{items_object, numbered, with_texts, finish}
+use Rattle.def_rows.specs.Answers.{items_object, text_object, numbered, with_texts, finish}
 use Rattle.def_rows.specs.RangeRows.{range_of, items, integers_of, texts_of, item_of, kept_ends, made}
 use Rattle.def_calls.specs.World.{World, Answer, answer, give, give_in, make, fail, with_store}
 use Rattle.def_calls.specs.Views.{object_in, present, kind_in, string_of, hash_of}
@@ -135,6 +136,15 @@ text_or_class st v (Some bytes) = bytes
 unfoldable pub text_of_value : Store → Value → List ℕ
 text_of_value st v = text_or_class st v (string_of (kind_in st.objects v))
 
+-- a value as it stands in the text of an exception
+abbrev pub shown : Store → Value → List ℕ
+shown st Nil = text_of_value st Nil
+shown st True = codes "true"
+shown st False = codes "false"
+shown st (Int z) = signed_decimal z
+shown st (Sym s) = name_at st s
+shown st (Obj id) = text_of_value st (Obj id)
+
 -- a String with further bytes
 abbrev pub appended : Store → ObjId → List ℕ → Store
 appended st id more = with_objects st (with_text st.objects id (text_at st.objects id ++ more))
@@ -188,9 +198,23 @@ key_by objects v (Some vs) bytes = key_of_parts (all_parts (λ u. parts_of 9998 
 unfoldable pub key_of : List Object → Value → Option Key
 key_of objects v = key_by objects v (elements_in objects v) (string_of (kind_in objects v))
 
+-- what is shown as a new key: a copy of a String, whose later changes are none of the key
+abbrev pub copied_text : Store → Value → Option (List ℕ) → Value × Store
+copied_text st k None = (k, st)
+copied_text st k (Some bytes) =
+    if same_object (plain_class_of st.objects k) (core class.String)
+    then (Obj (next_number st), with_object st (text_object bytes)) else (k, st)
+
+abbrev pub shown_as : Store → Value → Option HashItem → Value × Store
+shown_as st k None = copied_text st k (string_of (kind_in st.objects k))
+shown_as st k (Some item) = (k, st)
+
+abbrev pub put_shown : World → ObjId → Value → Key → Value × Store → Answer
+put_shown w id v found s = give_in w (with_objects s.1 (put_pair s.1.objects id found s.0 v)) (Obj id)
+
 abbrev pub put_by_key : World → ObjId → Value → Value → Option Key → Answer
 put_by_key w id k v None = fail w cause.StackTooDeep
-put_by_key w id k v (Some found) = give_in w (with_objects w.store (put_pair w.store.objects id found k v)) (Obj id)
+put_by_key w id k v (Some found) = put_shown w id v found (shown_as w.store k (pair_of w.store.objects id found))
 
 -- the Hash with one pair more; a key that is there keeps its place and what is shown
 abbrev pub with_pair : World → ObjId → Value → Value → Answer

@@ -1,6 +1,6 @@
 -- What the evaluation of a source and the machine keep alike: the store, the global variables, the classes around
 -- texts, the activations, what is left of the input, and the output (ISO/IEC 30170:2012, clause 7).
-use Rattle.std.specs.Prelude.{ℕ, ◌+◌, ◌-◌, suc, zero, List, [], ◌∷◌, ◌++◌, length, get_or, nat_eq, Option, None, unwrap_or}
+use Rattle.std.specs.Prelude.{ℕ, ◌+◌, ◌-◌, suc, zero, List, [], ◌∷◌, ◌++◌, length, get_or, nat_eq, Bool, Option, None, unwrap_or}
 use Rattle.std.specs.Map.{lookup}
 use Rattle.indexmap.specs.IndexMap.{insert_entry}
 use Rattle.rb_value.specs.declared.value.Value.{Value}
@@ -56,6 +56,8 @@ pub record World : Type 0 where
   pub activations : List Activation
   pub input : List ℕ
   pub out : List ℕ
+  -- whether an exception that nothing rescued was asked for its message
+  pub asked : Bool
 
 -- what a form or an instruction gives or raises, and what it leaves
 pub data Result : Type 0 where

@@ -5,3 +5,4 @@ pub mod Closures
 pub mod Exits
 pub mod Classes
 pub mod Values
+pub mod Shown

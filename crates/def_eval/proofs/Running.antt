@@ -23,7 +23,7 @@ use Rattle.def_rows.specs.Answers.{numbered, called}
 use Rattle.def_rows.specs.Checking.{first_unfit}
 use Rattle.def_rows.specs.Rows.{prim}
 use Rattle.def_rows.specs.StringRows.{joined, gives as string_gives}
-use Rattle.def_calls.specs.Calls.{enter_proc, enter_method, missing as enter_missing, send_by_core, call as enter_call, block_argument, settle, is_of, with_class_body, close, unrescued, read}
+use Rattle.def_calls.specs.Calls.{enter_proc, enter_method, missing as enter_missing, send_by_core, call as enter_call, block_argument, settle, is_of, with_class_body, close, is_asked, unrescued, read}
 use Rattle.def_calls.specs.Constants.{constant_path, find_constant, get_constant, constant_within, set_constant_in}
 use Rattle.def_calls.specs.Definitions.{define_method, singleton_class, open_class, open_module, alias_method, undefine_method, has_method, instance_variable_told, global_told, constant_told, constant_in_told, method_told, yield_told, super_told}
 use Rattle.def_calls.specs.Fibers.{resume, yield, finish as finish_fiber, with_ended}
@@ -49,7 +49,7 @@ unfolding digits core_classes bind fails intern make_all missing with_singleton 
     object_constants core_contents core_object nameless with_names core_store with_rows with_segments table_store
     exact letters shown_byte escaped limited digits_from number number_of padding ended_parts between reference
     expanded with_each operators joined string_gives numbered called first_unfit prim enter_proc enter_method
-    enter_missing send_by_core enter_call block_argument settle is_of with_class_body close unrescued read
+    enter_missing send_by_core enter_call block_argument settle is_of with_class_body close is_asked unrescued read
     constant_path find_constant get_constant constant_within set_constant_in define_method singleton_class open_class
     open_module alias_method undefine_method has_method instance_variable_told global_told constant_told
     constant_in_told method_told yield_told super_told resume yield finish_fiber with_ended shown_object flattened

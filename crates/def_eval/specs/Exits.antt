@@ -1,15 +1,16 @@
 -- Where an exit goes (ISO/IEC 30170:2012, 11.5.2.4 and 11.5.2.5): each transition drops one pending item.
 use Rattle.std.specs.Prelude.{ℕ, ◌+◌, List, [], ◌∷◌, Bool, true, false, nat_eq, if◌then◌else◌, Option, Some, None}
 use Rattle.rb_value.specs.declared.value.Value.{Value}
-use Rattle.rb_value.specs.declared.value.Value.TheVariants.{Nil}
+use Rattle.rb_value.specs.declared.value.Value.TheVariants.{Nil, Obj}
 use Rattle.rb_value.specs.declared.value.ObjId.{ObjId}
-use Rattle.def_calls.specs.Calls.{Unrescued, unrescued}
-use Rattle.def_calls.specs.Plans.{Iteration, caught}
+use Rattle.def_calls.specs.Calls.{core_activation, Unrescued, is_asked, asking, unrescued}
+use Rattle.def_calls.specs.Plans.{Iteration, reporting, caught}
 use Rattle.def_calls.specs.Fibers.{Onward}
 use Rattle.def_calls.specs.Fibers as fibers
 use Rattle.ir_core.specs.CoreForm.{CoreForm}
 use Rattle.def_calls.specs.Seen.{Ended, Uncaught}
 use Rattle.def_eval.specs.Configuration.{Exit, raise, return, break, leave_loop, next, begin_anew, Rescue, Part, loop_test, Stop, passes, loops, rescues, assigns, retries, ensures, stop_of, exit, Item, part, activation, iteration, ensuring, Kept, perform, give, travel, Memory, Config, Run, Halt}
+use Rattle.def_eval.specs.Entering.{open_iteration}
 use Rattle.def_eval.specs.Giving.{next_clause, begin_rescue, returned, end_fiber}
 
 -- a loop ends by a break, and goes on by a next
@@ -71,12 +72,16 @@ travel_iteration (next v) a it ks m = Run (give v) ks m
 travel_iteration (leave_loop v) a it ks m = Run (travel (leave_loop v)) ks m
 travel_iteration begin_anew a it ks m = Run (travel begin_anew) ks m
 
--- nothing rescued the exception: it ends the program, or leaves the fiber
+-- nothing rescued the exception: it ends the program, after it was asked for its message, or leaves the fiber
 abbrev pub end_by : Unrescued → List ℕ → Config
 end_by u out = if u.exits then Halt (Ended out u.status) else Halt (Uncaught out u.class u.message)
 
+abbrev pub end_or_ask : Bool → ObjId → Memory → Config
+end_or_ask true e m = open_iteration (reporting e) (core_activation m.world (Obj e)) [] m (asking m.world)
+end_or_ask false e m = end_by (unrescued m.world.store e) m.world.out
+
 abbrev pub leave_fiber : ObjId → Option (Onward Kept) → Memory → Config
-leave_fiber e None m = end_by (unrescued m.world.store e) m.world.out
+leave_fiber e None m = end_or_ask (is_asked m.world e) e m
 leave_fiber e (Some o) m = end_fiber (travel (raise e)) (Some o) m
 
 -- every exit but an exception has its item in its fiber's list, so only an exception gets past the last

@@ -5,4 +5,5 @@ pub mod Closures
 pub mod Exits
 pub mod Classes
 pub mod Values
+pub mod Shown
 pub mod Start

@@ -21,7 +21,7 @@ use Rattle.code_outline.specs.Layout.{layout, is_start}
 use Rattle.code_outline.specs.Makers.{outer}
 use Rattle.def_calls.specs.World.{World, Activation, Enclosing, Runs, main_program, method_body, block_body, lambda_body, class_body, core_method}
 use Rattle.def_calls.specs.Views.{object_in}
-use Rattle.def_calls.specs.Plans.{Iteration, begun, handing, putting, putting_text, printing, printing_text, inspecting, inspecting_text, raising, looping, visiting, counting, initializing}
+use Rattle.def_calls.specs.Plans.{Iteration, begun, handing, putting, putting_text, printing, printing_text, inspecting, inspecting_text, raising, looping, visiting, counting, initializing, messaging, telling, telling_text, reporting, reported}
 use Rattle.def_calls.specs.Fibers as fibers
 use Rattle.def_machine.specs.State.{Registers, Frame, Level, frame, iteration, Memory, State, On, Off, Stuck, body_at, list_at, all_symbols}
 use Rattle.def_machine.specs.Entering.{first_of}
@@ -124,6 +124,11 @@ StateFits k (looping b) = Is k Proc b
 StateFits k (visiting a i b) = Is k Array a × Is k Proc b
 StateFits k (counting z i b) = Is k Proc b
 StateFits k (initializing v) = IsValue k v
+StateFits k (messaging v) = IsValue k v
+StateFits k (telling v) = IsValue k v
+StateFits k (telling_text v) = IsValue k v
+StateFits k (reporting e) = IsException k e
+StateFits k (reported e) = IsException k e
 
 -- Levels: those below the innermost wait.
 

@@ -2,15 +2,16 @@
 -- turn that begins it or goes on with it.
 use Rattle.std.specs.Prelude.{ℕ, zero, suc, List, [], ◌∷◌, reverse, filter, length, nat_eq, nat_le, nat_lt, Bool, true, false, not, ◌&&◌, if◌then◌else◌, Option, Some, None}
 use Rattle.rb_value.specs.declared.value.Value.{Value}
+use Rattle.rb_value.specs.declared.value.Value.TheVariants.{Nil, Obj}
 use Rattle.rb_value.specs.declared.value.ObjId.{ObjId}
 use Rattle.rb_value.specs.declared.exit.Exit.{Exit}
 use Rattle.rb_value.specs.declared.exit.Exit.TheVariants.{Raise, Return, Break, Jump}
 use Rattle.rite_code.specs.Code.{Program}
 use Rattle.rite_code.specs.declared.code.CatchEntry.{CatchEntry}
 use Rattle.def_calls.specs.Seen.{Ended, Uncaught}
-use Rattle.def_calls.specs.World.{Answer, Result, gives, raises, with_store}
-use Rattle.def_calls.specs.Calls.{Unrescued, unrescued, close}
-use Rattle.def_calls.specs.Plans.{Iteration, caught}
+use Rattle.def_calls.specs.World.{Answer, Result, gives, raises, next_activation, with_activation, with_store}
+use Rattle.def_calls.specs.Calls.{core_activation, Unrescued, is_asked, asking, unrescued, close}
+use Rattle.def_calls.specs.Plans.{Iteration, reporting, caught}
 use Rattle.def_calls.specs.Fibers.{Onward}
 use Rattle.def_calls.specs.Fibers as fibers
 use Rattle.def_machine.specs.State.{Frame, Level, frame, iteration, Memory, State, On, Off, Stuck, body_at, with_world, write, goto}
@@ -105,10 +106,17 @@ unwind c x (iteration a it v ∷ ls) m = at_iteration x a it ls m (unwind c x ls
 abbrev pub end_program : Unrescued → List ℕ → State
 end_program u out = if u.exits then Off (Ended out u.status) else Off (Uncaught out u.class u.message)
 
+-- one that nothing rescued is asked for its message before it ends the program
+abbrev pub end_or_ask : Bool → ObjId → Memory → State
+end_or_ask true e m =
+    On (iteration (next_activation m.world) (reporting e) Nil ∷ [])
+    (with_world m (with_activation (asking m.world) (core_activation m.world (Obj e))))
+end_or_ask false e m = end_program (unrescued m.world.store e) m.world.out
+
 -- Past the last level of a fiber an exception is raised at the resume, and ends the program where there is none. The
 -- number bounds how many fibers are left.
 abbrev pub fallen : (Exit → List Level → Memory → State) → ObjId → Option (Onward (List Level)) → Memory → State
-fallen again e None m = end_program (unrescued m.world.store e) m.world.out
+fallen again e None m = end_or_ask (is_asked m.world e) e m
 fallen again e (Some o) m = again (Raise e) o.kept (in_resumer m o)
 
 abbrev pub land : (Exit → List Level → Memory → State) → Landing → State

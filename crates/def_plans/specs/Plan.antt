@@ -11,7 +11,7 @@ use Rattle.def_core.specs.Store.{core}
 use Rattle.def_core.specs.Classes.{plain_class_of}
 use Rattle.def_core.specs.Changes.{intern, Interned}
 use Rattle.rb_store.specs.Held.{Held}
-use Rattle.heap.specs.Operands.{own}
+use Rattle.core_calls.specs.Checks.{own}
 use Rattle.core_calls.specs.declared.plan.Plan as code
 use Rattle.core_calls.specs.declared.plan.Plan.TheVariants as wants
 
