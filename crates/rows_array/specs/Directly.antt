@@ -79,8 +79,3 @@ directly_at row held (Some id) recv args = directly row held id recv args
 
 abbrev pub given : ArrayRow → Held → Value → List Value → Option Value × Held
 given row held recv args = directly_at row held (an_array held.store.objects recv) recv args
-
--- what is read by one argument: nothing of a method that changes the Array
-abbrev pub read_by : ArrayRow → Held → Value → Value → Option Value × Held
-read_by row.Element held recv v = given row.Element held recv (v ∷ [])
-read_by _ held recv v = (None, held)

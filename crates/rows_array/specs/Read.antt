@@ -11,11 +11,13 @@ use Rattle.rb_value.specs.declared.core_class.CoreClass.TheVariants as class
 use Rattle.def_core.specs.Store.{Store}
 use Rattle.def_core.specs.Parts.{elements_at}
 use Rattle.def_core.specs.declared.cause.Cause.{Cause}
-use Rattle.def_core.specs.declared.cause.Cause.TheVariants.{TooFewItems}
+use Rattle.def_core.specs.declared.cause.Cause.TheVariants.{TooFewItems, StackTooDeep}
 use Rattle.def_calls.specs.Views.{kind_in}
 use Rattle.def_calls.specs.Values.{element_at}
 use Rattle.rb_store.specs.Held.{Held}
 use Rattle.heap.specs.Reading.{range_in}
+use Rattle.core_calls.specs.declared.flattening.Empty.TheVariants.{Counts}
+use Rattle.core_calls.specs.Flat.{flattened}
 use Rattle.rows_items.specs.Told.{and_then, each}
 use Rattle.rows_items.specs.Checks.{refusal, integer_of, count_of, array_of}
 use Rattle.rows_items.specs.Made.{given, made}
@@ -88,6 +90,14 @@ rotate_count st (v ∷ rest) = integer_of st v
 abbrev pub rotate : Held → ObjId → List Value → Result (Value × Held) Cause
 rotate held id args =
     and_then (rotate_count held.store args) (λ n. made held (rotated (elements held.store id) n))
+
+-- `flatten`: the elements of nested Arrays, down to 10,000 levels
+abbrev pub made_or_too_deep : Held → Option (List Value) → Result (Value × Held) Cause
+made_or_too_deep held None = Err StackTooDeep
+made_or_too_deep held (Some vs) = made held vs
+
+abbrev pub flatten : Held → ObjId → Result (Value × Held) Cause
+flatten held id = made_or_too_deep held (flattened Counts held.store (elements held.store id))
 
 -- `transpose`: the elements are Arrays of the same length, and each line has the elements at one place
 

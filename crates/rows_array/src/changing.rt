@@ -2,7 +2,9 @@
 ghost use Rattle.std.specs.Prelude.{◌≡◌, [], OnOk};
 ghost use Rattle.heap.specs.Changes as changes;
 ghost use Rattle.rows_items.specs.Told.{Leaves};
+ghost use Rattle.rows_items.specs.Outcome.{ToldBy};
 ghost use Rattle.rows_array.specs.Changed as changed;
+ghost use Rattle.rows_array.specs.Rows as rows;
 
 use rb_value::{ObjId, Value};
 use rows_items::heap::Heap;
@@ -47,10 +49,12 @@ pub(crate) fn reverse_in_place(heap: &mut Heap, id: ObjId) -> Result<(), AllocEr
     Ok(())
 }
 
-/// Sorts the elements.
-pub(crate) fn sort_in_place(heap: &mut Heap, id: ObjId) -> Result<(), RowError> {
+/// Sorts the elements, and gives the Array.
+pub(crate) fn sort_in_place(heap: &mut Heap, id: ObjId) -> Result<Value, RowError>
+    ensures { ToldBy (rows.SortsInPlace heap.old id) result heap.new }
+{
     let values = Vec::from_slice(heap.alloc(), heap.elements(id))?;
     let values = sorted(heap, values)?;
     heap.replace_elements(id, values);
-    Ok(())
+    Ok(Value::Obj(id))
 }

@@ -35,19 +35,6 @@ pub fn read_alone(heap: &Heap, row: ArrayRow, receiver: Value) -> Option<Value>
     }
 }
 
-/// What a method with one argument reads straight on: an element by its index. Nothing of any other method, receiver and
-/// argument.
-#[inline(always)]
-pub fn read_by(heap: &Heap, row: ArrayRow, receiver: Value, argument: Value) -> Option<Value>
-    ensures { directly.read_by row heap.now receiver argument ≡ (result, heap.now) }
-{
-    let id = heap.an_array(receiver)?;
-    match (row, argument) {
-        (ArrayRow::Element, Value::Int(index)) => Some(value_at(heap.elements(id), index)),
-        _ => None,
-    }
-}
-
 /// What a method gives straight on: an element by its index, how many there are, a value in the place of an element or
 /// behind the last one. Nothing of any other method, receiver and arguments, which change nothing then. Where memory
 /// runs out the Array is as before.

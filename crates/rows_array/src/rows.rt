@@ -1,7 +1,11 @@
 //! The rows of Array.
-ghost use Rattle.std.specs.Prelude.{◌≡◌, pos, length};
+ghost use Rattle.std.specs.Prelude.{◌≡◌, pos, length, map, IfOk};
 ghost use Rattle.rb_value.specs.declared.value.Value.TheVariants.{Int};
 ghost use Rattle.def_core.specs.Parts.{elements_at};
+ghost use Rattle.rows_items.specs.Outcome.{Called, ToldBy};
+ghost use Rattle.rows_items.specs.Told.{Leaves};
+ghost use Rattle.rows_array.specs.Named as named;
+ghost use Rattle.rows_array.specs.Rows as rows;
 
 use crate::{arranging, changing, ending, flattening, reading, storing};
 use rb_value::{CoreClass, ObjId, Value};
@@ -75,7 +79,10 @@ static ARRAY_ROWS: [(&[u8], ArrayRow); 29] = [
 ];
 
 /// The methods of a segment, by their names.
-pub fn rows_of(segment: u16) -> &'static [(&'static [u8], ArrayRow)] {
+#[tactic(auto, unfolding(crate::specs::Named::array_rows))]
+pub fn rows_of(segment: u16) -> &'static [(&'static [u8], ArrayRow)]
+    ensures { map (λ r. (r.0.now, r.1)) result.now ≡ named.rows segment }
+{
     match segment {
         26 => &ARRAY_ROWS,
         _ => &[],
@@ -83,7 +90,9 @@ pub fn rows_of(segment: u16) -> &'static [(&'static [u8], ArrayRow)] {
 }
 
 /// At least and at most how many arguments a method takes.
-fn arity(row: ArrayRow) -> (u64, Option<u64>) {
+fn arity(row: ArrayRow) -> (u64, Option<u64>)
+    ensures { result ≡ rows.arity row }
+{
     match row {
         ArrayRow::Element => (1, Some(2)),
         ArrayRow::SetElement => (2, Some(3)),
@@ -119,28 +128,17 @@ pub(crate) fn length(heap: &Heap, id: ObjId) -> Value
     }
 }
 
-/// What a method gives that changes nothing.
-fn read(heap: &mut Heap, row: ArrayRow, id: ObjId, args: &[Value]) -> Result<Value, RowError> {
-    let first = argument(args, 0);
-    match row {
-        ArrayRow::Element => reading::element(heap, id, args),
-        ArrayRow::At => reading::at(heap, id, first),
-        ArrayRow::ValuesAt => reading::values_at(heap, id, args),
-        ArrayRow::Last => reading::last(heap, id, args),
-        ArrayRow::Plus => reading::plus(heap, id, first),
-        ArrayRow::Length => Ok(length(heap, id)),
-        ArrayRow::IsEmpty => Ok(Value::from_truth(heap.elements(id).is_empty())),
-        ArrayRow::Reverse => Ok(arranging::reverse(heap, id)?),
-        ArrayRow::Rotate => arranging::rotate(heap, id, args),
-        ArrayRow::Flatten => flattening::flatten(heap, id),
-        ArrayRow::Compact => Ok(arranging::compact(heap, id)?),
-        ArrayRow::Transpose => arranging::transpose(heap, id),
-        _ => Ok(Value::Nil),
-    }
+/// Whether there are no elements.
+fn is_empty(heap: &Heap, id: ObjId) -> Value
+    ensures { result ≡ rows.is_empty heap.now id }
+{
+    Value::from_truth(heap.elements(id).is_empty())
 }
 
 /// Changes an Array by a method that gives the Array.
-fn change(heap: &mut Heap, row: ArrayRow, id: ObjId, args: &[Value]) -> Result<(), RowError> {
+fn change(heap: &mut Heap, row: ArrayRow, id: ObjId, args: &[Value]) -> Result<(), RowError>
+    ensures { Leaves heap.old heap.new result (rows.left row heap.old id args.now) }
+{
     let first = argument(args, 0);
     match row {
         ArrayRow::Push => Ok(heap.append(id, args)?),
@@ -149,7 +147,6 @@ fn change(heap: &mut Heap, row: ArrayRow, id: ObjId, args: &[Value]) -> Result<(
         ArrayRow::Insert => storing::insert(heap, id, args),
         ArrayRow::Concat => ending::concat(heap, id, args),
         ArrayRow::ReverseInPlace => Ok(changing::reverse_in_place(heap, id)?),
-        ArrayRow::SortInPlace => changing::sort_in_place(heap, id),
         ArrayRow::Fill => Ok(changing::fill(heap, id, first)?),
         ArrayRow::Replace => changing::replace(heap, id, first),
         ArrayRow::Clear => {
@@ -161,40 +158,70 @@ fn change(heap: &mut Heap, row: ArrayRow, id: ObjId, args: &[Value]) -> Result<(
 }
 
 /// What a method gives, where it takes so many arguments.
-fn answer(heap: &mut Heap, row: ArrayRow, id: ObjId, args: &[Value]) -> Result<Value, RowError> {
+#[tactic(auto, using(rows_items::proofs::Settled::given_comes))]
+fn answer(heap: &mut Heap, row: ArrayRow, id: ObjId, args: &[Value]) -> Result<Value, RowError>
+    ensures { ToldBy (rows.Answers row heap.old id args.now) result heap.new }
+{
+    let first = argument(args, 0);
     match row {
+        ArrayRow::Element => reading::element(heap, id, args),
         ArrayRow::SetElement => storing::set_element(heap, id, args),
-        ArrayRow::DeleteAt => storing::delete_at(heap, id, argument(args, 0)),
+        ArrayRow::At => reading::at(heap, id, first),
+        ArrayRow::ValuesAt => reading::values_at(heap, id, args),
+        ArrayRow::Last => reading::last(heap, id, args),
         ArrayRow::Pop => ending::pop(heap, id, args),
         ArrayRow::Shift => ending::shift(heap, id, args),
+        ArrayRow::Plus => reading::plus(heap, id, first),
+        ArrayRow::Length => Ok(length(heap, id)),
+        ArrayRow::IsEmpty => Ok(is_empty(heap, id)),
+        ArrayRow::DeleteAt => storing::delete_at(heap, id, first),
+        ArrayRow::Reverse => Ok(arranging::reverse(heap, id)?),
+        ArrayRow::SortInPlace => changing::sort_in_place(heap, id),
+        ArrayRow::Rotate => arranging::rotate(heap, id, args),
+        ArrayRow::Flatten => flattening::flatten(heap, id),
+        ArrayRow::Compact => Ok(arranging::compact(heap, id)?),
+        ArrayRow::Transpose => arranging::transpose(heap, id),
         ArrayRow::Push
         | ArrayRow::Append
         | ArrayRow::Unshift
         | ArrayRow::Insert
         | ArrayRow::Concat
         | ArrayRow::ReverseInPlace
-        | ArrayRow::SortInPlace
         | ArrayRow::Fill
-        | ArrayRow::Replace
-        | ArrayRow::Clear => {
+        | ArrayRow::Clear
+        | ArrayRow::Replace => {
             change(heap, row, id, args)?;
             Ok(Value::Obj(id))
         }
-        _ => read(heap, row, id, args),
+    }
+}
+
+/// What a method gives, where it takes so many arguments, or why it can't take such a receiver.
+fn on_array(heap: &mut Heap, row: ArrayRow, call: Call<'_>) -> Result<Value, RowError>
+    ensures { ToldBy (rows.OnArray row heap.old call.entry.receiver call.entry.args.now) result heap.new }
+{
+    match heap.an_array(call.receiver) {
+        Some(id) => answer(heap, row, id, call.args),
+        None => Err(RowError::Fails(heap.refusal(CoreClass::Array, call.receiver))),
+    }
+}
+
+/// What a method gives, or why it can't take so many arguments.
+fn outcome(heap: &mut Heap, row: ArrayRow, call: Call<'_>) -> Result<Value, RowError>
+    ensures { ToldBy (rows.Calls row heap.old call.entry.receiver call.entry.args.now) result heap.new }
+{
+    let (least, most) = arity(row);
+    match miscounted(call.args.len(), least, most) {
+        Some(cause) => Err(RowError::Fails(cause)),
+        None => on_array(heap, row, call),
     }
 }
 
 /// Calls a core method of Array.
-pub fn call(heap: &mut Heap, row: ArrayRow, call: Call<'_>) -> Result<Given, AllocError> {
-    let (least, most) = arity(row);
-    if let Some(cause) = miscounted(call.args.len(), least, most) {
-        return heap.fail(cause);
-    }
-    match heap.an_array(call.receiver) {
-        Some(id) => {
-            let outcome = answer(heap, row, id, call.args);
-            settle(heap, outcome)
-        }
-        None => heap.unexpected(CoreClass::Array, call.receiver),
-    }
+#[tactic(auto, using(rows_items::proofs::Settled::called_so))]
+pub fn call(heap: &mut Heap, row: ArrayRow, call: Call<'_>) -> Result<Given, AllocError>
+    ensures { IfOk result (λ g. Called (rows.Calls row heap.old call.entry.receiver call.entry.args.now) g heap.new) }
+{
+    let outcome = outcome(heap, row, call);
+    settle(heap, outcome)
 }

@@ -1,2 +1,5 @@
 pub mod More
 pub mod Put
+pub mod Steps
+pub mod Receiver
+pub mod Merged

@@ -1,9 +1,14 @@
 //! Pairs of Hashes.
-ghost use Rattle.std.specs.Prelude.{◌≡◌, ◌++◌, take, drop, true, false, is_some, IfOk, OnOk, OnErr};
+ghost use Rattle.std.specs.Prelude.{◌≡◌, ◌++◌, take, drop, true, false, is_some, Some, IfOk, OnOk, OnErr};
+ghost use Rattle.rb_value.specs.declared.value.Value.TheVariants.{Obj};
+ghost use Rattle.rb_value.specs.declared.kind.Sort.TheVariants as sorts;
 ghost use Rattle.def_calls.specs.Views.{a_string};
 ghost use Rattle.heap.specs.Changes as changes;
+ghost use Rattle.heap.specs.Reading.{sort_of_value};
+ghost use Rattle.rows_items.specs.Outcome.{Comes};
 ghost use Rattle.rows_items.specs.Told.{Told, Gives, Leaves};
 ghost use Rattle.rows_items.specs.Keyed.{put};
+ghost use Rattle.rows_hash.specs.Merging as merging;
 ghost use Rattle.rows_hash.specs.Pairs as defined;
 
 use def_core::Cause;
@@ -133,40 +138,86 @@ pub(crate) fn values(heap: &Heap, id: ObjId) -> Result<Vec<Value>, AllocError>
     Ok(values)
 }
 
-/// Puts the pairs of a Hash into another.
-pub(crate) fn update(heap: &mut Heap, id: ObjId, other: Value) -> Result<Value, RowError> {
-    let other = a_hash(heap, other)?;
-    'pairs: for place in 0..heap.pair_count(other) {
-        if let Some(pair) = heap.pair_at(other, place) {
-            if !heap.put_pair(id, pair.shown, pair.value)? {
-                return Err(RowError::Fails(Cause::StackTooDeep));
-            }
-        }
+/// Puts the pair at a place of a Hash, if there is one, into another.
+fn put_item(heap: &mut Heap, id: ObjId, other: ObjId, place: usize) -> Result<(), RowError>
+    ensures { Leaves heap.old heap.new result (merging.put_at id other place heap.old) }
+{
+    let Some(pair) = heap.pair_at(other, place) else {
+        return Ok(());
+    };
+    if heap.put_pair(id, pair.shown, pair.value)? {
+        Ok(())
+    } else {
+        Err(RowError::Fails(Cause::StackTooDeep))
     }
+}
+
+/// Puts the pairs of a Hash into another.
+#[tactic(auto, using(crate::proofs::Steps::steps_more, crate::proofs::Steps::steps_end))]
+fn put_all(heap: &mut Heap, id: ObjId, other: ObjId) -> Result<(), RowError>
+    ensures { merging.LeftAs (merging.put_all heap.old id other) heap.new result }
+{
+    let count = heap.pair_count(other);
+    'pairs: for place in 0..count {
+        put_item(heap, id, other, place)?;
+    }
+    Ok(())
+}
+
+/// Puts the pairs of a Hash that a value is into another, which is given.
+pub(crate) fn update(heap: &mut Heap, id: ObjId, other: Value) -> Result<Value, RowError>
+    ensures { Comes (merging.update heap.old id other) result heap.new }
+{
+    let from = a_hash(heap, other)?;
+    put_all(heap, id, from)?;
     Ok(Value::Obj(id))
 }
 
 /// A copy of a Hash with the pairs of another.
-pub(crate) fn merge(heap: &mut Heap, id: ObjId, other: Value) -> Result<Value, RowError> {
+#[tactic(auto, using(crate::proofs::Merged::merge_is))]
+pub(crate) fn merge(heap: &mut Heap, id: ObjId, other: Value) -> Result<Value, RowError>
+    ensures { sort_of_value heap.old.store (Obj id) ≡ Some sorts.Hash
+        → Comes (merging.merge heap.old id other) result heap.new }
+{
     a_hash(heap, other)?;
     let merged = heap.copy(Value::Obj(id))?;
-    if let Some(own) = heap.a_hash(merged) {
-        update(heap, own, other)?;
+    match heap.a_hash(merged) {
+        Some(own) => update(heap, own, other),
+        None => Ok(merged),
     }
-    Ok(merged)
+}
+
+/// Puts the pair at a place of a Hash, if there is one, into another, with its value as the key.
+fn put_turned(heap: &mut Heap, own: ObjId, id: ObjId, place: usize) -> Result<(), RowError>
+    ensures { Leaves heap.old heap.new result (merging.turned_at own id place heap.old) }
+{
+    match heap.pair_at(id, place) {
+        Some(pair) => put_pair(heap, own, pair.value, pair.shown),
+        None => Ok(()),
+    }
+}
+
+/// Puts the pairs of a Hash into another, with their values as keys.
+#[tactic(auto, using(crate::proofs::Steps::steps_more, crate::proofs::Steps::steps_end))]
+fn turn_all(heap: &mut Heap, own: ObjId, id: ObjId) -> Result<(), RowError>
+    ensures { merging.LeftAs (merging.turn_all heap.old own id) heap.new result }
+{
+    let count = heap.pair_count(id);
+    'pairs: for place in 0..count {
+        put_turned(heap, own, id, place)?;
+    }
+    Ok(())
 }
 
 /// A new Hash whose keys are the values of a Hash, and whose values are its keys; of equal ones the last counts.
-pub(crate) fn invert(heap: &mut Heap, id: ObjId) -> Result<Value, RowError> {
+pub(crate) fn invert(heap: &mut Heap, id: ObjId) -> Result<Value, RowError>
+    ensures { Comes (merging.invert heap.old id) result heap.new }
+{
     let inverted = heap.make_hash()?;
     let Value::Obj(own) = inverted else {
         return Ok(inverted);
     };
-    'pairs: for place in 0..heap.pair_count(id) {
-        if let Some(pair) = heap.pair_at(id, place) {
-            put_pair(heap, own, pair.value, pair.shown)?;
-        }
-    }
+    turn_all(heap, own, id)?;
     Ok(inverted)
 }
 

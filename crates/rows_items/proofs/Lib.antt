@@ -6,3 +6,5 @@ pub mod Put
 pub mod Counted
 pub mod ByKey
 pub mod Settled
+pub mod OrderLaws
+pub mod Merging

@@ -1,9 +1,11 @@
+pub mod Named
 pub mod Told
 pub mod Checks
 pub mod Made
 pub mod Keyed
 pub mod Zipped
 pub mod Order
+pub mod Stable
 pub mod Walks
 pub mod Items
 pub mod Outcome

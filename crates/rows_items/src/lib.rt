@@ -3,8 +3,8 @@
 //! Integers, or new Strings of one byte.
 //!
 //! Rows: [`ItemRow`], [`rows_of`], [`call`]. For methods of items elsewhere: [`items_of`], [`first_items`],
-//! [`order_of`], [`extreme_place`], [`sorted`], [`put_pair`]. What a row gives or why it doesn't: [`RowError`], [`settle`], with checks of
-//! arguments.
+//! [`order_of`], [`extreme_place`], [`sorted`], [`sort_stably`], [`put_pair`]. What a row gives or why it doesn't:
+//! [`RowError`], [`settle`], with checks of arguments.
 #![tactic(auto)]
 
 mod checks;
@@ -14,6 +14,7 @@ mod keyed;
 mod order;
 pub mod rows;
 mod sorting;
+mod stable;
 mod zipping;
 
 pub use checks::{an_array, an_integer, count};
@@ -25,3 +26,4 @@ pub use keyed::{key_of, put_pair};
 pub use order::order_of;
 pub use rows::{ItemRow, call, rows_of};
 pub use sorting::{Extreme, KeyKind, extreme_place, kind_of_all, number_order, sorted, text_order};
+pub use stable::{Ranked, sort_stably};

@@ -1,8 +1,9 @@
 //! The core methods of items that call no others.
-ghost use Rattle.std.specs.Prelude.{◌≡◌, drop, get_or, IfOk};
+ghost use Rattle.std.specs.Prelude.{◌≡◌, drop, get_or, map, IfOk};
 ghost use Rattle.rb_value.specs.declared.value.Value.TheVariants.{Nil};
 ghost use Rattle.def_core.specs.Bind.{elements_in};
 ghost use Rattle.rows_items.specs.Items.{items_of};
+ghost use Rattle.rows_items.specs.Named as named;
 ghost use Rattle.rows_items.specs.Outcome.{Called, Comes, ToldBy};
 ghost use Rattle.rows_items.specs.Rows as rows;
 ghost use Rattle.rows_items.specs.Told.{Told};
@@ -65,7 +66,10 @@ static LIST_ROWS: [(&[u8], ItemRow); 11] = [
 ];
 
 /// The methods of a segment, by their names.
-pub fn rows_of(segment: u16) -> &'static [(&'static [u8], ItemRow)] {
+#[tactic(auto, unfolding(crate::specs::Named::list_rows, crate::specs::Named::range_rows))]
+pub fn rows_of(segment: u16) -> &'static [(&'static [u8], ItemRow)]
+    ensures { map (λ r. (r.0.now, r.1)) result.now ≡ named.rows segment }
+{
     match segment {
         26 | 28 => &LIST_ROWS,
         30 => &RANGE_ROWS,

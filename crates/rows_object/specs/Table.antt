@@ -1,7 +1,6 @@
 -- What each of the methods takes, and what it gives and leaves: first the arguments are counted, then a block is missed,
 -- then the receiver and the arguments are looked at, left to right.
-use Rattle.std.specs.Prelude.{ℕ, List, length, get_or, Bool, true, false, not, ◌&&◌, if◌then◌else◌, Option, Some, None, is_some, Result}
-use Rattle.std.specs.declared.alloc.AllocError.{AllocError}
+use Rattle.std.specs.Prelude.{ℕ, List, length, get_or, Bool, true, false, not, ◌&&◌, if◌then◌else◌, Option, Some, None, is_some}
 use Rattle.rb_value.specs.declared.value.Value.{Value}
 use Rattle.rb_value.specs.declared.value.Value.TheVariants.{Nil, Obj}
 use Rattle.rb_value.specs.declared.value.ObjId.{ObjId}
@@ -9,14 +8,13 @@ use Rattle.rb_value.specs.Value.{truth, is_true}
 use Rattle.def_core.specs.declared.cause.Cause.{Cause}
 use Rattle.def_core.specs.declared.cause.Cause.TheVariants as cause
 use Rattle.def_calls.specs.Definitions as definitions
-use Rattle.def_calls.specs.World.{World, Answer, give}
-use Rattle.rb_store.specs.Held.{Held}
+use Rattle.def_calls.specs.World.{World, Answer, give, give_in}
 use Rattle.core_calls.specs.Checks.{miscounted}
+use Rattle.heap.specs.Copies.{copied, copy_of}
 use Rattle.heap.specs.Operands.{own}
-use Rattle.run_values.specs.declared.given.Given.{Given}
 use Rattle.rows_object.specs.declared.row.ObjectRow.{ObjectRow}
 use Rattle.rows_object.specs.declared.row.ObjectRow.TheVariants as row
-use Rattle.rows_object.specs.Follows.{Follows, by_store, raise}
+use Rattle.rows_object.specs.Follows.{by_store, raise}
 use Rattle.rows_object.specs.Enumerators as enumerators
 use Rattle.rows_object.specs.Exceptions as exceptions
 use Rattle.rows_object.specs.Numbers as numbers
@@ -204,7 +202,7 @@ counted row.IsA v args block = by_store (rows.is_a v (first args))
 counted row.IsInstance v args block = by_store (rows.is_instance v (first args))
 counted row.IsNil v args block = giving (rows.same v Nil)
 counted row.RespondsTo v args block = rows.responds_to v (first args)
-counted row.Copy v args block = giving v
+counted row.Copy v args block = λ w. give_in w (copied w.store v) (copy_of w.store v)
 counted row.Itself v args block = giving v
 counted row.Variable v args block = variables.get v (first args)
 counted row.SetVariable v args block = variables.set v (first args) (second args)
@@ -235,41 +233,3 @@ unless_refused row v args block None = if wants_block row && not (is_some block)
 abbrev pub called : ObjectRow → Value → List Value → Option ObjId → World → Answer
 called row v args block =
     unless_refused row v args block (miscounted (length args) (counts row).0 (counts row).1)
-
--- It is so of every method but `dup` and `clone`, of which nothing is said here.
-abbrev pub Called : ObjectRow → Held → Held → Result Given AllocError → (World → Answer) → Type 0
-Called row.Initialize before after result defined = Follows before after result defined
-Called row.MethodMissing before after result defined = Follows before after result defined
-Called row.ToText before after result defined = Follows before after result defined
-Called row.Same before after result defined = Follows before after result defined
-Called row.Negation before after result defined = Follows before after result defined
-Called row.Order before after result defined = Follows before after result defined
-Called row.ClassOf before after result defined = Follows before after result defined
-Called row.SingletonClass before after result defined = Follows before after result defined
-Called row.Extend before after result defined = Follows before after result defined
-Called row.IsA before after result defined = Follows before after result defined
-Called row.IsInstance before after result defined = Follows before after result defined
-Called row.IsNil before after result defined = Follows before after result defined
-Called row.RespondsTo before after result defined = Follows before after result defined
-Called row.Copy before after result defined = Unit {0}
-Called row.Itself before after result defined = Follows before after result defined
-Called row.Variable before after result defined = Follows before after result defined
-Called row.SetVariable before after result defined = Follows before after result defined
-Called row.Variables before after result defined = Follows before after result defined
-Called row.ToEnumerator before after result defined = Follows before after result defined
-Called row.Exit before after result defined = Follows before after result defined
-Called row.BlockAsProc before after result defined = Follows before after result defined
-Called row.BlockAsLambda before after result defined = Follows before after result defined
-Called row.ToInteger before after result defined = Follows before after result defined
-Called row.Arity before after result defined = Follows before after result defined
-Called row.IsLambda before after result defined = Follows before after result defined
-Called row.SymbolAsProc before after result defined = Follows before after result defined
-Called row.InitializeString before after result defined = Follows before after result defined
-Called row.InitializeException before after result defined = Follows before after result defined
-Called row.MessageText before after result defined = Follows before after result defined
-Called row.ErrorName before after result defined = Follows before after result defined
-Called row.ExitStatus before after result defined = Follows before after result defined
-Called row.StopResult before after result defined = Follows before after result defined
-Called row.NewFiber before after result defined = Follows before after result defined
-Called row.IsAlive before after result defined = Follows before after result defined
-Called row.NewEnumerator before after result defined = Follows before after result defined

@@ -12,7 +12,7 @@ use std::alloc::AllocError;
 
 /// Calls a core method, and gives its value or raises.
 pub fn call(heap: &mut Heap, row: ObjectRow, call: Call<'_>) -> Result<Given, AllocError>
-    ensures { table.Called row heap.old heap.new result (table.called row call.entry.receiver call.entry.args.now call.entry.block) }
+    ensures { Follows heap.old heap.new result (table.called row call.entry.receiver call.entry.args.now call.entry.block) }
 {
     let (least, most) = row.counts();
     match miscounted(call.args.len(), least, most) {
@@ -27,7 +27,7 @@ pub fn call(heap: &mut Heap, row: ObjectRow, call: Call<'_>) -> Result<Given, Al
 
 /// Calls a core method whose arguments are counted.
 fn counted(heap: &mut Heap, row: ObjectRow, call: Call<'_>) -> Result<Given, AllocError>
-    ensures { table.Called row heap.old heap.new result (table.counted row call.entry.receiver call.entry.args.now call.entry.block) }
+    ensures { Follows heap.old heap.new result (table.counted row call.entry.receiver call.entry.args.now call.entry.block) }
 {
     let receiver = call.receiver;
     let first = argument(call.args, 0);

@@ -110,7 +110,7 @@ member_class k (e ∷ es) (suc n) object all = member_class k es n object all.1
 
 -- a world with nothing but a store
 abbrev pub bare : Store → World
-bare st = record { store = st; globals = []; enclosing = []; activations = []; input = []; out = [] }
+bare st = record { store = st; globals = []; enclosing = []; activations = []; input = []; out = []; asked = false }
 
 pub class_at_number : (st : Store) → Sound st → (lists : List world.Enclosing) (w : World) (n : ℕ)
     → AreEnclosing (census st) lists → Is (census st) ClassOrModule (enclosing_at (enclosed lists w) n).class

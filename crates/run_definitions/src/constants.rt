@@ -122,27 +122,43 @@ pub fn find_constant(st: &Store, lists: &EnclosingLists, number: u64, name: SymI
     }
 }
 
+/// What is told of the scope of a constant that isn't found: nothing of Object.
+fn scope_told(st: &Store, scope: ObjId) -> Option<ObjId>
+    requires scope { Is (census st.now.store) ClassOrModule scope }
+    ensures told { result ≡ constants.scope_told scope }
+    ensures class { OptionIs (Is (census st.now.store) ClassOrModule) result }
+{
+    if scope == st.class_object(CoreClass::Object) {
+        None
+    } else {
+        Some(scope)
+    }
+}
+
 /// Gives a constant that was found, or raises.
 #[tactic(auto, using(rb_store::proofs::Keeping::keeps_itself))]
 fn constant_or_fail(
     st: &mut Store,
-    scope: Option<ObjId>,
+    scope: ObjId,
     name: SymId,
     constant: Option<Value>,
 ) -> Result<Given, AllocError>
     requires sound { Sound st.old.store }
-    requires scope { OptionIs (Is (census st.old.store) ClassOrModule) scope }
+    requires scope { Is (census st.old.store) ClassOrModule scope }
     requires name { IsSymbol (census st.old.store) name }
     requires constant { OptionIs (IsValue (census st.old.store)) constant }
     ensures { Answers st.old st.new result (λ w. constants.constant_or_fail w scope name constant) }
 {
     match constant {
         Some(value) => Ok(Given::Gives(value)),
-        None => fail(st, Cause::UninitializedConstant { scope, name }),
+        None => {
+            let scope = scope_told(st, scope);
+            fail(st, Cause::UninitializedConstant { scope, name })
+        }
     }
 }
 
-/// Gives a constant as a text sees it; one that isn't there raises.
+/// Gives a constant as a text sees it; one that isn't there raises, and the innermost class around the text is told.
 pub fn get_constant(
     st: &mut Store,
     lists: &EnclosingLists,
@@ -155,7 +171,8 @@ pub fn get_constant(
     ensures { AnswersAmong lists.now st.old st.new result (λ w. constants.get_constant w number name) }
 {
     let constant = find_constant(st, lists, number, name);
-    constant_or_fail(st, None, name, constant)
+    let scope = lists.class_around(number);
+    constant_or_fail(st, scope, name, constant)
 }
 
 /// Gives a constant of a class or module and its ancestors; one that isn't there raises.
@@ -166,5 +183,5 @@ pub fn get_constant_in(st: &mut Store, class: ObjId, name: SymId) -> Result<Give
     ensures { Answers st.old st.new result (λ w. constants.get_constant_in w class name) }
 {
     let constant = constant_within(st, class, name);
-    constant_or_fail(st, Some(class), name, constant)
+    constant_or_fail(st, class, name, constant)
 }

@@ -1,12 +1,10 @@
 -- When a call answers as a definition does.
-use Rattle.std.proofs.Common.{◌≡◌, [], refl, ap, sym, ◌∙◌, true≢false}
-use Rattle.std.specs.Prelude.{Result, Ok, Err, IfOk, IsErr}
+use Rattle.std.proofs.Common.{◌≡◌, refl, ap, sym, ◌∙◌, true≢false}
+use Rattle.std.specs.Prelude.{Result, Ok, Err, IsErr}
 use Rattle.std.specs.declared.alloc.AllocError.{AllocError}
 use Rattle.rb_value.specs.declared.outcome.Outcome.{Outcome}
 use Rattle.rb_value.specs.declared.outcome.Outcome.TheVariants as outcome
-use Rattle.def_core.specs.declared.cause.Cause.{Cause}
 use Rattle.def_core.specs.Store.{Store, Done}
-use Rattle.def_core.specs.Changes.{fails}
 use Rattle.def_core.specs.Sound.{census}
 use Rattle.rb_store.specs.Held.{Held}
 use Rattle.rb_store.specs.Keeps.{Keeps}
@@ -14,8 +12,7 @@ use Rattle.rb_store.proofs.Keeping.{keeps_then}
 use Rattle.def_calls.specs.World as world
 use Rattle.def_calls.specs.World.{World, Answer, with_store}
 use Rattle.run_values.specs.declared.given.Given.{Given}
-use Rattle.run_values.specs.declared.given.Given.TheVariants.{Gives, Raises}
-use Rattle.run_values.specs.Answers.{Answers, IsGiven, IfGives, result_of}
+use Rattle.run_values.specs.Answers.{Answers, IsGiven, result_of}
 
 -- an answer with a result and a store
 abbrev pub answer_with : World → world.Result → Store → Answer
@@ -82,21 +79,3 @@ answers_done a b c r o d keeps e f h =
     (λ w. same_outcome w a.store b.store (d a.store).store (d a.store).outcome
     ∙ ap (λ (st : Store). world.answer_in (with_store w b.store) st (d a.store).outcome) (sym f)
     ∙ ap (world.answer_in (with_store w b.store) b.store) (sym e)) h
-
--- a failure gives nothing
-pub fails_give_nothing : (before after : Held) (r : Result Given AllocError) (c : Cause) (P : Type 0)
-    → Answers before after r (λ w. world.fail w c) → IfOk r (λ g. IfGives g P)
-unfolding world.fail fails
-fails_give_nothing before after (Err e) c P h = tt
-fails_give_nothing before after (Ok (Raises e)) c P h = tt
-fails_give_nothing before after (Ok (Gives v)) c P h =
-    let w : World = record {
-      store = before.store;
-      globals = [];
-      enclosing = [];
-      activations = [];
-      input = [];
-      out = [];
-    } in
-    let e = ap (λ (a : Answer). a.result) (h.answer w) in
-    cc e

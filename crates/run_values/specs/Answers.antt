@@ -23,11 +23,6 @@ abbrev pub IsGiven : Census → Given → Type 0
 IsGiven k (Gives v) = IsValue k v
 IsGiven k (Raises e) = IsValue k (Obj e)
 
--- what holds where a value is given
-abbrev pub IfGives : Given → Type 0 → Type 0
-IfGives (Gives v) P = P
-IfGives (Raises e) P = Unit {0}
-
 -- The call answers as the definition does in each world with the store before it, leaves the store of the world after
 -- it, and nothing else of the world changes. What was good in the store stays good.
 pub record Answers (before after : Held) (result : Result Given AllocError) (defined : World → Answer) : Type 0 where

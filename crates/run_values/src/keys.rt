@@ -1,17 +1,11 @@
-//! Pairs of Hashes: Strings are keys by their bytes and Arrays by their elements, down to 10,000 levels.
+//! Keys of Hashes: Strings are keys by their bytes and Arrays by their elements, down to 10,000 levels.
 ghost use Rattle.std.specs.Prelude.{◌≡◌, IfOk};
-ghost use Rattle.rb_value.specs.declared.kind.Sort.TheVariants as sorts;
-ghost use Rattle.def_core.specs.Store.{sort_at};
 ghost use Rattle.def_core.specs.Parts.{elements_at};
-ghost use Rattle.def_core.specs.Sound.{Sound, SoundKey, census, Is, Any, Array, IsValue, OptionIs};
+ghost use Rattle.def_core.specs.Sound.{Sound, SoundKey, census, Is, Array, IsValue, OptionIs};
 ghost use Rattle.def_calls.specs.Values as values;
-ghost use Rattle.run_values.specs.Answers.{Answers, IfGives};
 
-use crate::answering::fail;
-use crate::given::Given;
 use crate::key_parts::parts_of_elements;
 use crate::kinds::{a_string, an_array};
-use def_core::Cause;
 use key_list::KeyList;
 use rb_store::Store;
 use rb_value::{Key, ObjId, Value};
@@ -49,26 +43,5 @@ pub fn key_of(st: &Store, value: Value) -> Result<Option<Key>, AllocError>
     match a_string(st, value) {
         Some(id) => Ok(Some(Key::Text(KeyList::from_slice(st.alloc(), st.text(id))?))),
         None => Ok(Some(Key::Plain(value))),
-    }
-}
-
-/// Gives a key of a Hash a value, and gives the Hash. A key that is there keeps its place and what is shown as the key.
-/// Arrays that are nested too deep raise.
-pub fn with_pair(st: &mut Store, id: ObjId, key: Value, value: Value) -> Result<Given, AllocError>
-    requires sound { Sound st.old.store }
-    requires there { Is (census st.old.store) Any id }
-    requires hash { sort_at st.old.store.objects id ≡ sorts.Hash }
-    requires key { IsValue (census st.old.store) key }
-    requires value { IsValue (census st.old.store) value }
-    ensures answers { Answers st.old st.new result (λ w. values.with_pair w id key value) }
-    ensures hash { IfOk result (λ g. IfGives g (sort_at st.new.store.objects id ≡ sorts.Hash)) }
-{
-    let found = key_of(st, key)?;
-    match found {
-        Some(own) => {
-            st.put_pair(id, own, key, value)?;
-            Ok(Given::Gives(Value::Obj(id)))
-        }
-        None => fail(st, Cause::StackTooDeep),
     }
 }

@@ -4,8 +4,8 @@
 //! Type: [`Given`], what a call gives or raises. Calls by which others answer: [`answer`], [`make`], [`fail`],
 //! [`wrong_value`]. What a value is: module [`kinds`]. Instance variables: [`instance_variable`],
 //! [`set_instance_variable`]. Elements for multiple assignment: [`element`], [`elements_between`], [`last_elements`].
-//! Splats: [`splat`], [`push_splat`]. Texts: [`append_text`], [`make_symbol`]. Ranges: [`make_range`]. Pairs of Hashes:
-//! [`with_pair`].
+//! Splats: [`splat`], [`push_splat`]. Texts: [`append_text`], [`make_symbol`]. Ranges: [`make_range`]. Keys of Hashes:
+//! [`key_of`].
 #![tactic(auto)]
 
 pub mod answering;
@@ -23,7 +23,7 @@ pub mod variables;
 pub use answering::{answer, fail, wrong_value};
 pub use elements::{element, elements_between, elements_or_itself, last_elements};
 pub use given::Given;
-pub use keys::{key_of, with_pair};
+pub use keys::key_of;
 pub use making::{make, make_items, make_text};
 pub use ranges::make_range;
 pub use splats::{push_splat, splat};
