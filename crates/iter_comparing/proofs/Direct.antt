@@ -1,6 +1,6 @@
 -- What a call of a row gives is what its definition gives.
 use Rattle.std.proofs.Common.{◌≡◌, ℕ, List, [], ap, ◌∙◌}
-use Rattle.std.specs.Prelude.{Option, Some, None, Ok}
+use Rattle.std.specs.Prelude.{false, Option, Some, None, Ok}
 use Rattle.rb_value.specs.declared.value.Value.{Value}
 use Rattle.rb_value.specs.declared.value.SymId.{SymId}
 use Rattle.rb_value.specs.declared.outcome.Outcome.TheVariants as outcome
@@ -20,7 +20,7 @@ use Rattle.run_values.specs.Answers.{Answers, answered}
 use Rattle.iter_comparing.specs.Outright.{given_in, given_of, given_by, row_of_found, outright}
 
 around : Store → World
-around st = record { store = st; globals = []; enclosing = []; activations = []; input = []; out = [] }
+around st = record { store = st; globals = []; enclosing = []; activations = []; input = []; out = []; asked = false }
 
 same_given : (o : Outcome) (st after : Store) (w : World) (g : Given) → answer_in w st o ≡ answered g (with_store w after)
     → (Some g, after) ≡ given_in st o

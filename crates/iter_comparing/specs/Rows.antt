@@ -1,6 +1,5 @@
--- What each row wants first, and next with the answer to what it wanted before. What the pieces of `join`
--- are isn't said yet.
-use Rattle.std.specs.Prelude.{◌≡◌, ℕ, List, [], ◌++◌, length, get_or, codes, nat_eq, not, Bool, true, false, ◌&&◌, if◌then◌else◌, Option, Some, None}
+-- What each row wants first, and next with the answer to what it wanted before.
+use Rattle.std.specs.Prelude.{◌≡◌, ℕ, List, [], ◌∷◌, ◌++◌, length, get_or, codes, nat_eq, not, Bool, true, false, ◌&&◌, if◌then◌else◌, Option, Some, None}
 use Rattle.rb_value.specs.declared.value.Value.{Value}
 use Rattle.rb_value.specs.declared.value.Value.TheVariants.{Nil, False}
 use Rattle.rb_value.specs.declared.value.ObjId.{ObjId}
@@ -8,12 +7,15 @@ use Rattle.rb_value.specs.Value.{truth, is_true}
 use Rattle.rb_value.specs.declared.core_class.CoreClass.{CoreClass}
 use Rattle.rb_value.specs.declared.core_class.CoreClass.TheVariants as class
 use Rattle.def_core.specs.declared.cause.Cause.{Cause}
+use Rattle.def_core.specs.declared.cause.Cause.TheVariants as cause
 use Rattle.def_core.specs.Parts.{elements_at}
-use Rattle.def_calls.specs.Views.{an_array, a_hash}
+use Rattle.def_calls.specs.Views.{an_array, a_hash, kind_in, string_of}
 use Rattle.def_core.specs.Changes.{intern, Interned}
 use Rattle.rb_value.specs.declared.value.SymId.{SymId}
 use Rattle.rb_store.specs.Held.{Held}
 use Rattle.core_calls.specs.Checks.{miscounted}
+use Rattle.core_calls.specs.Flat.{flattened}
+use Rattle.core_calls.specs.declared.flattening.Empty.TheVariants.{Stays}
 use Rattle.def_plans.specs.Plan.{Planned, gives, refuses, expected}
 use Rattle.iter_comparing.specs.declared.row.ComparingRow.{ComparingRow}
 use Rattle.iter_comparing.specs.declared.row.ComparingRow.TheVariants as row
@@ -122,6 +124,29 @@ SiftsBy held a s v (Some b) p = SiftsAll held (sifting held a s b) p
 abbrev pub Sifts : Held → ObjId → Sieve → Value → Planned Stage → Type 0
 Sifts held a s v p = SiftsBy held a s v (an_array held.store.objects v) p
 
+-- `join`: the pieces are the elements of nested Arrays and the Arrays that have none, down to 10,000 levels
+
+abbrev pub joining : List Value → List ℕ → Work
+joining pieces separator =
+    work.Joins (record { pieces = pieces; place = 0; text = []; separator = separator })
+
+abbrev pub JoinsAll : Held → Option (List Value) → List ℕ → Planned Stage → Type 0
+JoinsAll held None separator p = p ≡ refuses held cause.StackTooDeep
+JoinsAll held (Some pieces) separator p = Begins held (codes "to_s") (joining pieces separator) p
+
+abbrev pub JoinsBy : Held → ObjId → List ℕ → Planned Stage → Type 0
+JoinsBy held a separator p = JoinsAll held (flattened Stays held.store (elements held a)) separator p
+
+-- the separator is a String, and none without an argument
+
+abbrev pub JoinsWith : Held → ObjId → Value → Option (List ℕ) → Planned Stage → Type 0
+JoinsWith held a v None p = p ≡ refuses held (expected held class.String v)
+JoinsWith held a v (Some separator) p = JoinsBy held a separator p
+
+abbrev pub Joins : Held → ObjId → List Value → Planned Stage → Type 0
+Joins held a [] p = JoinsBy held a [] p
+Joins held a (v ∷ vs) p = JoinsWith held a v (string_of (kind_in held.store.objects v)) p
+
 abbrev pub showing : Shown → Work
 showing shown = work.Shows (record { shown = shown; place = 0; text = [] })
 
@@ -154,7 +179,7 @@ ForArray row.ArrayDifference held a args p = Sifts held a sieve.Difference (get_
 ForArray row.ArrayIntersection held a args p = Sifts held a sieve.Intersection (get_or args 0 Nil) p
 ForArray row.ArrayUnion held a args p = Sifts held a sieve.Union (get_or args 0 Nil) p
 ForArray row.ArrayRepeat held a args p = p ≡ repeat held a (get_or args 0 Nil)
-ForArray row.ArrayJoin held a args p = Unit {0}
+ForArray row.ArrayJoin held a args p = Joins held a args p
 ForArray row.ArrayText held a args p = Begins held (codes "inspect") (showing (Elements a)) p
 ForArray row.HashElement held a args p = Unit {0}
 ForArray row.HashFetch held a args p = Unit {0}

@@ -2,13 +2,14 @@
 use Rattle.std.specs.Prelude.{ℕ, ◌+◌, ◌/◌, ◌%◌, ◌^◌, List, [], ◌∷◌, ◌++◌, length, drop, slice_get, codes, nat_eq, nat_lt, Bool, if◌then◌else◌, Option, Some, None, option_map}
 use Rattle.rb_value.specs.declared.value.Value.{Value}
 use Rattle.rb_value.specs.declared.value.Value.TheVariants.{Obj}
+use Rattle.rb_value.specs.declared.value.ObjId.{ObjId}
 use Rattle.rb_value.specs.declared.hash.HashItem.{HashItem}
 use Rattle.rb_value.specs.declared.kind.Kind.TheVariants as kind
 use Rattle.rb_value.specs.declared.core_class.CoreClass.TheVariants as class
 use Rattle.def_core.specs.declared.cause.Cause.TheVariants as cause
 use Rattle.def_core.specs.Store.{Store, core, next_number}
 use Rattle.def_core.specs.Parts.{elements_at}
-use Rattle.def_calls.specs.Views.{string_of, kind_in}
+use Rattle.def_calls.specs.Views.{an_array, string_of, kind_in}
 use Rattle.def_calls.specs.Values.{text_of_value}
 use Rattle.rb_store.specs.Held.{Held, one_more}
 use Rattle.heap.specs.Made.{with_new}
@@ -66,7 +67,7 @@ shown held w = shown_by held w (part held.store w.shown w.place)
 abbrev pub shown_heard : Store → Showing → Value → Showing
 shown_heard st w v = record w { text = w.text ++ bytes_of st v; place = one_more w.place }
 
--- A separator stands between pieces; a String is a text itself, and another value is asked for one.
+-- A separator stands between pieces; a String is a text itself, an Array is none, and another value is asked for one.
 
 abbrev pub separated : Joining → List ℕ
 separated w = if nat_lt (one_more w.place) (length w.pieces) then w.text ++ w.separator else w.text
@@ -77,28 +78,35 @@ passed w = record w { place = one_more w.place; text = separated w }
 abbrev pub with_text : Joining → List ℕ → Joining
 with_text w bytes = record w { text = w.text ++ bytes }
 
+-- the text that a piece is itself: an Array among the pieces is one that had no elements
+abbrev pub text_by : Option (List ℕ) → Option ObjId → Option (List ℕ)
+text_by (Some bytes) a = Some bytes
+text_by None (Some a) = Some []
+text_by None None = None
+
+abbrev pub own_text : Store → Value → Option (List ℕ)
+own_text st v = text_by (string_of (kind_in st.objects v)) (an_array st.objects v)
+
 -- the value that has to be asked before its piece is put into the text
 abbrev pub asks_by : Value → Option (List ℕ) → Option Value
 asks_by v None = Some v
 asks_by v (Some bytes) = None
 
-abbrev pub asks_piece : Store → Option Value → Option Value
-asks_piece st None = None
-asks_piece st (Some v) = asks_by v (string_of (kind_in st.objects v))
+abbrev pub asks_piece : Store → Value → Option Value
+asks_piece st v = asks_by v (own_text st v)
 
 abbrev pub pieced_by : Joining → Option (List ℕ) → Joining
 pieced_by w None = w
 pieced_by w (Some bytes) = passed (with_text w bytes)
 
-abbrev pub pieced : Store → Joining → Option Value → Joining
-pieced st w None = passed w
-pieced st w (Some v) = pieced_by w (string_of (kind_in st.objects v))
+abbrev pub pieced : Store → Joining → Value → Joining
+pieced st w v = pieced_by w (own_text st v)
 
 abbrev pub joined_by : Held → Joining → Option Value → Asked Joining → Asked Joining
 joined_by held w (Some v) further = asked held w (show v)
 joined_by held w None further = further
 
-abbrev pub joined_from : Held → Joining → List (Option Value) → Asked Joining
+abbrev pub joined_from : Held → Joining → List Value → Asked Joining
 joined_from held w [] = text_ends held (record w { text = [] }) w.text
 joined_from held w (p ∷ ps) =
     joined_by held w (asks_piece held.store p) (joined_from held (pieced held.store w p) ps)

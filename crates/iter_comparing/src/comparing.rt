@@ -10,7 +10,6 @@ ghost use Rattle.iter_comparing.specs.Rows as rows;
 use crate::asking::{begin, begin_named, go_on, outright};
 use crate::equating::{Equating, KeySearch, pairs_of};
 use crate::fetching::{element, fail_absent, fetch};
-use crate::flattening::pieces;
 use crate::joining::Joining;
 use crate::keyed::{have_own_equality, sifted};
 use crate::ordering;
@@ -23,7 +22,7 @@ use crate::showing::{Showing, Shown};
 use crate::sifting::{Sieve, Sifting};
 use crate::state::{ComparingState, Work};
 use core_calls::heap::{Given, Heap, Site};
-use core_calls::{Call, Plan, argument, miscounted};
+use core_calls::{Call, Empty, Plan, argument, flattened, miscounted};
 use def_core::Cause;
 use rb_base::List;
 use rb_value::{CoreClass, ObjId, Value};
@@ -206,29 +205,49 @@ fn start_sieve(
     }
 }
 
+/// Begins `join` of an Array with a separator: the elements of nested Arrays are pieces, and so is an Array without
+/// elements, which has no text.
+fn start_pieces(
+    heap: &mut Heap,
+    array: ObjId,
+    separator: Vec<u8>,
+) -> Result<Plan<ComparingState>, AllocError>
+    ensures { Meets stage_of heap.new result (rows.JoinsBy heap.old array separator.items) }
+{
+    let elements = heap.elements(array);
+    match flattened(heap, elements, Empty::Stays)? {
+        Some(pieces) => {
+            let work = Joining {
+                pieces: List::from_vec(pieces),
+                place: 0,
+                text: List::new(heap.alloc()),
+                separator: List::from_vec(separator),
+            };
+            begin(heap, b"to_s", Work::Joins(work))
+        }
+        None => Ok(Plan::Fails(Cause::StackTooDeep)),
+    }
+}
+
 /// Begins `join` of an Array with the separator that was given.
 fn start_join(
     heap: &mut Heap,
     array: ObjId,
     args: &[Value],
-) -> Result<Plan<ComparingState>, AllocError> {
-    let mut separator = Vec::new(heap.alloc());
-    if let Some(value) = args.first() {
-        match heap.text_of(*value) {
-            Some(text) => separator.extend_from_slice(text)?,
-            None => return Ok(Plan::Fails(heap.refusal(CoreClass::String, *value))),
+) -> Result<Plan<ComparingState>, AllocError>
+    ensures { Meets stage_of heap.new result (rows.Joins heap.old array args.now) }
+{
+    let Some(value) = args.first().copied() else {
+        let none = Vec::new(heap.alloc());
+        return start_pieces(heap, array, none);
+    };
+    match heap.text_of(value) {
+        Some(text) => {
+            let separator = Vec::from_slice(heap.alloc(), text)?;
+            start_pieces(heap, array, separator)
         }
+        None => Ok(Plan::Fails(heap.refusal(CoreClass::String, value))),
     }
-    let Some(pieces) = pieces(heap, array)? else {
-        return Ok(Plan::Fails(Cause::StackTooDeep));
-    };
-    let work = Joining {
-        pieces: List::from_vec(pieces),
-        place: 0,
-        text: List::new(heap.alloc()),
-        separator: List::from_vec(separator),
-    };
-    begin(heap, b"to_s", Work::Joins(work))
 }
 
 /// Begins to show values.

@@ -1,5 +1,5 @@
 //! `join` of an Array.
-ghost use Rattle.std.specs.Prelude.{◌≡◌, IfOk, OnOk};
+ghost use Rattle.std.specs.Prelude.{◌≡◌, IfOk, OnOk, option_map};
 ghost use Rattle.iter_comparing.specs.Texts as texts;
 
 use crate::questions::Question;
@@ -10,11 +10,24 @@ use rb_value::Value;
 use std::alloc::{AllocError, Global};
 use std::mem;
 
-/// Pieces that are put into a text, with a separator between them. A String is a text itself, and another value is
-/// asked for one.
+/// The text that a piece is itself: a String has one, and an Array among the pieces is one that had no elements.
+fn text_of_piece(heap: &Heap, piece: Value) -> Option<&[u8]>
+    ensures { option_map (λ text. text.now) result ≡ texts.own_text heap.now.store piece }
+{
+    match heap.text_of(piece) {
+        Some(text) => Some(text),
+        None => match heap.an_array(piece) {
+            Some(_) => Some(&[]),
+            None => None,
+        },
+    }
+}
+
+/// Pieces that are put into a text, with a separator between them. A String is a text itself, an Array is none, and
+/// another value is asked for one.
 #[derive(Drop)]
 pub(crate) struct Joining {
-    pub(crate) pieces: List<Option<Value>>,
+    pub(crate) pieces: List<Value>,
     pub(crate) place: usize,
     pub(crate) text: List<u8>,
     pub(crate) separator: List<u8>,
@@ -33,21 +46,17 @@ impl Joining {
     }
 
     /// Puts a piece into the text, or gives the value that has to be asked for one.
-    fn put(&mut self, heap: &Heap, piece: Option<Value>) -> Result<Option<Value>, AllocError>
+    fn put(&mut self, heap: &Heap, piece: Value) -> Result<Option<Value>, AllocError>
         ensures asks { IfOk result (λ asked. asked ≡ texts.asks_piece heap.now.store piece) }
         ensures work { OnOk result (self.new ≡ texts.pieced heap.now.store self.old piece) }
     {
-        let Some(value) = piece else {
-            self.pass(heap.alloc())?;
-            return Ok(None);
-        };
-        match heap.text_of(value) {
+        match text_of_piece(heap, piece) {
             Some(text) => {
                 append(heap.alloc(), &mut self.text, text)?;
                 self.pass(heap.alloc())?;
                 Ok(None)
             }
-            None => Ok(Some(value)),
+            None => Ok(Some(piece)),
         }
     }
 

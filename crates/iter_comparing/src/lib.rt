@@ -9,7 +9,6 @@ mod asking;
 mod comparing;
 mod equating;
 mod fetching;
-mod flattening;
 mod joining;
 mod keyed;
 mod ordering;

@@ -10,7 +10,7 @@ use Rattle.def_core.specs.Store.{Store}
 use Rattle.def_core.specs.Changes.{intern, Interned}
 use Rattle.rb_store.specs.Held.{Held}
 use Rattle.core_calls.specs.Checks.{Named, miscounted, integer, name_in}
-use Rattle.rows_items.specs.Told.{and_then}
+pub use Rattle.rows_items.specs.Told.{and_then}
 use Rattle.iter_items.specs.declared.checks.Arguments.{Arguments}
 use Rattle.iter_items.specs.declared.row.Task.{Task}
 use Rattle.iter_items.specs.declared.row.Task.TheVariants as task

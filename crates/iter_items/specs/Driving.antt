@@ -21,7 +21,7 @@ use Rattle.run_values.specs.declared.given.Given.TheVariants.{Gives, Raises}
 use Rattle.core_calls.specs.Passing.{args_of}
 use Rattle.core_calls.specs.declared.beat.Beat.{Beat}
 use Rattle.def_plans.specs.Plan.{Planned, raises, sends, calls, gives, refuses, sends_named}
-use Rattle.iter_comparing.specs.Ordering.{same_value}
+pub use Rattle.iter_comparing.specs.Ordering.{same_value}
 use Rattle.iter_comparing.specs.Outright.{outright}
 use Rattle.iter_items.specs.declared.row.Task.{Task}
 use Rattle.iter_items.specs.declared.row.Task.TheVariants as task

@@ -1,3 +1,4 @@
+pub mod Named
 pub mod Checks
 pub mod Sources
 pub mod Asking

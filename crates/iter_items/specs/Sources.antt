@@ -15,7 +15,8 @@ use Rattle.def_core.specs.Parts.{elements_at}
 use Rattle.def_calls.specs.Views.{an_array, a_hash, kind_in}
 use Rattle.rb_store.specs.Held.{Held, one_more}
 use Rattle.heap.specs.Reading.{range_in}
-use Rattle.iter_comparing.specs.Hashes.{items, pairs}
+pub use Rattle.iter_comparing.specs.Hashes.{items, pairs}
+pub use Rattle.iter_comparing.specs.Repeating.{repeated}
 use Rattle.heap.specs.Made.{array_given, with_array, with_new}
 use Rattle.iter_items.specs.declared.source.Numbers.{Numbers}
 use Rattle.iter_items.specs.declared.source.Source.{Source}

@@ -1,5 +1,8 @@
 //! The methods over items, those that compare or show values, and those of Enumerators, by the names under which
 //! classes have them.
+ghost use Rattle.std.specs.Prelude.{◌≡◌, map};
+ghost use Rattle.iter_items.specs.Named as named;
+
 use crate::row::{GatheringRow, ItemsRow, Task};
 use iter_comparing::{ComparingRow, OrderRow};
 use iter_enumerators::EnumeratorRow;
@@ -267,7 +270,10 @@ const YIELDER: [(&[u8], ItemsRow); 2] = [
 const HIDDEN: [(&[u8], ItemsRow); 1] = [(b"", ItemsRow::Enumerates(EnumeratorRow::Enumerate))];
 
 /// The methods that a segment has, with their names. The hidden segment has a row that no name leads to.
-pub fn rows_of(segment: u16) -> &'static [(&'static [u8], ItemsRow)] {
+#[tactic(auto, unfolding(crate::specs::Named::visits, crate::specs::Named::object_rows, crate::specs::Named::comparable_rows, crate::specs::Named::array_rows, crate::specs::Named::hash_rows, crate::specs::Named::enumerator_rows, crate::specs::Named::yielder_rows, crate::specs::Named::gathered_rows))]
+pub fn rows_of(segment: u16) -> &'static [(&'static [u8], ItemsRow)]
+    ensures { map (λ r. (r.0.now, r.1)) result.now ≡ named.rows segment }
+{
     match segment {
         0 => &OBJECT,
         8 => &COMPARABLE,
