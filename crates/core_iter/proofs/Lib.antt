@@ -1,4 +1,2 @@
 pub mod Lifted
-pub mod Passed
-pub mod Flat
 pub mod Above

@@ -17,7 +17,7 @@ use Rattle.heap.specs.Made.{with_new}
 use Rattle.heap.specs.Reading.{range_in}
 use Rattle.core_calls.specs.Checks.{integer}
 use Rattle.def_plans.specs.Plan.{Planned, refuses, wanted}
-use Rattle.rows_items.specs.Told.{and_then}
+use Rattle.iter_items.specs.Checks.{and_then}
 use Rattle.iter_items.specs.Sources.{first_end, last_end, are_bytes, Made}
 use Rattle.run_rows.specs.declared.row.VisitRow.{VisitRow}
 use Rattle.run_rows.specs.declared.row.VisitRow.TheVariants as row

@@ -12,8 +12,8 @@ use Rattle.rb_store.specs.Held.{Held, one_more}
 use Rattle.heap.specs.Changes.{pushed, with_elements, with_absent}
 use Rattle.core_calls.specs.Checks.{integer}
 use Rattle.def_plans.specs.Plan.{Planned, gives, refuses, wanted}
-use Rattle.rows_items.specs.Told.{and_then}
-use Rattle.iter_comparing.specs.Repeating.{repeated}
+use Rattle.iter_items.specs.Checks.{and_then}
+use Rattle.iter_items.specs.Sources.{repeated}
 use Rattle.core_iter.specs.declared.iteration.Iteration.TheVariants as state
 use Rattle.core_iter.specs.declared.filling.Filling.{Filling}
 use Rattle.core_iter.specs.Sending.{Beaten, with_one, goes_on}

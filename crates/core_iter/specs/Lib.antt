@@ -1,6 +1,5 @@
 pub mod Stage
 pub mod Sending
-pub mod Flat
 pub mod Writing
 pub mod Raising
 pub mod Telling

@@ -16,7 +16,7 @@ use Rattle.heap.specs.declared.making.Blank.TheVariants as blank
 use Rattle.heap.specs.Made.{with_blank}
 use Rattle.heap.specs.Operands.{own as own_value}
 use Rattle.heap.specs.Reading.{sort_of_value}
-use Rattle.rows_class.specs.Making.{blank_of}
+use Rattle.run_rows.specs.Calls.{blank_of}
 use Rattle.def_plans.specs.Plan.{Planned, refuses, expected}
 use Rattle.core_iter.specs.declared.iteration.Iteration.TheVariants as state
 use Rattle.core_iter.specs.Sending.{send_named}

@@ -1,22 +1,27 @@
 -- `each`, `each_key`, `each_value` and `delete_if` of a Hash (ISO/IEC 30170:2012, 15.2.13), over the pairs that were there
 -- at the start.
-use Rattle.std.specs.Prelude.{◌≡◌, ℕ, ◌+◌, [], ◌∷◌, length, slice_get, nat_lt, Bool, true, false, ◌&&◌, Option, Some, None, Result, Ok, Err}
-use Rattle.std.specs.declared.alloc.AllocError.{AllocError}
+use Rattle.std.specs.Prelude.{ℕ, ◌-◌, [], ◌∷◌, length, slice_get, nat_lt, Bool, true, false, ◌&&◌, if◌then◌else◌, Option, Some, None}
 use Rattle.rb_value.specs.declared.value.Value.{Value}
 use Rattle.rb_value.specs.declared.value.Value.TheVariants.{Obj}
 use Rattle.rb_value.specs.declared.value.ObjId.{ObjId}
+use Rattle.rb_value.specs.declared.key.Key.{Key}
 use Rattle.rb_value.specs.declared.hash.HashItem.{HashItem}
 use Rattle.rb_value.specs.declared.core_class.CoreClass.TheVariants as class
 use Rattle.rb_value.specs.Value.{is_true}
+use Rattle.def_core.specs.Parts.{pair_of}
 use Rattle.def_core.specs.Store.{Store}
+use Rattle.def_calls.specs.Values.{key_of}
 use Rattle.def_calls.specs.Views.{a_hash}
 use Rattle.rb_store.specs.Held.{Held, one_more}
+use Rattle.heap.specs.Changes.{without_key}
+use Rattle.heap.specs.Copies.{item_at, key_at}
 use Rattle.heap.specs.Made.{array_given, with_array}
-use Rattle.core_calls.specs.declared.beat.Beat.{Beat}
+use Rattle.heap.specs.Operands.{own}
 use Rattle.core_calls.specs.declared.beat.Passed.{Passed}
 use Rattle.core_calls.specs.declared.beat.Passed.TheVariants.{One, Two}
 use Rattle.def_plans.specs.Plan.{Planned, wanted}
-use Rattle.iter_comparing.specs.Hashes.{items, pairs}
+use Rattle.iter_items.specs.Sources.{items, pairs}
+use Rattle.iter_items.specs.Driving.{same_value}
 use Rattle.run_rows.specs.declared.row.VisitRow.{VisitRow}
 use Rattle.run_rows.specs.declared.row.VisitRow.TheVariants as row
 use Rattle.core_iter.specs.declared.iteration.Iteration.TheVariants as state
@@ -64,31 +69,72 @@ goes w answer = is_deleting w.row && is_true answer
 abbrev pub passed : PairWalk → PairWalk
 passed w = record w { place = one_more w.place }
 
-abbrev pub with_deleted : PairWalk → ℕ → PairWalk
-with_deleted w n = record w { deleted = n }
+-- The pair that goes is the one under the key of the walk's pair: the key that it was put in under, where it stands now
+-- behind those that are left; where another shown key stands there, the key that its shown key is now.
 
--- How the walk stands behind the pair, and the heap. Which pair of the Hash goes isn't said yet.
-abbrev pub PassesBy : Bool → Held → PairWalk → Held → PairWalk → Type 0
-PassesBy true held w after u = u ≡ with_deleted (passed w) u.deleted
-PassesBy false held w after u = (u ≡ passed w) × (after ≡ held)
+abbrev pub shows : Value → Option HashItem → Bool
+shows v None = false
+shows v (Some i) = same_value i.shown v
 
-abbrev pub Passes : Held → PairWalk → Value → Held → PairWalk → Type 0
-Passes held w answer after u = PassesBy (goes w answer) held w after u
+abbrev pub key_by : Store → ObjId → ℕ → Value → Bool → Option Key
+key_by st h n shown true = key_at st h n
+key_by st h n shown false = key_of st.objects (own st shown)
+
+abbrev pub key_of_pair : Store → ObjId → ℕ → Value → Option Key
+key_of_pair st h n shown = key_by st h n shown (shows shown (item_at st h n))
+
+-- how the walk stands behind the pair, and the heap
+
+pub record Behind : Type 0 where
+  pub walk : PairWalk
+  pub held : Held
+
+abbrev pub behind : Held → PairWalk → Behind
+behind held w = record { walk = w; held = held }
+
+abbrev pub counted : PairWalk → Option HashItem → PairWalk
+counted w None = w
+counted w (Some i) = record w { deleted = one_more w.deleted }
+
+abbrev pub deleted_under : Held → PairWalk → Option Key → Behind
+deleted_under held w None = behind held w
+deleted_under held w (Some k) =
+    behind (without_key held w.hash k) (counted w (pair_of held.store.objects w.hash k))
+
+abbrev pub deleted_by : Held → PairWalk → Option HashItem → Behind
+deleted_by held w None = behind held w
+deleted_by held w (Some i) =
+    deleted_under held w (key_of_pair held.store w.hash (w.place - w.deleted) i.shown)
+
+abbrev pub deleted : Held → PairWalk → Behind
+deleted held w = deleted_by held w (slice_get w.pairs w.place)
+
+abbrev pub left_behind : Held → PairWalk → Bool → Behind
+left_behind held w true = deleted held w
+left_behind held w false = behind held w
+
+abbrev pub passed_by : Behind → Behind
+passed_by b = behind b.held (passed b.walk)
+
+abbrev pub passes : Held → PairWalk → Value → Behind
+passes held w answer = passed_by (left_behind held w (goes w answer))
 
 -- the next plan, behind the pair
-pub data Next (held : Held) (w : PairWalk) (answer : Value) : Planned Stage → Type 0 where
-  next : (after : Held) (u : PairWalk) → Passes held w answer after u → Next held w answer (pair_next after u)
+
+abbrev pub next_behind : Behind → Planned Stage
+next_behind b = pair_next b.held b.walk
+
+abbrev pub pair_then : Held → PairWalk → Value → Planned Stage
+pair_then held w answer = next_behind (passes held w answer)
 
 -- the next call in place, where a pair is left
-pub data Beats (held : Held) (w : PairWalk) (answer : Value) : Beaten PairWalk → Type 0 where
-  ends : nat_lt (one_more w.place) (length w.pairs) ≡ false
-      → Beats held w answer (record { beat = None; state = w; held = held })
-  calls : (after : Held) (u : PairWalk) → nat_lt (one_more w.place) (length w.pairs) ≡ true
-      → Passes held w answer after u → Beats held w answer (beat_at after u)
 
-abbrev pub IsBeaten : Held → PairWalk → Value → Result (Option Beat) AllocError → PairWalk → Held → Type 0
-IsBeaten held w answer (Ok beat) u after = Beats held w answer (record { beat = beat; state = u; held = after })
-IsBeaten held w answer (Err e) u after = Unit {0}
+abbrev pub beat_behind : Behind → Beaten PairWalk
+beat_behind b = beat_at b.held b.walk
+
+abbrev pub pair_beat : Held → PairWalk → Value → Beaten PairWalk
+pair_beat held w answer = if nat_lt (one_more w.place) (length w.pairs) then beat_behind (passes held w answer)
+    else record { beat = None; state = w; held = held }
 
 -- the pairs that are there
 

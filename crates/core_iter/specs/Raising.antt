@@ -10,6 +10,8 @@ use Rattle.def_core.specs.declared.cause.Cause.TheVariants as cause
 use Rattle.def_core.specs.Store.{core, next_number}
 use Rattle.def_calls.specs.Views.{an_exception}
 use Rattle.rb_store.specs.Held.{Held}
+use Rattle.heap.specs.Changes.{with_message}
+use Rattle.heap.specs.Copies.{copy_left, copy_of}
 use Rattle.heap.specs.Made.{with_exception}
 use Rattle.heap.specs.Reading.{sort_of_value}
 use Rattle.def_plans.specs.Plan.{Planned, raises, refuses}
@@ -32,10 +34,20 @@ made held v = made_by held (an_exception held.store.objects v)
 abbrev pub text : Held → Value → Planned Stage
 text held v = raising (with_exception held (core class.RuntimeError) v Nil) (next_number held.store)
 
--- An exception, or a String. With another message a copy of the exception is raised; what that is isn't said yet.
+-- a copy of an exception with another message
+
+abbrev pub again_by : Held → Option ObjId → Value → Planned Stage
+again_by held (Some e) message = raising (with_message held e message) e
+again_by held None message = refuses held cause.NotException
+
+abbrev pub again : Held → Value → Value → Planned Stage
+again held v message = again_by (copy_left held v)
+    (an_exception (copy_left held v).store.objects (copy_of held.store v)) message
+
+-- An exception, or a String.
 abbrev pub Object : Held → Value → Option Sort → List Value → Planned Stage → Type 0
 Object held v (Some sort.Exception) [] p = p ≡ made held v
-Object held v (Some sort.Exception) (m ∷ []) p = Unit {0}
+Object held v (Some sort.Exception) (m ∷ []) p = p ≡ again held v m
 Object held v (Some sort.Exception) (m ∷ d ∷ more) p = p ≡ refuses held cause.NotException
 Object held v (Some sort.String) [] p = p ≡ text held v
 Object held v (Some sort.String) (m ∷ more) p = p ≡ refuses held cause.NotException

@@ -26,7 +26,6 @@ use Rattle.run_rows.specs.declared.row.StarRow.{StarRow}
 use Rattle.run_rows.specs.declared.row.StarRow.TheVariants as row
 use Rattle.core_iter.specs.declared.iteration.Iteration.{Iteration}
 use Rattle.core_iter.specs.declared.iteration.Iteration.TheVariants as state
-use Rattle.core_iter.specs.declared.pairs.PairWalk.{PairWalk}
 use Rattle.core_iter.specs.Stage.{Stage, own, items}
 use Rattle.core_iter.specs.Sending as sending
 use Rattle.core_iter.specs.Writing as writing
@@ -162,17 +161,13 @@ GoesOn held (own (state.Indexing w)) a p = p ≡ visiting.index_next held w
 GoesOn held (own (state.Replacing w)) a p = p ≡ visiting.replace_then held w a
 GoesOn held (own (state.Deleting w)) a p = p ≡ visiting.delete_then held w a
 GoesOn held (own (state.Filling f)) a p = p ≡ filling.fill_then held f a
-GoesOn held (own (state.Pairs w)) a p = pairs.Next held w a p
+GoesOn held (own (state.Pairs w)) a p = p ≡ pairs.pair_then held w a
 
 -- The call of a block that comes next, made in place, with the state and the heap that are left. Where none is made the
 -- next plan says what comes.
 
 abbrev pub Makes : {S : Type 0} → (S → Iteration) → sending.Beaten S → Held → Iteration → Option Beat → Type 0
 Makes as_state b after s beat = (beat ≡ b.beat) × (s ≡ as_state b.state) × (after ≡ b.held)
-
-abbrev pub MakesPair : Held → PairWalk → Value → Held → Iteration → Option Beat → Type 0
-MakesPair held w a after (state.Pairs u) beat = pairs.Beats held w a (record { beat = beat; state = u; held = after })
-MakesPair held w a after s beat = ⊥
 
 abbrev pub MakesItems : Held → ItemsState → Value → Held → Iteration → Option Beat → Type 0
 MakesItems held t a after (state.Items u) beat = over_items.Beats held t a after u beat
@@ -189,7 +184,7 @@ Beats held (state.Filling f) a after s beat = Makes state.Filling (filling.fill_
 Beats held (state.Characters w) a after s beat = Makes state.Characters (strings.character_beat held w) after s beat
 Beats held (state.Lines w) a after s beat = Makes state.Lines (strings.line_beat held w) after s beat
 Beats held (state.Bytes w) a after s beat = Makes state.Bytes (strings.byte_beat held w) after s beat
-Beats held (state.Pairs w) a after s beat = MakesPair held w a after s beat
+Beats held (state.Pairs w) a after s beat = Makes state.Pairs (pairs.pair_beat held w a) after s beat
 Beats held (state.Items t) a after s beat = MakesItems held t a after s beat
 Beats held t a after s beat = (beat ≡ None) × (s ≡ t) × (after ≡ held)
 

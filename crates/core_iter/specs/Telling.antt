@@ -11,8 +11,8 @@ use Rattle.rb_store.specs.Held.{Held}
 use Rattle.heap.specs.Changes.{with_message}
 use Rattle.heap.specs.Made.{with_new}
 use Rattle.def_plans.specs.Plan.{Planned, raises, gives, wanted}
-use Rattle.rows_object.specs.Exceptions.{inspection}
-use Rattle.iter_comparing.specs.Ordering.{same_value}
+use Rattle.run_rows.specs.Calls.{inspection}
+use Rattle.iter_items.specs.Driving.{same_value}
 use Rattle.core_iter.specs.declared.iteration.Iteration.TheVariants as state
 use Rattle.core_iter.specs.Sending.{ask}
 use Rattle.core_iter.specs.Stage.{Stage, own}

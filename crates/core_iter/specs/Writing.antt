@@ -8,11 +8,12 @@ use Rattle.def_calls.specs.Values.{text_of_value}
 use Rattle.rb_store.specs.Held.{Held, one_more}
 use Rattle.heap.specs.Operands.{own as own_value}
 use Rattle.heap.specs.Made.{array_given, with_array}
+use Rattle.core_calls.specs.Flat.{flattened}
+use Rattle.core_calls.specs.declared.flattening.Empty.TheVariants.{Vanishes}
 use Rattle.def_plans.specs.Plan.{Planned, writes, gives, refuses}
 use Rattle.core_iter.specs.declared.iteration.Iteration.{Iteration}
 use Rattle.core_iter.specs.declared.iteration.Iteration.TheVariants as state
 use Rattle.core_iter.specs.declared.iteration.Rest.{Rest}
-use Rattle.core_iter.specs.Flat.{flattened}
 use Rattle.core_iter.specs.Sending.{ask}
 use Rattle.core_iter.specs.Stage.{Stage, own}
 
@@ -107,4 +108,4 @@ put_each held (Some vs) = put_next held (all_of vs)
 
 abbrev pub put_all : Held → List Value → Planned Stage
 put_all held [] = empty_line held (all_of [])
-put_all held (v ∷ vs) = put_each held (flattened held.store (v ∷ vs))
+put_all held (v ∷ vs) = put_each held (flattened Vanishes held.store (v ∷ vs))

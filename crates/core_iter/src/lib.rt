@@ -7,7 +7,6 @@
 
 pub mod counting;
 pub mod filling;
-pub mod flattening;
 pub mod iteration;
 pub mod lifting;
 pub mod making;
@@ -22,9 +21,5 @@ pub mod writing;
 
 pub use iteration::{Iteration, Rest};
 pub use planning::{beat, caught, next, start};
-
-#[cfg(test)]
-mod tests;
-
 pub use run_rows;
 pub use run_rows::{core_calls, heap};

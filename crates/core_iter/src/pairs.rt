@@ -1,6 +1,6 @@
 //! `each`, `each_key`, `each_value` and `delete_if` of a Hash, over the pairs that were there at the start.
-ghost use Rattle.std.specs.Prelude.{◌≡◌, IfOk, OnOk};
-ghost use Rattle.def_plans.specs.Plan.{Plans, Meets};
+ghost use Rattle.std.specs.Prelude.{◌≡◌, Some, IfOk, OnOk};
+ghost use Rattle.def_plans.specs.Plan.{Plans};
 ghost use Rattle.core_iter.specs.Pairs as pairs;
 ghost use Rattle.core_iter.specs.Sending.{IsBeat};
 ghost use Rattle.core_iter.specs.Stage.{stage_of};
@@ -65,32 +65,54 @@ fn pair_next(heap: &mut Heap, walk: PairWalk) -> Result<Plan<Iteration>, AllocEr
     }
 }
 
-/// The key of a pair of a Hash: of the one at a place, where that is it, as it was when it was put in.
+/// Whether a pair shows that key.
+fn shows(pair: Option<HashItem>, shown: Value) -> bool
+    ensures { result ≡ pairs.shows shown pair }
+{
+    match pair {
+        Some(pair) => pair.shown == shown,
+        None => false,
+    }
+}
+
+/// The key of a pair of a Hash that shows that key: of the one at a place, where that is it, as it was when it was put
+/// in.
 fn key_of_pair(
     heap: &Heap,
     hash: ObjId,
     place: usize,
-    item: HashItem,
-) -> Result<Option<Key>, AllocError> {
-    if heap.pair_at(hash, place).map(|pair| pair.shown) == Some(item.shown) {
+    shown: Value,
+) -> Result<Option<Key>, AllocError>
+    ensures { IfOk result (λ key. key ≡ pairs.key_of_pair heap.now.store hash place shown) }
+{
+    if shows(heap.pair_at(hash, place), shown) {
         heap.key_at(hash, place)
     } else {
-        heap.key_of(item.shown)
+        heap.key_of(shown)
+    }
+}
+
+/// Takes the pair under a key out of the Hash.
+fn delete_under(heap: &mut Heap, walk: &mut PairWalk, key: &Key)
+    ensures walk { walk.new ≡ (pairs.deleted_under heap.old walk.old (Some key.now)).walk }
+    ensures heap { heap.new ≡ (pairs.deleted_under heap.old walk.old (Some key.now)).held }
+{
+    if heap.remove_pair(walk.hash, key).is_some() {
+        walk.deleted = walk.deleted.saturating_add(1);
     }
 }
 
 /// Takes the pair at the place out of the Hash.
 fn delete(heap: &mut Heap, walk: &mut PairWalk) -> Result<(), AllocError>
-    ensures { OnOk result (walk.new ≡ pairs.with_deleted walk.old walk.new.deleted) }
+    ensures walk { OnOk result (walk.new ≡ (pairs.deleted heap.old walk.old).walk) }
+    ensures heap { OnOk result (heap.new ≡ (pairs.deleted heap.old walk.old).held) }
 {
     let Some(item) = walk.pairs.as_slice().get(walk.place).copied() else {
         return Ok(());
     };
     let place = walk.place.saturating_sub(walk.deleted);
-    if let Some(key) = key_of_pair(heap, walk.hash, place, item)? {
-        if heap.remove_pair(walk.hash, &key).is_some() {
-            walk.deleted = walk.deleted.saturating_add(1);
-        }
+    if let Some(key) = key_of_pair(heap, walk.hash, place, item.shown)? {
+        delete_under(heap, walk, &key);
     }
     Ok(())
 }
@@ -107,7 +129,8 @@ fn is_deleting(row: VisitRow) -> bool
 
 /// Deletes the pair where the answer says so, and goes on behind it.
 fn pass(heap: &mut Heap, walk: &mut PairWalk, answer: Value) -> Result<(), AllocError>
-    ensures { OnOk result (pairs.Passes heap.old walk.old answer heap.new walk.new) }
+    ensures walk { OnOk result (walk.new ≡ (pairs.passes heap.old walk.old answer).walk) }
+    ensures heap { OnOk result (heap.new ≡ (pairs.passes heap.old walk.old answer).held) }
 {
     if is_deleting(walk.row) && answer.is_true() {
         delete(heap, walk)?;
@@ -117,13 +140,12 @@ fn pass(heap: &mut Heap, walk: &mut PairWalk, answer: Value) -> Result<(), Alloc
 }
 
 /// The next plan of a walk.
-#[tactic(auto, using(crate::specs::Pairs::next))]
 pub(crate) fn pair_then(
     heap: &mut Heap,
     walk: PairWalk,
     answer: Value,
 ) -> Result<Plan<Iteration>, AllocError>
-    ensures { Meets stage_of heap.new result (pairs.Next heap.old walk answer) }
+    ensures { Plans stage_of heap.new result (pairs.pair_then heap.old walk answer) }
 {
     let mut walk = walk;
     pass(heap, &mut walk, answer)?;
@@ -136,7 +158,7 @@ pub(crate) fn pair_beat(
     walk: &mut PairWalk,
     answer: Value,
 ) -> Result<Option<Beat>, AllocError>
-    ensures { pairs.IsBeaten heap.old walk.old answer result walk.new heap.new }
+    ensures { IsBeat (pairs.pair_beat heap.old walk.old answer) result walk.new heap.new }
 {
     if walk.place.saturating_add(1) < walk.pairs.len() {
         pass(heap, walk, answer)?;

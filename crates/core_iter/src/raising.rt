@@ -1,5 +1,6 @@
 //! `raise`.
-ghost use Rattle.std.specs.Prelude.{◌≡◌, Ok};
+ghost use Rattle.std.specs.Prelude.{◌≡◌, Ok, Some};
+ghost use Rattle.rb_value.specs.declared.kind.Sort.TheVariants as sorts;
 ghost use Rattle.def_plans.specs.Plan.{Plans, Meets};
 ghost use Rattle.heap.specs.Reading.{sort_of_value};
 ghost use Rattle.core_iter.specs.Raising as raising;
@@ -23,11 +24,11 @@ fn raise_text(heap: &mut Heap, text: Value) -> Result<Plan<Iteration>, AllocErro
 }
 
 /// Raises a copy of an exception with another message.
-fn raise_copy(
-    heap: &mut Heap,
-    raised: Value,
-    message: Value,
-) -> Result<Plan<Iteration>, AllocError> {
+#[tactic(auto, using(heap::proofs::Fresh::held_is))]
+fn raise_copy(heap: &mut Heap, raised: Value, message: Value) -> Result<Plan<Iteration>, AllocError>
+    ensures { sort_of_value heap.old.store raised ≡ Some sorts.Exception
+        → Plans stage_of heap.new result (raising.again heap.old raised message) }
+{
     let copy = heap.copy(raised)?;
     match heap.an_exception(copy) {
         Some(id) => {

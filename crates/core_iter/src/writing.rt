@@ -4,13 +4,12 @@ ghost use Rattle.def_plans.specs.Plan.{Plans};
 ghost use Rattle.core_iter.specs.Stage.{stage_of};
 ghost use Rattle.core_iter.specs.Writing as writing;
 
-use crate::flattening::flattened;
 use crate::iteration::{Iteration, Rest};
 use crate::sending::ask;
 use def_core::Cause;
 use rb_base::List;
 use rb_value::Value;
-use run_rows::core_calls::Plan;
+use run_rows::core_calls::{Empty, Plan, flattened};
 use run_rows::heap::Heap;
 use std::alloc::AllocError;
 
@@ -75,7 +74,7 @@ pub(crate) fn put_all(heap: &mut Heap, args: &[Value]) -> Result<Plan<Iteration>
         let rest = all_of(heap, args)?;
         return empty_line(heap, rest);
     }
-    match flattened(heap, args)? {
+    match flattened(heap, args, Empty::Vanishes)? {
         Some(values) => {
             let rest = Rest {
                 values: List::from_vec(values),

@@ -1,4 +1,7 @@
 //! Activations.
+ghost use Rattle.std.specs.Prelude.{◌≡◌};
+ghost use Rattle.run_calls.specs.Activations as activations;
+
 use rb_value::{ObjId, SymId, Value};
 
 /// What an activation runs.
@@ -29,7 +32,9 @@ pub struct Activation {
 
 impl Activation {
     /// An activation of no text, whose `self` is nil.
-    pub fn outside() -> Activation {
+    pub fn outside() -> Activation
+        ensures { result ≡ activations.outside }
+    {
         Activation {
             runs: Runs::MainProgram,
             receiver: Value::Nil,

@@ -1,4 +1,8 @@
 //! Block arguments, and what a break ends.
+ghost use Rattle.std.specs.Prelude.{◌≡◌};
+ghost use Rattle.def_core.specs.Store.{object_at};
+ghost use Rattle.heap.specs.Reading.{proc_in};
+ghost use Rattle.run_calls.specs.Blocks as blocks;
 
 use crate::activation::Runs;
 use core_iter::core_calls::hidden::SEND_KEPT_ROW;
@@ -33,7 +37,9 @@ pub fn block_argument(heap: &mut Heap, value: Value) -> Result<BlockArgument, Al
 /// Settles what a break of a Proc ends, where this is the first call that passes it as its block: the activation that
 /// is opened, or none. It takes no memory.
 #[inline(always)]
-pub fn settle(heap: &mut Heap, block: Option<ObjId>, target: Option<u64>) {
+pub fn settle(heap: &mut Heap, block: Option<ObjId>, target: Option<u64>)
+    ensures { heap.new ≡ blocks.settled heap.old block target }
+{
     match block {
         Some(block) => heap.send_proc(block, target),
         None => {}
@@ -41,7 +47,9 @@ pub fn settle(heap: &mut Heap, block: Option<ObjId>, target: Option<u64>) {
 }
 
 /// The activation that a break in the body of a Proc ends.
-fn target_of(heap: &Heap, block: ObjId) -> Option<u64> {
+fn target_of(heap: &Heap, block: ObjId) -> Option<u64>
+    ensures { result ≡ blocks.target_in (proc_in (object_at heap.now.store.objects block).kind) }
+{
     match heap.proc_of(block) {
         Some(contents) => contents.sending.break_target(),
         None => None,
@@ -49,7 +57,9 @@ fn target_of(heap: &Heap, block: ObjId) -> Option<u64> {
 }
 
 /// The activation that a break ends in the activation of that number. It takes no memory.
-pub fn break_target(heap: &Heap, number: u64, runs: Runs) -> Option<u64> {
+pub fn break_target(heap: &Heap, number: u64, runs: Runs) -> Option<u64>
+    ensures { result ≡ blocks.break_target heap.now.store number runs }
+{
     match runs {
         Runs::BlockBody(block) => target_of(heap, block),
         Runs::LambdaBody => Some(number),

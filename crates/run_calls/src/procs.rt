@@ -1,4 +1,6 @@
 //! What the call of a Proc enters.
+ghost use Rattle.std.specs.Prelude.{◌≡◌};
+ghost use Rattle.run_calls.specs.Activations as activations;
 
 use crate::activation::{Activation, Runs};
 use crate::entry::{Entry, Opening};
@@ -18,7 +20,9 @@ enum Callee {
 
 /// The activation of a Proc's body: that of a lambda is the home of its returns itself.
 #[inline(always)]
-pub fn proc_running(id: ObjId, contents: &ProcContents, next: u64) -> Activation {
+pub fn proc_running(id: ObjId, contents: &ProcContents, next: u64) -> Activation
+    ensures { result ≡ activations.proc_running id contents.now next }
+{
     Activation {
         runs: if contents.lambda {
             Runs::LambdaBody
@@ -67,7 +71,9 @@ fn opening(
 
 /// How the arguments of a Proc are bound.
 #[inline(always)]
-pub fn proc_binds(lambda: bool) -> BindKind {
+pub fn proc_binds(lambda: bool) -> BindKind
+    ensures { result ≡ activations.proc_binds lambda }
+{
     if lambda {
         BindKind::Lambda
     } else {

@@ -1,4 +1,6 @@
 //! Bodies of classes and modules.
+ghost use Rattle.std.specs.Prelude.{◌≡◌};
+ghost use Rattle.run_calls.specs.Activations as activations;
 
 use crate::activation::{Activation, Runs};
 use core_iter::heap::Heap;
@@ -27,7 +29,9 @@ pub fn open_space(
 
 /// After the body of a class or module its next methods are public.
 #[cold]
-fn close_space(heap: &mut Heap, own: Value) {
+fn close_space(heap: &mut Heap, own: Value)
+    ensures { heap.new.store ≡ activations.space_closed heap.old.store own }
+{
     if let Value::Obj(class) = own {
         heap.set_default(class, Visibility::Public);
     }
@@ -35,7 +39,9 @@ fn close_space(heap: &mut Heap, own: Value) {
 
 /// Ends an activation: after the body of a class or module its next methods are public. It takes no memory.
 #[inline(always)]
-pub fn close(heap: &mut Heap, activation: &Activation) {
+pub fn close(heap: &mut Heap, activation: &Activation)
+    ensures { heap.new.store ≡ activations.closed heap.old.store activation.now }
+{
     match activation.runs {
         Runs::ClassBody => close_space(heap, activation.receiver),
         _ => {}

@@ -1,1 +1,6 @@
 pub mod Straight
+pub mod Named
+pub mod Numbered
+pub mod Calls
+pub mod Opening
+pub mod Methods

@@ -4,11 +4,12 @@
 //! each crate of rows, one behind another.
 //!
 //! Types: [`Row`], [`PlainRow`], [`StarRow`], [`KernelRow`], [`VisitRow`]. Calls: [`row_at`], [`call_plain`],
-//! [`call_of_table`], [`call_at_once`],
-//! [`opening_heap`]. Straight on: [`read_alone`]. Numbers: [`METHOD_MISSING_ROW`], [`SEND_KEPT_ROW`].
+//! [`call_of_table`], [`call_at_once`], [`opening_heap`]. Straight on: [`read_alone`]. Numbers:
+//! [`METHOD_MISSING_ROW`], [`SEND_KEPT_ROW`]. Law: [`laws_of_opening`].
 #![tactic(auto)]
 
 pub mod calling;
+pub mod laws;
 pub mod naming;
 pub mod numbering;
 pub mod opening;
@@ -17,6 +18,7 @@ pub mod straight;
 
 pub use calling::{call_at_once, call_of_table, call_plain};
 pub use iter_items::core_calls::hidden::SEND_KEPT_ROW;
+pub use laws::laws_of_opening;
 pub use numbering::{METHOD_MISSING_ROW, row_at};
 pub use opening::opening_heap;
 pub use row::{KernelRow, PlainRow, Row, StarRow, VisitRow};

@@ -1,5 +1,8 @@
 //! The methods that iterations of the language give to classes, by their names.
 
+ghost use Rattle.std.specs.Prelude.{◌≡◌, map};
+ghost use Rattle.run_rows.specs.Named as named;
+
 use crate::row::{KernelRow, VisitRow};
 
 const KERNEL: [(&[u8], KernelRow); 11] = [
@@ -70,7 +73,10 @@ const RANGE: [(&[u8], VisitRow); 2] = [
 ];
 
 /// The methods of a segment that write, read, send, make objects, call Procs, move between fibers and ask exceptions.
-pub fn kernel_rows(segment: u16) -> &'static [(&'static [u8], KernelRow)] {
+#[tactic(auto, unfolding(crate::specs::Named::kernel_rows, crate::specs::Named::class_rows, crate::specs::Named::proc_rows, crate::specs::Named::fiber_rows, crate::specs::Named::fiber_class_rows, crate::specs::Named::exception_rows))]
+pub fn kernel_rows(segment: u16) -> &'static [(&'static [u8], KernelRow)]
+    ensures { map (λ r. (r.0.now, r.1)) result.now ≡ named.kernel segment }
+{
     match segment {
         2 => &KERNEL,
         6 => &CLASS,
@@ -83,7 +89,10 @@ pub fn kernel_rows(segment: u16) -> &'static [(&'static [u8], KernelRow)] {
 }
 
 /// The methods of a segment that call a block for each item, and those that fill a new object.
-pub fn visit_rows(segment: u16) -> &'static [(&'static [u8], VisitRow)] {
+#[tactic(auto, unfolding(crate::specs::Named::integer_rows, crate::specs::Named::string_rows, crate::specs::Named::array_rows, crate::specs::Named::hash_rows, crate::specs::Named::range_rows))]
+pub fn visit_rows(segment: u16) -> &'static [(&'static [u8], VisitRow)]
+    ensures { map (λ r. (r.0.now, r.1)) result.now ≡ named.visits segment }
+{
     match segment {
         14 => &INTEGER,
         22 => &STRING,

@@ -1,57 +1,45 @@
 //! The rows by their numbers.
+ghost use Rattle.std.specs.Prelude.{◌≡◌, ◌/◌, ◌%◌, map};
+ghost use Rattle.run_rows.specs.Named as named;
+ghost use Rattle.run_rows.specs.Numbered as numbered;
 
 use crate::naming::{kernel_rows, visit_rows};
 use crate::row::{KernelRow, PlainRow, Row, StarRow};
-use iter_items::core_calls::hidden::{
-    COLLECT_ROW, FIRST_OF_ITEMS, HIDDEN, SEND_KEPT_ROW, YIELD_ROW,
-};
-use row_table::{CoreRow, line_at, names};
+use iter_items::core_calls::hidden::HIDDEN;
+use row_table::{line_at, names};
 
 /// The row of `method_missing` of Object.
 pub const METHOD_MISSING_ROW: u16 = 1;
 
-/// A hidden row of the items.
-fn hidden_of_items(number: u16) -> Row {
-    let place = usize::from(number.saturating_sub(FIRST_OF_ITEMS));
-    match iter_items::rows_of(HIDDEN).get(place) {
-        Some((_, row)) => Row::Star(StarRow::Items(*row)),
-        None => Row::OfTable(None),
-    }
-}
+/// The hidden rows before those of the items.
+static HIDDEN_ROWS: [(&[u8], Row); 3] = [
+    (b"", Row::Star(StarRow::Kernel(KernelRow::SendKept))),
+    (b"", Row::Plain(PlainRow::Collect)),
+    (b"", Row::Star(StarRow::Kernel(KernelRow::Yield))),
+];
 
-/// A hidden row.
-fn hidden(number: u16) -> Row {
-    match number {
-        SEND_KEPT_ROW => Row::Star(StarRow::Kernel(KernelRow::SendKept)),
-        YIELD_ROW => Row::Star(StarRow::Kernel(KernelRow::Yield)),
-        COLLECT_ROW => Row::Plain(PlainRow::Collect),
-        _ => hidden_of_items(number),
-    }
-}
-
-/// The row at a place, or the place behind these rows.
-fn at<R: Copy>(rows: &[(&[u8], R)], place: usize) -> Result<R, usize> {
+/// The row at a place, or how far the place is behind these rows.
+fn at<R: Copy>(rows: &[(&[u8], R)], place: usize) -> Result<R, usize>
+    ensures { result ≡ numbered.row_in (map (λ r. (r.0.now, r.1)) rows.now) place }
+{
     match rows.get(place) {
         Some((_, row)) => Ok(*row),
         None => Err(place.saturating_sub(rows.len())),
     }
 }
 
-/// The row at a place of a segment among those that give their outcome at once, or the place behind them.
-fn plain_at(segment: u16, place: usize) -> Result<PlainRow, usize> {
+/// The row at a place of a segment among those that give their outcome at once, or how far the place is behind them.
+fn plain_at(segment: u16, place: usize) -> Result<PlainRow, usize>
+    ensures { result ≡ numbered.row_in (named.plain segment) place }
+{
     let place = match at(rows_object::rows_of(segment), place) {
         Ok(row) => return Ok(PlainRow::Object(row)),
         Err(place) => place,
     };
-    match at(rows_class::rows_of(segment), place) {
-        Ok(row) => Ok(PlainRow::Class(row)),
-        Err(place) => Err(place),
-    }
-}
-
-/// The row at a place of a segment of Array, Hash or Range among those that give their outcome at once, or the place
-/// behind them.
-fn plain_of_items(segment: u16, place: usize) -> Result<PlainRow, usize> {
+    let place = match at(rows_class::rows_of(segment), place) {
+        Ok(row) => return Ok(PlainRow::Class(row)),
+        Err(place) => place,
+    };
     let place = match at(iter_items::rows_items::rows_of(segment), place) {
         Ok(row) => return Ok(PlainRow::Item(row)),
         Err(place) => place,
@@ -66,56 +54,65 @@ fn plain_of_items(segment: u16, place: usize) -> Result<PlainRow, usize> {
     }
 }
 
-/// The row at a place of a segment among those that call others.
-fn star_at(segment: u16, place: usize) -> Option<StarRow> {
+/// The row at a place of a segment among those that call others, or how far the place is behind them.
+fn star_at(segment: u16, place: usize) -> Result<StarRow, usize>
+    ensures { result ≡ numbered.row_in (named.star segment) place }
+{
     let place = match at(kernel_rows(segment), place) {
-        Ok(row) => return Some(StarRow::Kernel(row)),
+        Ok(row) => return Ok(StarRow::Kernel(row)),
         Err(place) => place,
     };
     let place = match at(visit_rows(segment), place) {
-        Ok(row) => return Some(StarRow::Visit(row)),
+        Ok(row) => return Ok(StarRow::Visit(row)),
         Err(place) => place,
     };
     match at(iter_items::rows_of(segment), place) {
-        Ok(row) => Some(StarRow::Items(row)),
-        Err(_) => None,
+        Ok(row) => Ok(StarRow::Items(row)),
+        Err(place) => Err(place),
     }
 }
 
-/// The row at a place of a segment behind those of the table.
-fn further(segment: u16, place: usize) -> Row {
-    let plain = match segment {
-        26..=31 => plain_of_items(segment, place),
-        _ => plain_at(segment, place),
+/// The row at a place of a segment beyond the table, or how far the place is behind them.
+fn beyond(segment: u16, place: usize) -> Result<Row, usize>
+    ensures { result ≡ numbered.row_in (named.beyond segment) place }
+{
+    let place = match plain_at(segment, place) {
+        Ok(row) => return Ok(Row::Plain(row)),
+        Err(place) => place,
     };
-    match plain {
-        Ok(row) => Row::Plain(row),
-        Err(place) => match star_at(segment, place) {
-            Some(row) => Row::Star(row),
-            None => Row::OfTable(None),
-        },
+    match star_at(segment, place) {
+        Ok(row) => Ok(Row::Star(row)),
+        Err(place) => Err(place),
     }
 }
 
-/// The row of the table that a number is.
-fn row_of_table(number: u16) -> Option<CoreRow> {
+/// The row of a number among those of the table and the first hidden ones, or how far its place is behind them.
+#[tactic(auto, unfolding(crate::specs::Named::hidden_rows))]
+fn first(number: u16) -> Result<Row, usize>
+    ensures { result ≡ numbered.row_in (named.first (number / 256)) (number % 256) }
+{
+    let segment = number / 256;
+    let place = usize::from(number % 256);
+    if segment == HIDDEN {
+        return at(&HIDDEN_ROWS, place);
+    }
     match line_at(number) {
-        Some(line) => Some(line.row),
-        None => None,
+        Some(line) => Ok(Row::OfTable(Some(line.row))),
+        None => Err(place.saturating_sub(names(segment).len())),
     }
 }
 
 /// What the row of a number is. It takes no memory.
-pub fn row_at(number: u16) -> Row {
-    let segment = number / 256;
-    let place = usize::from(number % 256);
-    if segment == HIDDEN {
-        return hidden(number);
-    }
-    let of_table = names(segment).len();
-    if place < of_table {
-        Row::OfTable(row_of_table(number))
-    } else {
-        further(segment, place - of_table)
+#[tactic(auto, using(crate::proofs::Placed::in_first, crate::proofs::Placed::in_second))]
+pub fn row_at(number: u16) -> Row
+    ensures { result ≡ numbered.row_at number }
+{
+    let place = match first(number) {
+        Ok(row) => return row,
+        Err(place) => place,
+    };
+    match beyond(number / 256, place) {
+        Ok(row) => row,
+        Err(_) => Row::OfTable(None),
     }
 }

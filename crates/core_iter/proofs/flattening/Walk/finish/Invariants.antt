@@ -1,9 +1,0 @@
-use Rattle.std.proofs.Common.{◌≡◌}
-use Rattle.core_iter.specs.Flat.{told, turns_of}
-use Rattle.core_iter.proofs.flattening.Walk.finish.Given as goal
-
-abbrev pub invariant-elements : goal.invariant-elements
-invariant-elements l = told l.heap.store.objects l.fn.self ≡ told l.heap.store.objects l.self
-
-abbrev pub decreases-elements : goal.decreases-elements
-decreases-elements l = turns_of l.heap.store.objects l.self
