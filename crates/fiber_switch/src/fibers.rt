@@ -1,4 +1,9 @@
 //! The fibers.
+ghost use Rattle.std.specs.Prelude.{◌≡◌, IfOk, OnOk, is_some, slice_get};
+ghost use Rattle.def_core.specs.Store.{object_at};
+ghost use Rattle.def_calls.specs.Views as views;
+ghost use Rattle.fiber_switch.specs.Switching as switching;
+ghost use Rattle.vm_unwind.specs.Levels as seen;
 
 use def_core::Cause;
 use pair_table::PairTable;
@@ -43,7 +48,9 @@ pub enum Resumed {
 
 impl Fibers {
     /// The root alone, which runs.
-    pub fn new(alloc: Global) -> Result<Fibers, AllocError> {
+    pub fn new(alloc: Global) -> Result<Fibers, AllocError>
+        ensures { IfOk result (λ fibers. switching.of fibers ≡ switching.root_alone) }
+    {
         let mut begun = Vec::new(alloc);
         begun.push(Fiber {
             object: None,
@@ -58,12 +65,16 @@ impl Fibers {
     }
 
     /// The fibers that have begun.
-    pub fn begun(&self) -> &[Fiber] {
+    pub fn begun(&self) -> &[Fiber]
+        ensures { result.now ≡ (switching.of self.now).begun }
+    {
         &self.begun
     }
 
     /// The fiber that runs has another state, and no resumer or another one.
-    fn set_running(&mut self, state: State, resumer: Option<usize>) {
+    fn set_running(&mut self, state: State, resumer: Option<usize>)
+        ensures { switching.of self.new ≡ switching.running_set (switching.of self.old) state resumer }
+    {
         if let Some(fiber) = self.begun.get_mut(self.running) {
             fiber.state = state;
             fiber.resumer = resumer;
@@ -71,12 +82,18 @@ impl Fibers {
     }
 
     /// The number of the fiber that resumed the one that runs.
-    fn resumer(&self) -> Option<usize> {
+    fn resumer(&self) -> Option<usize>
+        ensures { result ≡ switching.resumer_of (switching.of self.now) }
+    {
         self.begun.get(self.running)?.resumer
     }
 
     /// Another fiber runs.
-    fn run(&mut self, frames: &mut Frames, number: usize) {
+    fn run(&mut self, frames: &mut Frames, number: usize)
+        ensures fibers { switching.of self.new ≡ switching.run (switching.of self.old) number }
+        ensures lines { seen.of frames.new ≡ switching.line_run_in (seen.of frames.old) number
+            (slice_get (switching.of self.old).begun number) }
+    {
         if let Some(fiber) = self.begun.get_mut(number) {
             fiber.state = State::Running;
             self.running = number;
@@ -85,7 +102,12 @@ impl Fibers {
     }
 
     /// A fiber begins: it has a line without levels, which runs.
-    fn begin(&mut self, frames: &mut Frames, object: ObjId) -> Result<(), AllocError> {
+    fn begin(&mut self, frames: &mut Frames, object: ObjId) -> Result<(), AllocError>
+        ensures fibers { OnOk result (switching.of self.new ≡ switching.began (switching.of self.old)
+            (switching.next_line (seen.of frames.old)) object) }
+        ensures lines { OnOk result (seen.of frames.new ≡ switching.lines_began (seen.of frames.old)
+            (switching.of self.old) object) }
+    {
         let number = frames.add_line()?;
         self.numbers.insert(object.0, number as u64)?;
         self.begun.push(Fiber {
@@ -100,7 +122,14 @@ impl Fibers {
     }
 
     /// What the resume of a fiber comes to that has begun.
-    fn resume_begun(&mut self, frames: &mut Frames, number: usize) -> Resumed {
+    fn resume_begun(&mut self, frames: &mut Frames, number: usize) -> Resumed
+        ensures answer { result ≡ switching.answer_in (slice_get (switching.of self.old).begun number) }
+        ensures fibers { switching.of self.new ≡ switching.switched_in (switching.of self.old) number
+            (slice_get (switching.of self.old).begun number) }
+        ensures lines { seen.of frames.new ≡ switching.lines_switched_in (seen.of frames.old)
+            (switching.of self.old) number
+            (slice_get (switching.of self.old).begun number) }
+    {
         let Some(fiber) = self.begun.get_mut(number) else {
             return Resumed::Refused(Cause::DeadFiber);
         };
@@ -112,7 +141,8 @@ impl Fibers {
                 self.run(frames, number);
                 Resumed::Continues
             }
-            State::Running | State::Resuming => Resumed::Refused(Cause::DoubleResume),
+            State::Running => Resumed::Refused(Cause::DoubleResume),
+            State::Resuming => Resumed::Refused(Cause::DoubleResume),
             State::Ended => Resumed::Refused(Cause::DeadFiber),
         }
     }
@@ -124,21 +154,37 @@ impl Fibers {
         heap: &Heap,
         frames: &mut Frames,
         object: ObjId,
-    ) -> Result<Resumed, AllocError> {
-        match heap.fiber_of(object) {
-            Some((block, false)) => match self.numbers.get(&object.0).copied() {
-                Some(number) => Ok(self.resume_begun(frames, number as usize)),
-                None => {
-                    self.begin(frames, object)?;
-                    Ok(Resumed::Begins(block))
-                }
-            },
-            _ => Ok(Resumed::Refused(Cause::DeadFiber)),
+    ) -> Result<Resumed, AllocError>
+        ensures answer { IfOk result (λ answer. answer ≡ switching.answer_to (switching.of self.old) object
+            (views.fiber_of (object_at heap.now.store.objects object).kind)) }
+        ensures fibers { OnOk result (switching.of self.new ≡ switching.resumed (switching.of self.old)
+            (switching.next_line (seen.of frames.old)) object (views.fiber_of (object_at heap.now.store.objects object).kind)) }
+        ensures lines { OnOk result (seen.of frames.new ≡ switching.lines_resumed (seen.of frames.old)
+            (switching.of self.old) object (views.fiber_of (object_at heap.now.store.objects object).kind)) }
+    {
+        let Some((block, ended)) = heap.fiber_of(object) else {
+            return Ok(Resumed::Refused(Cause::DeadFiber));
+        };
+        if ended {
+            return Ok(Resumed::Refused(Cause::DeadFiber));
+        }
+        match self.numbers.get(&object.0).copied() {
+            Some(number) => Ok(self.resume_begun(frames, number as usize)),
+            None => {
+                self.begin(frames, object)?;
+                Ok(Resumed::Begins(block))
+            }
         }
     }
 
     /// Yields to the fiber that resumed the one that runs; false where none did. It takes no memory.
-    pub fn yield_back(&mut self, frames: &mut Frames) -> bool {
+    pub fn yield_back(&mut self, frames: &mut Frames) -> bool
+        ensures there { result ≡ is_some (switching.resumer_of (switching.of self.old)) }
+        ensures fibers { switching.of self.new ≡ switching.yielded (switching.of self.old)
+            (switching.resumer_of (switching.of self.old)) }
+        ensures lines { seen.of frames.new ≡ switching.lines_yielded (seen.of frames.old) (switching.of self.old)
+            (switching.resumer_of (switching.of self.old)) }
+    {
         match self.resumer() {
             Some(resumer) => {
                 self.set_running(State::Suspended, None);
@@ -150,13 +196,23 @@ impl Fibers {
     }
 
     /// The object of the fiber that runs, which the root has none.
-    fn object(&self) -> Option<ObjId> {
+    fn object(&self) -> Option<ObjId>
+        ensures { result ≡ switching.object_of (switching.of self.now) }
+    {
         self.begun.get(self.running)?.object
     }
 
     /// Ends the fiber that runs, which has no levels any more: the one that resumed it runs. It gives false where none
     /// did. It takes no memory.
-    pub fn end(&mut self, heap: &mut Heap, frames: &mut Frames) -> bool {
+    pub fn end(&mut self, heap: &mut Heap, frames: &mut Frames) -> bool
+        ensures there { result ≡ is_some (switching.resumer_of (switching.of self.old)) }
+        ensures fibers { switching.of self.new ≡ switching.ended (switching.of self.old)
+            (switching.resumer_of (switching.of self.old)) }
+        ensures lines { seen.of frames.new ≡ switching.lines_ended (seen.of frames.old) (switching.of self.old)
+            (switching.resumer_of (switching.of self.old)) }
+        ensures heap { heap.new ≡ switching.heap_ended heap.old (switching.of self.old)
+            (switching.resumer_of (switching.of self.old)) }
+    {
         let ended = self.running;
         match self.resumer() {
             Some(resumer) => {

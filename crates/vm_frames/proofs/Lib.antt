@@ -1,0 +1,5 @@
+pub mod Keeping
+pub mod Stacking
+pub mod Steps
+pub mod Storing
+pub mod Writing

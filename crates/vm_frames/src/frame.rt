@@ -1,4 +1,8 @@
 //! A frame.
+ghost use Rattle.std.specs.Prelude.{◌≡◌};
+ghost use Rattle.vm_frames.specs.Exits as exits;
+ghost use Rattle.vm_frames.specs.Opening as opening;
+
 use def_core::BindKind;
 use rb_value::ObjId;
 
@@ -37,7 +41,9 @@ pub struct Frame {
 
 impl Frame {
     /// A frame of no body, without registers.
-    pub fn outside() -> Frame {
+    pub fn outside() -> Frame
+        ensures { result ≡ opening.no_frame }
+    {
         Frame {
             number: 0,
             body: 0,
@@ -60,7 +66,10 @@ impl Frame {
 
     /// The place of register `a` among those of the line.
     #[inline(always)]
-    pub(crate) fn place(&self, a: u16) -> usize {
+    #[tactic(auto, unfolding(crate::specs::Registers::wrapped))]
+    pub(crate) fn place(&self, a: u16) -> usize
+        ensures { result ≡ exits.place self.now a }
+    {
         self.base.wrapping_add(usize::from(a))
     }
 }

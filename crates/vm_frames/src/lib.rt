@@ -12,6 +12,7 @@
 #![tactic(auto)]
 
 pub mod arguments;
+pub mod blocks;
 pub mod capturing;
 pub mod exits;
 pub mod frame;
