@@ -10,14 +10,16 @@ use vm_acts::core_calls::{Call, Passed};
 use vm_acts::core_iter::Iteration;
 use vm_acts::core_iter::making::blank_for;
 use vm_acts::fiber_switch::Resumed;
-use vm_acts::heap::{Blank, Heap};
+use vm_acts::heap::{Blank, Given, Heap};
 use vm_acts::run_calls::method_running;
 use vm_acts::run_rows::iter_items::iter_comparing::ComparingRow;
 use vm_acts::run_rows::iter_items::{ItemsRow, ItemsState};
-use vm_acts::run_rows::{KernelRow, PlainRow, Row, StarRow, call_at_once, call_plain};
+use vm_acts::run_rows::{
+    KernelRow, PlainRow, Row, StarRow, call_at_once, call_of_table, call_plain,
+};
 use vm_acts::vm_frames::{Arguments, Begun, Frame};
 use vm_acts::vm_parts::entering::{Entered, enter_called, keep_passed, open_body};
-use vm_acts::vm_parts::exits::{hand_out, handed, receive_here};
+use vm_acts::vm_parts::exits::{hand_out, handed, raise_out, receive_here};
 use vm_acts::vm_parts::flow::Flow;
 use vm_acts::vm_parts::known::{MethodBody, Usual};
 use vm_acts::vm_parts::loaded::Loaded;
@@ -33,8 +35,8 @@ pub enum Initialize {
 
 /// What the first turn of an iteration does in place: it ends with a value, calls a Proc whose answer is handed on or gives
 /// way to a value, resumes a fiber with at most one value, or with none for the next item of an Enumerator, yields at most
-/// one, makes an object of a class, has a class make one, which is raised, or asks its receiver for what a core method
-/// gives.
+/// one, makes an object of a class, has a class make one, which is raised, raises an exception, or asks its receiver for
+/// what a core method gives.
 #[derive(Clone, Copy)]
 pub enum First {
     Gives(Value),
@@ -58,6 +60,7 @@ pub enum First {
         initialize: Initialize,
     },
     Raises(Value),
+    Throws(ObjId),
     Asks {
         number: u16,
         row: Row,
@@ -190,11 +193,51 @@ fn first_of_message(parts: &Parts, begun: &Begun) -> Option<First> {
     }
 }
 
+/// Whether a value is `==` another, or isn't, where that is a core method of the table and is remembered or is then.
+fn first_of_equal(
+    parts: &mut Parts,
+    begun: &Begun,
+    negating: bool,
+) -> Result<Option<First>, AllocError> {
+    let class = parts.heap.class_of(begun.receiver);
+    let Some(
+        Usual::Core {
+            number,
+            row: Row::OfTable(row),
+        },
+    ) = found_in(parts, class, parts.names.equal)?
+    else {
+        return Ok(None);
+    };
+    let args = parts.frames.given(begun.arguments);
+    if args.len() != 1 {
+        return Ok(None);
+    }
+    let call = Call {
+        receiver: begun.receiver,
+        args,
+        block: None,
+    };
+    match call_of_table(&mut parts.heap, number, row, call)? {
+        Given::Gives(answer) => {
+            let told = Value::from_truth(answer.is_true() != negating);
+            Ok(Some(First::Gives(told)))
+        }
+        Given::Raises(exception) => Ok(Some(First::Throws(exception))),
+    }
+}
+
 /// What the first turn of an iteration does, where it is done in place.
 fn first_of(parts: &mut Parts, begun: &Begun) -> Result<Option<First>, AllocError> {
     match begun.row {
         StarRow::Items(ItemsRow::Compares(ComparingRow::HashElement)) => {
             first_of_element(parts, begun)
+        }
+        StarRow::Items(ItemsRow::Compares(ComparingRow::Matches)) => {
+            first_of_equal(parts, begun, false)
+        }
+        StarRow::Items(ItemsRow::Compares(ComparingRow::Differs)) => {
+            first_of_equal(parts, begun, true)
         }
         StarRow::Items(ItemsRow::Enumerates(row)) => Ok(first_of_enumerator(parts, begun, row)),
         StarRow::Kernel(KernelRow::NewObject) => first_of_object(parts, begun),
@@ -411,6 +454,10 @@ fn begin_with(
             initialize,
         } => make_in_place(code, hot, parts, begun, class, blank, initialize),
         First::Raises(class) => raise_in_place(parts, begun, class),
+        First::Throws(exception) => {
+            parts.frames.drop_arguments(begun.arguments);
+            raise_out(code, parts, exception)
+        }
         First::Asks { number, row } => {
             wait_handing(parts, begun)?;
             parts.frames.drop_arguments(begun.arguments);

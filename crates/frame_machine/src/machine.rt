@@ -119,6 +119,11 @@ impl Machine {
         self.parts.heap.probes()
     }
 
+    /// The peak of the run: the most blocks of 64 registers that the frames of all fibers that had begun held at once.
+    pub fn peak(&self) -> usize {
+        self.parts.frames.peak()
+    }
+
     /// The levels, registers and environments.
     pub fn frames(&self) -> &Frames {
         &self.parts.frames

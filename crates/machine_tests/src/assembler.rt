@@ -18,11 +18,12 @@ pub struct Plan<'a> {
     pub catches: &'a [CatchEntry],
 }
 
-/// What a run wrote, and what it came to.
+/// What a run wrote, what it came to, and its peak.
 #[derive(Drop)]
 pub struct Seen {
     pub out: Vec<u8>,
     pub ran: Option<Ran>,
+    pub peak: usize,
 }
 
 /// So many required parameters, and no others.
@@ -112,6 +113,7 @@ pub fn run(
         Err(_) => return Ok(Seen {
             out: Vec::from_slice(alloc, b"not verified")?,
             ran: None,
+            peak: 0,
         }),
     };
     let mut machine = start(alloc, verified)?;
@@ -124,5 +126,6 @@ pub fn run(
     Ok(Seen {
         out: Vec::from_slice(alloc, sink.bytes())?,
         ran,
+        peak: machine.peak(),
     })
 }

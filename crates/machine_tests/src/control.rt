@@ -182,6 +182,8 @@ fn deep_calls_are_refused(rt: HostRuntime) -> Result<(), AllocError> {
     let seen = run(rt.alloc(), &[main, method], b"", 1_000_000)?;
     let is_uncaught = matches!(seen.ran, Some(Ran::Uncaught(_)));
     assert!(rt; is_uncaught);
+    // 10,000 frames of four registers.
+    assert_eq!(rt; seen.peak, 625);
     Ok(())
 }
 

@@ -70,3 +70,18 @@ fn tells_what_nothing_rescued(rt: HostRuntime) -> Result<(), AllocError> {
     assert!(rt; is_uncaught);
     Ok(())
 }
+
+#[test]
+fn peaks_are_in_blocks(rt: HostRuntime) -> Result<(), AllocError> {
+    for (registers, peak) in [(1, 1), (64, 1), (65, 2), (256, 4)] {
+        let seen = run(
+            rt.alloc(),
+            &[plain(1, registers, &[Operation::Stop], &[])],
+            b"",
+            10,
+        )?;
+        assert!(rt; seen.ran == Some(Ran::Ended(0)));
+        assert_eq!(rt; seen.peak, peak);
+    }
+    Ok(())
+}

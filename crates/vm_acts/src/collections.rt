@@ -5,7 +5,7 @@ use rite_code::PoolItem;
 use std::alloc::AllocError;
 use vm_parts::exits::after;
 use vm_parts::flow::Flow;
-use vm_parts::heap::Given;
+use vm_parts::heap::{Given, Heap};
 use vm_parts::loaded::Loaded;
 use vm_parts::parts::{Parts, behind, put};
 use vm_parts::run_rows::iter_items::rows_items::{RowError, put_pair};
@@ -26,13 +26,13 @@ pub fn new_array(
 }
 
 /// Puts values after the elements of a value that is an Array.
-fn append(parts: &mut Parts, array: Option<ObjId>, values: &[Value]) -> Result<Given, AllocError> {
+fn append(heap: &mut Heap, array: Option<ObjId>, values: &[Value]) -> Result<Given, AllocError> {
     match array {
         Some(id) => {
-            parts.heap.append(id, values)?;
+            heap.append(id, values)?;
             Ok(Given::Gives(Value::Obj(id)))
         }
-        None => parts.heap.wrong_value(b"ARYPUSH"),
+        None => heap.wrong_value(b"ARYPUSH"),
     }
 }
 
@@ -44,9 +44,10 @@ pub fn push_row(
     a: u16,
     n: u16,
 ) -> Result<Flow, AllocError> {
-    let values = parts.frames.row(hot, behind(a), n)?;
-    let array = parts.heap.an_array(parts.get(hot, a));
-    let given = append(parts, array, &values)?;
+    let value = parts.get(hot, a);
+    let array = parts.heap.an_array(value);
+    let first = behind(a);
+    let given = append(&mut parts.heap, array, parts.frames.window(hot, first, n))?;
     after(code, hot, parts, given, a)
 }
 
@@ -137,14 +138,14 @@ pub fn push_text(
 }
 
 /// Gives a Hash the pairs of keys and values that follow one another.
-fn add_pairs(parts: &mut Parts, id: ObjId, values: &[Value]) -> Result<Given, AllocError> {
+fn add_pairs(heap: &mut Heap, id: ObjId, values: &[Value]) -> Result<Given, AllocError> {
     let mut key = None;
     'values: for value in values {
         match key {
             Some(shown) => {
-                match put_pair(&mut parts.heap, id, shown, *value) {
+                match put_pair(heap, id, shown, *value) {
                     Ok(()) => {}
-                    Err(RowError::Fails(cause)) => return parts.heap.fail(cause),
+                    Err(RowError::Fails(cause)) => return heap.fail(cause),
                     Err(RowError::NoMemory) => return Err(AllocError),
                 }
                 key = None;
@@ -163,9 +164,9 @@ pub fn new_hash(
     a: u16,
     n: u16,
 ) -> Result<Flow, AllocError> {
-    let values = parts.frames.row(hot, a, n.saturating_add(n))?;
+    let count = n.saturating_add(n);
     let given = match parts.heap.make_hash()? {
-        Value::Obj(id) => add_pairs(parts, id, &values)?,
+        Value::Obj(id) => add_pairs(&mut parts.heap, id, parts.frames.window(hot, a, count))?,
         other => Given::Gives(other),
     };
     after(code, hot, parts, given, a)
@@ -179,9 +180,12 @@ pub fn push_pairs(
     a: u16,
     n: u16,
 ) -> Result<Flow, AllocError> {
-    let values = parts.frames.row(hot, behind(a), n.saturating_add(n))?;
-    let given = match parts.heap.a_hash(parts.get(hot, a)) {
-        Some(id) => add_pairs(parts, id, &values)?,
+    let value = parts.get(hot, a);
+    let hash = parts.heap.a_hash(value);
+    let first = behind(a);
+    let count = n.saturating_add(n);
+    let given = match hash {
+        Some(id) => add_pairs(&mut parts.heap, id, parts.frames.window(hot, first, count))?,
         None => parts.heap.wrong_value(b"HASHADD")?,
     };
     after(code, hot, parts, given, a)

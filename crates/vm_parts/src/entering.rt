@@ -192,7 +192,7 @@ pub fn enter_body(
 /// activation; false where there is room for no frame more.
 #[inline(always)]
 fn keep_caller(
-    hot: &Frame,
+    hot: &mut Frame,
     parts: &mut Parts,
     block: Option<ObjId>,
     a: u16,

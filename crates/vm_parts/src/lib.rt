@@ -8,6 +8,7 @@
 #![tactic(auto)]
 
 pub mod arguments;
+pub mod changing;
 pub mod constants;
 pub mod entering;
 pub mod exits;

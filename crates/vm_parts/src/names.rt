@@ -4,13 +4,14 @@ use fiber_switch::heap::Heap;
 use rb_value::SymId;
 use std::alloc::AllocError;
 
-/// The symbols of `new`, `initialize`, `method_missing` and `to_s`.
+/// The symbols of `new`, `initialize`, `method_missing`, `to_s` and `==`.
 #[derive(Clone, Copy, Debug)]
 pub struct Names {
     pub new: SymId,
     pub initialize: SymId,
     pub method_missing: SymId,
     pub to_s: SymId,
+    pub equal: SymId,
 }
 
 impl Names {
@@ -21,6 +22,7 @@ impl Names {
             initialize: heap.intern(b"initialize")?,
             method_missing: heap.intern(b"method_missing")?,
             to_s: heap.intern(b"to_s")?,
+            equal: heap.intern(b"==")?,
         })
     }
 }
