@@ -24,7 +24,7 @@ use Rattle.def_eval.specs.Scopes.{scopes_around, shape_of, with_values, all_of, 
 use Rattle.def_eval.specs.Entering.{after, depth, do_all, do_from, forms_in, begin_body, first_of, in_new_scope, count_failure, begin_bound, open_body, open_iteration, enter, begin_class, run_class}
 use Rattle.world_laws.specs.Fine.{Keeps, Extends, IsActivation}
 use Rattle.world_laws.specs.Outcomes.{ResultIs, BoundIs, OpensIn, OpeningIs, StateIs, EntryIs}
-use Rattle.world_laws.proofs.Growing.{role_stays, sort_stays, value_stays, option_stays, extends_both}
+use Rattle.world_laws.proofs.Growing.{role_stays, sort_stays, value_stays, option_stays}
 use Rattle.rb_value.specs.declared.kind.Sort.TheVariants as sort
 use Rattle.world_laws.proofs.Standing.{keeps_then}
 use Rattle.world_laws.proofs.Worlds.{keeps_activation}
@@ -264,6 +264,18 @@ module _ (s : Source) where
   opens_settled w a None t e h = h
   opens_settled w a (Some p) t e h = opens_stays w _ a e h
 
+  -- an iteration begins in a later world
+  pub iteration_opens : (it : Iteration) (a : Activation) (ks : List Item) (m : Memory) → Under s ks m → (w : World)
+      → Keeps (bodies s m.scopes) m.world w → StateIs (census w.store) it → OpensIn w a
+      → Fits s (open_iteration it a ks m w)
+  iteration_opens it a ks m u w keeps state opens =
+      let x = with_activation w a in
+      let k = keeps_activation (bodies s m.scopes) w keeps.fine a opens in
+      goes s (eval.give Nil) (eval.iteration (next_activation w) it m.place ∷ ks)
+      (record m { place = record m.place { activation = next_activation w }; world = x })
+      (under_iteration ks m u x (keeps_then (bodies s m.scopes) m.world w x keeps k) (next_activation w)
+      (opened_number w a) it (state_stays w x k.extends it state)) tt
+
   module _ (block : Option ObjId) (ks : List Item) (m : Memory) (u : Under s ks m)
       (is : OptionIs (Is (census m.world.store) Proc) block) where
     settled : (w : World) → Keeps (bodies s m.scopes) m.world w → (t : Option ℕ)
@@ -313,15 +325,10 @@ module _ (s : Source) where
         let t = Some (next_activation w) in
         let v = settle w block t in
         let e = (settled w h.keeps t).extends in
-        let opens = opens_settled w a block t e h.activation in
-        let x = with_activation v a in
-        let k = keeps_activation (bodies s m.scopes) v (settled_then w h.keeps t).fine a opens in
         either (Fits s) (is_full (depth ks)) (after (fail (settle w block None) cause.StackTooDeep) ks m)
         (open_iteration it a ks m v) (too_deep w h.keeps)
-        (goes s (eval.give Nil) (eval.iteration (next_activation v) it m.place ∷ ks)
-        (record m { place = record m.place { activation = next_activation v }; world = x })
-        (under_iteration ks m u x (keeps_then (bodies s m.scopes) m.world v x (settled_then w h.keeps t) k)
-        (next_activation v) (opened_number v a) it (state_stays w x (extends_both w v x e k.extends) it h.state)) tt)
+        (iteration_opens it a ks m u v (settled_then w h.keeps t) (state_stays w v e it h.state)
+        (opens_settled w a block t e h.activation))
 
   -- The bodies of classes.
 

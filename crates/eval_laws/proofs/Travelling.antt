@@ -3,13 +3,14 @@ use Rattle.std.proofs.Common.{◌≡◌, ℕ, ◌+◌, List, [], ◌∷◌, Bool
 use Rattle.std.specs.Prelude.{Option, Some, None, ◌||◌}
 use Rattle.std.proofs.lemmas.Bool.Decides.{Decides-eqb}
 use Rattle.rb_value.specs.declared.value.Value.{Value}
+use Rattle.rb_value.specs.declared.value.Value.TheVariants.{Obj}
 use Rattle.rb_value.specs.declared.value.ObjId.{ObjId}
 use Rattle.rb_value.specs.declared.kind.Sort.TheVariants as sort
 use Rattle.def_core.specs.Sound.{Census, census, IsValue, OptionIs}
 use Rattle.ir_core.specs.CoreForm.{CoreForm}
 use Rattle.ir_core.specs.Program.{Around, within_loop}
-use Rattle.def_calls.specs.Calls.{Unrescued, unrescued, close}
-use Rattle.def_calls.specs.Plans.{Iteration, caught}
+use Rattle.def_calls.specs.Calls.{core_activation, Unrescued, is_asked, asking, unrescued, close}
+use Rattle.def_calls.specs.Plans.{Iteration, reporting, caught}
 use Rattle.def_calls.specs.Fibers.{Onward}
 use Rattle.def_calls.specs.Fibers as fibers
 use Rattle.def_calls.specs.Seen.{Ended, Uncaught}
@@ -19,17 +20,19 @@ use Rattle.def_eval.specs.Configuration.{Exit, Rescue, Part, Stop, Item, Kept, M
 use Rattle.def_eval.specs.Scopes.{is_there}
 use Rattle.def_eval.specs.Forms.{is_loop, in_loop, is_under_way}
 use Rattle.def_eval.specs.Giving.{returned}
-use Rattle.def_eval.specs.Exits.{travel_loop, travel_rescue, travel_clause, travel_part, reach, travel_activation, travel_caught, travel_iteration, end_by, leave_fiber, travel_out, do_travel}
+use Rattle.def_eval.specs.Exits.{travel_loop, travel_rescue, travel_clause, travel_part, reach, travel_activation, travel_caught, travel_iteration, end_by, end_or_ask, leave_fiber, travel_out, do_travel}
 use Rattle.world_laws.specs.Fine.{IsException}
 use Rattle.world_laws.specs.Outcomes.{OnwardIs}
 use Rattle.world_laws.proofs.Growing.{sort_stays}
 use Rattle.world_laws.proofs.Changing.{has_any}
+use Rattle.world_laws.proofs.Entering.{report_begins}
 use Rattle.world_laws.proofs.Plans.{caught_is}
 use Rattle.eval_laws.specs.Standing.{FormStands, ClausesStand}
 use Rattle.eval_laws.specs.Fits.{begins_anew, in_clause, ExitFits, PartStands, RescueStands, KeptFits, MemoryFits, Fits, bodies}
 use Rattle.eval_laws.proofs.Tests.{either}
 use Rattle.eval_laws.proofs.Staying.{exit_stays}
 use Rattle.eval_laws.proofs.Going.{Under, Text, goes}
+use Rattle.eval_laws.proofs.Entered.{iteration_opens}
 use Rattle.eval_laws.proofs.Forming.{loop_done}
 use Rattle.eval_laws.proofs.Clauses.{clauses_done, rescue_begun}
 use Rattle.eval_laws.proofs.Giving.{ensure_done}
@@ -214,11 +217,18 @@ module _ (s : Source) (ks : List Item) (m : Memory) (u : Under s ks m) where
 module _ (s : Source) (m : Memory) (h : MemoryFits s m) where
   exception_leaves : (e : ObjId) (o : Option (Onward Kept)) → IsException (census m.world.store) e
       → OptionIs (OnwardIs (census m.world.store) (KeptFits s m.world m.scopes)) o → Fits s (leave_fiber e o m)
-  exception_leaves e None is out = ends (unrescued m.world.store e)
+  exception_leaves e None is out = asked (is_asked m.world e)
     where
       ends : (x : Unrescued) → Fits s (end_by x m.world.out)
       ends x = either (Fits s) x.exits (Halt (Ended m.world.out x.status))
           (Halt (Uncaught m.world.out x.class x.message)) tt tt
+
+      asked : (c : Bool) → Fits s (end_or_ask c e m)
+      asked true =
+          let r = report_begins (bodies s m.scopes) m.world h.world e is in
+          iteration_opens s (reporting e) (core_activation m.world (Obj e)) [] m (record { memory = h; items = tt })
+          (asking m.world) r.keeps r.state r.activation
+      asked false = ends (unrescued m.world.store e)
   exception_leaves e (Some o) is out =
       fiber_ended s (eval.travel (eval.raise e)) (Some o) m h out
       (λ i w k. sort_stays m.world w k.extends sort.Exception e is)

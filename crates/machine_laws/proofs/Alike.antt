@@ -1,6 +1,6 @@
 -- What def_machine asks of an iteration and of the name of a fiber is what the laws of worlds ask.
 use Rattle.def_core.specs.Sound.{Census}
-use Rattle.def_calls.specs.Plans.{Iteration, begun, handing, putting, putting_text, printing, printing_text, inspecting, inspecting_text, raising, looping, visiting, counting, initializing}
+use Rattle.def_calls.specs.Plans.{Iteration, begun, handing, putting, putting_text, printing, printing_text, inspecting, inspecting_text, raising, looping, visiting, counting, initializing, messaging, telling, telling_text, reporting, reported}
 use Rattle.def_calls.specs.Fibers.{Name, root, object}
 use Rattle.def_machine.specs.Fits.{NameFits, StateFits}
 use Rattle.world_laws.specs.Outcomes.{NameIs, StateIs}
@@ -28,6 +28,11 @@ module _ (k : Census) where
   state_is (visiting a i b) h = h
   state_is (counting z i b) h = h
   state_is (initializing v) h = h
+  state_is (messaging v) h = h
+  state_is (telling v) h = h
+  state_is (telling_text v) h = h
+  state_is (reporting v) h = h
+  state_is (reported v) h = h
 
   pub state_fits : (it : Iteration) → StateIs k it → StateFits k it
   state_fits (begun row recv args block) h = h
@@ -43,3 +48,8 @@ module _ (k : Census) where
   state_fits (visiting a i b) h = h
   state_fits (counting z i b) h = h
   state_fits (initializing v) h = h
+  state_fits (messaging v) h = h
+  state_fits (telling v) h = h
+  state_fits (telling_text v) h = h
+  state_fits (reporting v) h = h
+  state_fits (reported v) h = h

@@ -25,13 +25,14 @@ use Rattle.code_instructions.proofs.Places.{first_index, read_at}
 use Rattle.code_instructions.proofs.Tests.{there}
 use Rattle.def_calls.specs.World.{with_store, fail}
 use Rattle.def_machine.specs.State.{Frame, Level, frame, Memory, body_at, with_world, write}
-use Rattle.def_machine.specs.Turn.{fetch, shape_of, write_row, block_value, place_after, skip, enter_bound, enter_by}
+use Rattle.def_machine.specs.Turn.{fetch, shape_of, write_row, block_value, place_after, skip, without_arguments, enter_bound, enter_by}
 use Rattle.def_machine.specs.Fits.{IsStart, RunsWell, Fits}
 use Rattle.world_laws.specs.Outcomes.{BoundIs}
 use Rattle.world_laws.proofs.Answers.{fails_with}
 use Rattle.world_laws.proofs.Binding.{bind_is}
 use Rattle.machine_laws.proofs.Answering.{jumps, afters, in_world}
 use Rattle.machine_laws.proofs.Codes.{standing_at, starts_at}
+use Rattle.machine_laws.proofs.Frames.{frame_reshaped}
 use Rattle.machine_laws.proofs.Lists.{all_append}
 use Rattle.machine_laws.proofs.Receiving.{written}
 use Rattle.machine_laws.proofs.Worlds.{bodies, fine_world}
@@ -125,6 +126,18 @@ rows_written p f ls a [] m h all = h
 rows_written p f ls a (v ∷ vs) m h all =
     rows_written p f ls (a + 1) vs (write m f a v) (written p (frame f) ls m f a v h all.0) all.1
 
+-- The frame runs as well once its arguments are gone.
+unbound : (p : Program) (f : Frame) (ls : List Level) (m : Memory) → RunsWell p (frame f ∷ ls) m
+    → RunsWell p (frame (without_arguments f) ∷ ls) m
+unbound p f ls m h = record {
+  memory = h.memory;
+  levels = (
+    frame_reshaped p f f.place f.after f.waits f.pending [] ls m h.levels.0 h.levels.0.place h.levels.0.pending tt,
+    h.levels.1,
+  );
+  apart = record { once = h.apart.once };
+}
+
 block_is : (st : Store) (b : Option ObjId) → OptionIs (Is (census st) Proc) b → IsValue (census st) (block_value b)
 block_is st None h = tt
 block_is st (Some q) h = (is_good st Proc q h).there
@@ -138,8 +151,8 @@ module _ (p : Program) (whole : IsWhole p) (verified : IsVerified p) (f : Frame)
       let row = vs ++ block_value f.block ∷ [] in
       let is = all_append (IsValue (census m.world.store)) vs (block_value f.block ∷ []) all
       (block_is m.world.store f.block h.levels.0.block, tt) in
-      jumps p whole verified (skip p f n next) f ls (write_row m f 1 row)
-      (rows_written p f ls 1 row m h is) (passes n le)
+      jumps p whole verified (skip p f n next) (without_arguments f) ls (write_row m f 1 row)
+      (unbound p f ls (write_row m f 1 row) (rows_written p f ls 1 row m h is)) (passes n le)
   bound_by (Wrong n) m h all le =
       let c = cause.WrongCount n (least (shape_of q)) (if q.rest then None else Some (most (shape_of q))) in
       afters p whole verified (fail m.world c) 0 next f ls m h start

@@ -34,7 +34,8 @@ pub waits_for : (p : Program) (f : Frame) (ls : List Level) (m : Memory) (a next
 waits_for p f ls m a next h start below = record {
   memory = h.memory;
   levels = (
-    frame_reshaped p f f.place next a f.pending ls m h.levels.0 h.levels.0.place h.levels.0.pending,
+    frame_reshaped p f f.place next a f.pending f.arguments ls m h.levels.0 h.levels.0.place h.levels.0.pending
+        h.levels.0.arguments,
     record { after = start; register = below },
     h.levels.1,
   );

@@ -13,7 +13,7 @@ use Rattle.def_calls.specs.Calls.{Opening, Entry, answers, enters, begins, is_fu
 use Rattle.def_calls.specs.Plans.{Iteration}
 use Rattle.def_machine.specs.State.{Registers, Level, Memory, with_world}
 use Rattle.def_machine.specs.Entering.{depth, first_of, answer, open_frame, open_iteration, enter}
-use Rattle.def_machine.specs.Fits.{IsListOf, IsActivation, ProcFits, Fits}
+use Rattle.def_machine.specs.Fits.{IsListOf, ProcFits, Fits}
 use Rattle.world_laws.specs.Fine.{Extends, Keeps}
 use Rattle.world_laws.specs.Outcomes.{AnswerIs, OpensBody, OpensIn, OpeningIs, StateIs, EntryIs}
 use Rattle.world_laws.proofs.Answers.{fails_with, answer_then}
@@ -25,7 +25,7 @@ use Rattle.machine_laws.specs.Levels.{WaitsWell}
 use Rattle.machine_laws.proofs.Alike.{state_fits}
 use Rattle.machine_laws.proofs.Answering.{result_stays, answered, waits_in_world}
 use Rattle.machine_laws.proofs.Later.{state_later}
-use Rattle.machine_laws.proofs.Opening.{opens, iterates}
+use Rattle.machine_laws.proofs.Opening.{opened_number, opens, iterates}
 use Rattle.machine_laws.proofs.Worlds.{bodies}
 
 -- a body that is opened is there, and so is the list around it
@@ -69,12 +69,6 @@ opens_later w v a e h =
       block = option_stays (Is (census w.store) Proc) (Is (census v.store) Proc)
           (role_stays w v e Proc) a.block h.block;
     }
-
--- the next activation is there once it is opened
-opened_number : (w : World) (a : Activation) → IsActivation (with_activation w a) (next_activation w)
-opened_number w a =
-    let n : length (w.activations ++ a ∷ []) ≡ length w.activations + 1 = rw length-append (omega arith) in
-    (omega arith, omega (arith, n))
 
 module _ (p : Program) (whole : IsWhole p) (verified : IsVerified p) (ls : List Level) (m : Memory)
     (h : WaitsWell p ls m) where

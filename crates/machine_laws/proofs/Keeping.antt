@@ -96,9 +96,9 @@ module _ (p : Program) (whole : IsWhole p) (verified : IsVerified p) (f : Frame)
             kept = slots_put m.lists f.list a s
                 (KeptFits p k (record (goto f next) { pending = None }) ls) f.list
                 (first_below p m.lists (length m.lists) (Some f.list) (Some f.body) old.list)
-                (kept_reshaped p f next f.after f.waits None ls k s kept)
+                (kept_reshaped p f next f.after f.waits None f.arguments ls k s kept)
                 (all_stay (KeptFits p k f ls) (KeptFits p k (record (goto f next) { pending = None }) ls)
-                (kept_reshaped p f next f.after f.waits None ls k) (list_at m.lists f.list).slots old.kept);
+                (kept_reshaped p f next f.after f.waits None f.arguments ls k) (list_at m.lists f.list).slots old.kept);
             pending = tt;
             arguments = old.arguments;
             block = old.block;

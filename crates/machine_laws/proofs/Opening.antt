@@ -15,7 +15,7 @@ use Rattle.rite_code.specs.Code.{Program, IsWhole}
 use Rattle.rite_code.specs.declared.code.Irep.{Irep}
 use Rattle.code_outline.specs.Makers.{outer}
 use Rattle.code_verifier.specs.Verified.{IsVerified}
-use Rattle.def_calls.specs.World.{World}
+use Rattle.def_calls.specs.World.{World, Activation, next_activation, with_activation}
 use Rattle.def_calls.specs.Plans.{Iteration}
 use Rattle.def_calls.specs.Fibers as fibers
 use Rattle.def_machine.specs.State.{Registers, Frame, Level, frame, iteration, Memory, On, body_at, list_at, no_registers, fresh_registers, begun_frame, with_world}
@@ -143,6 +143,12 @@ module _ (p : Program) (whole : IsWhole p) (verified : IsVerified p) (ls : List 
     levels = (frame_fits, waits_opened.levels);
     apart = record { once = (still_apart p ls m (begun_frame a b (length m.lists) args block kind) refl h).once };
   }
+
+-- the next activation is there once it is opened
+pub opened_number : (w : World) (a : Activation) → IsActivation (with_activation w a) (next_activation w)
+opened_number w a =
+    let n : length (w.activations ++ a ∷ []) ≡ length w.activations + 1 = rw length-append (omega arith) in
+    (omega arith, omega (arith, n))
 
 -- an iteration that begins, or goes on, in a later world
 pub iterates : (p : Program) (ls : List Level) (m : Memory) (a : ℕ) (it : Iteration) (v : Value) → WaitsWell p ls m

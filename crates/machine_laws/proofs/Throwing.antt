@@ -3,29 +3,34 @@ use Rattle.std.proofs.Common.{◌≡◌, ◌⊎◌, ℕ, zero, suc, ◌<◌, Lis
 use Rattle.std.specs.Prelude.{Option, Some, None, nat_eq, if◌then◌else◌}
 use Rattle.std.proofs.lemmas.Bool.{eq-eqb}
 use Rattle.rb_value.specs.declared.value.Value.{Value}
+use Rattle.rb_value.specs.declared.value.Value.TheVariants.{Nil, Obj}
 use Rattle.rb_value.specs.declared.value.ObjId.{ObjId}
 use Rattle.rb_value.specs.declared.exit.Exit.{Exit}
 use Rattle.rb_value.specs.declared.exit.Exit.TheVariants.{Raise, Return, Break, Jump}
 use Rattle.rb_value.specs.declared.kind.Sort.TheVariants as sort
 use Rattle.def_core.specs.Sound.{Census, census, IsValue, OptionIs}
 use Rattle.rite_code.specs.Code.{Program}
-use Rattle.def_calls.specs.World.{World}
+use Rattle.def_calls.specs.World.{World, next_activation, with_activation}
 use Rattle.def_calls.specs.Seen.{Ended, Uncaught}
-use Rattle.def_calls.specs.Calls.{Unrescued, unrescued}
-use Rattle.def_calls.specs.Plans.{Iteration, caught}
+use Rattle.def_calls.specs.Calls.{core_activation, Unrescued, is_asked, asking, unrescued}
+use Rattle.def_calls.specs.Plans.{Iteration, reporting, caught}
 use Rattle.def_calls.specs.Fibers.{Onward}
 use Rattle.def_calls.specs.Fibers as fibers
-use Rattle.def_machine.specs.State.{Frame, Level, frame, iteration, Memory, State, On, Off, goto}
-use Rattle.def_machine.specs.Unwind.{closed, in_resumer, handler, covering, Landing, lands, falls, reach, past_frame, at_frame, end_by, at_iteration, unwind, end_program, fallen, land, throw_within, throw}
+use Rattle.def_machine.specs.State.{Frame, Level, frame, iteration, Memory, State, On, Off, with_world, goto}
+use Rattle.def_machine.specs.Unwind.{closed, in_resumer, handler, covering, Landing, lands, falls, reach, past_frame, at_frame, end_by, at_iteration, unwind, end_program, end_or_ask, fallen, land, throw_within, throw}
 use Rattle.def_machine.specs.Fits.{IsStart, IsUnderWay, IsException, ExitFits, AreApart, MemoryFits, RunsWell, Fits}
 use Rattle.world_laws.specs.Fine.{Extends, Keeps}
 use Rattle.world_laws.proofs.Changing.{has_any}
 use Rattle.world_laws.proofs.Ending.{close_keeps}
+use Rattle.world_laws.proofs.Entering.{report_begins}
 use Rattle.world_laws.proofs.Growing.{value_stays, sort_stays}
 use Rattle.world_laws.proofs.Plans.{caught_is}
+use Rattle.world_laws.proofs.Standing.{keeps_then}
+use Rattle.world_laws.proofs.Worlds.{keeps_activation}
 use Rattle.machine_laws.specs.Levels.{WaitsWell, StandsWell, ExitGoes}
 use Rattle.machine_laws.proofs.Frames.{frame_reshaped}
 use Rattle.machine_laws.proofs.Memories.{kept_world, waits_still}
+use Rattle.machine_laws.proofs.Opening.{opened_number, iterates}
 use Rattle.machine_laws.proofs.Receiving.{moved, received, marked, resumer_waits, finished}
 use Rattle.machine_laws.proofs.Worlds.{bodies, fine_world}
 
@@ -147,8 +152,8 @@ module _ (p : Program)
   handled t x f ls m h start goes = record {
     memory = h.memory;
     levels = (
-      frame_reshaped p f t f.after f.waits (Some x) ls m h.levels.0 start
-          (fits_at p (census m.world.store) f ls x goes),
+      frame_reshaped p f t f.after f.waits (Some x) f.arguments ls m h.levels.0 start
+          (fits_at p (census m.world.store) f ls x goes) h.levels.0.arguments,
       h.levels.1,
     );
     apart = record { once = h.apart.once };
@@ -228,13 +233,27 @@ module _ (p : Program)
       by true = tt
       by false = tt
 
+  -- after it was asked for its message, where the program says that
+  asked_or_ends : (c : Bool) (e : ObjId) (v : Memory) → MemoryFits p v → AreApart [] v.fibers.others
+      → IsException (census v.world.store) e → Fits p (end_or_ask c e v)
+  asked_or_ends true e v h apart is =
+      let b = bodies p v.lists in
+      let a = core_activation v.world (Obj e) in
+      let w = with_activation (asking v.world) a in
+      let r = report_begins b v.world (fine_world p v.lists v.world h.world) e is in
+      let k = keeps_activation b (asking v.world) r.keeps.fine a r.activation in
+      iterates p [] (with_world v w) (next_activation v.world) (reporting e) Nil
+      (waits_still p v (with_world v w) (kept_world p v h w (keeps_then b v.world (asking v.world) w r.keeps k)) refl []
+      (record { memory = h; levels = tt; apart = apart })) (opened_number (asking v.world) a) is tt
+  asked_or_ends false e v h apart is = program_ends (unrescued v.world.store e) v.world.out
+
   module _ (again : Exit → List Level → Memory → State) (n : ℕ)
       (thrown : (x : Exit) (ls : List Level) (m : Memory) → StandsWell p ls m → ExitGoes p (census m.world.store) ls x
       → length m.fibers.others < n → Fits p (again x ls m)) where
     raised_on : (e : ObjId) (v : Memory) (found : Option (Onward (List Level))) → fibers.finish v.fibers ≡ found
         → MemoryFits p v → AreApart [] v.fibers.others → IsException (census v.world.store) e
         → length v.fibers.others < suc n → Fits p (fallen again e found v)
-    raised_on e v None same h apart is few = program_ends (unrescued v.world.store e) v.world.out
+    raised_on e v None same h apart is few = asked_or_ends (is_asked v.world e) e v h apart is
     raised_on e v (Some o) same h apart is few =
         let on = finished p v h apart o same in
         thrown (Raise e) o.kept (in_resumer v o)

@@ -526,10 +526,14 @@ module _ (s : Source) (P : List (Option ℕ)) where
   iteration_left eval.begin_anew a it ks m h = inl h
 
   leave_last : (e : ObjId) (o : Option (Onward Kept)) (m : Memory) → Still m → To (exits.leave_fiber e o m)
-  leave_last e None m h = ended (calls.unrescued m.world.store e) m.world.out
+  leave_last e None m h = asked (calls.is_asked m.world e)
     where
       ended : (u : Unrescued) (out : List ℕ) → To (exits.end_by u out)
       ended u out = either To u.exits _ _ tt tt
+
+      asked : (c : Bool) → To (exits.end_or_ask c e m)
+      asked true = inl h
+      asked false = ended (calls.unrescued m.world.store e) m.world.out
   leave_last e (Some o) m h = inl h
 
   out_to : (x : Exit) (m : Memory) → Still m → To (exits.travel_out x m)

@@ -21,7 +21,7 @@ use Rattle.rite_code.specs.declared.operation.Parameters.{Parameters}
 use Rattle.rite_code.specs.declared.operation.Operation.{Operation}
 use Rattle.rite_code.specs.declared.operation.Operation.TheVariants as op
 use Rattle.def_calls.specs.World.{Answer, Result, gives, raises, give, fail, with_store}
-use Rattle.def_calls.specs.Calls.{Sending, by_name, to_proc, to_super, Entry, answers, enters, begins, is_full, BlockArgument, no_block, block_of, not_a_block, block_argument, Unrescued, unrescued, break_target}
+use Rattle.def_calls.specs.Calls.{Sending, by_name, to_proc, to_super, Entry, answers, enters, begins, is_full, BlockArgument, no_block, block_of, not_a_block, block_argument, Unrescued, is_asked, unrescued, break_target}
 use Rattle.def_calls.specs.Plans.{Iteration, Plan, caught}
 use Rattle.def_calls.specs.Plans as plan
 use Rattle.def_calls.specs.Fibers.{Onward, Resumed, refused, begins as begins_fiber, continues}
@@ -125,10 +125,14 @@ module _ (p : Program) (P : List (Option ℕ)) where
   program_to : (u : Unrescued) (out : List ℕ) → To (unwind.end_program u out)
   program_to u out = either To u.exits _ _ tt tt
 
+  asked_to : (c : Bool) (e : ObjId) (m : Memory) → Still m → To (unwind.end_or_ask c e m)
+  asked_to true e m h = inl h
+  asked_to false e m h = program_to (unrescued m.world.store e) m.world.out
+
   fallen_to : (again : Exit → List Level → Memory → State) → ((x : Exit) (ls : List Level) (m : Memory) → Still m
       → To (again x ls m)) → (e : ObjId) (o : Option (Onward (List Level))) (m : Memory) → Still m
       → To (unwind.fallen again e o m)
-  fallen_to again g e None m h = program_to (unrescued m.world.store e) m.world.out
+  fallen_to again g e None m h = asked_to (is_asked m.world e) e m h
   fallen_to again g e (Some o) m h = g (Raise e) o.kept (in_resumer m o) h
 
   land_to : (again : Exit → List Level → Memory → State) → ((x : Exit) (ls : List Level) (m : Memory) → Still m

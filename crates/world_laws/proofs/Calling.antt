@@ -1,5 +1,5 @@
 -- What a call by a name enters: what is found, or else method_missing.
-use Rattle.std.proofs.Common.{List, ◌∷◌, Bool, true, false, if◌then◌else◌}
+use Rattle.std.proofs.Common.{ℕ, ◌-◌, List, ◌∷◌, length, get_or, Bool, true, false, if◌then◌else◌}
 use Rattle.std.specs.Prelude.{Option, Some, None, nat_eq, codes}
 use Rattle.rb_value.specs.declared.value.Value.{Value}
 use Rattle.rb_value.specs.declared.value.Value.TheVariants.{Sym}
@@ -12,6 +12,7 @@ use Rattle.rb_value.specs.declared.method.Visibility.TheVariants.{Public, Privat
 use Rattle.def_core.specs.declared.cause.Cause.{Cause}
 use Rattle.def_core.specs.declared.cause.Cause.TheVariants as cause
 use Rattle.def_core.specs.declared.found.Found.{Found}
+use Rattle.def_core.specs.Store.{name_at}
 use Rattle.def_core.specs.Classes.{plain_class_of}
 use Rattle.def_core.specs.Find.{allowed}
 use Rattle.def_core.specs.Changes.{intern}
@@ -22,7 +23,7 @@ use Rattle.def_calls.specs.World.{World, Activation, with_store, fail}
 use Rattle.def_calls.specs.Views.{object_in}
 use Rattle.def_calls.specs.Definitions.{super_of}
 use Rattle.def_calls.specs.Rows.{method_missing_row}
-use Rattle.def_calls.specs.Calls.{answers, Sending, by_name, by_bare_name, to_proc, to_super, enter_row, enter_found, enter_missing, missing_by, missing, forbidden, enter_allowed, find_for, enter_unchecked, is_public, enter_public, send_by_core, enter_super, enter_value, call}
+use Rattle.def_calls.specs.Calls.{answers, Sending, by_name, by_bare_name, to_proc, to_super, enter_row, enter_found, enter_missing, missing_by, missing, forbidden, enter_allowed, find_for, enter_unchecked, is_public, enter_public, send_by_core, enter_super, enter_value, is_mark, unknown_name, call}
 use Rattle.world_laws.specs.Fine.{Bodies, ActivationIs, Fine}
 use Rattle.world_laws.specs.Outcomes.{FoundIs, SendingIs, EntryIs}
 use Rattle.world_laws.proofs.Growing.{symbol_stays, value_stays}
@@ -40,6 +41,14 @@ forbidden_is : (k : Census) (v : Visibility) (name : SymId) (c : ObjId) → IsSy
 forbidden_is k Public name c symbol is = (symbol, is)
 forbidden_is k Private name c symbol is = (symbol, is)
 forbidden_is k Protected name c symbol is = (symbol, is)
+
+unknown_is : (k : Census) (text : List ℕ) (name : SymId) (c : ObjId) → IsSymbol k name → Is k ClassOrModule c
+    → SoundCause k (unknown_name text name c)
+unknown_is k text name c symbol is = by (is_mark (get_or text (length text - 1) 0))
+  where
+    by : (m : Bool) → SoundCause k (if m then cause.UndefinedMethod name c else cause.UndefinedName name c)
+    by true = (symbol, is)
+    by false = (symbol, is)
 
 module _ (b : Bodies) (w : World) (fine : Fine b w) where
   pub found_enters : (name : SymId) (f : Found) (recv : Value) (args : List Value) (block : Option ObjId)
@@ -185,7 +194,9 @@ module _ (b : Bodies) (w : World) (fine : Fine b w) where
       (cause.UndefinedMethod s (plain_class_of w.store.objects recv)) (symbol, plain_class_is w.store fine.store recv is)
   call_is a (by_bare_name s) recv args block own symbol is all proc =
       named_call s recv args block symbol is all proc a.self
-      (cause.UndefinedName s (plain_class_of w.store.objects recv)) (symbol, plain_class_is w.store fine.store recv is)
+      (unknown_name (name_at w.store s) s (plain_class_of w.store.objects recv))
+      (unknown_is (census w.store) (name_at w.store s) s (plain_class_of w.store.objects recv) symbol
+      (plain_class_is w.store fine.store recv is))
   call_is a to_proc recv args block own symbol is all proc =
       value_enters args block (object_in recv) all proc (object_is w.store fine.store recv is)
   call_is a to_super recv args block own symbol is all proc =

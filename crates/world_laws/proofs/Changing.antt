@@ -5,6 +5,7 @@ use Rattle.std.specs.Prelude.{Option, Some, nat_eq}
 use Rattle.std.proofs.lemmas.Option.{slice_get_within, get_or_from_slice_get}
 use Rattle.indexmap.specs.IndexMap.{insert_entry}
 use Rattle.rb_value.specs.declared.value.Value.{Value}
+use Rattle.rb_value.specs.declared.value.Value.TheVariants.{Obj}
 use Rattle.rb_value.specs.declared.value.ObjId.{ObjId}
 use Rattle.rb_value.specs.declared.value.SymId.{SymId}
 use Rattle.rb_value.specs.declared.method.Method.{Method}
@@ -33,10 +34,12 @@ use Rattle.def_core.proofs.Keeps.{sound_with_class, sound_with_method, sound_wit
 use Rattle.def_core.proofs.PartsSound.{all_more, all_set, sound_with_variable, pair_kept}
 use Rattle.rb_store.proofs.Kept as kept
 use Rattle.def_calls.specs.World.{World, with_store}
+use Rattle.def_calls.specs.Views.{detail_of}
+use Rattle.def_calls.specs.Plain.{with_message}
 use Rattle.world_laws.specs.Fine.{Bodies, HasSort, MethodIs, EntryHas, KindIs, ObjectIs, Fine, Keeps}
 use Rattle.world_laws.proofs.Standing.{kind_stays, objects_stay, keeps_store}
 use Rattle.world_laws.proofs.Stores.{extends_same, kind_held, keeps_kind}
-use Rattle.world_laws.proofs.Holding.{methods_held}
+use Rattle.world_laws.proofs.Holding.{methods_held, detail_is}
 
 -- An object of a sort.
 
@@ -208,6 +211,15 @@ module _ (b : Bodies) (w : World) (fine : Fine b w) where
         default = old.default;
         block = old.block;
       }) tt
+
+  -- an exception gets another message
+  pub keeps_message : (id : ObjId) (m : Value) → HasSort (census w.store) sort.Exception id
+      → IsValue (census w.store) m
+      → Keeps b w (with_store w (with_objects w.store (with_message w.store.objects id m)))
+  keeps_message id m is value =
+      let any = has_any w.store sort.Exception id is in
+      keeps_kind b w fine id (kind.Exception m (detail_of (object_at w.store.objects id).kind)) any
+      (sym (is_of_sort w.store sort.Exception id is)) (value, detail_is w.store fine.store (Obj id) any) tt
 
   pub keeps_sent : (id : ObjId) (a : Option ℕ) → Is (census w.store) Proc id
       → Keeps b w (with_store w (with_objects w.store (with_sent w.store.objects id a)))

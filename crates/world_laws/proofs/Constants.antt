@@ -1,5 +1,5 @@
 -- Constants and global variables keep a world fine.
-use Rattle.std.proofs.Common.{ℕ, zero, suc, ◌-◌, List, [], ◌∷◌, get_or, true, false, cond, refl}
+use Rattle.std.proofs.Common.{ℕ, zero, suc, ◌-◌, List, [], ◌∷◌, get_or, Bool, true, false, cond, refl, if◌then◌else◌}
 use Rattle.std.specs.Prelude.{Option, Some, None, unwrap_or, nat_eq}
 use Rattle.std.specs.Map.{lookup}
 use Rattle.rb_value.specs.declared.value.Value.{Value}
@@ -8,13 +8,13 @@ use Rattle.rb_value.specs.declared.value.ObjId.{ObjId}
 use Rattle.rb_value.specs.declared.value.SymId.{SymId}
 use Rattle.rb_value.specs.declared.core_class.CoreClass.TheVariants as class
 use Rattle.def_core.specs.declared.cause.Cause.TheVariants as cause
-use Rattle.def_core.specs.Store.{Store, core}
+use Rattle.def_core.specs.Store.{Store, core, same_object}
 use Rattle.def_core.specs.Classes.{class_at, ancestors}
 use Rattle.def_core.specs.Changes.{Interned, full_name, object_of_sort}
 use Rattle.def_core.specs.Sound.{Census, census, ClassOrModule, Is, IsSymbol, IsValue, OptionIs, AllAre}
 use Rattle.class_model.proofs.Lineages.{core_is_class}
 use Rattle.def_calls.specs.World.{World, Enclosing, with_store, no_enclosing, class_around, global}
-use Rattle.def_calls.specs.Constants.{is_space_sort, constant_path, find_constant, constant_or_fail, get_constant, constant_within, get_constant_in, name_class, name_if_nameless, with_name_of, with_constant_value, set_constant_in, set_constant}
+use Rattle.def_calls.specs.Constants.{is_space_sort, constant_path, find_constant, scope_told, constant_or_fail, get_constant, constant_within, get_constant_in, name_class, name_if_nameless, with_name_of, with_constant_value, set_constant_in, set_constant}
 use Rattle.world_laws.specs.Fine.{Bodies, EnclosingAre, GlobalIs, Fine, Keeps}
 use Rattle.world_laws.specs.Outcomes.{AnswerIs}
 use Rattle.world_laws.proofs.Growing.{role_stays, value_stays, symbol_stays}
@@ -50,11 +50,19 @@ module _ (b : Bodies) (w : World) (fine : Fine b w) where
   class_around_is (suc n) = class_in (census w.store) 1 w.enclosing (suc n - 1) fine.enclosing
       (core_is_class w.store fine.store class.Object refl)
 
-  found_or_fails : (scope : Option ObjId) (name : SymId) (o : Option Value)
-      → OptionIs (Is (census w.store) ClassOrModule) scope → IsSymbol (census w.store) name
-      → OptionIs (IsValue (census w.store)) o → AnswerIs b w (constant_or_fail w scope name o)
+  told_is : (scope : ObjId) → Is (census w.store) ClassOrModule scope
+      → OptionIs (Is (census w.store) ClassOrModule) (scope_told scope)
+  told_is scope is = by (same_object scope (core class.Object))
+    where
+      by : (c : Bool) → OptionIs (Is (census w.store) ClassOrModule) (if c then None else Some scope)
+      by true = tt
+      by false = is
+
+  found_or_fails : (scope : ObjId) (name : SymId) (o : Option Value) → Is (census w.store) ClassOrModule scope
+      → IsSymbol (census w.store) name → OptionIs (IsValue (census w.store)) o
+      → AnswerIs b w (constant_or_fail w scope name o)
   found_or_fails scope name None is symbol found =
-      fails_with b w fine (cause.UninitializedConstant scope name) (is, symbol)
+      fails_with b w fine (cause.UninitializedConstant (scope_told scope) name) (told_is scope is, symbol)
   found_or_fails scope name (Some x) is symbol found = gives_value b w fine x found
 
   pub find_constant_is : (classes : ℕ) (name : SymId)
@@ -66,7 +74,8 @@ module _ (b : Bodies) (w : World) (fine : Fine b w) where
       → AnswerIs b w (get_constant w classes name)
   unfolding get_constant
   get_constant_is classes name symbol =
-      found_or_fails None name (find_constant w classes name) tt symbol (find_constant_is classes name)
+      found_or_fails (class_around w classes) name (find_constant w classes name) (class_around_is classes) symbol
+      (find_constant_is classes name)
 
   pub constant_within_is : (c : ObjId) (name : SymId) → OptionIs (IsValue (census w.store)) (constant_within w c name)
   unfolding constant_within
@@ -75,7 +84,7 @@ module _ (b : Bodies) (w : World) (fine : Fine b w) where
   pub get_constant_in_is : (c : ObjId) (name : SymId) → Is (census w.store) ClassOrModule c
       → IsSymbol (census w.store) name → AnswerIs b w (get_constant_in w c name)
   get_constant_in_is c name is symbol =
-      found_or_fails (Some c) name (constant_within w c name) is symbol (constant_within_is c name)
+      found_or_fails c name (constant_within w c name) is symbol (constant_within_is c name)
 
   -- Setting.
 

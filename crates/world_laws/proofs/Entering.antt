@@ -8,6 +8,7 @@ use Rattle.rb_value.specs.declared.value.SymId.{SymId}
 use Rattle.rb_value.specs.declared.method.Method.{Method}
 use Rattle.rb_value.specs.declared.method.Method.TheVariants as method
 use Rattle.rb_value.specs.declared.procs.ProcContents.{ProcContents}
+use Rattle.rb_value.specs.declared.kind.Sort.TheVariants as sort
 use Rattle.def_core.specs.declared.cause.Cause.TheVariants as cause
 use Rattle.def_core.specs.Store.{Store}
 use Rattle.def_core.specs.Classes.{plain_class_of}
@@ -19,13 +20,15 @@ use Rattle.def_calls.specs.Views.{Callable, by_body, by_row, kind_in, callable_o
 use Rattle.def_calls.specs.Values.{instance_variable, set_instance_variable}
 use Rattle.def_calls.specs.Rows as rows
 use Rattle.def_calls.specs.Plain.{outright}
-use Rattle.def_calls.specs.Calls.{Opening, Entry, answers, enters, begins, core_activation, enter_kind, enter_row, proc_runs, proc_home, proc_activation, enter_callable, enter_proc, as_method, enter_block, method_activation, counted, enter_method}
-use Rattle.world_laws.specs.Fine.{Bodies, Extends, IsActivation, MethodIs, RunIs, Fine, Keeps}
-use Rattle.world_laws.specs.Outcomes.{AnswerIs, CallableIs, OpensBody, OpensIn, OpeningIs, EntryIs}
+use Rattle.def_calls.specs.Plans.{reporting}
+use Rattle.def_calls.specs.Calls.{Opening, Entry, answers, enters, begins, core_activation, asking, enter_kind, enter_row, proc_runs, proc_home, proc_activation, enter_callable, enter_proc, as_method, enter_block, method_activation, counted, enter_method}
+use Rattle.world_laws.specs.Fine.{Bodies, Extends, IsException, IsActivation, MethodIs, RunIs, Fine, Keeps}
+use Rattle.world_laws.specs.Outcomes.{AnswerIs, CallableIs, OpensBody, OpensIn, OpeningIs, BeginsIs, EntryIs}
 use Rattle.world_laws.proofs.Growing.{extends_itself, activation_number_stays}
 use Rattle.world_laws.proofs.Standing.{activation_stays, keeps_itself, keeps_then}
-use Rattle.world_laws.proofs.Worlds.{extends_activation}
+use Rattle.world_laws.proofs.Worlds.{extends_activation, keeps_asking}
 use Rattle.world_laws.proofs.Answers.{answer_then, answers_done, gives_value, fails_with}
+use Rattle.world_laws.proofs.Changing.{has_any}
 use Rattle.world_laws.proofs.Holding.{callable_is, runs_proc}
 use Rattle.world_laws.proofs.Searching.{plain_class_is}
 use Rattle.world_laws.proofs.Values.{value_at, wrong_value_is, instance_variable_is, set_instance_variable_is}
@@ -49,6 +52,15 @@ core_opens w recv is = record {
   home = next_is_there w (core_activation w recv);
   classes = omega arith;
   block = tt;
+}
+
+-- an exception that nothing rescued is asked for its message
+pub report_begins : (b : Bodies) (w : World) → Fine b w → (e : ObjId) → IsException (census w.store) e
+    → BeginsIs b w (reporting e) (core_activation w (Obj e)) (asking w)
+report_begins b w fine e is = record {
+  keeps = keeps_asking b w fine;
+  state = is;
+  activation = core_opens (asking w) (Obj e) (has_any w.store sort.Exception e is);
 }
 
 runs_by : (k : Census) (self : Value) (p : ObjId) (lambda : Bool) → Is k Proc p → RunIs k self (proc_runs lambda p)

@@ -7,7 +7,11 @@ use Rattle.rb_value.specs.declared.kind.Sort.{Sort}
 use Rattle.rb_value.specs.declared.value.Value.{Value}
 use Rattle.rb_value.specs.declared.value.ObjId.{ObjId}
 use Rattle.rb_value.specs.declared.value.SymId.{SymId}
-use Rattle.def_core.specs.Sound.{Census, sorts_of, census, Role, Is, IsSymbol, IsValue, OptionIs, AllAre, plays_at}
+use Rattle.rb_value.specs.declared.key.KeyPart.{KeyPart}
+use Rattle.rb_value.specs.declared.key.KeyPart.TheVariants as part
+use Rattle.rb_value.specs.declared.key.Key.{Key}
+use Rattle.rb_value.specs.declared.key.Key.TheVariants as key
+use Rattle.def_core.specs.Sound.{Census, sorts_of, census, Role, Is, IsSymbol, IsValue, OptionIs, AllAre, SoundPart, SoundKey, plays_at}
 use Rattle.def_core.specs.Sound as sound
 use Rattle.def_core.proofs.Grows as grows
 use Rattle.def_core.proofs.Roles.{found}
@@ -81,6 +85,20 @@ module _ (w v : World) (e : Extends w v) where
 
   pub value_stays : (x : Value) → IsValue (census w.store) x → IsValue (census v.store) x
   value_stays x is = grows.value_grows (census w.store) (census v.store) census_extends x is
+
+  part_stays : (p : KeyPart) → SoundPart (census w.store) p → SoundPart (census v.store) p
+  part_stays (part.Plain x) h = value_stays x h
+  part_stays (part.Text t) h = tt
+  part_stays (part.Array n) h = tt
+
+  parts_stay : (ps : List KeyPart) → AllAre (SoundPart (census w.store)) ps → AllAre (SoundPart (census v.store)) ps
+  parts_stay [] h = tt
+  parts_stay (p ∷ ps) h = (part_stays p h.0, parts_stay ps h.1)
+
+  pub key_stays : (x : Key) → SoundKey (census w.store) x → SoundKey (census v.store) x
+  key_stays (key.Plain x) h = value_stays x h
+  key_stays (key.Text t) h = tt
+  key_stays (key.Array ps) h = parts_stay ps h
 
   pub activation_number_stays : (a : ℕ) → IsActivation w a → IsActivation v a
   activation_number_stays a is =

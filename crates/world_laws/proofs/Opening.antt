@@ -123,6 +123,7 @@ first_world input = record {
   activations = [];
   input = input;
   out = [];
+  asked = false;
 }
 
 first_is : (b : Bodies) (input : List ℕ) → Fine b (first_world input)

@@ -1,8 +1,8 @@
 -- The core methods that open no activation keep a world fine.
-use Rattle.std.proofs.Common.{ℕ, ℤ, List, length, get_or, Bool, true, false, refl, sym, if◌then◌else◌}
+use Rattle.std.proofs.Common.{ℕ, ℤ, List, length, get_or, Bool, true, false, refl, if◌then◌else◌}
 use Rattle.std.specs.Prelude.{Option, Some, None, pos, negsuc, nat_lt, not}
 use Rattle.rb_value.specs.declared.value.Value.{Value}
-use Rattle.rb_value.specs.declared.value.Value.TheVariants.{Nil, True, Int, Sym, Obj}
+use Rattle.rb_value.specs.declared.value.Value.TheVariants.{Nil, True, False, Int, Sym, Obj}
 use Rattle.rb_value.specs.declared.value.ObjId.{ObjId}
 use Rattle.rb_value.specs.declared.method.Method.TheVariants as method
 use Rattle.rb_value.specs.declared.kind.Kind.TheVariants as kind
@@ -25,18 +25,17 @@ use Rattle.rb_raise.specs.Causes.{SoundCause}
 use Rattle.class_model.proofs.Lineages.{any_of}
 use Rattle.def_rows.specs.Answers.{makes, text_object}
 use Rattle.def_calls.specs.World.{World}
-use Rattle.def_calls.specs.Views.{Callable, by_body, by_row, integer_in, symbol_in, present, kind_in, callable_of, message_of, detail_of, fiber_of, an_array, an_exception}
+use Rattle.def_calls.specs.Views.{Callable, by_body, by_row, integer_in, symbol_in, kind_in, callable_of, message_of, fiber_of, an_array, an_exception}
 use Rattle.def_calls.specs.Checks.{counted, with_block, wanted}
-use Rattle.def_calls.specs.Values.{element_at}
+use Rattle.def_calls.specs.Values.{element_at, shown}
 use Rattle.def_calls.specs.Rows as rows
-use Rattle.def_calls.specs.Plain.{shown_object, exits_with, status_in, as_lambda, message_or_class, with_message, a_space, outright}
+use Rattle.def_calls.specs.Plain.{shown_object, exits_with, status_in, as_lambda, message_text, with_message, a_space, outright}
 use Rattle.world_laws.specs.Fine.{Bodies, IsException, Fine}
 use Rattle.world_laws.specs.Outcomes.{DoneIs, CallableIs}
 use Rattle.world_laws.proofs.Growing.{value_stays}
-use Rattle.world_laws.proofs.Stores.{keeps_kind}
 use Rattle.world_laws.proofs.Answers.{done_gives, done_gives_in, done_makes, done_makes_text, done_fails}
-use Rattle.world_laws.proofs.Changing.{has_any, is_of_sort, keeps_method}
-use Rattle.world_laws.proofs.Holding.{callable_is, present_is, symbol_is, space_is, class_is, array_is, exception_is, elements_are, message_is, detail_is}
+use Rattle.world_laws.proofs.Changing.{keeps_method, keeps_message}
+use Rattle.world_laws.proofs.Holding.{callable_is, symbol_is, space_is, class_is, array_is, exception_is, elements_are, message_is}
 use Rattle.world_laws.proofs.Searching.{plain_class_is}
 use Rattle.world_laws.proofs.Values.{value_at, element_at_is, pushed_keeps}
 use Rattle.world_laws.proofs.Checking.{truth_is, argument_or, anything, counted_is, block_is, wanted_is}
@@ -68,18 +67,18 @@ module _ (b : Bodies) (w : World) (fine : Fine b w) where
       })
       (b.proc_lambda w c true h.1)
 
-  message_or_class_is : (e : Value) (o : Option Value) → OptionIs (IsValue (census w.store)) o
-      → DoneIs b w (message_or_class w.store e o)
-  message_or_class_is e None h = done_makes_text b w fine (class_name w.store (plain_class_of w.store.objects e))
-  message_or_class_is e (Some m) h = done_gives b w fine m h
+  message_text_is : (e m : Value) → IsValue (census w.store) m → DoneIs b w (message_text w.store e m)
+  message_text_is e Nil h = done_makes_text b w fine (class_name w.store (plain_class_of w.store.objects e))
+  message_text_is e True h = done_makes_text b w fine (shown w.store True)
+  message_text_is e False h = done_makes_text b w fine (shown w.store False)
+  message_text_is e (Int z) h = done_makes_text b w fine (shown w.store (Int z))
+  message_text_is e (Sym s) h = done_makes_text b w fine (shown w.store (Sym s))
+  message_text_is e (Obj id) h = done_gives b w fine (Obj id) h
 
   message_set : (id : ObjId) (m : Value) → IsException (census w.store) id → IsValue (census w.store) m
       → DoneIs b w (done Nil (with_objects w.store (with_message w.store.objects id m)))
   message_set id m is value =
-      let any = has_any w.store sort.Exception id is in
-      let k = keeps_kind b w fine id (kind.Exception m (detail_of (object_at w.store.objects id).kind)) any
-      (sym (is_of_sort w.store sort.Exception id is)) (value, detail_is w.store fine.store (Obj id) any) tt in
-      done_gives_in b w fine _ Nil k tt
+      done_gives_in b w fine _ Nil (keeps_message b w fine id m is value) tt
 
   module _ (recv : Value) (args : List Value) (block : Option ObjId) (is : IsValue (census w.store) recv)
       (all : AllAre (IsValue (census w.store)) args) (proc : OptionIs (Is (census w.store) Proc) block) where
@@ -206,9 +205,10 @@ module _ (b : Bodies) (w : World) (fine : Fine b w) where
         (anything (a_space w.store.objects recv)) (λ c _. gives_text (class_name w.store c)))
     outright_is rows.method_of_block = define_is
     outright_is rows.initialize_exception = initialize_is
-    outright_is rows.exception_message = count 0 (Some 0) _
-        (message_or_class_is recv (present (message_of (kind_in w.store.objects recv)))
-        (present_is w.store fine.store (message_of (kind_in w.store.objects recv)) (message_is w.store fine.store recv is)))
+    outright_is rows.exception_text = count 0 (Some 0) _
+        (want (λ _. Unit {0}) class.Exception recv (an_exception w.store.objects recv) _ is
+        (anything (an_exception w.store.objects recv))
+        (λ id _. message_text_is recv (message_of (kind_in w.store.objects recv)) (message_is w.store fine.store recv is)))
     outright_is rows.new_fiber = fiber_is
     outright_is rows.is_alive = count 0 (Some 0) _
         (want (λ _. Unit {0}) class.Fiber recv (fiber_of (kind_in w.store.objects recv)) _ is

@@ -6,6 +6,7 @@ use Rattle.rb_value.specs.declared.value.Value.TheVariants.{Nil, Int, Obj}
 use Rattle.rb_value.specs.declared.value.ObjId.{ObjId}
 use Rattle.rb_value.specs.declared.kind.Kind.{Kind}
 use Rattle.rb_value.specs.declared.kind.Kind.TheVariants as kind
+use Rattle.rb_value.specs.declared.kind.Sort.TheVariants as sort
 use Rattle.rb_value.specs.declared.core_class.CoreClass.{CoreClass}
 use Rattle.rb_value.specs.declared.core_class.CoreClass.TheVariants as class
 use Rattle.def_core.specs.declared.cause.Cause.{Cause}
@@ -14,28 +15,32 @@ use Rattle.def_core.specs.Store.{core, fresh, next_number, with_object}
 use Rattle.def_core.specs.Classes.{lineage, is_member, plain_class_of}
 use Rattle.def_core.specs.Bind.{elements_in}
 use Rattle.def_core.specs.Parts.{no_pairs}
+use Rattle.def_core.specs.Texts.{class_name}
 use Rattle.def_core.specs.Changes.{intern, is_class_sort, object_of_sort}
-use Rattle.def_core.specs.Sound.{Census, census, Any, Class, Array, Proc, Fiber, Is, IsSymbol, IsValue, OptionIs, AllAre, SoundKind}
+use Rattle.def_core.specs.Sound.{Census, census, Any, Class, Array, Proc, Fiber, Is, IsSymbol, IsValue, OptionIs, AllAre, SoundKind, SoundObject}
 use Rattle.def_core.proofs.Grows.{core_is_class}
+use Rattle.def_core.proofs.Good.{role_object}
 use Rattle.def_core.proofs.PartsSound.{all_more, all_rest}
 use Rattle.rb_store.proofs.Start.{interned_symbol}
 use Rattle.rb_raise.specs.Causes.{SoundCause}
 use Rattle.class_model.proofs.Lineages.{any_of}
-use Rattle.def_rows.specs.Answers.{items_object}
-use Rattle.run_values.proofs.Made.{new_is, items_sound}
+use Rattle.def_rows.specs.Answers.{items_object, text_object}
+use Rattle.run_values.proofs.Made.{new_is, items_sound, text_sound}
 use Rattle.def_calls.specs.World.{World, with_store}
 use Rattle.def_calls.specs.Views.{object_in, integer_in, symbol_in, present, kind_in, string_of, detail_of, an_array, a_proc, a_fiber, an_exception}
 use Rattle.def_calls.specs.Checks.{counted, with_block, wanted}
-use Rattle.def_calls.specs.Values.{text_of_value}
+use Rattle.def_calls.specs.Values.{text_of_value, shown}
 use Rattle.def_calls.specs.Rows as rows
-use Rattle.def_calls.specs.Plans.{Iteration, begun, handing, putting, putting_text, printing, printing_text, inspecting, inspecting_text, raising, looping, visiting, counting, initializing, Plan, finishes, fails, raises, sends, calls, writes, reads, resumes, yields, Planned, plans, refuse, sends_named, both, all_flat, flat_by, flattened, line, puts_value, puts_next, puts_flat, puts_all, print_next, gives_all, inspect_next, raise_text, raise_by, raise_value, raise_all, raise_made, elements, visit_next, steps_up, count_next, kind_by, kind_for, initialize_new, send_to, start, next, result_if_stop, caught}
+use Rattle.def_calls.specs.Plans.{Iteration, begun, handing, putting, putting_text, printing, printing_text, inspecting, inspecting_text, raising, looping, visiting, counting, initializing, messaging, telling, telling_text, reporting, reported, Plan, finishes, fails, raises, sends, calls, writes, reads, resumes, yields, Planned, plans, refuse, sends_named, both, all_flat, flat_by, flattened, line, puts_value, puts_next, puts_flat, puts_all, print_next, gives_all, inspect_next, raise_text, with_another, raise_by, raise_value, raise_all, raise_made, elements, visit_next, steps_up, count_next, kind_by, new_kinds, kind_for, initialize_new, new_of, ask, ask_exception, other_object, is_it, messaging_by, give_message, inspected, told, tell, text_or_nil, send_to, start, next, result_if_stop, caught}
 use Rattle.world_laws.specs.Fine.{Bodies, Extends, IsException, KindIs, Fine}
 use Rattle.world_laws.specs.Outcomes.{StateIs, PlanIs, PlannedIs}
-use Rattle.world_laws.proofs.Growing.{role_stays, value_stays, option_stays, all_stay}
+use Rattle.world_laws.proofs.Growing.{sort_stays, role_stays, value_stays, option_stays, all_stay}
 use Rattle.world_laws.proofs.Standing.{keeps_itself, keeps_then}
 use Rattle.world_laws.proofs.Stores.{keeps_object, keeps_interned}
 use Rattle.world_laws.proofs.Answers.{new_sort}
+use Rattle.world_laws.proofs.Changing.{has_any, keeps_message}
 use Rattle.world_laws.proofs.Holding.{object_is, symbol_is, class_is, array_is, proc_is, fiber_is, exception_is, exception_itself, elements_are, detail_is, present_is}
+use Rattle.world_laws.proofs.Searching.{plain_class_is}
 use Rattle.world_laws.proofs.Values.{value_at}
 use Rattle.world_laws.proofs.Checking.{anything, counted_is, block_is, wanted_is}
 
@@ -63,6 +68,11 @@ module _ (w v : World) (e : Extends w v) where
   state_stays (visiting a i p) h = (role_stays w v e Array a h.0, role_stays w v e Proc p h.1)
   state_stays (counting z i p) h = role_stays w v e Proc p h
   state_stays (initializing x) h = value_stays w v e x h
+  state_stays (messaging x) h = value_stays w v e x h
+  state_stays (telling x) h = value_stays w v e x h
+  state_stays (telling_text x) h = value_stays w v e x h
+  state_stays (reporting x) h = sort_stays w v e sort.Exception x h
+  state_stays (reported x) h = sort_stays w v e sort.Exception x h
 
 -- The elements of nested Arrays.
 
@@ -83,8 +93,7 @@ flat_by_is : (k : Census) (flat : Value → Option (List Value))
     → ((v : Value) → IsValue k v → OptionIs (AllAre (IsValue k)) (flat v)) → (v : Value) (o : Option (List Value))
     → IsValue k v → OptionIs (AllAre (IsValue k)) o → OptionIs (AllAre (IsValue k)) (flat_by flat v o)
 flat_by_is k flat f v None is h = (is, tt)
-flat_by_is k flat f v (Some []) is h = (tt, tt)
-flat_by_is k flat f v (Some (u ∷ us)) is h = all_flat_are k flat f (u ∷ us) h
+flat_by_is k flat f v (Some vs) is h = all_flat_are k flat f vs h
 
 elements_or_none : (k : Census) (o : Option (List Value)) → OptionIs (AllAre (IsValue k)) o
     → AllAre (IsValue k) (elements o)
@@ -93,28 +102,38 @@ elements_or_none k (Some xs) h = h
 
 -- What an object of a new class is made with holds nothing.
 
--- what the objects of new classes hold, by the core class above them
-abbrev new_kinds : List (CoreClass × Kind)
-new_kinds = (class.Exception, kind.Exception Nil Nil) ∷ (class.Array, kind.Array []) ∷ (class.String, kind.String [])
-    ∷ (class.Hash, kind.Hash no_pairs) ∷ []
-
-new_kind : (P : Kind → Type 0) → P kind.Plain → (ks : List (CoreClass × Kind)) → AllAre (λ x. P x.1) ks
-    → (above : List ObjId) → P (kind_by ks above)
+new_kind : (P : Kind → Type 0) → P kind.Plain → (ks : List (CoreClass × Option Kind))
+    → AllAre (λ x. OptionIs P x.1) ks → (above : List ObjId) → OptionIs P (kind_by ks above)
 new_kind P plain [] all above = plain
 new_kind P plain (x ∷ xs) all above = by (is_member above (core x.0)) (new_kind P plain xs all.1 above)
   where
-    by : (c : Bool) → P (kind_by xs above) → P (if c then x.1 else kind_by xs above)
+    by : (c : Bool) → OptionIs P (kind_by xs above) → OptionIs P (if c then x.1 else kind_by xs above)
     by true rest = all.0
     by false rest = rest
 
-kind_for_sound : (k : Census) (n : ℕ) (w : World) (c : ObjId) → SoundKind k n (kind_for w.store.objects c)
+kind_for_sound : (k : Census) (n : ℕ) (w : World) (c : ObjId)
+    → OptionIs (SoundKind k n) (kind_for w.store.objects c)
 unfolding kind_for
-kind_for_sound k n w c = new_kind (SoundKind k n) tt new_kinds
-    ((tt, tt), (tt, (tt, (record { pairs = tt; default = tt; block = tt }, tt)))) (lineage w.store.objects c)
+kind_for_sound k n w c = new_kind (SoundKind k n) tt new_kinds (
+  (tt, tt),
+  (
+    tt,
+    (
+      tt,
+      (
+        record { pairs = tt; default = tt; block = tt },
+        (tt, (tt, (tt, (tt, (tt, (tt, (tt, (tt, (tt, (tt, (tt, tt))))))))))),
+      ),
+    ),
+  ),
+)
+    (lineage w.store.objects c)
 
-kind_for_is : (b : Bodies) (w : World) (c : ObjId) → KindIs b w (kind_for w.store.objects c)
+kind_for_is : (b : Bodies) (w : World) (c : ObjId) → OptionIs (KindIs b w) (kind_for w.store.objects c)
 unfolding kind_for
-kind_for_is b w c = new_kind (KindIs b w) tt new_kinds (tt, (tt, (tt, (tt, tt)))) (lineage w.store.objects c)
+kind_for_is b w c = new_kind (KindIs b w) tt new_kinds
+    (tt, (tt, (tt, (tt, (tt, (tt, (tt, (tt, (tt, (tt, (tt, (tt, (tt, (tt, (tt, tt)))))))))))))))
+    (lineage w.store.objects c)
 
 module _ (b : Bodies) (w : World) (fine : Fine b w) where
   stays : (p : Plan) → PlanIs (census w.store) p → PlannedIs b w (plans w.store p)
@@ -205,13 +224,29 @@ module _ (b : Bodies) (w : World) (fine : Fine b w) where
     plan = new_sort w.store (fresh (core class.RuntimeError) (kind.Exception (Obj id) Nil));
   }
 
+  another_sound : (id : ObjId) (m : Value) → Is (census w.store) Any id → IsValue (census w.store) m
+      → SoundObject (census w.store) (length w.store.objects) (with_another w.store.objects id m)
+  another_sound id m is value =
+      let o = role_object w.store fine.store Any id is in
+      record {
+        class = o.class;
+        singleton = tt;
+        variables = o.variables;
+        kind = (value, detail_is w.store fine.store (Obj id) is);
+      }
+
   raise_by_is : (id : ObjId) (more : List Value) (c e : Option ObjId) → Is (census w.store) Any id
       → AllAre (IsValue (census w.store)) more → OptionIs (λ _. IsException (census w.store) id) e
       → PlannedIs b w (raise_by w.store id more c e)
   raise_by_is id more (Some c) e is all h = named_is raising (Obj id) more None (codes "new") tt is all tt
   raise_by_is id [] None (Some e) is all h = stays (raises id) h
   raise_by_is id [] None None is all h = raise_text_is id (string_of (kind_in w.store.objects (Obj id))) is
-  raise_by_is id (m ∷ ms) None e is all h = refused cause.NotException tt
+  raise_by_is id (m ∷ ms) None None is all h = refused cause.NotException tt
+  raise_by_is id (m ∷ []) None (Some e) is all h = record {
+    keeps = keeps_object b w fine (with_another w.store.objects id m) (another_sound id m is all.0) tt;
+    plan = new_sort w.store (with_another w.store.objects id m);
+  }
+  raise_by_is id (m ∷ n ∷ ms) None (Some e) is all h = refused cause.NotException tt
 
   raise_value_is : (more : List Value) (o : Option ObjId) → AllAre (IsValue (census w.store)) more
       → OptionIs (Is (census w.store) Any) o → PlannedIs b w (raise_value w.store more o)
@@ -268,26 +303,87 @@ module _ (b : Bodies) (w : World) (fine : Fine b w) where
       (symbol_is w.store fine.store name called)
       (λ s symbol. stays (sends handing recv s args block public) (tt, is, symbol, all, proc))
 
+  -- messages of exceptions
+
+  asks : (it : Iteration) (x : Value) → StateIs (census w.store) it → IsValue (census w.store) x
+      → PlannedIs b w (ask w.store it x)
+  asks it x state is = named_is it x [] None (codes "to_s") state is tt tt
+
+  asks_exception : (it : Iteration) (x : Value) → StateIs (census w.store) it → IsValue (census w.store) x
+      → PlannedIs b w (ask_exception w.store it x)
+  asks_exception it x state is =
+      wanted_is w.store fine.store (refuse w.store) (PlannedIs b w) refused (λ _. Unit {0}) class.Exception x
+      (an_exception w.store.objects x) (λ id. ask w.store it x) is (anything (an_exception w.store.objects x))
+      (λ id _. asks it x state is)
+
+  messaging_is : (e : Value) (o : Option Value) → IsValue (census w.store) e
+      → StateIs (census w.store) (messaging_by e o)
+  messaging_is e None is = tt
+  messaging_is e (Some o) is = is
+
+  message_given : (e x : Value) → IsValue (census w.store) x → PlannedIs b w (give_message w.store e x)
+  message_given e x is = by (is_it (other_object w.store e) x)
+    where
+      by : (c : Bool) → PlannedIs b w (if c then ask w.store handing x else plans w.store (finishes x))
+      by true = asks handing x tt is
+      by false = stays (finishes x) is
+
+  is_told : (e x : Value) → PlannedIs b w (told w.store e x)
+  is_told e x =
+      let o = text_object (inspected (class_name w.store (plain_class_of w.store.objects e)) (shown w.store x)) in
+      record {
+        keeps = keeps_object b w fine o (text_sound w.store fine.store _) tt;
+        plan = new_is w.store o;
+      }
+
+  tells : (e x : Value) → IsValue (census w.store) e → IsValue (census w.store) x → PlannedIs b w (tell w.store e x)
+  tells e x exception is = by (is_it (other_object w.store e) x)
+    where
+      by : (c : Bool) → PlannedIs b w (if c then ask w.store (telling_text e) x else told w.store e x)
+      by true = asks (telling_text e) x exception is
+      by false = is_told e x
+
+  text_or_nil_is : (x : Value) (o : Option (List ℕ)) → IsValue (census w.store) x
+      → IsValue (census w.store) (text_or_nil x o)
+  text_or_nil_is x None is = tt
+  text_or_nil_is x (Some bytes) is = is
+
+  message_kept : (e : ObjId) (x : Value) → IsException (census w.store) e → IsValue (census w.store) x
+      → PlannedIs b w (next (reported e) x w.store)
+  unfolding next
+  message_kept e x exception is =
+      let m : Value = text_or_nil x (string_of (kind_in w.store.objects x)) in
+      let k = keeps_message b w fine e m exception (text_or_nil_is x (string_of (kind_in w.store.objects x)) is) in
+      record { keeps = k; plan = sort_stays w _ k.extends sort.Exception e exception }
+
 -- Class#new: the object, and then its method `initialize`
-new_is_planned : (b : Bodies) (w : World) → Fine b w → (c : ObjId) (args : List Value) (block : Option ObjId)
-    → Is (census w.store) Class c → AllAre (IsValue (census w.store)) args
-    → OptionIs (Is (census w.store) Proc) block
-    → PlannedIs b w (initialize_new (with_object w.store (fresh c (kind_for w.store.objects c)))
-    (Obj (next_number w.store)) args block)
-new_is_planned b w fine c args block is all proc =
-    let k : Kind = kind_for w.store.objects c in
-    let v : World = with_store w (with_object w.store (fresh c k)) in
-    let made = keeps_object b w fine (fresh c k)
-    (record {
-      class = is;
-      singleton = tt;
-      variables = tt;
-      kind = kind_for_sound (census w.store) (length w.store.objects) w c;
-    }) (kind_for_is b w c) in
-    let there = new_is w.store (fresh c k) in
-    let h = named_is b v made.fine (initializing (Obj (next_number w.store))) (Obj (next_number w.store)) args block
-    (codes "initialize") there there (values_stay w v made.extends args all) (block_stays w v made.extends block proc) in
-    record { keeps = keeps_then b w v _ made h.keeps; plan = h.plan }
+module _ (b : Bodies) (w : World) (fine : Fine b w) (c : ObjId) (args : List Value) (block : Option ObjId)
+    (is : Is (census w.store) Class c) (all : AllAre (IsValue (census w.store)) args)
+    (proc : OptionIs (Is (census w.store) Proc) block) where
+  new_by : (o : Option Kind) → OptionIs (SoundKind (census w.store) (length w.store.objects)) o
+      → OptionIs (KindIs b w) o → PlannedIs b w (new_of w.store c args block o)
+  new_by None sound has =
+      let v : World = with_store w (intern w.store (codes "new")).store in
+      let k = keeps_interned b w fine (codes "new") in
+      record {
+        keeps = k;
+        plan = (
+          interned_symbol w.store (codes "new"),
+          plain_class_is v.store k.fine.store (Obj c) (value_stays w v k.extends (Obj c) (any_of w.store Class c is)),
+        );
+      }
+  new_by (Some x) sound has =
+      let v : World = with_store w (with_object w.store (fresh c x)) in
+      let made = keeps_object b w fine (fresh c x)
+      (record { class = is; singleton = tt; variables = tt; kind = sound }) has in
+      let there = new_is w.store (fresh c x) in
+      let h = named_is b v made.fine (initializing (Obj (next_number w.store))) (Obj (next_number w.store)) args block
+      (codes "initialize") there there (values_stay w v made.extends args all) (block_stays w v made.extends block proc) in
+      record { keeps = keeps_then b w v _ made h.keeps; plan = h.plan }
+
+  new_is_planned : PlannedIs b w (new_of w.store c args block (kind_for w.store.objects c))
+  new_is_planned = new_by (kind_for w.store.objects c) (kind_for_sound (census w.store) (length w.store.objects) w c)
+      (kind_for_is b w c)
 
 module _ (b : Bodies) (w : World) (fine : Fine b w) where
   module _ (recv : Value) (args : List Value) (block : Option ObjId) (is : IsValue (census w.store) recv)
@@ -349,6 +445,10 @@ module _ (b : Bodies) (w : World) (fine : Fine b w) where
     start_is rows.yield = stays b w fine (yields handing args) (tt, all)
     start_is rows.send_kept = count 1 None _
         (send_to_is b w fine (get_or args 0 Nil) recv (drop 1 args) block false first_is is rest_are proc)
+    start_is rows.exception_message = count 0 (Some 0) _
+        (asks_exception b w fine (messaging_by recv (other_object w.store recv)) recv
+        (messaging_is b w fine recv (other_object w.store recv) is) is)
+    start_is rows.exception_inspection = count 0 (Some 0) _ (asks_exception b w fine (telling recv) recv is is)
 
   -- the next plan, with the answer to the one before
   pub next_is : (it : Iteration) (x : Value) → StateIs (census w.store) it → IsValue (census w.store) x
@@ -368,6 +468,12 @@ module _ (b : Bodies) (w : World) (fine : Fine b w) where
   next_is (visiting a i p) x h is = visit_next_is b w fine a i p h.0 h.1
   next_is (counting z i p) x h is = count_next_is b w fine z i p h
   next_is (initializing o) x h is = stays b w fine (finishes o) h
+  next_is (messaging e) x h is = message_given b w fine e x is
+  next_is (telling e) x h is = tells b w fine e x h is
+  next_is (telling_text e) x h is = is_told b w fine e x
+  next_is (reporting e) x h is = named_is b w fine (reported e) (Obj e) [] None (codes "message") h
+      (has_any w.store sort.Exception e h) tt tt
+  next_is (reported e) x h is = message_kept b w fine e x h is
 
   stop_is : (e : ObjId) → Is (census w.store) Any e → OptionIs (IsValue (census w.store)) (result_if_stop w.store e)
   stop_is e is = by (is_member (lineage w.store.objects (plain_class_of w.store.objects (Obj e))) (core class.StopIteration))
@@ -394,3 +500,8 @@ module _ (b : Bodies) (w : World) (fine : Fine b w) where
   caught_is (visiting a i p) e is = tt
   caught_is (counting z i p) e is = tt
   caught_is (initializing o) e is = tt
+  caught_is (messaging x) e is = tt
+  caught_is (telling x) e is = tt
+  caught_is (telling_text x) e is = tt
+  caught_is (reporting x) e is = tt
+  caught_is (reported x) e is = tt

@@ -13,11 +13,13 @@ use Rattle.rb_value.specs.declared.hash.HashItem.{HashItem}
 use Rattle.rb_value.specs.declared.hash.HashContents.{HashContents}
 use Rattle.rb_value.specs.declared.kind.Sort.TheVariants as sort
 use Rattle.rb_value.specs.declared.variables.Variable.{Variable}
+use Rattle.rb_value.specs.declared.core_class.CoreClass.TheVariants as class
 use Rattle.rb_value.specs.Variables as variables
 use Rattle.def_core.specs.declared.cause.Cause.TheVariants as cause
-use Rattle.def_core.specs.Store.{Store, next_number, with_object}
+use Rattle.def_core.specs.Store.{Store, core, next_number, same_object, with_object}
+use Rattle.def_core.specs.Classes.{plain_class_of}
 use Rattle.def_core.specs.Bind.{elements_in}
-use Rattle.def_core.specs.Parts.{text_at}
+use Rattle.def_core.specs.Parts.{text_at, pair_of}
 use Rattle.def_core.specs.Changes.{intern}
 use Rattle.def_core.specs.Sound.{Census, census, Sound, Any, Array, Is, IsSymbol, IsValue, OptionIs, AllAre, SoundVariable, SoundPair, SoundPart, SoundKey, SoundHash}
 use Rattle.def_core.proofs.Good.{role_object}
@@ -29,14 +31,14 @@ use Rattle.rb_integer.specs.declared.ends.Ends.{Ends}
 use Rattle.rb_integer.specs.Ends as ends
 use Rattle.def_rows.specs.Answers.{items_object, text_object, with_texts}
 use Rattle.def_rows.specs.RangeRows.{range_of, items, integers_of, texts_of}
-use Rattle.run_values.proofs.Made.{new_is, items_sound}
+use Rattle.run_values.proofs.Made.{new_is, items_sound, text_sound}
 use Rattle.run_values.proofs.Splatting as splatting
 use Rattle.def_calls.specs.World.{World, with_store}
 use Rattle.def_calls.specs.Views.{object_in, kind_in, string_of, hash_of}
-use Rattle.def_calls.specs.Values.{wrong_value, variables_of, instance_variable, set_variable_of, set_instance_variable, elements_or_itself, element_at, element, elements_between, last_elements, pairs_of, splat_hash, splat_items, splat_range, splat_array, splat, pushed, push_splat, appended, intern_bytes, make_symbol, joined, all_parts, text_part, array_part, parts_of, key_of_parts, key_by, key_of, put_by_key, with_pair}
+use Rattle.def_calls.specs.Values.{wrong_value, variables_of, instance_variable, set_variable_of, set_instance_variable, elements_or_itself, element_at, element, elements_between, last_elements, pairs_of, splat_hash, splat_items, splat_range, splat_array, splat, pushed, push_splat, appended, intern_bytes, make_symbol, joined, all_parts, text_part, array_part, parts_of, key_of_parts, key_by, key_of, copied_text, shown_as, put_shown, put_by_key, with_pair}
 use Rattle.world_laws.specs.Fine.{Bodies, HasSort, ObjectIs, Fine, Keeps}
 use Rattle.world_laws.specs.Outcomes.{AnswerIs, GivesSpace, SplattedIs}
-use Rattle.world_laws.proofs.Growing.{value_stays, role_stays, all_stay}
+use Rattle.world_laws.proofs.Growing.{sort_stays, value_stays, role_stays, key_stays, all_stay}
 use Rattle.world_laws.proofs.Standing.{keeps_itself, keeps_then}
 use Rattle.world_laws.proofs.Stores.{keeps_object, keeps_objects, keeps_interned}
 use Rattle.world_laws.proofs.Answers.{answer_then, gives_value, gives_in, makes_items, fails_with, fail_gives}
@@ -89,6 +91,10 @@ module _ (st : Store) (sound : Sound st) where
 
 abbrev pub Shown : Census → Key × HashItem → Type 0
 Shown k p = IsValue k p.1.shown × IsValue k p.1.value
+
+-- what is shown as a key is a value of the store that has it
+abbrev ShownIs : Bodies → World → Value × Store → Type 0
+ShownIs b w s = Keeps b w (with_store w s.1) × IsValue (census s.1) s.0
 
 pub texts_hold_nothing : (b : Bodies) (w : World) (texts : List (List ℕ)) → AllAre (ObjectIs b w) (map text_object texts)
 texts_hold_nothing b w [] = tt
@@ -298,13 +304,41 @@ module _ (b : Bodies) (w : World) (fine : Fine b w) where
 
   -- Hashes.
 
+  text_copied : (x : Value) (o : Option (List ℕ)) → IsValue (census w.store) x → ShownIs b w (copied_text w.store x o)
+  text_copied x None is = (keeps_itself b w fine, is)
+  text_copied x (Some bytes) is = by (same_object (plain_class_of w.store.objects x) (core class.String))
+    where
+      by : (c : Bool) → ShownIs b w
+          (if c then (Obj (next_number w.store), with_object w.store (text_object bytes)) else (x, w.store))
+      by true = (
+        keeps_object b w fine (text_object bytes) (text_sound w.store fine.store bytes) tt,
+        new_is w.store (text_object bytes),
+      )
+      by false = (keeps_itself b w fine, is)
+
+  shown_is : (x : Value) (o : Option HashItem) → IsValue (census w.store) x → ShownIs b w (shown_as w.store x o)
+  shown_is x None is = text_copied x (string_of (kind_in w.store.objects x)) is
+  shown_is x (Some item) is = (keeps_itself b w fine, is)
+
+  put_shown_is : (id : ObjId) (value : Value) (x : Key) (s : Value × Store) → HasSort (census w.store) sort.Hash id
+      → IsValue (census w.store) value → SoundKey (census w.store) x → ShownIs b w s
+      → AnswerIs b w (put_shown w id value x s)
+  put_shown_is id value x s is h found shown =
+      let v : World = with_store w s.1 in
+      let e = shown.0.extends in
+      let there = sort_stays w v e sort.Hash id is in
+      let kept = keeps_pair b v shown.0.fine id x s.0 value there (key_stays w v e x found) shown.1
+      (value_stays w v e value h) in
+      gives_in b w fine _ (Obj id) (keeps_then b w v _ shown.0 kept)
+      (value_stays v _ kept.extends (Obj id) (has_any v.store sort.Hash id there))
+
   put_is : (id : ObjId) (shown value : Value) (o : Option Key) → HasSort (census w.store) sort.Hash id
       → IsValue (census w.store) shown → IsValue (census w.store) value → OptionIs (SoundKey (census w.store)) o
       → AnswerIs b w (put_by_key w id shown value o)
   put_is id shown value None is k v found = fails_with b w fine cause.StackTooDeep tt
   put_is id shown value (Some x) is k v found =
-      let kept = keeps_pair b w fine id x shown value is found k v in
-      gives_in b w fine _ (Obj id) kept (value_stays w _ kept.extends (Obj id) (has_any w.store sort.Hash id is))
+      put_shown_is id value x (shown_as w.store shown (pair_of w.store.objects id x)) is v found
+      (shown_is shown (pair_of w.store.objects id x) k)
 
   pub with_pair_is : (id : ObjId) (shown value : Value) → HasSort (census w.store) sort.Hash id
       → IsValue (census w.store) shown → IsValue (census w.store) value → AnswerIs b w (with_pair w id shown value)

@@ -1,5 +1,5 @@
 -- Changes of what is beside the store that keep a world fine.
-use Rattle.std.proofs.Common.{ℕ, suc, ◌+◌, ◌<◌, List, [], ◌∷◌, ◌++◌, length, arith}
+use Rattle.std.proofs.Common.{ℕ, suc, ◌+◌, ◌<◌, List, [], ◌∷◌, ◌++◌, length, Bool, true, arith}
 use Rattle.std.specs.Prelude.{nat_eq}
 use Rattle.indexmap.specs.IndexMap.{insert_entry}
 use Rattle.rb_value.specs.declared.value.Value.{Value}
@@ -9,17 +9,19 @@ use Rattle.def_core.specs.Sound.{Census, sorts_of, census, ClassOrModule, Is, Is
 use Rattle.def_core.proofs.Keeps.{named_kept}
 use Rattle.def_core.proofs.PartsSound.{all_more}
 use Rattle.def_calls.specs.World.{World, Activation, Enclosing, with_global, with_activation, with_enclosing}
+use Rattle.def_calls.specs.Calls.{asking}
 use Rattle.world_laws.specs.Fine.{Bodies, Extends, IsClasses, ActivationIs, EnclosingAre, GlobalIs, Fine, Keeps}
 use Rattle.world_laws.specs.Outcomes.{OpensIn}
 use Rattle.world_laws.proofs.Growing.{goes_itself, goes_more}
 use Rattle.world_laws.proofs.Standing.{objects_stay, activations_stay}
 
--- with other input and output, or global variables
-abbrev pub beside : World → List (ℕ × Value) → List ℕ → List ℕ → World
-beside w globals input out = record w { globals = globals; input = input; out = out }
+-- with other input and output, or global variables, or another answer to whether an exception was asked
+abbrev pub beside : World → List (ℕ × Value) → List ℕ → List ℕ → Bool → World
+beside w globals input out asked = record w { globals = globals; input = input; out = out; asked = asked }
 
-pub extends_beside : (w : World) (globals : List (ℕ × Value)) (input out : List ℕ) → Extends w (beside w globals input out)
-extends_beside w globals input out = record {
+pub extends_beside : (w : World) (globals : List (ℕ × Value)) (input out : List ℕ) (asked : Bool)
+    → Extends w (beside w globals input out asked)
+extends_beside w globals input out asked = record {
   sorts = goes_itself (sorts_of w.store.objects);
   symbols = goes_itself w.store.symbols;
   enclosing = goes_itself w.enclosing;
@@ -49,11 +51,11 @@ enclosing_more k n [] c h is lt = (is, omega (arith, lt), tt)
 enclosing_more k n (e ∷ es) c h is lt = (h.0, h.1, enclosing_more k (suc n) es c h.2 is (omega (arith, lt)))
 
 module _ (b : Bodies) (w : World) (fine : Fine b w) where
-  pub keeps_beside : (globals : List (ℕ × Value)) (input out : List ℕ) → AllAre (GlobalIs (census w.store)) globals
-      → Keeps b w (beside w globals input out)
-  keeps_beside globals input out all =
-      let v : World = beside w globals input out in
-      let e = extends_beside w globals input out in
+  pub keeps_beside : (globals : List (ℕ × Value)) (input out : List ℕ) (asked : Bool)
+      → AllAre (GlobalIs (census w.store)) globals → Keeps b w (beside w globals input out asked)
+  keeps_beside globals input out asked all =
+      let v : World = beside w globals input out asked in
+      let e = extends_beside w globals input out asked in
       record {
         fine = record {
           store = fine.store;
@@ -66,12 +68,15 @@ module _ (b : Bodies) (w : World) (fine : Fine b w) where
       }
 
   pub keeps_io : (input out : List ℕ) → Keeps b w (record w { input = input; out = out })
-  keeps_io input out = keeps_beside w.globals input out fine.globals
+  keeps_io input out = keeps_beside w.globals input out w.asked fine.globals
+
+  pub keeps_asking : Keeps b w (asking w)
+  keeps_asking = keeps_beside w.globals w.input w.out true fine.globals
 
   pub keeps_global : (name : SymId) (x : Value) → IsSymbol (census w.store) name → IsValue (census w.store) x
       → Keeps b w (with_global w name x)
   keeps_global name x symbol value =
-      keeps_beside (insert_entry nat_eq w.globals name.0 x) w.input w.out
+      keeps_beside (insert_entry nat_eq w.globals name.0 x) w.input w.out w.asked
       (named_kept (census w.store) (IsValue (census w.store)) w.globals name.0 x fine.globals (symbol.below, value))
 
   pub keeps_activation : (a : Activation) → OpensIn w a → Keeps b w (with_activation w a)

@@ -13,7 +13,7 @@ use Rattle.run_values.specs.Raisable.{IsRaisable}
 use Rattle.def_calls.specs.World.{World, Activation, Result, gives, raises, Answer, with_store, with_activation}
 use Rattle.def_calls.specs.Views.{Callable, by_body, by_row}
 use Rattle.def_calls.specs.Values.{Splatted}
-use Rattle.def_calls.specs.Plans.{Iteration, begun, handing, putting, putting_text, printing, printing_text, inspecting, inspecting_text, raising, looping, visiting, counting, initializing, Plan, Planned}
+use Rattle.def_calls.specs.Plans.{Iteration, begun, handing, putting, putting_text, printing, printing_text, inspecting, inspecting_text, raising, looping, visiting, counting, initializing, messaging, telling, telling_text, reporting, reported, Plan, Planned}
 use Rattle.def_calls.specs.Plans as plan
 use Rattle.def_calls.specs.Calls.{Opening, Entry, answers, enters, begins, Sending, by_name, by_bare_name, to_proc, to_super, BlockArgument, no_block, block_of, not_a_block}
 use Rattle.def_calls.specs.Fibers as fibers
@@ -112,6 +112,11 @@ StateIs k (looping p) = Is k Proc p
 StateIs k (visiting a i p) = Is k Array a × Is k Proc p
 StateIs k (counting z i p) = Is k Proc p
 StateIs k (initializing v) = IsValue k v
+StateIs k (messaging v) = IsValue k v
+StateIs k (telling v) = IsValue k v
+StateIs k (telling_text v) = IsValue k v
+StateIs k (reporting e) = IsException k e
+StateIs k (reported e) = IsException k e
 
 pub record EntersIs (b : Bodies) (w : World) (o : Opening) (v : World) : Type 0 where
   pub keeps : Keeps b w v

@@ -13,6 +13,7 @@
 
 ghost use Rattle.std.specs.Prelude.{ℕ, ℤ, List, Option, Bool};
 ghost use Rattle.rb_value.specs.declared.value.Value.{Value};
+ghost use Rattle.rb_value.specs.declared.value.Value.TheVariants.{Obj};
 ghost use Rattle.rb_value.specs.declared.value.ObjId.{ObjId};
 ghost use Rattle.rb_value.specs.declared.value.SymId.{SymId};
 ghost use Rattle.rb_value.specs.declared.method.Shape.{Shape};
@@ -21,15 +22,15 @@ ghost use Rattle.def_core.specs.declared.bound.BindKind.{BindKind};
 ghost use Rattle.def_core.specs.Bind.{bind};
 ghost use Rattle.def_core.specs.Sound.{census, Any, ClassOrModule, Proc, Is, IsSymbol, IsValue, OptionIs, AllAre};
 ghost use Rattle.def_calls.specs.World.{World, Activation, with_store, with_global};
-ghost use Rattle.def_calls.specs.Calls.{Sending, enter_row, enter_proc, call, send_by_core, block_argument, settle, is_of, with_class_body, close, one_of, read, main_activation, opening_world};
+ghost use Rattle.def_calls.specs.Calls.{Sending, enter_row, enter_proc, call, send_by_core, block_argument, settle, is_of, with_class_body, close, one_of, read, core_activation, asking, main_activation, opening_world};
 ghost use Rattle.def_calls.specs.Constants.{get_constant, set_constant};
 ghost use Rattle.def_calls.specs.Definitions.{define_method, singleton_class, open_class, open_module, alias_method, undefine_method, constant_told, method_told};
 ghost use Rattle.def_calls.specs.Fibers.{Name, with_ended};
-ghost use Rattle.def_calls.specs.Plans.{Iteration, next, caught};
+ghost use Rattle.def_calls.specs.Plans.{Iteration, reporting, next, caught};
 ghost use Rattle.def_calls.specs.Values.{set_instance_variable, element, splat, make_symbol, make_range, with_pair};
 ghost use Rattle.world_laws.specs.Anywhere.{anywhere};
-ghost use Rattle.world_laws.specs.Fine.{Extends, HasSort, ActivationIs, Fine, Keeps};
-ghost use Rattle.world_laws.specs.Outcomes.{AnswerIs, GivesSpace, SplattedIs, BindingIs, SendingIs, StateIs, EntryIs, BlockArgumentIs, PlannedIs, NameIs};
+ghost use Rattle.world_laws.specs.Fine.{Extends, HasSort, IsException, ActivationIs, Fine, Keeps};
+ghost use Rattle.world_laws.specs.Outcomes.{AnswerIs, GivesSpace, SplattedIs, BindingIs, SendingIs, StateIs, BeginsIs, EntryIs, BlockArgumentIs, PlannedIs, NameIs};
 
 /// The world before the first step of a program is fine, whatever names the program has, and so is its activation.
 pub fn first_world_is_fine()
@@ -81,7 +82,7 @@ pub fn activations_keep_the_world()
 {}
 
 /// What an iteration wants next, and the value with which it ends where it stops an exception; what a resume and a read
-/// give it.
+/// give it; the one that asks an exception which nothing rescued for its message.
 pub fn iterations_keep_the_world()
     ensures next { (w : World) (it : Iteration) (v : Value) → Fine anywhere w → StateIs (census w.store) it
         → IsValue (census w.store) v → PlannedIs anywhere w (next it v w.store) }
@@ -90,6 +91,8 @@ pub fn iterations_keep_the_world()
     ensures resumed { (w : World) (vs : List Value) → Fine anywhere w → AllAre (IsValue (census w.store)) vs
         → AnswerIs anywhere w (one_of w vs) }
     ensures read { (w : World) → Fine anywhere w → AnswerIs anywhere w (read w) }
+    ensures reported { (w : World) (e : ObjId) → Fine anywhere w → IsException (census w.store) e
+        → BeginsIs anywhere w (reporting e) (core_activation w (Obj e)) (asking w) }
 {}
 
 /// Variables, constants, elements, splats, symbols, Ranges and pairs of Hashes.
