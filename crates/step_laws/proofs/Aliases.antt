@@ -91,7 +91,7 @@ module _ (g : Ground) (h : Site) (static : Static h) (ks : List Item) (m : sourc
       (turned h x (n + 1) (op.LoadNil r) g.below k' load)
       (subst (λ (q : Config). Related h q (state_at g h x (n + 1 + 1) (written h k' r Nil)))
       (sym (goes ∙ ap (λ (q : Given). after_result q w ks m) e))
-      (writes g h static Nil ks (source.with_world m w) x k' (n + 1 + 1) r around (with_worlds g h m k both w quiet.2)
+      (writes g h static Nil ks (source.with_world m w) x k' (n + 1 + 1) r around (with_worlds g h m k both w quiet.1)
       there room next))
     where
       out_same : (k' : machine.Memory) → k'.world.out ≡ m.world.out
@@ -110,9 +110,9 @@ module _ (g : Ground) (h : Site) (static : Static h) (ks : List Item) (m : sourc
         throws = turned h x n o g.below (aligned k m) l ∙ acts
             ∙ ap (λ (q : Given). only_result h.program q (at_line h (n + 1)) (frame_at h x n) g.below
             (machine.with_world k a.world)) e;
-        out = from.out ∙ sym quiet.1;
+        out = from.out ∙ sym quiet.0;
         both = grown (over_levels g (frame (frame_at h x n) ∷ g.below)) m (aligned k m)
-            (below_running g h m (aligned k m) both (frame_at h x n) refl) m.place a.world quiet.2;
+            (below_running g h m (aligned k m) both (frame_at h x n) refl) m.place a.world quiet.1;
         leaving = leaves_frame g h k.lists ks (n + 1 + 1) r around x n both.site next;
       })))
 
@@ -137,7 +137,7 @@ module _ (g : Ground) (h : Site) (static : Static h) (ks : List Item) (m : sourc
             (omega (arith, high-both p q, one, high-puts (line.Does (op.LoadNil r)))) next;
       }
 
-  pub do_alias : (j : ℕ) (y z : Name) (d : Doing g h (alias_form y z) ks m.place ls k.lists)
+  pub do_alias : (j : ℕ) (y z : Name) (d : Doing g h j (alias_form y z) ks m.place ls k.lists)
       → Quiet m (go h.source (Run (perform j (alias_form y z)) ks m))
       → Step h (Run (perform j (alias_form y z)) ks m) (state_at g h d.x d.n (aligned k m))
   unfolding do_form
@@ -165,7 +165,7 @@ module _ (g : Ground) (h : Site) (static : Static h) (ks : List Item) (m : sourc
       entry_symbol : Name → SymId
       entry_symbol y = symbol_machine h.program (frame_at h d.x d.n) (aligned k m) (entry_of h.context y)
 
-  pub do_undef : (j : ℕ) (y : Name) (d : Doing g h (undef_form y) ks m.place ls k.lists)
+  pub do_undef : (j : ℕ) (y : Name) (d : Doing g h j (undef_form y) ks m.place ls k.lists)
       → Quiet m (go h.source (Run (perform j (undef_form y)) ks m))
       → Step h (Run (perform j (undef_form y)) ks m) (state_at g h d.x d.n (aligned k m))
   unfolding do_form

@@ -48,7 +48,7 @@ pub answer_at : (g : Ground) (h : Site) → Static h → (c : Config) (a : Given
 answer_at g h static c (gives v) w ks m x k n r o around from goes l acts less both at_home room next =
     let k' = machine.with_world k w in
     let quiet = subst (Quiet m) goes from.quiet in
-    let both' : Common g h (source.with_world m w) k' = grown_here g h m (aligned k m) both w quiet.2 in
+    let both' : Common g h (source.with_world m w) k' = grown_here g h m (aligned k m) both w quiet.1 in
     by_one h c (state_at g h x n (aligned k m)) (state_at g h x (n + 1) (written h k' r v)) from.alike
     (turned h x n o g.below (aligned k m) l ∙ acts)
     (subst (λ (d : Config). Related h d (state_at g h x (n + 1) (written h k' r v))) (sym goes)
@@ -63,9 +63,9 @@ answer_at g h static c (raises e) w ks m x k n r o around from goes l acts less 
       exception = refl;
       memory = machine.with_world k w;
       throws = turned h x n o g.below (aligned k m) l ∙ acts;
-      out = from.out ∙ sym quiet.1;
+      out = from.out ∙ sym quiet.0;
       both = grown (over_levels g (frame (frame_at h x n) ∷ g.below)) m (aligned k m)
-          (below_running g h m (aligned k m) both (frame_at h x n) refl) m.place w quiet.2;
+          (below_running g h m (aligned k m) both (frame_at h x n) refl) m.place w quiet.1;
       leaving = leaves_frame g h k.lists ks (n + 1) r around x n both.site next;
     })))
 
@@ -80,7 +80,7 @@ module _ (g : Ground) (h : Site) (static : Static h) (j : ℕ) (ks : List Item) 
       → InFrame g h k.lists ks (n + 1) r around
   one_line n r o around a = subst (λ (i : ℕ). InFrame g h k.lists ks (n + i) r around) (high-puts (line.Does o)) a
 
-  pub do_symbol : (y : Name) (d : Doing g h (symbol_form y) ks m.place ls k.lists)
+  pub do_symbol : (y : Name) (d : Doing g h j (symbol_form y) ks m.place ls k.lists)
       → Step h (Run (perform j (symbol_form y)) ks m) (state_at g h d.x d.n (aligned k m))
   unfolding do_form
   do_symbol y d =
@@ -91,7 +91,7 @@ module _ (g : Ground) (h : Site) (static : Static h) (j : ℕ) (ks : List Item) 
       (ap (λ (s : SymId). state_at g h d.x (d.n + 1) (written h (aligned k m) d.r (value.Sym s)))
       (symbols_same h d.x d.n k m y d.covered.1)) both d.there d.covered.0 (one_line d.n d.r o d.loop d.next)
 
-  pub do_gvar : (y : Name) (d : Doing g h (gvar y) ks m.place ls k.lists)
+  pub do_gvar : (y : Name) (d : Doing g h j (gvar y) ks m.place ls k.lists)
       → Step h (Run (perform j (gvar y)) ks m) (state_at g h d.x d.n (aligned k m))
   unfolding do_form
   do_gvar y d =
@@ -102,7 +102,7 @@ module _ (g : Ground) (h : Site) (static : Static h) (j : ℕ) (ks : List Item) 
       (ap (λ (s : SymId). state_at g h d.x (d.n + 1) (written h (aligned k m) d.r (global m.world s)))
       (symbols_same h d.x d.n k m y d.covered.1)) both d.there d.covered.0 (one_line d.n d.r o d.loop d.next)
 
-  pub do_ivar : (y : Name) (d : Doing g h (ivar y) ks m.place ls k.lists)
+  pub do_ivar : (y : Name) (d : Doing g h j (ivar y) ks m.place ls k.lists)
       → Step h (Run (perform j (ivar y)) ks m) (state_at g h d.x d.n (aligned k m))
   unfolding do_form
   do_ivar y d =
@@ -118,7 +118,7 @@ module _ (g : Ground) (h : Site) (static : Static h) (j : ℕ) (ks : List Item) 
       (written h (aligned k m) d.r (instance_variable m.world v (symbol m y)))) (sym self))
       both d.there d.covered.0 (one_line d.n d.r o d.loop d.next)
 
-  pub do_str : (t : List ℕ) (d : Doing g h (str t) ks m.place ls k.lists)
+  pub do_str : (t : List ℕ) (d : Doing g h j (str t) ks m.place ls k.lists)
       → Quiet m (go h.source (Run (perform j (str t)) ks m))
       → Step h (Run (perform j (str t)) ks m) (state_at g h d.x d.n (aligned k m))
   unfolding do_form
@@ -133,7 +133,7 @@ module _ (g : Ground) (h : Site) (static : Static h) (j : ℕ) (ks : List Item) 
       (ap (λ (i : Option PoolItem). new_text h.program i d.r (at_line h (d.n + 1)) (frame_at h d.x d.n) g.below (aligned k m))
       d.covered.1) (omega arith) both d.there d.covered.0 (one_line d.n d.r o d.loop d.next)
 
-  pub do_constant : (y : Name) (d : Doing g h (constant y) ks m.place ls k.lists)
+  pub do_constant : (y : Name) (d : Doing g h j (constant y) ks m.place ls k.lists)
       → Quiet m (go h.source (Run (perform j (constant y)) ks m))
       → Step h (Run (perform j (constant y)) ks m) (state_at g h d.x d.n (aligned k m))
   unfolding do_form

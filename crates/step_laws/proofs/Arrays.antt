@@ -30,6 +30,7 @@ use Rattle.def_machine.specs.State.{Level, frame, State, slot_at, value_at}
 use Rattle.def_machine.specs.Turn.{act, on_object}
 use Rattle.step_laws.specs.Site.{Site, within, place_in, at_line, Room}
 use Rattle.step_laws.specs.Covered.{Covered, CoveredElements}
+use Rattle.step_laws.proofs.Covers.{at_top}
 use Rattle.step_laws.proofs.Placed.{high, high-both, high-puts, high-nothing, line-past, Stands, moved, left, right, the_line, Rest, frame_at, turned}
 use Rattle.step_laws.specs.Behind.{Static, push}
 use Rattle.step_laws.specs.Relation.{Ground, InFrame, Common, Doing, GivesIn, Related, Step}
@@ -68,7 +69,7 @@ item_on g h j id spread e is ks m k x n low end loop s both there room covered o
         loop = loop;
         s = s;
         here = here;
-        covered = covered;
+        covered = at_top h loop (low + 1) s j e covered;
         above = omega (arith, room.above);
         code = left h n p (does o) first;
         next = record {
@@ -140,7 +141,7 @@ module _ (g : Ground) (h : Site) (x : Rest) (n low : ℕ) (k : machine.Memory) (
 
 module _ (g : Ground) (h : Site) (static : Static h) (j : ℕ) (ks : List Item) (m : source.Memory) (ls : List Level)
     (k : machine.Memory) (both : Common g h m (aligned k m)) where
-  pub do_array : (is : Items) (d : Doing g h (array is) ks m.place ls k.lists)
+  pub do_array : (is : Items) (d : Doing g h j (array is) ks m.place ls k.lists)
       → Step h (Run (perform j (array is)) ks m) (state_at g h d.x d.n (aligned k m))
   unfolding do_form
   do_array is d =

@@ -17,19 +17,19 @@ use Rattle.def_eval.specs.Configuration as source
 use Rattle.def_eval.specs.Configuration.{Place, Item, perform, Run}
 use Rattle.def_eval.specs.Entering.{symbol, enter}
 use Rattle.def_eval.specs.Forms.{self_of, do_form}
-use Rattle.def_eval.specs.Transition.{go}
 use Rattle.def_machine.specs.State as machine
 use Rattle.def_machine.specs.State.{Level, frame, State, value_at}
 use Rattle.def_machine.specs.Entering.{enter as enter_machine}
 use Rattle.step_laws.specs.Site.{Site, within, at_line, LineAt}
-use Rattle.step_laws.specs.Calm.{IsSteady, Quiet}
+use Rattle.step_laws.specs.Calm.{IsSteady, Peace}
 use Rattle.step_laws.proofs.Placed.{high, high-both, high-nothing, high-puts, moved, right, the_line, Rest, frame_at, turned}
 use Rattle.step_laws.specs.Behind.{Static}
 use Rattle.step_laws.specs.Relation.{Ground, Waits, over_levels, InFrame, Common, Doing, Step}
 use Rattle.step_laws.proofs.Registers.{keeps_above, slot_same}
 use Rattle.step_laws.proofs.Untouched.{put_only, frame_kept, grown, same_here, written_here, below_running}
 use Rattle.step_laws.proofs.Matching.{going, state_at, written}
-use Rattle.step_laws.proofs.Calling.{entered}
+use Rattle.step_laws.proofs.Called.{call_entered}
+use Rattle.step_laws.proofs.Entered.{then_enters, entered}
 use Rattle.step_laws.proofs.Literals.{aligned, self_is}
 use Rattle.step_laws.proofs.Answers.{symbols_same}
 
@@ -42,11 +42,11 @@ module _ (g : Ground) (h : Site) (static : Static h) (ks : List Item) (m : sourc
   abbrev the_entry : SymId → Activation → Value → Entry
   the_entry s a recv = calls.call m.world a (by_bare_name s) recv [] None
 
-  pub do_call_bare : (j : ℕ) (y : Name) (d : Doing g h (call bare y no_items absent) ks m.place ls k.lists)
-      → Quiet m (go h.source (Run (perform j (call bare y no_items absent)) ks m))
+  pub do_call_bare : (j : ℕ) (y : Name) (d : Doing g h j (call bare y no_items absent) ks m.place ls k.lists)
+      → Peace h.source h.program (perform j (call bare y no_items absent)) ks m
       → Step h (Run (perform j (call bare y no_items absent)) ks m) (state_at g h d.x d.n (aligned k m))
   unfolding do_form
-  do_call_bare j y d quiet =
+  do_call_bare j y d peace =
       let conf = Run (perform j (call bare y no_items absent)) ks m in
       let r = d.r in
       let o = op.SSend r (entry_of h.context y) 254 in
@@ -92,7 +92,7 @@ module _ (g : Ground) (h : Site) (static : Static h) (ks : List Item) (m : sourc
       entered h.source h.program conf (frame (frame_at h d.x d.n) ∷ g.below) (aligned k m) m (record {
         alike = going (perform j (call bare y no_items absent)) ks m (frame (frame_at h d.x d.n) ∷ g.below) (aligned k m) refl;
         out = refl;
-        quiet = quiet;
+        quiet = peace.quiet;
       }) (the_entry (symbol m y) (activation_at m.world h.activation) (self_of m)) ks m g
       (frame f ∷ g.below) k'
       (ap (λ (p : Place). enter h.source (the_entry (symbol m y) (activation_at m.world p.activation) (self_of m)) None ks m)
@@ -101,7 +101,10 @@ module _ (g : Ground) (h : Site) (static : Static h) (ks : List Item) (m : sourc
       ∙ ap (λ (i : SymId). told i (value_at k'.lists h.list r)) (symbols_same h d.x d.n k m y d.covered.1)
       ∙ ap (told (symbol m y)) (first ∙ sym self))
       (omega arith) refl (λ w grows. grown (over_levels g (frame f ∷ g.below)) m k' (below_running g h m k' both' f refl) m.place w grows)
-      waiting
+      waiting (then_enters h.source h.program m.world.store.objects
+      (the_entry (symbol m y) (activation_at m.world h.activation) (self_of m))
+      (λ is. call_entered h.source h.program m.world is (activation_at m.world h.activation) (by_bare_name (symbol m y))
+      (self_of m) [] None) peace.calls)
     where
       told : SymId → Value → State
       told i recv = enter_machine h.program (the_entry i (activation_at m.world h.activation) recv) None

@@ -74,7 +74,7 @@ mutual
   no_bodies (form.function f) is = absurd is
   no_bodies (form.lambda f) is = absurd is
   no_bodies (form.begin_form b cs o e) is = absurd is
-  no_bodies (form.return_form e) is = absurd is
+  no_bodies (form.return_form e) is = no_bodies e is
   no_bodies (form.break_form e) is = no_bodies e is
   no_bodies (form.next_form e) is = no_bodies e is
   no_bodies form.retry is = absurd is
@@ -168,7 +168,7 @@ mutual
   none_many (form.function f) is = absurd is
   none_many (form.lambda f) is = absurd is
   none_many (form.begin_form b cs o e) is = absurd is
-  none_many (form.return_form e) is = absurd is
+  none_many (form.return_form e) is = none_many e is
   none_many (form.break_form e) is = none_many e is
   none_many (form.next_form e) is = none_many e is
   none_many form.retry is = absurd is

@@ -27,6 +27,7 @@ use Rattle.def_machine.specs.Turn.{turn, target, act_at}
 use Rattle.step_laws.specs.Site.{Site, within, place_in, at_line, LineAt}
 use Rattle.step_laws.specs.Covered.{Covered, CoveredBranches}
 use Rattle.step_laws.specs.Measure.{measure}
+use Rattle.step_laws.proofs.Covers.{at_top}
 use Rattle.step_laws.proofs.Placed.{high, high-both, high-puts, line-past, line-behind, Stands, moved, left, right, the_line, Rest, frame_at, leads, jumped}
 use Rattle.step_laws.specs.Behind.{Static, after_test}
 use Rattle.step_laws.specs.Relation.{Ground, InFrame, Common, Doing, GivesIn, Related, Step}
@@ -170,7 +171,7 @@ module _ (g : Ground) (h : Site) (static : Static h) (ks : List Item) (m : sourc
       loop = loop;
       s = s;
       here = here;
-      covered = covered.1;
+      covered = at_top h loop r s j o covered.1;
       above = above;
       code = code;
       next = next;
@@ -191,7 +192,7 @@ module _ (g : Ground) (h : Site) (static : Static h) (ks : List Item) (m : sourc
           loop = loop;
           s = s;
           here = here;
-          covered = covered.0.0;
+          covered = at_top h loop r s j t covered.0.0;
           above = above;
           code = left h n p q code;
           next = record {
@@ -219,7 +220,7 @@ module _ (g : Ground) (h : Site) (static : Static h) (ks : List Item) (m : sourc
   smaller j no_branches o = omega arith
   smaller j (branch t b bs) o = omega arith
 
-  pub do_cond : (j : ℕ) (bs : Branches) (o : CoreForm) (d : Doing g h (cond bs o) ks m.place ls k.lists)
+  pub do_cond : (j : ℕ) (bs : Branches) (o : CoreForm) (d : Doing g h j (cond bs o) ks m.place ls k.lists)
       → Step h (Run (perform j (cond bs o)) ks m) (state_at g h d.x d.n (aligned k m))
   unfolding do_form
   do_cond j bs o d =
@@ -252,7 +253,7 @@ module _ (g : Ground) (h : Site) (static : Static h) (ks : List Item) (m : sourc
           loop = d.loop;
           s = behind d.next.behind.s;
           here = omega (arith, line-behind d.next.behind.s, d.next.behind.here);
-          covered = d.next.behind.covered.0;
+          covered = at_top h d.loop d.next.low (behind d.next.behind.s) j b d.next.behind.covered.0;
           above = d.next.above;
           code = y.body;
           next = record {
@@ -300,7 +301,7 @@ module _ (g : Ground) (h : Site) (static : Static h) (ks : List Item) (m : sourc
       (subst (λ (i : ℕ). slot_at k.lists h.list i ≡ V v) (sym d.next.behind.at) d.stands) d.next.next)
 
   -- `and` and `or` begin with their first operand
-  pub do_and : (j : ℕ) (a b : CoreForm) (d : Doing g h (and_form a b) ks m.place ls k.lists)
+  pub do_and : (j : ℕ) (a b : CoreForm) (d : Doing g h j (and_form a b) ks m.place ls k.lists)
       → Step h (Run (perform j (and_form a b)) ks m) (state_at g h d.x d.n (aligned k m))
   unfolding do_form
   do_and j a b d =
@@ -319,7 +320,7 @@ module _ (g : Ground) (h : Site) (static : Static h) (ks : List Item) (m : sourc
           loop = d.loop;
           s = d.s;
           here = d.here;
-          covered = d.covered.0;
+          covered = at_top h d.loop d.r d.s j a d.covered.0;
           above = d.above;
           code = left h d.n p q d.code;
           next = record {
@@ -342,7 +343,7 @@ module _ (g : Ground) (h : Site) (static : Static h) (ks : List Item) (m : sourc
         },
       )
 
-  pub do_or : (j : ℕ) (a b : CoreForm) (d : Doing g h (or_form a b) ks m.place ls k.lists)
+  pub do_or : (j : ℕ) (a b : CoreForm) (d : Doing g h j (or_form a b) ks m.place ls k.lists)
       → Step h (Run (perform j (or_form a b)) ks m) (state_at g h d.x d.n (aligned k m))
   unfolding do_form
   do_or j a b d =
@@ -361,7 +362,7 @@ module _ (g : Ground) (h : Site) (static : Static h) (ks : List Item) (m : sourc
           loop = d.loop;
           s = d.s;
           here = d.here;
-          covered = d.covered.0;
+          covered = at_top h d.loop d.r d.s j a d.covered.0;
           above = d.above;
           code = left h d.n p q d.code;
           next = record {
@@ -402,7 +403,7 @@ module _ (g : Ground) (h : Site) (static : Static h) (ks : List Item) (m : sourc
       loop = loop;
       s = behind s;
       here = omega (arith, line-behind s, here);
-      covered = covered;
+      covered = at_top h loop r (behind s) j e covered;
       above = above;
       code = q.code;
       next = subst (λ (i : ℕ). InFrame g h k.lists ks i r loop) (sym q.ends) next;

@@ -1,29 +1,23 @@
 -- What a call enters, on both sides, and how its answer goes back.
-use Rattle.std.proofs.Common.{◌≡◌, ℕ, zero, suc, ◌+◌, ◌<◌, List, [], ◌∷◌, refl, sym, ap, ◌∙◌, subst, arith, length, length-append, Bool, true, false}
-use Rattle.std.specs.Prelude.{if◌then◌else◌, Option, None}
+use Rattle.std.proofs.Common.{◌≡◌, ℕ, ◌+◌, ◌<◌, List, [], ◌∷◌, refl, sym, ap, ◌∙◌, subst, arith, length}
+use Rattle.std.specs.Prelude.{if◌then◌else◌, Option}
 use Rattle.rb_value.specs.declared.value.Value.{Value}
-use Rattle.rb_value.specs.declared.value.Value.TheVariants.{Nil}
-use Rattle.def_core.specs.declared.bound.Bound.{Bound}
-use Rattle.def_core.specs.declared.bound.Bound.TheVariants.{Values, Wrong}
-use Rattle.def_core.specs.declared.cause.Cause.TheVariants as cause
-use Rattle.def_core.specs.Bind.{bind}
 use Rattle.rb_value.specs.declared.exit.Slot.TheVariants.{V}
 use Rattle.rite_code.specs.Code.{Program}
-use Rattle.ir_core.specs.CoreForm.{CoreForm, Forms, none, more, Body}
+use Rattle.ir_core.specs.CoreForm.{none}
 use Rattle.gen_forms.specs.declared.context.Loop.{Loop}
-use Rattle.def_calls.specs.World.{World, Answer, Result, gives, raises, fail, next_activation, with_activation, with_store}
-use Rattle.def_calls.specs.Calls.{Entry, answers, enters, begins, Opening, is_full, settle}
+use Rattle.def_calls.specs.World.{World, Result, gives, raises}
+use Rattle.def_calls.specs.Calls.{enters}
 use Rattle.def_calls.specs.Fibers as fibers
-use Rattle.def_eval.specs.Source.{Source, span, parameters_of, locals_of, body_at, form_of}
+use Rattle.def_eval.specs.Source.{Source}
 use Rattle.def_eval.specs.Configuration as source
 use Rattle.def_eval.specs.Configuration.{Place, Part, operands, receiver, items, block, elements, hash_key, hash_value, pieces, rest, test, chosen, and_then, or_else, loop_test, loop_body, rescued, clause_class, clause_target, clause_body, ensured, stop_of, Item, part, activation, iteration, ensuring, give, Config, Run, seen}
-use Rattle.def_eval.specs.Scopes.{shape_of, first_variables}
-use Rattle.def_eval.specs.Entering.{after_result, depth, do_all, do_from, forms_in, begin_body, first_of, count_failure, begin_bound, in_new_scope, open_body, open_iteration, enter}
+use Rattle.def_eval.specs.Entering.{after_result, depth}
 use Rattle.def_eval.specs.Transition.{go}
 use Rattle.def_machine.specs.State as machine
 use Rattle.def_machine.specs.State.{Registers, Frame, Level, frame, On, put, shown}
 use Rattle.def_machine.specs.Unwind.{receive}
-use Rattle.def_machine.specs.Entering.{answer_result, open_frame, enter as enter_machine}
+use Rattle.def_machine.specs.Entering.{answer_result}
 use Rattle.def_machine.specs.Turn.{turn}
 use Rattle.step_laws.specs.Site.{Site}
 use Rattle.step_laws.specs.Calm.{Grows, Quiet}
@@ -62,7 +56,7 @@ depth_is hs fiber l ks place (machine.iteration a it v ∷ ls) w =
     ap depth w.is ∙ ap (λ (d : ℕ). d + 1) (depth_is hs fiber l w.others w.back ls w.next) ∙ omega arith
 
 -- an exception leaves what waits
-passed : (h : Site) (l : List Registers) (p : Part) (low n r end : ℕ) (around : Option Loop)
+pub passed : (h : Site) (l : List Registers) (p : Part) (low n r end : ℕ) (around : Option Loop)
     → Behind h l p low n r end around → IsPassed (stop_of p)
 passed h l (operands j a vs es) low n r end around b = tt
 passed h l (receiver j x is o) low n r end around b = tt
@@ -199,7 +193,7 @@ given_back s p c ls k m from v ks m' g [] k' goes turns less both a =
       memory = k';
       last = refl;
       gives = turns;
-      out = from.out ∙ sym quiet.1;
+      out = from.out ∙ sym quiet.0;
       both = both;
     }))
 given_back s p c ls k m from v ks m' g (q ∷ gs) k' goes turns less both a =
@@ -214,7 +208,7 @@ pub answered : (s : Source) (p : Program) (c : Config) (ls : List Level) (k : ma
 answered s p c ls k m from (gives v) w ks m' g gs k' goes turns less both a =
     let quiet = subst (Quiet m) goes from.quiet in
     given_back s p c ls k m from v ks (source.with_world m' w) g gs (machine.with_world k' w) goes turns
-    (same_fall gs ks m' w c less) (both w quiet.2) a
+    (same_fall gs ks m' w c less) (both w quiet.1) a
   where
     same_fall : (gs : List Level) (ks : List Item) (m : source.Memory) (w : World) (c : Config) → Falls gs ks m c
         → Falls gs ks (source.with_world m w) c
@@ -230,119 +224,7 @@ answered s p c ls k m from (raises e) w ks m' g gs k' goes turns less both a =
       exception = refl;
       memory = machine.with_world k' w;
       throws = turns;
-      out = from.out ∙ sym quiet.1;
-      both = both w quiet.2;
+      out = from.out ∙ sym quiet.0;
+      both = both w quiet.1;
       leaving = leaves g.sites g.fiber k'.lists ks m'.place gs a;
     })))
-
--- Nothing but a body opens a scope.
-
-quiet_all : (m : source.Memory) (n : ℕ) (es : Forms) (ks : List Item) (l : source.Memory) → Quiet m (do_all n es ks l)
-    → length l.scopes ≡ length m.scopes
-quiet_all m n none ks l q = q.0
-quiet_all m n (more e es) ks l q = q.0
-
-quiet_from : (m : source.Memory) (k n : ℕ) (es : Forms) (ks : List Item) (l : source.Memory)
-    → Quiet m (do_from k n es ks l) → length l.scopes ≡ length m.scopes
-quiet_from m zero n es ks l q = quiet_all m n es ks l q
-quiet_from m (suc k) n none ks l q = quiet_all m n none ks l q
-quiet_from m (suc k) n (more e es) ks l q = quiet_from m k (n + span e) es ks l q
-
-quiet_body : (m : source.Memory) (k n : ℕ) (e : CoreForm) (ks : List Item) (l : source.Memory)
-    → Quiet m (begin_body k n e ks l) → length l.scopes ≡ length m.scopes
-quiet_body m zero n e ks l q = q.0
-quiet_body m (suc k) n e ks l q = quiet_from m (suc k) n (forms_in e) ks l q
-
-quiet_answer : (m : source.Memory) (x : Result) (w : World) (ks : List Item) (l : source.Memory)
-    → Quiet m (after_result x w ks l) → length l.scopes ≡ length m.scopes
-quiet_answer m (gives v) w ks l q = q.0
-quiet_answer m (raises e) w ks l q = q.0
-
-opens_scope : (m : source.Memory) (o : Opening) (b : Body) (x : Bound) (ks : List Item) (l : source.Memory) (w : World)
-    → Quiet m (begin_bound o b x ks l w) → length l.scopes < length m.scopes
-opens_scope m o b (Values list filled) ks l w q =
-    let scope : source.Scope = record {
-      parent = first_of o.scopes;
-      variables = first_variables (parameters_of b) (locals_of b) list o.block;
-    } in
-    let all = quiet_body m filled (o.body + 1) (form_of b) (activation (next_activation w) l.place ∷ ks)
-    (in_new_scope l w scope o.activation) q in
-    omega (arith, all, length-append l.scopes (scope ∷ []))
-opens_scope m o b (Wrong given) ks l w q =
-    let scope : source.Scope = record {
-      parent = first_of o.scopes;
-      variables = first_variables (parameters_of b) (locals_of b) [] None;
-    } in
-    let inside = in_new_scope l w scope o.activation in
-    let failure = count_failure inside.world (shape_of (parameters_of b)) given in
-    let all = quiet_answer m failure.result failure.world (activation (next_activation w) l.place ∷ ks) inside q in
-    omega (arith, all, length-append l.scopes (scope ∷ []))
-
-opens : (m : source.Memory) (s : Source) (o : Opening) (ks : List Item) (l : source.Memory) (w : World)
-    → Quiet m (open_body s o ks l w) → length l.scopes < length m.scopes
-opens m s o ks l w q =
-    let b = body_at s o.body in
-    let bound = bind w.store (shape_of (parameters_of b)) o.arguments o.binds in
-    opens_scope m o b bound.bound ks l (with_store w bound.store) q
-
--- What a call enters. No body is one of it, since no scope is opened.
-pub entered : (s : Source) (p : Program) (c : Config) (ls : List Level) (k : machine.Memory) (m : source.Memory)
-    → Origin s c ls k m → (e : Entry) (ks : List Item) (m' : source.Memory) (g : Ground) (gs : List Level)
-    (k' : machine.Memory) → go s c ≡ enter s e None ks m' → turn p (On ls k) ≡ enter_machine p e None gs k'
-    → Falls gs ks m' c → length m'.scopes ≡ length m.scopes → Worlds s p (over_levels g gs) m m' k'
-    → Waits g.sites g.fiber k'.lists ks m'.place gs → Advances s p c (On ls k)
-unfolding enter enter_machine settle
-entered s p c ls k m from (answers a) ks m' g gs k' goes turns less scopes both waits =
-    answered s p c ls k m from a.result a.world ks m' g gs k' goes turns less both waits
-entered s p c ls k m from (enters o w) ks m' g gs k' goes turns less scopes both waits =
-    at (is_full (depth ks)) refl
-  where
-    failure : Answer
-    failure = fail w cause.StackTooDeep
-
-    at : (b : Bool) → is_full (depth ks) ≡ b → Advances s p c (On ls k)
-    at true e =
-        let goes' = goes ∙ ap (λ (t : Bool). if t then after_result failure.result failure.world ks m'
-        else open_body s o ks m' w) e in
-        let turns' = turns ∙ ap (λ (t : Bool). if t
-        then answer_result p failure.result gs (machine.with_world k' failure.world)
-        else open_frame p o w gs k')
-        (ap is_full (sym (depth_is g.sites g.fiber k'.lists ks m'.place gs waits)) ∙ e) in
-        answered s p c ls k m from failure.result failure.world ks m' g gs k' goes' turns' less both waits
-    at false e =
-        let goes' = goes ∙ ap (λ (t : Bool). if t then after_result failure.result failure.world ks m'
-        else open_body s o ks m' w) e in
-        let more = opens m s o ks m' w (subst (Quiet m) goes' from.quiet) in
-        absurd (omega (arith, more, scopes))
-entered s p c ls k m from (begins it a w) ks m' g gs k' goes turns less scopes both waits =
-    at (is_full (depth ks)) refl
-  where
-    failure : Answer
-    failure = fail w cause.StackTooDeep
-
-    turned_to : (b : Bool) → is_full (depth ks) ≡ b → turn p (On ls k)
-        ≡ (if b then answer_result p failure.result gs (machine.with_world k' failure.world)
-        else On (machine.iteration (next_activation w) it Nil ∷ gs) (machine.with_world k' (with_activation w a)))
-    turned_to b e = turns ∙ ap (λ (t : Bool). if t
-        then answer_result p failure.result gs (machine.with_world k' failure.world)
-        else On (machine.iteration (next_activation w) it Nil ∷ gs) (machine.with_world k' (with_activation w a)))
-        (ap is_full (sym (depth_is g.sites g.fiber k'.lists ks m'.place gs waits)) ∙ e)
-
-    at : (b : Bool) → is_full (depth ks) ≡ b → Advances s p c (On ls k)
-    at true e =
-        let goes' = goes ∙ ap (λ (t : Bool). if t then after_result failure.result failure.world ks m'
-        else open_iteration it a ks m' w) e in
-        answered s p c ls k m from failure.result failure.world ks m' g gs k' goes' (turned_to true e) less both waits
-    at false e =
-        let goes' = goes ∙ ap (λ (t : Bool). if t then after_result failure.result failure.world ks m'
-        else open_iteration it a ks m' w) e in
-        let quiet = subst (Quiet m) goes' from.quiet in
-        let all = both (with_activation w a) quiet.2 in
-        one_turn s p c (On ls k) _ from.alike (turned_to false e)
-        (subst (λ (d : Config). Alike s p d (On (machine.iteration (next_activation w) it Nil ∷ gs)
-        (machine.with_world k' (with_activation w a)))) (sym goes') (record {
-          g = over_levels g gs;
-          is = refl;
-          both = record { world = all.world; sites = all.sites; fibers = all.fibers; apart = all.apart };
-          waits = waits;
-        }))

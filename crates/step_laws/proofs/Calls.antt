@@ -21,12 +21,12 @@ use Rattle.def_eval.specs.Configuration.{arguments_of, receiver, items, Item, pa
 use Rattle.def_eval.specs.Entering.{symbol}
 use Rattle.def_eval.specs.Forms.{self_of, next_item, do_call, gather as gather_all, has_splat as has_splats, do_form}
 use Rattle.def_eval.specs.Giving.{give_part, do_give}
-use Rattle.def_eval.specs.Transition.{go}
 use Rattle.def_machine.specs.State as machine
 use Rattle.def_machine.specs.State.{Registers, Level, frame, slot_at}
 use Rattle.step_laws.specs.Site.{Site, within, LineAt, IsThere, Named}
 use Rattle.step_laws.specs.Covered.{CoveredItems, IsNamed}
-use Rattle.step_laws.specs.Calm.{IsSteady, Quiet}
+use Rattle.step_laws.specs.Calm.{IsSteady, Peace}
+use Rattle.step_laws.proofs.Covers.{at_top}
 use Rattle.step_laws.proofs.Placed.{high, high-both, high-puts, high-nothing, line-past, Stands, moved, left, right, the_line, frame_at}
 use Rattle.step_laws.specs.Behind.{Static, Holds, HoldsCall, CallBy, operates, sends, sends_self}
 use Rattle.step_laws.specs.Relation.{Ground, Common, Doing, GivesIn, Step}
@@ -198,7 +198,7 @@ module _ (g : Ground) (h : Site) (static : Static h) (ks : List Item) (m : sourc
     (k : machine.Memory) (both : Common g h m (aligned k m)) (steady : IsSteady h.source m.world) where
   -- the receiver is done first
   pub do_call_to : (j : ℕ) (e : CoreForm) (x : Name) (is : Items)
-      (d : Doing g h (call (to e) x is absent) ks m.place ls k.lists)
+      (d : Doing g h j (call (to e) x is absent) ks m.place ls k.lists)
       → Step h (Run (perform j (call (to e) x is absent)) ks m) (state_at g h d.x d.n (aligned k m))
   unfolding do_form
   do_call_to j e x is d =
@@ -218,7 +218,7 @@ module _ (g : Ground) (h : Site) (static : Static h) (ks : List Item) (m : sourc
           loop = d.loop;
           s = d.s;
           here = d.here;
-          covered = d.covered.1;
+          covered = at_top h d.loop d.r d.s j e d.covered.1;
           above = d.above;
           code = c.receiver;
           next = record {
@@ -256,11 +256,11 @@ module _ (g : Ground) (h : Site) (static : Static h) (ks : List Item) (m : sourc
       then gather_all h.source j (arguments_of (by_name (symbol m x)) recv absent) is ks m
       else next_item h.source j (by_name (symbol m x)) recv [] is absent ks m) f
 
-  pub do_call_self : (j : ℕ) (x : Name) (is : Items) (d : Doing g h (call on_self x is absent) ks m.place ls k.lists)
-      → Quiet m (go h.source (Run (perform j (call on_self x is absent)) ks m))
+  pub do_call_self : (j : ℕ) (x : Name) (is : Items) (d : Doing g h j (call on_self x is absent) ks m.place ls k.lists)
+      → Peace h.source h.program (perform j (call on_self x is absent)) ks m
       → Step h (Run (perform j (call on_self x is absent)) ks m) (state_at g h d.x d.n (aligned k m))
   unfolding do_form
-  do_call_self j x is d quiet =
+  do_call_self j x is d peace =
       let c = self_called h d.n d.r d.loop d.s x is d.covered.1 d.covered.2 d.covered.3 d.code in
       let conf = Run (perform j (call on_self x is absent)) ks m in
       let none : d.n + high nothing ≡ d.n = omega (arith, high-nothing) in
@@ -287,16 +287,16 @@ module _ (g : Ground) (h : Site) (static : Static h) (ks : List Item) (m : sourc
       }) (record {
         alike = going (perform j (call on_self x is absent)) ks m (frame (frame_at h d.x d.n) ∷ g.below) (aligned k m) refl;
         out = refl;
-        quiet = quiet;
+        quiet = peace.quiet;
       }) (plain_call j x (self_of m) is absent refl (no_splat h (is_some d.loop) (d.r + 1) is d.covered.1))
-      (ap by_name (steady.names x d.covered.3.there)) (omega arith)
+      (ap by_name (steady.names x d.covered.3.there)) (omega arith) peace.calls
 
   pub give_receiver : (v : Value) (j : ℕ) (x : Name) (is : Items) (b : Maybe)
       (d : GivesIn g h v (part (receiver j x is b) ∷ ks) m.place ls k.lists)
-      → Quiet m (go h.source (Run (give v) (part (receiver j x is b) ∷ ks) m))
+      → Peace h.source h.program (give v) (part (receiver j x is b) ∷ ks) m
       → Step h (Run (give v) (part (receiver j x is b) ∷ ks) m) (state_at g h d.x d.n (aligned k m))
   unfolding do_give give_part
-  give_receiver v j x is b d quiet =
+  give_receiver v j x is b d peace =
       let y = d.next.behind in
       let low = d.next.low in
       items_on g h static ks m k both steady d.there (Run (give v) (part (receiver j x is b) ∷ ks) m) d.x d.n j
@@ -322,16 +322,16 @@ module _ (g : Ground) (h : Site) (static : Static h) (ks : List Item) (m : sourc
       }) (record {
         alike = going (give v) (part (receiver j x is b) ∷ ks) m (frame (frame_at h d.x d.n) ∷ g.below) (aligned k m) refl;
         out = refl;
-        quiet = quiet;
+        quiet = peace.quiet;
       }) (plain_call j x v is b y.plain (no_splat h (is_some d.loop) (low + 1) is y.covered))
-      (ap by_name (steady.names x (there_of h low x (item_count is) false y.o y.by))) (omega arith)
+      (ap by_name (steady.names x (there_of h low x (item_count is) false y.o y.by))) (omega arith) peace.calls
 
   pub give_item : (v : Value) (j : ℕ) (sender : Sending) (recv : Value) (vs : List Value) (is : Items) (b : Maybe)
       (d : GivesIn g h v (part (items j sender recv vs is b) ∷ ks) m.place ls k.lists)
-      → Quiet m (go h.source (Run (give v) (part (items j sender recv vs is b) ∷ ks) m))
+      → Peace h.source h.program (give v) (part (items j sender recv vs is b) ∷ ks) m
       → Step h (Run (give v) (part (items j sender recv vs is b) ∷ ks) m) (state_at g h d.x d.n (aligned k m))
   unfolding do_give give_part
-  give_item v j sender recv vs is b d quiet =
+  give_item v j sender recv vs is b d peace =
       let y = d.next.behind in
       let low = d.next.low in
       let all : length vs + 1 + item_count is ≡ length (vs ++ v ∷ []) + item_count is =
@@ -360,5 +360,5 @@ module _ (g : Ground) (h : Site) (static : Static h) (ks : List Item) (m : sourc
         alike = going (give v) (part (items j sender recv vs is b) ∷ ks) m (frame (frame_at h d.x d.n) ∷ g.below) (aligned k m)
             refl;
         out = refl;
-        quiet = quiet;
-      }) (ap (λ (q : Maybe). next_item h.source j sender recv (vs ++ v ∷ []) is q ks m) y.plain) y.sending (omega arith)
+        quiet = peace.quiet;
+      }) (ap (λ (q : Maybe). next_item h.source j sender recv (vs ++ v ∷ []) is q ks m) y.plain) y.sending (omega arith) peace.calls

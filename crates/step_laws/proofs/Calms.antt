@@ -8,18 +8,21 @@ use Rattle.rb_value.specs.declared.value.Value.{Value}
 use Rattle.rb_value.specs.declared.value.Value.TheVariants.{Nil, True, False, Int, Sym, Obj}
 use Rattle.rb_value.specs.Value.{is_true}
 use Rattle.def_core.specs.declared.cause.Cause.TheVariants as cause
-use Rattle.def_core.specs.Store.{Store, with_object}
+use Rattle.rb_value.specs.declared.core_class.CoreClass.TheVariants as class
+use Rattle.def_core.specs.Store.{Store, core, with_object}
 use Rattle.def_core.specs.Changes.{Interned}
 use Rattle.rb_store.specs.Opening.{main_object}
+use Rattle.rite_code.specs.Code.{Program}
 use Rattle.def_rows.specs.Answers.{items_object}
 use Rattle.ir_core.specs.CoreForm as form
 use Rattle.ir_core.specs.CoreForm.{Name, Local, CoreForm, Maybe, Forms, Items, Branches}
 use Rattle.def_calls.specs.Seen.{Ended, Uncaught}
 use Rattle.def_calls.specs.World.{World, Activation, main_program, activation_at, fail, with_store, write}
-use Rattle.def_calls.specs.Calls.{Sending, by_name, break_target, close, unrescued, Unrescued, send_by_core}
+use Rattle.def_calls.specs.Calls.{Sending, by_name, break_target, close, is_asked, unrescued, Unrescued, send_by_core}
 use Rattle.def_calls.specs.Calls as calls
+use Rattle.def_calls.specs.Definitions.{space_in}
 use Rattle.def_calls.specs.Fibers.{Onward, back_to, finish}
-use Rattle.def_calls.specs.Plans.{Iteration, begun, handing, putting, putting_text, printing, printing_text, inspecting, inspecting_text, raising, looping, visiting, counting, initializing, Plan, Planned, finishes, writes, sends, both as both_flat, all_flat, flattened, puts_value, puts_next, puts_flat, sends_named, start, next as next_plan, line, caught}
+use Rattle.def_calls.specs.Plans.{Iteration, begun, handing, putting, putting_text, printing, printing_text, inspecting, inspecting_text, raising, looping, visiting, counting, initializing, messaging, telling, telling_text, reporting, reported, Plan, Planned, finishes, writes, sends, both as both_flat, all_flat, flattened, puts_value, puts_next, puts_flat, sends_named, start, next as next_plan, line, caught}
 use Rattle.def_calls.specs.Plans as plans
 use Rattle.def_calls.specs.Rows
 use Rattle.def_eval.specs.Source.{Source, span, body_at, form_of, locals_of}
@@ -28,15 +31,15 @@ use Rattle.def_eval.specs.Scopes.{scope_at, scope_of, variable, with_variable, r
 use Rattle.def_eval.specs.Entering.{symbol, do_all}
 use Rattle.def_eval.specs.Forms.{has_splat, in_loop, leave_to, leave_from, gather, self_of, perform_call, own_block, with_arguments, next_item, do_call, next_branch, do_loop, next_operand, finish as finish_action, do_form}
 use Rattle.def_eval.specs.Giving.{returned, carry_out, choose, go_right, go_left, turn_loop, end_fiber, give_part, do_give}
-use Rattle.def_eval.specs.Exits.{travel_part, travel_caught, end_by, leave_fiber, do_travel}
+use Rattle.def_eval.specs.Exits.{travel_part, travel_caught, end_by, end_or_ask, leave_fiber, do_travel}
 use Rattle.def_eval.specs.Transition.{go, go_times}
 use Rattle.step_laws.specs.Site.{number, opening_store}
-use Rattle.step_laws.specs.Calm.{IsAbout, IsAboutNext, Leaves, IsCalm, StaysCalm}
+use Rattle.step_laws.specs.Calm.{IsAbout, IsWithin, IsAboutNext, Leaves, IsCalm, StaysCalm}
 use Rattle.step_laws.specs.Simple.{IsSimple, AreSimple, AreSimpleItems, AreSimpleBranches}
 use Rattle.step_laws.proofs.Symbols.{IsCoreName, the_symbol, number_is, interned_core, steady_name, opening_objects}
-use Rattle.step_laws.proofs.Found.{operator_known, texts_all, writing, is_writer}
+use Rattle.step_laws.proofs.Found.{object_there, operator_known, texts_all, writing, is_writer}
 use Rattle.step_laws.proofs.Outcomes.{IsImmediate, AreImmediate, IsOfPuts, Kept, kept_more, operator_entry, puts_called, text_sent, failed}
-use Rattle.step_laws.proofs.Tame.{VariablesAre, ScopesAre, Sent, PartIs, IsCoreAt, ItemsAre, GivenTo, MemoryIs, IsTame, Fine, quiet_given, given_to, scope_is, variable_is, put_is, set_is, same_grows, core_grows, items_grow, core_closed, main_is, main_closed, entry_fine, operator, puts, Awaits, to_local, to_end, to_round, IsExit, raised, left, anew, answer_fine}
+use Rattle.step_laws.proofs.Tame.{VariablesAre, ScopesAre, Sent, PartIs, IsCoreAt, ItemsAre, GivenTo, MemoryIs, IsTame, Fine, peaceful, quiet_given, given_to, scope_is, variable_is, put_is, set_is, same_grows, core_grows, items_grow, core_closed, main_is, main_closed, entry_fine, operator, puts, Awaits, to_local, to_end, to_round, IsExit, raised, left, anew, answer_fine}
 
 -- Forms.
 
@@ -396,6 +399,8 @@ module _ (s : Source) (st : Store) (symbols : st.symbols ≡ (opening_store s).s
   begun_is Rows.resume recv args given e all = absurd (true≢false (sym e))
   begun_is Rows.yield recv args given e all = absurd (true≢false (sym e))
   begun_is Rows.send_kept recv args given e all = absurd (true≢false (sym e))
+  begun_is Rows.exception_message recv args given e all = absurd (true≢false (sym e))
+  begun_is Rows.exception_inspection recv args given e all = absurd (true≢false (sym e))
 
   plan_is : (it : Iteration) (v : Value) → IsOfPuts it → PlannedIs st (plans.next it v st)
   unfolding next_plan
@@ -412,6 +417,11 @@ module _ (s : Source) (st : Store) (symbols : st.symbols ≡ (opening_store s).s
   plan_is (visiting a i p) v is = absurd is
   plan_is (counting z i p) v is = absurd is
   plan_is (initializing u) v is = absurd is
+  plan_is (messaging u) v is = absurd is
+  plan_is (telling u) v is = absurd is
+  plan_is (telling_text u) v is = absurd is
+  plan_is (reporting u) v is = absurd is
+  plan_is (reported u) v is = absurd is
 
 module _ (s : Source) (ks : List Item) (m : Memory) (kept : Kept s m.world) (all : ScopesAre m.scopes)
     (alone : m.fibers.resumer ≡ None) (a : ℕ) (core : IsCoreAt m.world a) (place : Place)
@@ -479,16 +489,21 @@ module _ (s : Source) (ks : List Item) (m : Memory) (kept : Kept s m.world) (all
   not_caught (visiting b i p) e st is = absurd is
   not_caught (counting z i p) e st is = absurd is
   not_caught (initializing u) e st is = absurd is
+  not_caught (messaging u) e st is = absurd is
+  not_caught (telling u) e st is = absurd is
+  not_caught (telling_text u) e st is = absurd is
+  not_caught (reporting u) e st is = absurd is
+  not_caught (reported u) e st is = absurd is
 
-  left_by : (it : Iteration) (e : ObjId) → IsOfPuts it
+  left_by : (it : Iteration) (e : ObjId) → IsOfPuts it → is_asked m.world e ≡ false
       → Fine s m (do_travel (raise e) (iteration a it place ∷ ks) m)
   unfolding do_travel
-  left_by it e is =
+  left_by it e is quiet =
       subst (λ (w : World). Fine s m (travel_caught e (caught it e w.store) ks (record m { place = place; world = w })))
       (sym (core_closed m.world a core.runs))
       (subst (λ (o : Option Value). Fine s m (travel_caught e o ks (record m { place = place })))
       (sym (not_caught it e m.world.store is)) (
-        record { kept = kept; scopes = all; alone = alone; focus = raised e refl; items = under },
+        record { kept = kept; scopes = all; alone = alone; focus = raised e refl quiet; items = under },
         (refl, refl, same_grows m.world m.world refl),
       ))
 
@@ -530,25 +545,27 @@ passed_part s (clause_body r) e ks m at = absurd at
 passed_part s (ensured j f) e ks m at = absurd at
 
 travel_fine : (s : Source) (e : ObjId) (ks : List Item) (m : Memory) → Kept s m.world → ScopesAre m.scopes
-    → m.fibers.resumer ≡ None → ItemsAre s m.world ks m.place → Fine s m (do_travel (raise e) ks m)
+    → m.fibers.resumer ≡ None → is_asked m.world e ≡ false → ItemsAre s m.world ks m.place
+    → Fine s m (do_travel (raise e) ks m)
 unfolding do_travel
-travel_fine s e [] m kept all alone under =
+travel_fine s e [] m kept all alone quiet under =
     subst (λ (o : Option (Onward KeptFiber)). Fine s m (leave_fiber e o m)) (sym (no_more m alone))
-    (ended_fine s m (unrescued m.world.store e) m.world.out)
-travel_fine s e (part p ∷ ks) m kept all alone under =
+    (subst (λ (b : Bool). Fine s m (end_or_ask b e m)) (sym quiet)
+    (ended_fine s m (unrescued m.world.store e) m.world.out))
+travel_fine s e (part p ∷ ks) m kept all alone quiet under =
     subst (Fine s m) (sym (passed_part s p e ks m under.0)) (
-      record { kept = kept; scopes = all; alone = alone; focus = raised e refl; items = under.2 },
+      record { kept = kept; scopes = all; alone = alone; focus = raised e refl quiet; items = under.2 },
       (refl, refl, same_grows m.world m.world refl),
     )
-travel_fine s e (activation a p ∷ ks) m kept all alone under =
+travel_fine s e (activation a p ∷ ks) m kept all alone quiet under =
     subst (λ (w : World). Fine s m (Run (travel (raise e)) ks (record m { place = p; world = w })))
     (sym (ap (close m.world) under.0 ∙ main_closed s m.world kept)) (
-      record { kept = kept; scopes = all; alone = alone; focus = raised e refl; items = under.1 },
+      record { kept = kept; scopes = all; alone = alone; focus = raised e refl quiet; items = under.1 },
       (refl, refl, same_grows m.world m.world refl),
     )
-travel_fine s e (iteration a it p ∷ ks) m kept all alone under =
-    left_by s ks m kept all alone a under.1 p under.2 it e under.0
-travel_fine s e (ensuring o ∷ ks) m kept all alone under = absurd under
+travel_fine s e (iteration a it p ∷ ks) m kept all alone quiet under =
+    left_by s ks m kept all alone a under.1 p under.2 it e under.0 quiet
+travel_fine s e (ensuring o ∷ ks) m kept all alone quiet under = absurd under
 
 -- an exit of a loop passes a part, or comes to its loop
 module _ (s : Source) (ks : List Item) (m : Memory) (kept : Kept s m.world) (all : ScopesAre m.scopes)
@@ -680,10 +697,10 @@ go_fine s (perform j e) ks m t = perform_fine s ks m t.kept t.scopes t.alone j e
 go_fine s (give v) ks m t = give_fine s v ks m t.kept t.scopes t.alone t.focus t.items
 go_fine s (travel x) ks m t = by t.focus
   where
-    by : IsExit x → Fine s m (go s (Run (travel x) ks m))
-    by (raised e is) =
+    by : IsExit m.world x → Fine s m (go s (Run (travel x) ks m))
+    by (raised e is quiet) =
         subst (λ (y : Exit). Fine s m (go s (Run (travel y) ks m))) (sym is)
-        (travel_fine s e ks m t.kept t.scopes t.alone t.items)
+        (travel_fine s e ks m t.kept t.scopes t.alone quiet t.items)
     by (left v is i) =
         subst (λ (y : Exit). Fine s m (go s (Run (travel y) ks m))) (sym is)
         (loop_left_fine s v ks m i t.kept t.scopes t.alone t.items)
@@ -714,7 +731,9 @@ about s (clause_body r) objects at = absurd at
 about s (ensured j f) objects at = absurd at
 
 about_next : (s : Source) (f : Focus) (ks : List Item) (m : Memory) → MemoryIs s f ks m → IsAboutNext f ks m
-about_next s (perform j e) ks m t = tt
+about_next s (perform j e) ks m t =
+    subst (IsWithin m.world) (sym (ap (activation_at m.world) t.focus.1 ∙ main_is s m.world t.kept))
+    (ap (λ (os : List Object). space_in os (Obj (core class.Object))) t.kept.objects ∙ object_there t.kept.more)
 about_next s (give v) [] m t = tt
 about_next s (give v) (part p ∷ ks) m t = about s p m.world.store.objects t.items.0
 about_next s (give v) (activation a p ∷ ks) m t = tt
@@ -731,22 +750,22 @@ leaves_core s (travel x) (activation a p ∷ ks) m t = tt
 leaves_core s (travel x) (iteration a it p ∷ ks) m t = core_closed m.world a t.items.1.runs
 leaves_core s (travel x) (ensuring o ∷ ks) m t = tt
 
-calm_of : (s : Source) (c : Config) → IsTame s c → IsCalm s c
-calm_of s (Halt e) t = tt
-calm_of s (Run f ks m) t = (
+calm_of : (s : Source) (p : Program) (c : Config) → IsTame s c → IsCalm s p c
+calm_of s p (Halt e) t = tt
+calm_of s p (Run f ks m) t = (
   record { names = λ x e. steady_name s m.world.store x t.kept.symbols e },
   about_next s f ks m t,
   leaves_core s f ks m t,
-  (go_fine s f ks m t).1,
+  peaceful s p f ks m (go_fine s f ks m t).1,
 )
 
 tame_next : (s : Source) (c : Config) → IsTame s c → IsTame s (go s c)
 tame_next s (Halt e) t = tt
 tame_next s (Run f ks m) t = (go_fine s f ks m t).0
 
-stays : (s : Source) (n : ℕ) (c : Config) → IsTame s c → IsCalm s (go_times n s c)
-stays s zero c t = calm_of s c t
-stays s (suc n) c t = stays s n (go s c) (tame_next s c t)
+stays : (s : Source) (p : Program) (n : ℕ) (c : Config) → IsTame s c → IsCalm s p (go_times n s c)
+stays s p zero c t = calm_of s p c t
+stays s p (suc n) c t = stays s p n (go s c) (tame_next s c t)
 
 nils : (xs : List Local) → VariablesAre (all_nil xs)
 nils [] = tt
@@ -768,5 +787,6 @@ opening_tame s input is = record {
   items = (refl, tt);
 }
 
-pub stays_calm : (s : Source) (input : List ℕ) → IsSimple (form_of (body_at s 0)) → StaysCalm s (opening s input)
-stays_calm s input is n = stays s n (opening s input) (opening_tame s input is)
+pub stays_calm : (s : Source) (p : Program) (input : List ℕ) → IsSimple (form_of (body_at s 0))
+    → StaysCalm s p (opening s input)
+stays_calm s p input is n = stays s p n (opening s input) (opening_tame s input is)

@@ -17,7 +17,7 @@ use Rattle.gen_parts.specs.Pieces.{Piece, past, behind, nothing, both, puts, doe
 use Rattle.gen_forms.specs.declared.context.Loop.{Loop}
 use Rattle.gen_forms.specs.declared.calls.Passing.{Passing}
 use Rattle.gen_forms.specs.declared.calls.Passing.TheVariants as passed
-use Rattle.gen_forms.specs.Gen.{write, in_loop, Code, Context, gen, in_turn, others_in_turn, choose, gather, pass_in_registers, gen_receiver, gen_maybe, passing, passed_by, registers_of, called_by, operates, send, symbol, over, loop, range_by, break_by, next_by, text_entry, gather_pairs, gather_text, ask, told}
+use Rattle.gen_forms.specs.Gen.{write, in_loop, Code, Context, gen, in_turn, others_in_turn, choose, gather, pass_in_registers, gen_receiver, gen_maybe, passing, passed_by, registers_of, called_by, operates, send, symbol, over, loop, range_by, break_by, next_by, return_by, text_entry, gather_pairs, gather_text, ask, told}
 use Rattle.step_laws.specs.Plain.{IsPlain, ArePlain, ArePlainItems, ArePlainElements, ArePlainPairs, ArePlainBranches}
 
 unfoldable pub IsBare : Piece → Type 0
@@ -199,7 +199,8 @@ mutual
   bare (form.function f) is c s r = absurd is
   bare (form.lambda f) is c s r = absurd is
   bare (form.begin_form b cs o e) is c s r = absurd is
-  bare (form.return_form e) is c s r = absurd is
+  bare (form.return_form e) is c s r =
+      bare_both (gen c s r e) (does (return_by c.kind_of r)) (bare e is c s r) (bare_puts _)
   bare (form.break_form e) is c s r = bare_both (gen c s r e) (break_by c.loop r) (bare e is c s r) (bare_break c.loop r)
   bare (form.next_form e) is c s r = bare_both (gen c s r e) (next_by c.loop r) (bare e is c s r) (bare_next c.loop r)
   bare form.retry is c s r = absurd is

@@ -36,6 +36,7 @@ use Rattle.step_laws.specs.Simple.{IsSimple}
 use Rattle.step_laws.specs.Plain.{IsPlain}
 use Rattle.step_laws.specs.Calm.{StaysCalm}
 use Rattle.step_laws.specs.Implements.{main_site, IsCodeOf, Implements}
+use Rattle.step_laws.proofs.Covers.{at_top}
 use Rattle.step_laws.proofs.Placed.{high, Stands, left, right, the_line}
 use Rattle.step_laws.proofs.Apart.{apart}
 use Rattle.step_laws.proofs.Simply.{simply}
@@ -142,6 +143,7 @@ module _ (p : Parameters) (ls : List Local) (f : CoreForm) (program_is : IsProgr
     registers = refl;
     first = omega (arith, length-map ls (λ (x : Local). Some x));
     there = there;
+    returns = λ r. refl;
   }
 
   code_of_it : IsCodeOf (source_of b) (program 2 (coded_program b))
@@ -157,8 +159,8 @@ module _ (p : Parameters) (ls : List Local) (f : CoreForm) (program_is : IsProgr
     room = omega arith;
     no_catches = ap (λ (cs : List Catch). map (entry_by at) (cs ++ [])) no_entry;
     outside = refl;
-    covered = covered site ls t (start + width f) has f start (within_program ls) refl plain fits.1 formed (omega arith)
-        (omega arith);
+    covered = at_top site None start (first_spot 0) 1 f
+        (covered site ls t (start + width f) has f start (within_program ls) refl plain fits.1 formed (omega arith) (omega arith));
     code = left site 0 q (does op.Stop) both_stand;
     stop = subst (λ (n : ℕ). LineAt site n (line.Does op.Stop)) (omega arith)
         (the_line site (0 + high q) (line.Does op.Stop) (right site 0 q (does op.Stop) both_stand));
@@ -170,7 +172,7 @@ pub program_is_code : (b : Body) → IsProgram b → first_excess (need b) ≡ N
 program_is_code (form.body p ls f) h limits plain = code_of_it p ls f h limits plain
 
 pub program_implements : (b : Body) (input : List ℕ) → IsProgram b → first_excess (need b) ≡ None
-    → IsPlain (form_of b) → StaysCalm (source_of b) (opening (source_of b) input)
+    → IsPlain (form_of b) → StaysCalm (source_of b) (program 2 (coded_program b)) (opening (source_of b) input)
     → Implements (source_of b) (program 2 (coded_program b)) input
 program_implements b input h limits plain calm =
     implements (source_of b) (program 2 (coded_program b)) input (program_is_code b h limits plain) calm

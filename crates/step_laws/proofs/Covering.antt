@@ -6,6 +6,7 @@ use Rattle.std.specs.Ordering.{int_eq}
 use Rattle.rite_code.specs.declared.code.PoolItem.{PoolItem}
 use Rattle.rite_code.specs.declared.code.PoolItem.TheVariants as pool
 use Rattle.rite_code.specs.declared.operation.Operation.{Operation}
+use Rattle.rite_code.specs.declared.operation.Operation.TheVariants as op
 use Rattle.text_set.specs.Sets.{is_among}
 use Rattle.rb_syntax.specs.declared.core_form.DefinedKind.{DefinedKind}
 use Rattle.rb_syntax.specs.declared.core_form.DefinedKind.TheVariants as asks
@@ -17,7 +18,7 @@ use Rattle.ir_counts.specs.declared.tally.Tally.{Tally}
 use Rattle.ir_counts.specs.Tables.{hidden_by, is_wide}
 use Rattle.scope_resolver.specs.declared.place.Place.{Place}
 use Rattle.scope_resolver.specs.Layout.{Scopes, innermost_count, place_of}
-use Rattle.gen_forms.specs.Gen.{place_or, is_within, integer_entry, text_entry, symbol, operates}
+use Rattle.gen_forms.specs.Gen.{place_or, is_within, integer_entry, text_entry, symbol, operates, return_by}
 use Rattle.code_laws.proofs.Shares.{Numbered, Adds, Noted, Noted_all, Noted_items, Noted_pairs, Noted_branches}
 use Rattle.code_laws.proofs.Widths.{Under, InOrder, under_left, under_right, under_greatest, order_within, order_room, into_within, turn_within}
 use Rattle.def_machine.specs.State.{body_at}
@@ -38,6 +39,7 @@ pub record Has (h : Site) (ls : List Local) (t : Tally) (size : ℕ) : Type 0 wh
   pub registers : (body_at h.program h.body).registers ≡ size
   pub first : 1 + length ls + t.hidden ≤ h.first
   pub there : (x : Name) → is_among x t.symbols ≡ true → IsThere h.source x
+  pub returns : (r : ℕ) → return_by h.context.kind_of r ≡ op.Return r
 
 module _ (h : Site) (ls : List Local) (t : Tally) (registers : ℕ) (has : Has h ls t registers) where
   room : (r : ℕ) → h.first ≤ r → r < registers → Room h r
@@ -276,7 +278,10 @@ module _ (h : Site) (ls : List Local) (t : Tally) (registers : ℕ) (has : Has h
     cover (form.function g) r a k is n f low w = absurd is
     cover (form.lambda g) r a k is n f low w = absurd is
     cover (form.begin_form b cs o e) r a k is n f low w = absurd is
-    cover (form.return_form e) r a k is n f low w = absurd is
+    cover (form.return_form e) r a k is n f low w =
+        let both = both_true a.returns (is_form a e) f in
+        let part = order_within registers r (width e ∷ []) w in
+        (has.returns r, cover e r a k is n.1 both.1 low part.0)
     cover (form.break_form e) r a k is n f low w =
         let both = both_true a.loops (is_form a e) f in
         let part = order_within registers r (width e ∷ []) w in

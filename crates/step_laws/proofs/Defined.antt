@@ -51,7 +51,7 @@ module _ (g : Ground) (h : Site) (static : Static h) (ks : List Item) (m : sourc
   told x n r a = after_machine h.program a r (at_line h (n + 1)) (frame_at h x n) g.below (aligned k m)
 
   -- an instruction that answers what is told
-  tells : (j : ℕ) (q : DefinedKind) (y : Name) (d : Doing g h (defined q y absent) ks m.place ls k.lists) (o : Operation)
+  tells : (j : ℕ) (q : DefinedKind) (y : Name) (d : Doing g h j (defined q y absent) ks m.place ls k.lists) (o : Operation)
       → Quiet m (go h.source (Run (perform j (defined q y absent)) ks m)) → LineAt h d.n (line.Does o)
       → InFrame g h k.lists ks (d.n + 1) d.r d.loop
       → act h.program o (at_line h (d.n + 1)) (frame_at h d.x d.n) g.below (aligned k m)
@@ -66,7 +66,7 @@ module _ (g : Ground) (h : Site) (static : Static h) (ks : List Item) (m : sourc
         quiet = quiet;
       }) refl l acts (omega arith) both d.there room next
 
-  pub do_defined : (j : ℕ) (q : DefinedKind) (y : Name) (d : Doing g h (defined q y absent) ks m.place ls k.lists)
+  pub do_defined : (j : ℕ) (q : DefinedKind) (y : Name) (d : Doing g h j (defined q y absent) ks m.place ls k.lists)
       → Quiet m (go h.source (Run (perform j (defined q y absent)) ks m))
       → Step h (Run (perform j (defined q y absent)) ks m) (state_at g h d.x d.n (aligned k m))
   unfolding ask
@@ -127,7 +127,7 @@ module _ (g : Ground) (h : Site) (static : Static h) (ks : List Item) (m : sourc
       (ap (λ (b : Activation). told d.x d.n d.r (super_told m.world b)) (here d.there)) d.covered.0
 
   pub do_defined_of : (j : ℕ) (q : DefinedKind) (y : Name) (e : CoreForm)
-      (d : Doing g h (defined q y (there e)) ks m.place ls k.lists)
+      (d : Doing g h j (defined q y (there e)) ks m.place ls k.lists)
       → Step h (Run (perform j (defined q y (there e))) ks m) (state_at g h d.x d.n (aligned k m))
   unfolding do_form ask
   do_defined_of j asks.Expression y e d = absurd d.covered.2

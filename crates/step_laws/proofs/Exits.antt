@@ -4,6 +4,7 @@ use Rattle.std.specs.List.{filter}
 use Rattle.std.specs.Prelude.{if◌then◌else◌, Option, Some, None}
 use Rattle.std.proofs.lemmas.Bool.{eq-eqb}
 use Rattle.rb_value.specs.declared.value.Value.{Value}
+use Rattle.rb_value.specs.declared.value.Value.TheVariants.{Obj}
 use Rattle.rb_value.specs.declared.value.ObjId.{ObjId}
 use Rattle.rb_value.specs.declared.exit.Exit.TheVariants.{Raise, Return}
 use Rattle.rb_value.specs.Slot.{read}
@@ -11,8 +12,8 @@ use Rattle.rite_code.specs.Code.{Program}
 use Rattle.rite_code.specs.declared.code.CatchEntry.{CatchEntry}
 use Rattle.rite_code.specs.declared.operation.Operation.TheVariants as op
 use Rattle.def_calls.specs.Seen.{Ended, Uncaught}
-use Rattle.def_calls.specs.World.{World, activation_at, main_program, with_store}
-use Rattle.def_calls.specs.Calls.{close, close_run, unrescued, Unrescued}
+use Rattle.def_calls.specs.World.{World, activation_at, main_program, next_activation, with_activation, with_store}
+use Rattle.def_calls.specs.Calls.{close, close_run, core_activation, is_asked, asking, unrescued, Unrescued}
 use Rattle.def_calls.specs.Plans.{Iteration, caught}
 use Rattle.def_calls.specs.Fibers.{Fiber, Fibers, Onward, back_to, finish}
 use Rattle.def_calls.specs.Fibers as fibers
@@ -20,11 +21,11 @@ use Rattle.def_eval.specs.Source.{Source}
 use Rattle.def_eval.specs.Configuration as source
 use Rattle.def_eval.specs.Configuration.{Place, Exit, raise, Part, Stop, passes, loops, rescues, assigns, retries, ensures, stop_of, Item, part, activation, iteration, Kept, give, travel, Config, Run, Halt}
 use Rattle.def_eval.specs.Giving.{returned, end_fiber, do_give}
-use Rattle.def_eval.specs.Exits.{travel_part, travel_caught, end_by, leave_fiber, do_travel}
+use Rattle.def_eval.specs.Exits.{travel_part, travel_caught, end_by, end_or_ask, leave_fiber, do_travel}
 use Rattle.def_eval.specs.Transition.{go}
 use Rattle.def_machine.specs.State as machine
 use Rattle.def_machine.specs.State.{Level, frame, State, On, Off}
-use Rattle.def_machine.specs.Unwind.{covers, covering, handler, reach, at_frame, unwind, closed, receive, receive_in_resumer, end_program, fallen, land, throw_within, throw, end_by as end_by_machine, end_fiber as end_fiber_machine}
+use Rattle.def_machine.specs.Unwind.{covers, covering, handler, reach, at_frame, unwind, closed, receive, receive_in_resumer, end_program, end_or_ask as end_or_ask_machine, fallen, land, throw_within, throw, end_by as end_by_machine, end_fiber as end_fiber_machine}
 use Rattle.def_machine.specs.Turn.{turn}
 use Rattle.step_laws.specs.Site.{Site, at_line}
 use Rattle.step_laws.specs.Calm.{Quiet}
@@ -99,7 +100,7 @@ unfolding receive
 received_last v k e = ap (λ (o : Option (Onward (List Level))). end_fiber_machine v o k) (no_more k.fibers e)
 
 -- What a return does: past a frame that catches nothing it goes to what waits below.
-returned_by : (h : Site) → Static h → (v : Value) (x : Rest) (n : ℕ) (ls : List Level) (k : machine.Memory)
+pub returned_by : (h : Site) → Static h → (v : Value) (x : Rest) (n : ℕ) (ls : List Level) (k : machine.Memory)
     → throw h.program (Return h.activation v) (frame (frame_at h x n) ∷ ls) k
     ≡ receive v ls (closed k h.activation)
 unfolding throw unwind covering
@@ -141,7 +142,7 @@ give_activation g h static ks m k both v a place ls d quiet = at d.next.0.by
 
     back : (gs : List Level) → g.below ≡ gs → Both h.source h.program (over_levels g gs) m' (machine.with_world k w)
     back gs e =
-        let b = grown g m (aligned k m) both.all place w quiet.2 in
+        let b = grown g m (aligned k m) both.all place w quiet.1 in
         record {
           world = b.world;
           sites = b.sites;
@@ -248,6 +249,27 @@ module _ (s : Source) (p : Program) (m : source.Memory) (ls : List Level) (k : m
       by true = refl
       by false = refl
 
+  -- the program ends, or the exception is asked for its message
+  asked_alike : (g : Ground) (l : machine.Memory) → Both s p g m l → g.below ≡ [] → (b : Bool) (e : ObjId)
+      → Alike s p (end_or_ask b e m) (end_or_ask_machine b e (machine.with_world l m.world))
+  asked_alike g l both last true e =
+      let a = core_activation m.world (Obj e) in
+      let w = with_activation (asking m.world) a in
+      let place : Place = record m.place { activation = next_activation m.world } in
+      let b = grown g m l both place w (record { more = a ∷ []; is = refl }) in
+      record {
+        g = over_levels g [];
+        is = refl;
+        both = record {
+          world = b.world;
+          sites = b.sites;
+          fibers = b.fibers;
+          apart = subst (λ (gs : List Level). (n : ℕ) → uses n gs + uses_in n l.fibers.others ≤ 1) last b.apart;
+        };
+        waits = refl;
+      }
+  asked_alike g l both last false e = ends_alike (unrescued m.world.store e) m.world.out
+
   -- nothing is left in the fiber: the program ends, or the exception goes on in what resumed the fiber
   pub travel_end : (x : Exit) → Throwing s p x [] m ls k → Advances s p (Run (travel x) [] m) (On ls k)
   unfolding do_travel throw
@@ -267,16 +289,17 @@ module _ (s : Source) (p : Program) (m : source.Memory) (ls : List Level) (k : m
       at : Onwards t.g.sites t.memory.lists m.fibers.others t.memory.fibers.others (finish m.fibers)
           (finish t.memory.fibers) → Advances s p conf (On ls k)
       at (nowhere a b) =
+          let l = machine.with_world t.memory m.world in
           let last = turns
           ∙ ap (λ (o : Option (Onward (List Level))). fallen (λ y gs l. throw_within (length t.memory.fibers.others) p y gs l)
           t.e o t.memory) b
-          ∙ ap (λ (w : World). end_program (unrescued w.store t.e) w.out) t.both.world in
-          let goes' : go s conf ≡ end_by (unrescued m.world.store t.e) m.world.out =
+          ∙ ap (λ (w : World). end_or_ask_machine (is_asked w t.e) t.e (machine.with_world t.memory w)) t.both.world in
+          let goes' : go s conf ≡ end_or_ask (is_asked m.world t.e) t.e m =
           goes ∙ ap (λ (o : Option (Onward Kept)). leave_fiber t.e o m) a in
-          one_turn s p conf (On ls k) (end_program (unrescued m.world.store t.e) m.world.out)
+          one_turn s p conf (On ls k) (end_or_ask_machine (is_asked m.world t.e) t.e l)
           (going_out (travel x) [] m ls k t.out) last
-          (subst (λ (d : Config). Alike s p d (end_program (unrescued m.world.store t.e) m.world.out)) (sym goes')
-          (ends_alike (unrescued m.world.store t.e) m.world.out))
+          (subst (λ (d : Config). Alike s p d (end_or_ask_machine (is_asked m.world t.e) t.e l)) (sym goes')
+          (asked_alike t.g t.memory t.both t.leaving (is_asked m.world t.e) t.e))
       at (onward o q left right i) =
           let w = ended_in m.world m.fibers.running in
           let u = ended_in t.memory.world t.memory.fibers.running in
@@ -367,8 +390,8 @@ module _ (s : Source) (p : Program) (m : source.Memory) (ls : List Level) (k : m
             ∙ leaves_frame
             ∙ ap (λ (u : World). throw p (Raise t.e) f.below (machine.with_world t.memory u))
             (ap (λ (u : World). close u f.h.activation) t.both.world ∙ ap (close m.world) (sym f.same));
-        out = t.out ∙ sym still.1;
-        both = grown (over_levels t.g f.below) m t.memory b place w still.2;
+        out = t.out ∙ sym still.0;
+        both = grown (over_levels t.g f.below) m t.memory b place w still.1;
         leaving = leaves t.g.sites t.g.fiber t.memory.lists ks place f.below f.next;
       })))
 

@@ -25,6 +25,7 @@ use Rattle.def_core.specs.Classes.{class_of}
 use Rattle.def_core.specs.Find.{find}
 use Rattle.rb_store.specs.Opening.{main_object}
 use Rattle.ir_core.specs.CoreForm.{Name}
+use Rattle.def_calls.specs.Definitions.{space_in}
 use Rattle.def_calls.specs.Rows
 use Rattle.def_calls.specs.Rows.{Row, of_table, outright, iterates, PlainRow, StarRow, row_at, method_missing_row}
 use Rattle.def_eval.proofs.Running.{run}
@@ -92,7 +93,7 @@ is_sameness Rows.has_ancestor = false
 is_sameness Rows.class_text = false
 is_sameness Rows.method_of_block = false
 is_sameness Rows.initialize_exception = false
-is_sameness Rows.exception_message = false
+is_sameness Rows.exception_text = false
 is_sameness Rows.new_fiber = false
 is_sameness Rows.is_alive = false
 
@@ -318,6 +319,8 @@ is_writer Rows.call_proc = false
 is_writer Rows.resume = false
 is_writer Rows.yield = false
 is_writer Rows.send_kept = false
+is_writer Rows.exception_message = false
+is_writer Rows.exception_inspection = false
 
 abbrev pub writes_row : Row → Bool
 writes_row of_table = false
@@ -335,3 +338,8 @@ pub record Writing (more : List Object) : Type 0 where
 pub writing : (more : List Object) → Writing more
 unfolding run the_symbol IsCoreName
 writing more = record { known = refl; of_main = refl }
+
+-- Object is a class
+pub object_there : (more : List Object) → space_in (grown more) (Obj (core class.Object)) ≡ Some (core class.Object)
+unfolding run
+object_there more = refl

@@ -20,6 +20,7 @@ use Rattle.def_eval.specs.Transition.{go}
 use Rattle.def_machine.specs.State as machine
 use Rattle.def_machine.specs.State.{Level, frame, slot_at, value_at}
 use Rattle.step_laws.specs.Site.{Site, within}
+use Rattle.step_laws.proofs.Covers.{at_top}
 use Rattle.step_laws.proofs.Placed.{high, high-both, high-puts, left, right, the_line, frame_at, turned}
 use Rattle.step_laws.specs.Behind.{Static, GlobalBehind, to_global}
 use Rattle.step_laws.specs.Relation.{Ground, InFrame, Common, Doing, GivesIn, Related, Step}
@@ -30,7 +31,7 @@ use Rattle.step_laws.proofs.Answers.{symbols_same}
 
 module _ (g : Ground) (h : Site) (static : Static h) (ks : List Item) (m : source.Memory) (ls : List Level)
     (k : machine.Memory) (both : Common g h m (aligned k m)) where
-  pub do_set_gvar : (j : ℕ) (x : Name) (e : CoreForm) (d : Doing g h (set_gvar x e) ks m.place ls k.lists)
+  pub do_set_gvar : (j : ℕ) (x : Name) (e : CoreForm) (d : Doing g h j (set_gvar x e) ks m.place ls k.lists)
       → Step h (Run (perform j (set_gvar x e)) ks m) (state_at g h d.x d.n (aligned k m))
   unfolding do_form
   do_set_gvar j x e d =
@@ -49,7 +50,7 @@ module _ (g : Ground) (h : Site) (static : Static h) (ks : List Item) (m : sourc
           loop = d.loop;
           s = d.s;
           here = d.here;
-          covered = d.covered.0;
+          covered = at_top h d.loop d.r d.s j e d.covered.0;
           above = d.above;
           code = left h d.n p (does o) d.code;
           next = record {

@@ -34,6 +34,7 @@ use Rattle.step_laws.specs.Site.{Site, within, place_in, at_line, LineAt, Room}
 use Rattle.step_laws.specs.Covered.{CoveredPairs}
 use Rattle.step_laws.specs.Calm.{Grows, Quiet}
 use Rattle.step_laws.specs.Measure.{measure}
+use Rattle.step_laws.proofs.Covers.{at_top}
 use Rattle.step_laws.proofs.Placed.{high, high-both, high-puts, high-nothing, line-past, Stands, moved, left, right, the_line, Rest, frame_at, turned}
 use Rattle.step_laws.specs.Behind.{Static}
 use Rattle.step_laws.specs.Relation.{Ground, over_levels, InFrame, Common, Doing, GivesIn, raised, Related, Step}
@@ -75,7 +76,7 @@ on_with g h j id (pair a b ps) ks m k x n low end loop s both there room covered
         loop = loop;
         s = s;
         here = here;
-        covered = covered.0;
+        covered = at_top h loop (low + 1) s j a covered.0;
         above = omega (arith, room.above);
         code = left h n p q two;
         next = record {
@@ -107,8 +108,8 @@ on_with g h j id (pair a b ps) ks m k x n low end loop s both there room covered
 
 quiet_pairs : (j : ℕ) (id : ObjId) (ps : Pairs) (ks : List Item) (m : source.Memory) (w : World)
     → Quiet m (next_pair j id ps ks (source.with_world m w)) → Grows m.world w
-quiet_pairs j id no_pairs ks m w q = q.2
-quiet_pairs j id (pair a b ps) ks m w q = q.2
+quiet_pairs j id no_pairs ks m w q = q.1
+quiet_pairs j id (pair a b ps) ks m w q = q.1
 
 -- The turn that puts the pair behind the Hash.
 module _ (g : Ground) (h : Site) (x : Rest) (n low : ℕ) (k : machine.Memory) (id : ObjId) (u v : Value)
@@ -136,7 +137,7 @@ module _ (g : Ground) (h : Site) (x : Rest) (n low : ℕ) (k : machine.Memory) (
 
 module _ (g : Ground) (h : Site) (static : Static h) (ks : List Item) (m : source.Memory) (ls : List Level)
     (k : machine.Memory) (both : Common g h m (aligned k m)) where
-  pub do_hash : (j : ℕ) (ps : Pairs) (d : Doing g h (hash ps) ks m.place ls k.lists)
+  pub do_hash : (j : ℕ) (ps : Pairs) (d : Doing g h j (hash ps) ks m.place ls k.lists)
       → Step h (Run (perform j (hash ps)) ks m) (state_at g h d.x d.n (aligned k m))
   unfolding do_form
   do_hash j ps d =
@@ -179,7 +180,7 @@ module _ (g : Ground) (h : Site) (static : Static h) (ks : List Item) (m : sourc
           loop = d.loop;
           s = b.s;
           here = b.here;
-          covered = b.covered.0;
+          covered = at_top h d.loop (low + 1 + 1) b.s j e b.covered.0;
           above = omega (arith, b.room.above);
           code = b.value;
           next = record {
@@ -259,8 +260,8 @@ module _ (g : Ground) (h : Site) (static : Static h) (ks : List Item) (m : sourc
             exception = refl;
             memory = machine.with_world k w;
             throws = acts;
-            out = sym still.1;
+            out = sym still.0;
             both = grown (over_levels g (frame (frame_at h d.x d.n) ∷ g.below)) m (aligned k m)
-                (below_running g h m (aligned k m) both (frame_at h d.x d.n) refl) m.place w still.2;
+                (below_running g h m (aligned k m) both (frame_at h d.x d.n) refl) m.place w still.1;
             leaving = leaves_frame g h k.lists ks d.next.end low d.next.outer d.x d.n both.site d.next.next;
           })))

@@ -1,5 +1,5 @@
 -- Iterations: one plan is one transition and one turn.
-use Rattle.std.proofs.Common.{◌≡◌, ℕ, ◌+◌, ◌<◌, ◌≤◌, List, [], ◌∷◌, refl, sym, ap, ◌∙◌, subst, arith}
+use Rattle.std.proofs.Common.{◌≡◌, ◌⊎◌, ℕ, ◌+◌, ◌<◌, ◌≤◌, List, [], ◌∷◌, refl, sym, ap, ◌∙◌, subst, arith}
 use Rattle.std.specs.Prelude.{Option, None}
 use Rattle.rb_value.specs.declared.value.Value.{Value}
 use Rattle.rb_value.specs.declared.value.Value.TheVariants.{Nil, Obj}
@@ -26,18 +26,21 @@ use Rattle.def_machine.specs.State.{Level, On}
 use Rattle.def_machine.specs.Unwind.{receive}
 use Rattle.def_machine.specs.Entering.{answer, in_fiber as in_fiber_machine, resume_by as resume_by_machine, yield_by as yield_by_machine, carry_out as carry_out_machine, iterate}
 use Rattle.def_machine.specs.Turn.{turn}
-use Rattle.step_laws.specs.Calm.{Grows, Quiet}
+use Rattle.step_laws.specs.Calm.{Grows, Quiet, Still, Peace}
+use Rattle.step_laws.specs.Methods.{CallsMethods}
 use Rattle.step_laws.specs.Measure.{waiting, measure}
 use Rattle.step_laws.specs.Relation.{Waits, Ground, over_levels, WaitsBelow, uses, uses_in, Both, raised, Alike, Advances}
 use Rattle.step_laws.proofs.Untouched.{sites_grow, grown}
 use Rattle.step_laws.proofs.Switching.{Onwards, nowhere, onward, OnwardIs, Resumes, refuses, starts, goes_on, yielded, resumed, ground_in, switched}
 use Rattle.step_laws.proofs.Matching.{no_turn, one_turn, going}
-use Rattle.step_laws.proofs.Calling.{Origin, leaves, falls, given_back, given_on, answered, entered}
+use Rattle.step_laws.proofs.Calling.{Origin, leaves, falls, given_back, given_on, answered}
+use Rattle.step_laws.proofs.Called.{proc_entered, sent_entered}
+use Rattle.step_laws.proofs.Entered.{then_enters, entered}
 use Rattle.step_laws.proofs.Literals.{aligned}
 
 module _ (s : Source) (p : Program) (v : Value) (a : ℕ) (it : Iteration) (place : Place) (ks : List Item)
     (m : source.Memory) (g : Ground) (k : machine.Memory) (both : Both s p g m (aligned k m))
-    (waits : WaitsBelow g k.lists ks place) (quiet : Quiet m (go s (Run (give v) (iteration a it place ∷ ks) m)))
+    (waits : WaitsBelow g k.lists ks place) (peace : Peace s p (give v) (iteration a it place ∷ ks) m)
   where
     abbrev conf : Config
     conf = Run (give v) (iteration a it place ∷ ks) m
@@ -49,8 +52,12 @@ module _ (s : Source) (p : Program) (v : Value) (a : ℕ) (it : Iteration) (plac
     from = record {
       alike = going (give v) (iteration a it place ∷ ks) m levels (aligned k m) refl;
       out = refl;
-      quiet = quiet;
+      quiet = peace.quiet;
     }
+
+    -- a body is entered, of what the plan calls
+    abbrev MayCall : Store → Type 0
+    MayCall st = Still m (go s conf) ⊎ CallsMethods s p st.objects
 
     -- back at the place of the caller
     back : (w : World) → Grows m.world w
@@ -108,11 +115,11 @@ module _ (s : Source) (p : Program) (v : Value) (a : ℕ) (it : Iteration) (plac
             → turn p (On levels (aligned k m)) ≡ receive v q.kept (machine.with_world (in_fiber_machine k q) u)
             → Advances s p conf (On levels (aligned k m))
         on_with v u goes turns =
-            let still = subst (Quiet m) goes quiet in
+            let still = subst (Quiet m) goes peace.quiet in
             given_on s p conf levels (aligned k m) from.alike v o.kept.items (source.with_world (in_fiber m o) u)
             (ground_in g o q.kept) q.kept (machine.with_world (in_fiber_machine k q) u) goes turns i.some
             (switched s p g m (aligned k m) (put_aside m.fibers w (left next)) (put_aside k.fibers w (left_too next)) o q u u
-            both.sites (few next w) i still.2 refl) i.waits
+            both.sites (few next w) i still.1 refl) i.waits
 
         by : (args : List Value) → go s conf ≡ after (one_of (with_store m.world st) args) o.kept.items
             (in_fiber (source.with_world m (with_store m.world st)) o)
@@ -125,19 +132,19 @@ module _ (s : Source) (p : Program) (v : Value) (a : ℕ) (it : Iteration) (plac
             let x = make (with_store m.world st) (items_object (v ∷ u ∷ us)) in
             on_with (Obj (next_number st)) x.world goes turns
 
-    resumed_by : (next : Iteration) (f : ObjId) (args : List Value) (st : Store) → (x : Resumed Kept)
+    resumed_by : (next : Iteration) (f : ObjId) (args : List Value) (st : Store) → MayCall st → (x : Resumed Kept)
         (y : Resumed (List Level))
         → Resumes g.sites k.lists (put_aside m.fibers resuming (left next)) (put_aside k.fibers resuming (left_too next)) x y
         → go s conf ≡ resume_by s x args (iteration a next place ∷ ks) (source.with_world m (with_store m.world st))
         → turn p (On levels (aligned k m)) ≡ resume_by_machine p y args (left_too next)
         (machine.with_world k (with_store m.world st))
         → Advances s p conf (On levels (aligned k m))
-    resumed_by next f args st x y (refuses c e d) goes turns =
+    resumed_by next f args st may x y (refuses c e d) goes turns =
         let w = with_store m.world st in
         failed c next st
         (goes ∙ ap (λ (r : Resumed Kept). resume_by s r args (iteration a next place ∷ ks) (source.with_world m w)) e)
         (turns ∙ ap (λ (r : Resumed (List Level)). resume_by_machine p r args (left_too next) (machine.with_world k w)) d)
-    resumed_by next f args st x y (starts b d e is is_too all others others_too) goes turns =
+    resumed_by next f args st may x y (starts b d e is is_too all others others_too) goes turns =
         let w = with_store m.world st in
         let alone : (n : ℕ) → uses n [] + uses_in n e.others ≤ 1 = λ n. omega (arith, few_of n) in
         let lighter : waiting d.others ≡ waiting (put_aside m.fibers resuming (left next)) = ap waiting others in
@@ -151,11 +158,12 @@ module _ (s : Source) (p : Program) (v : Value) (a : ℕ) (it : Iteration) (plac
           sites = sites_grow s p g.sites m.scopes k.lists m.world u grows both.sites;
           fibers = all;
           apart = alone;
-        }) refl
+        }) refl (then_enters s p w.store.objects (enter_proc w b args None)
+        (λ i. proc_entered s p w i b args None) may)
       where
         few_of : (n : ℕ) → uses_in n e.others ≤ 1
         few_of n = subst (λ (fs : List (Fiber (List Level))). uses_in n fs ≤ 1) (sym others_too) (few next resuming n)
-    resumed_by next f args st x y (goes_on o q is is_too i) goes turns =
+    resumed_by next f args st may x y (goes_on o q is is_too i) goes turns =
         let w = with_store m.world st in
         switches next resuming st args o q i
         (goes ∙ ap (λ (r : Resumed Kept). resume_by s r args (iteration a next place ∷ ks) (source.with_world m w)) is)
@@ -182,25 +190,25 @@ module _ (s : Source) (p : Program) (v : Value) (a : ℕ) (it : Iteration) (plac
         (turns ∙ ap (λ (r : Option (Onward (List Level))). yield_by_machine p r args (left_too next) (machine.with_world k w))
         d)
 
-    planned : (q : Plan) (st : Store)
+    planned : (q : Plan) (st : Store) → MayCall st
         → go s conf ≡ carry_out s q a place ks (source.with_world m (with_store m.world st))
         → turn p (On levels (aligned k m)) ≡ carry_out_machine p q a g.below (machine.with_world k (with_store m.world st))
         → Advances s p conf (On levels (aligned k m))
-    planned (finishes u) st goes turns =
+    planned (finishes u) st may goes turns =
         let w = close (with_store m.world st) a in
         let m' : source.Memory = record m { place = place; world = w } in
-        let still = subst (Quiet m) goes quiet in
+        let still = subst (Quiet m) goes peace.quiet in
         given_back s p conf levels (aligned k m) m from u ks m' g g.below (machine.with_world k w) goes turns
-        (falls g.below ks m' conf (omega arith)) (back w still.2) waits
-    planned (fails c) st goes turns =
+        (falls g.below ks m' conf (omega arith)) (back w still.1) waits
+    planned (fails c) st may goes turns =
         let w = with_store m.world st in
         let x = fail w c in
         let m' : source.Memory = record m { place = place; world = close w a } in
         answered s p conf levels (aligned k m) m from x.result x.world ks m' g g.below (machine.with_world k (close w a))
         goes turns (falls g.below ks m' conf (omega arith)) back waits
-    planned (raises e) st goes turns =
+    planned (raises e) st may goes turns =
         let w = close (with_store m.world st) a in
-        let still = subst (Quiet m) goes quiet in
+        let still = subst (Quiet m) goes peace.quiet in
         no_turn s p conf (On levels (aligned k m)) (subst (λ (d : Config). measure d < measure conf) (sym goes) (omega arith))
         (subst (λ (d : Config). Alike s p d (On levels (aligned k m))) (sym goes) (raised (record {
           g = over_levels g g.below;
@@ -208,39 +216,41 @@ module _ (s : Source) (p : Program) (v : Value) (a : ℕ) (it : Iteration) (plac
           exception = refl;
           memory = machine.with_world k w;
           throws = turns;
-          out = sym still.1;
-          both = back w still.2;
+          out = sym still.0;
+          both = back w still.1;
           leaving = leaves g.sites g.fiber k.lists ks place g.below waits;
         })))
-    planned (sends next u x args b public) st goes turns =
+    planned (sends next u x args b public) st may goes turns =
         let w = with_store m.world st in
         entered s p conf levels (aligned k m) m from (send_by_core w u x args b public) (iteration a next place ∷ ks)
         (source.with_world m w) g (machine.iteration a next Nil ∷ g.below) (machine.with_world k w) goes turns (omega arith)
-        refl (stay next) (on next)
-    planned (calls next q args b) st goes turns =
+        refl (stay next) (on next) (then_enters s p w.store.objects (send_by_core w u x args b public)
+        (λ i. sent_entered s p w i u x args b public) may)
+    planned (calls next q args b) st may goes turns =
         let w = with_store m.world st in
         entered s p conf levels (aligned k m) m from (enter_proc w q args b) (iteration a next place ∷ ks)
         (source.with_world m w) g (machine.iteration a next Nil ∷ g.below) (machine.with_world k w) goes turns (omega arith)
-        refl (stay next) (on next)
-    planned (writes next bytes) st goes turns =
+        refl (stay next) (on next) (then_enters s p w.store.objects (enter_proc w q args b)
+        (λ i. proc_entered s p w i q args b) may)
+    planned (writes next bytes) st may goes turns =
         let w = write (with_store m.world st) bytes in
-        let still = subst (Quiet m) goes quiet in
+        let still = subst (Quiet m) goes peace.quiet in
         one_turn s p conf (On levels (aligned k m)) (On (machine.iteration a next Nil ∷ g.below) (machine.with_world k w))
         from.alike turns
         (subst (λ (d : Config). Alike s p d (On (machine.iteration a next Nil ∷ g.below) (machine.with_world k w))) (sym goes)
-        (record { g = g; is = refl; both = grown g m (aligned k m) both m.place w still.2; waits = waits }))
-    planned (reads next) st goes turns =
+        (record { g = g; is = refl; both = grown g m (aligned k m) both m.place w still.1; waits = waits }))
+    planned (reads next) st may goes turns =
         let w = with_store m.world st in
         let x = read w in
         answered s p conf levels (aligned k m) m from x.result x.world (iteration a next place ∷ ks)
         (source.with_world m w) g (machine.iteration a next Nil ∷ g.below) (machine.with_world k w) goes turns (omega arith)
         (stay next) (on next)
-    planned (resumes next f args) st goes turns =
-        resumed_by next f args st
+    planned (resumes next f args) st may goes turns =
+        resumed_by next f args st may
         (fibers.resume m.fibers (left next) st f) (fibers.resume k.fibers (left_too next) st f)
         (resumed g.sites g.fiber k.lists m.fibers k.fibers both.fibers (left next) (left_too next) (omega arith) (on next) st f)
         goes turns
-    planned (yields next args) st goes turns =
+    planned (yields next args) st may goes turns =
         yielded_by next args st (fibers.yield m.fibers (left next)) (fibers.yield k.fibers (left_too next))
         (yielded g.sites g.fiber k.lists m.fibers k.fibers both.fibers (left next) (left_too next) (omega arith) (on next))
         goes turns
@@ -249,4 +259,4 @@ module _ (s : Source) (p : Program) (v : Value) (a : ℕ) (it : Iteration) (plac
     unfolding do_give iterate
     give_iteration =
         let q = plans.next it v m.world.store in
-        planned q.plan q.store refl refl
+        planned q.plan q.store peace.calls refl refl

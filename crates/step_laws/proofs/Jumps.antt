@@ -29,6 +29,7 @@ use Rattle.def_machine.specs.Unwind.{covers, covering, handler, at_frame, unwind
 use Rattle.def_machine.specs.Turn.{target as led_to, turn, act_at}
 use Rattle.step_laws.specs.Site.{Site, within, place_in, at_line, LineAt, Room}
 use Rattle.step_laws.specs.Measure.{measure}
+use Rattle.step_laws.proofs.Covers.{at_top}
 use Rattle.step_laws.proofs.Placed.{high, high-puts, Stands, moved, left, right, the_line, Rest, frame_at, turned, leads, jumped}
 use Rattle.step_laws.specs.Behind.{Static, LoopAt, BreakBehind, NextBehind, breaks, begins_round}
 use Rattle.step_laws.specs.Relation.{Ground, uses, InFrame, Common, Doing, GivesIn, LoopWay, WayBy, Way, LeavesTo, to_end, to_round, leaping, Related, Step}
@@ -179,7 +180,7 @@ way_kept g h l (ensuring o ∷ ks) target u lt free w = absurd w
 
 module _ (g : Ground) (h : Site) (static : Static h) (ks : List Item) (m : source.Memory) (ls : List Level)
     (k : machine.Memory) (both : Common g h m (aligned k m)) where
-  pub do_break : (j : ℕ) (e : CoreForm) (d : Doing g h (break_form e) ks m.place ls k.lists)
+  pub do_break : (j : ℕ) (e : CoreForm) (d : Doing g h j (break_form e) ks m.place ls k.lists)
       → Step h (Run (perform j (break_form e)) ks m) (state_at g h d.x d.n (aligned k m))
   unfolding do_form
   do_break j e d = by d.loop refl
@@ -207,7 +208,7 @@ module _ (g : Ground) (h : Site) (static : Static h) (ks : List Item) (m : sourc
               loop = d.loop;
               s = d.s;
               here = d.here;
-              covered = d.covered.1;
+              covered = at_top h d.loop d.r d.s j e d.covered.1;
               above = d.above;
               code = left h d.n p (move ⊕ out) code;
               next = record {
@@ -273,7 +274,7 @@ module _ (g : Ground) (h : Site) (static : Static h) (ks : List Item) (m : sourc
         way = way_kept g h k.lists ks b.target v s.present (omega (arith, both.free)) way;
       })))
 
-  pub do_next : (j : ℕ) (e : CoreForm) (d : Doing g h (next_form e) ks m.place ls k.lists)
+  pub do_next : (j : ℕ) (e : CoreForm) (d : Doing g h j (next_form e) ks m.place ls k.lists)
       → Step h (Run (perform j (next_form e)) ks m) (state_at g h d.x d.n (aligned k m))
   unfolding do_form
   do_next j e d = by d.loop refl
@@ -298,7 +299,7 @@ module _ (g : Ground) (h : Site) (static : Static h) (ks : List Item) (m : sourc
               loop = d.loop;
               s = d.s;
               here = d.here;
-              covered = d.covered.1;
+              covered = at_top h d.loop d.r d.s j e d.covered.1;
               above = d.above;
               code = left h d.n p out code;
               next = record {

@@ -100,7 +100,7 @@ one_line g h l ks n r o around a = subst (λ (i : ℕ). InFrame g h l ks (n + i)
 
 module _ (g : Ground) (h : Site) (static : Static h) (j : ℕ) (ks : List Item) (m : source.Memory) (ls : List Level)
     (k : machine.Memory) (both : Common g h m (aligned k m)) where
-  literal : (e : CoreForm) (v : Value) (o : Operation) (d : Doing g h e ks m.place ls k.lists)
+  literal : (e : CoreForm) (v : Value) (o : Operation) (d : Doing g h j e ks m.place ls k.lists)
       → go h.source (Run (perform j e) ks m) ≡ Run (give v) ks m → LineAt h d.n (line.Does o)
       → act h.program o (at_line h (d.n + 1)) (frame_at h d.x d.n) g.below (aligned k m)
       ≡ state_at g h d.x (d.n + 1) (written h (aligned k m) d.r v)
@@ -110,14 +110,14 @@ module _ (g : Ground) (h : Site) (static : Static h) (j : ℕ) (ks : List Item) 
       written_by g h static (Run (perform j e) ks m) v ks m d.x k d.n d.r o d.loop
       (going (perform j e) ks m (frame (frame_at h d.x d.n) ∷ g.below) (aligned k m) refl) goes l acts both d.there room a
 
-  pub do_nil : (d : Doing g h nil ks m.place ls k.lists)
+  pub do_nil : (d : Doing g h j nil ks m.place ls k.lists)
       → Step h (Run (perform j nil) ks m) (state_at g h d.x d.n (aligned k m))
   unfolding do_form
   do_nil d =
       let o = op.LoadNil d.r in
       literal nil Nil o d refl (the_line h d.n (line.Does o) d.code) refl d.covered (one_line g h k.lists ks d.n d.r o d.loop d.next)
 
-  pub do_truth : (d : Doing g h truth ks m.place ls k.lists)
+  pub do_truth : (d : Doing g h j truth ks m.place ls k.lists)
       → Step h (Run (perform j truth) ks m) (state_at g h d.x d.n (aligned k m))
   unfolding do_form
   do_truth d =
@@ -125,7 +125,7 @@ module _ (g : Ground) (h : Site) (static : Static h) (j : ℕ) (ks : List Item) 
       literal truth True o d refl (the_line h d.n (line.Does o) d.code) refl d.covered
       (one_line g h k.lists ks d.n d.r o d.loop d.next)
 
-  pub do_falsehood : (d : Doing g h falsehood ks m.place ls k.lists)
+  pub do_falsehood : (d : Doing g h j falsehood ks m.place ls k.lists)
       → Step h (Run (perform j falsehood) ks m) (state_at g h d.x d.n (aligned k m))
   unfolding do_form
   do_falsehood d =
@@ -133,7 +133,7 @@ module _ (g : Ground) (h : Site) (static : Static h) (j : ℕ) (ks : List Item) 
       literal falsehood False o d refl (the_line h d.n (line.Does o) d.code) refl d.covered
       (one_line g h k.lists ks d.n d.r o d.loop d.next)
 
-  pub do_self : (d : Doing g h self_ref ks m.place ls k.lists)
+  pub do_self : (d : Doing g h j self_ref ks m.place ls k.lists)
       → Step h (Run (perform j self_ref) ks m) (state_at g h d.x d.n (aligned k m))
   unfolding do_form
   do_self d =
@@ -143,7 +143,7 @@ module _ (g : Ground) (h : Site) (static : Static h) (j : ℕ) (ks : List Item) 
       (ap (λ (v : Value). state_at g h d.x (d.n + 1) (written h (aligned k m) d.r v)) (sym same)) d.covered
       (one_line g h k.lists ks d.n d.r o d.loop d.next)
 
-  pub do_int : (z : ℤ) (d : Doing g h (int z) ks m.place ls k.lists)
+  pub do_int : (z : ℤ) (d : Doing g h j (int z) ks m.place ls k.lists)
       → Step h (Run (perform j (int z)) ks m) (state_at g h d.x d.n (aligned k m))
   unfolding do_form
   do_int z d =

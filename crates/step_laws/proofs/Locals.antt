@@ -21,6 +21,7 @@ use Rattle.def_machine.specs.State as machine
 use Rattle.def_machine.specs.State.{Level, frame, slot_at, value_at}
 use Rattle.def_machine.specs.Turn.{act}
 use Rattle.step_laws.specs.Site.{Site, within, at_line, LineAt, register, Known}
+use Rattle.step_laws.proofs.Covers.{at_top}
 use Rattle.step_laws.proofs.Placed.{high, high-puts, heights, left, right, the_line, frame_at, turned}
 use Rattle.step_laws.specs.Behind.{Static, LocalBehind, to_local}
 use Rattle.step_laws.specs.Relation.{Ground, InFrame, Common, Doing, GivesIn, Related, Step}
@@ -42,7 +43,7 @@ write_is h r x k = ap (λ (d : ℕ). if nat_eq d 0 then op.Move (register h x) r
 
 module _ (g : Ground) (h : Site) (static : Static h) (ks : List Item) (m : source.Memory) (ls : List Level)
     (k : machine.Memory) (both : Common g h m (aligned k m)) where
-  pub do_local : (j : ℕ) (y : Local) (d : Doing g h (local y) ks m.place ls k.lists)
+  pub do_local : (j : ℕ) (y : Local) (d : Doing g h j (local y) ks m.place ls k.lists)
       → Step h (Run (perform j (local y)) ks m) (state_at g h d.x d.n (aligned k m))
   unfolding do_form
   do_local j x d =
@@ -58,7 +59,7 @@ module _ (g : Ground) (h : Site) (static : Static h) (ks : List Item) (m : sourc
       both d.there d.covered.0
       (subst (λ (i : ℕ). InFrame g h k.lists ks (d.n + i) d.r d.loop) (high-puts (line.Does o)) d.next)
 
-  pub do_set_local : (j : ℕ) (y : Local) (e : CoreForm) (d : Doing g h (set_local y e) ks m.place ls k.lists)
+  pub do_set_local : (j : ℕ) (y : Local) (e : CoreForm) (d : Doing g h j (set_local y e) ks m.place ls k.lists)
       → Step h (Run (perform j (set_local y e)) ks m) (state_at g h d.x d.n (aligned k m))
   unfolding do_form
   do_set_local j x e d =
@@ -78,7 +79,7 @@ module _ (g : Ground) (h : Site) (static : Static h) (ks : List Item) (m : sourc
           loop = d.loop;
           s = d.s;
           here = d.here;
-          covered = d.covered.0;
+          covered = at_top h d.loop d.r d.s j e d.covered.0;
           above = d.above;
           code = left h d.n p (does o) d.code;
           next = record {

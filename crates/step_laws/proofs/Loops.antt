@@ -22,6 +22,7 @@ use Rattle.def_machine.specs.State.{Level, frame, slot_at}
 use Rattle.def_machine.specs.Turn.{turn}
 use Rattle.step_laws.specs.Site.{Site, within, place_in, LineAt, Room}
 use Rattle.step_laws.specs.Covered.{Covered}
+use Rattle.step_laws.proofs.Covers.{at_top}
 use Rattle.step_laws.proofs.Placed.{high, high-both, high-puts, line-past, line-behind, Stands, moved, left, right, the_line, Rest, frame_at, turned, jumped}
 use Rattle.step_laws.specs.Behind.{Static, LoopAt}
 use Rattle.step_laws.specs.Relation.{Ground, InFrame, Common, Doing, GivesIn, Related, Step}
@@ -232,7 +233,7 @@ module _ (g : Ground) (h : Site) (static : Static h) (ks : List Item) (m : sourc
       loop = l.loop;
       s = l.test_spot;
       here = refl;
-      covered = in_loop_covered l.loop l.target r t l.is l.test_covered;
+      covered = at_top h l.loop r l.test_spot j t (in_loop_covered l.loop l.target r t l.is l.test_covered);
       above = l.room.above;
       code = l.test;
       next = record {
@@ -264,7 +265,7 @@ module _ (g : Ground) (h : Site) (static : Static h) (ks : List Item) (m : sourc
       loop = l.loop;
       s = l.body_spot;
       here = refl;
-      covered = in_loop_covered l.loop l.target r b l.is l.body_covered;
+      covered = at_top h l.loop r l.body_spot i b (in_loop_covered l.loop l.target r b l.is l.body_covered);
       above = l.room.above;
       code = l.body;
       next = record {
@@ -280,7 +281,7 @@ module _ (g : Ground) (h : Site) (static : Static h) (ks : List Item) (m : sourc
     },
   )
 
-  pub do_while : (j : ℕ) (first : Bool) (t b : CoreForm) (d : Doing g h (while_form first t b) ks m.place ls k.lists)
+  pub do_while : (j : ℕ) (first : Bool) (t b : CoreForm) (d : Doing g h j (while_form first t b) ks m.place ls k.lists)
       → Step h (Run (perform j (while_form first t b)) ks m) (state_at g h d.x d.n (aligned k m))
   unfolding do_form
   do_while j false t b d =

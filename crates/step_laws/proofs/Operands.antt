@@ -14,18 +14,19 @@ use Rattle.def_machine.specs.State as machine
 use Rattle.def_machine.specs.State.{Level}
 use Rattle.step_laws.specs.Site.{Site}
 use Rattle.step_laws.specs.Calm.{IsSteady, Quiet}
-use Rattle.step_laws.specs.Behind.{Static, OperandBehind, to_local, to_global, strict, breaks, begins_round}
+use Rattle.step_laws.specs.Behind.{Static, OperandBehind, to_local, to_global, strict, breaks, begins_round, leaves_body}
 use Rattle.step_laws.specs.Relation.{Ground, Common, Doing, GivesIn, Step}
 use Rattle.step_laws.proofs.Matching.{state_at}
 use Rattle.step_laws.proofs.Literals.{aligned}
 use Rattle.step_laws.proofs.Locals.{give_local}
 use Rattle.step_laws.proofs.Globals.{give_global}
+use Rattle.step_laws.proofs.Returns.{give_return}
 use Rattle.step_laws.proofs.Jumps.{give_break, give_next}
 use Rattle.step_laws.proofs.Strict.{one_operand, two_operands, give_strict}
 
 module _ (g : Ground) (h : Site) (static : Static h) (j : ℕ) (ks : List Item) (m : source.Memory) (ls : List Level)
     (k : machine.Memory) (both : Common g h m (aligned k m)) (steady : IsSteady h.source m.world) where
-  pub do_set_ivar : (x : Name) (e : CoreForm) (d : Doing g h (form.set_ivar x e) ks m.place ls k.lists)
+  pub do_set_ivar : (x : Name) (e : CoreForm) (d : Doing g h j (form.set_ivar x e) ks m.place ls k.lists)
       → Step h (Run (perform j (form.set_ivar x e)) ks m) (state_at g h d.x d.n (aligned k m))
   unfolding do_form
   do_set_ivar x e d =
@@ -33,7 +34,7 @@ module _ (g : Ground) (h : Site) (static : Static h) (j : ℕ) (ks : List Item) 
       (Run (perform j (form.set_ivar x e)) ks m) d.x d.n d.r j d.loop d.s e (assign_ivar x) (op.SetIv d.r (entry_of h.context x))
       refl (omega arith) d.here d.covered.1 d.covered.0 refl d.covered.2 refl d.code d.next
 
-  pub do_in_constant : (e : CoreForm) (x : Name) (d : Doing g h (form.in_constant e x) ks m.place ls k.lists)
+  pub do_in_constant : (e : CoreForm) (x : Name) (d : Doing g h j (form.in_constant e x) ks m.place ls k.lists)
       → Step h (Run (perform j (form.in_constant e x)) ks m) (state_at g h d.x d.n (aligned k m))
   unfolding do_form
   do_in_constant e x d =
@@ -41,7 +42,7 @@ module _ (g : Ground) (h : Site) (static : Static h) (j : ℕ) (ks : List Item) 
       (Run (perform j (form.in_constant e x)) ks m) d.x d.n d.r j d.loop d.s e (constant_in x) (op.GetMCnst d.r (entry_of h.context x))
       refl (omega arith) d.here d.covered.1 d.covered.0 refl d.covered.2 refl d.code d.next
 
-  pub do_set_constant : (x : Name) (e : CoreForm) (d : Doing g h (form.set_constant x e) ks m.place ls k.lists)
+  pub do_set_constant : (x : Name) (e : CoreForm) (d : Doing g h j (form.set_constant x e) ks m.place ls k.lists)
       → Step h (Run (perform j (form.set_constant x e)) ks m) (state_at g h d.x d.n (aligned k m))
   unfolding do_form
   do_set_constant x e d =
@@ -49,7 +50,7 @@ module _ (g : Ground) (h : Site) (static : Static h) (j : ℕ) (ks : List Item) 
       (Run (perform j (form.set_constant x e)) ks m) d.x d.n d.r j d.loop d.s e (assign_constant x) (op.SetConst d.r (entry_of h.context x))
       refl (omega arith) d.here d.covered.1 d.covered.0 refl d.covered.2 refl d.code d.next
 
-  pub do_intern : (e : CoreForm) (d : Doing g h (form.intern e) ks m.place ls k.lists)
+  pub do_intern : (e : CoreForm) (d : Doing g h j (form.intern e) ks m.place ls k.lists)
       → Step h (Run (perform j (form.intern e)) ks m) (state_at g h d.x d.n (aligned k m))
   unfolding do_form
   do_intern e d =
@@ -57,7 +58,7 @@ module _ (g : Ground) (h : Site) (static : Static h) (j : ℕ) (ks : List Item) 
       (Run (perform j (form.intern e)) ks m) d.x d.n d.r j d.loop d.s e (make_symbol) (op.Intern d.r)
       refl (omega arith) d.here d.covered.1 d.covered.0 refl tt refl d.code d.next
 
-  pub do_item : (e : CoreForm) (z : ℤ) (d : Doing g h (form.item e z) ks m.place ls k.lists)
+  pub do_item : (e : CoreForm) (z : ℤ) (d : Doing g h j (form.item e z) ks m.place ls k.lists)
       → Step h (Run (perform j (form.item e z)) ks m) (state_at g h d.x d.n (aligned k m))
   unfolding do_form
   do_item e z d =
@@ -65,7 +66,7 @@ module _ (g : Ground) (h : Site) (static : Static h) (j : ℕ) (ks : List Item) 
       (Run (perform j (form.item e z)) ks m) d.x d.n d.r j d.loop d.s e (element z) (op.ARef d.r d.r z)
       refl (omega arith) d.here d.covered.1 d.covered.0 refl tt refl d.code d.next
 
-  pub do_rest_of : (e : CoreForm) (from post : ℕ) (d : Doing g h (form.rest_of e from post) ks m.place ls k.lists)
+  pub do_rest_of : (e : CoreForm) (from post : ℕ) (d : Doing g h j (form.rest_of e from post) ks m.place ls k.lists)
       → Step h (Run (perform j (form.rest_of e from post)) ks m) (state_at g h d.x d.n (aligned k m))
   unfolding do_form
   do_rest_of e from post d =
@@ -73,7 +74,7 @@ module _ (g : Ground) (h : Site) (static : Static h) (j : ℕ) (ks : List Item) 
       (Run (perform j (form.rest_of e from post)) ks m) d.x d.n d.r j d.loop d.s e (elements_between from post) (op.APost d.r from (pos post))
       refl (omega arith) d.here d.covered.1 d.covered.0 refl tt refl d.code d.next
 
-  pub do_tail_of : (e : CoreForm) (from count : ℕ) (d : Doing g h (form.tail_of e from count) ks m.place ls k.lists)
+  pub do_tail_of : (e : CoreForm) (from count : ℕ) (d : Doing g h j (form.tail_of e from count) ks m.place ls k.lists)
       → Step h (Run (perform j (form.tail_of e from count)) ks m) (state_at g h d.x d.n (aligned k m))
   unfolding do_form
   do_tail_of e from count d =
@@ -82,7 +83,7 @@ module _ (g : Ground) (h : Site) (static : Static h) (j : ℕ) (ks : List Item) 
       refl (omega arith) d.here d.covered.1 d.covered.0 refl d.covered.2 refl d.code d.next
 
   pub do_set_in_constant : (e : CoreForm) (x : Name) (f : CoreForm)
-      (d : Doing g h (form.set_in_constant e x f) ks m.place ls k.lists)
+      (d : Doing g h j (form.set_in_constant e x f) ks m.place ls k.lists)
       → Step h (Run (perform j (form.set_in_constant e x f)) ks m) (state_at g h d.x d.n (aligned k m))
   unfolding do_form
   do_set_in_constant e x f d =
@@ -91,7 +92,7 @@ module _ (g : Ground) (h : Site) (static : Static h) (j : ℕ) (ks : List Item) 
       d.loop d.s e f (assign_constant_in x) (op.SetMCnst d.r (entry_of h.context x)) refl (omega arith) d.here d.covered.1
       d.covered.2 d.covered.0 refl d.covered.3 refl d.code d.next
 
-  pub do_range : (e f : CoreForm) (b : Bool) (d : Doing g h (form.range e f b) ks m.place ls k.lists)
+  pub do_range : (e f : CoreForm) (b : Bool) (d : Doing g h j (form.range e f b) ks m.place ls k.lists)
       → Step h (Run (perform j (form.range e f b)) ks m) (state_at g h d.x d.n (aligned k m))
   unfolding do_form
   do_range e f b d =
@@ -112,4 +113,5 @@ module _ (g : Ground) (h : Site) (static : Static h) (j : ℕ) (ks : List Item) 
       by (to_global b) = give_global g h static ks m ls k both v i a vs es d b
       by (breaks b) = give_break g h static ks m ls k both v i a vs es d b
       by (begins_round b) = give_next g h static ks m ls k both v i a vs es d b
+      by (leaves_body b) = give_return g h static ks m ls k both v i a vs es d b
       by (strict b) = give_strict g h static ks m ls k both steady d.there v i a vs es d b quiet

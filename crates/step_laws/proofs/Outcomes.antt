@@ -41,14 +41,15 @@ use Rattle.def_rows.specs.Rows.{gives as row_gives, by_line, prim}
 use Rattle.ir_core.specs.CoreForm.{Name}
 use Rattle.def_calls.specs.World.{World, Answer, Result as Given, gives, raises, Activation, core_method, answer, answer_in, exception_object, fail, with_store}
 use Rattle.def_calls.specs.Plain.{outright as outright_row}
-use Rattle.def_calls.specs.Plans.{Iteration, begun, handing, putting, putting_text, printing, printing_text, inspecting, inspecting_text, raising, looping, visiting, counting, initializing}
+use Rattle.def_calls.specs.Plans.{Iteration, begun, handing, putting, putting_text, printing, printing_text, inspecting, inspecting_text, raising, looping, visiting, counting, initializing, messaging, telling, telling_text, reporting, reported}
 use Rattle.def_calls.specs.Rows
 use Rattle.def_calls.specs.Rows.{Row, of_table, outright, iterates, PlainRow, StarRow, row_at, method_missing_row}
-use Rattle.def_calls.specs.Calls.{Entry, answers, enters, begins, by_name, main_activation, enter_kind, enter_row, enter_method, enter_found, enter_missing, missing_by, missing_named, missing, forbidden, enter_allowed, find_for, enter_unchecked, send_by_core, call}
+use Rattle.def_calls.specs.Calls.{Entry, answers, enters, begins, by_name, main_activation, enter_kind, enter_row, enter_method, enter_found, enter_missing, missing_by, missing_named, missing, forbidden, enter_allowed, find_for, enter_unchecked, is_asked, send_by_core, call}
 use Rattle.def_eval.specs.Source.{Source}
 use Rattle.step_laws.specs.Site.{opening_store, number}
 use Rattle.step_laws.specs.Simple.{IsOperator}
 use Rattle.step_laws.proofs.Symbols.{IsCoreName, the_symbol, number_is, interned_core}
+use Rattle.step_laws.proofs.Unasked.{failure_unasked}
 use Rattle.step_laws.proofs.Found.{is_arithmetic, is_sameness, is_plain_row, is_plain_line, is_plain_of, is_number_text, is_truth_text, is_text_row, is_text_line, is_text_of, is_open, is_core, passes, is_plain, is_text, none_or, grown, both_true, operator_known, FindsAll, finds_all, is_missing, Missing, missing_all, Texts, texts_all, is_writer, writes_row, is_puts, writing}
 
 -- nil, true, false and integers
@@ -82,6 +83,11 @@ IsOfPuts (looping p) = ⊥
 IsOfPuts (visiting a i p) = ⊥
 IsOfPuts (counting z i p) = ⊥
 IsOfPuts (initializing v) = ⊥
+IsOfPuts (messaging v) = ⊥
+IsOfPuts (telling v) = ⊥
+IsOfPuts (telling_text v) = ⊥
+IsOfPuts (reporting v) = ⊥
+IsOfPuts (reported v) = ⊥
 
 -- a world with the symbols and the classes of the opening one
 pub record Kept (s : Source) (w : World) : Type 0 where
@@ -93,25 +99,27 @@ pub record Kept (s : Source) (w : World) : Type 0 where
 
 -- Outcomes.
 
-abbrev pub OutcomeIs : (Value → Type 0) → Outcome → Type 0
-OutcomeIs Is (outcome.Value v) = Is v
-OutcomeIs Is (outcome.Raise f) = Unit {0}
+-- a value, or what fails
+abbrev pub OutcomeIs : (Value → Type 0) → Store → Done → Outcome → Type 0
+OutcomeIs Is st d (outcome.Value v) = Is v
+OutcomeIs Is st d (outcome.Raise f) = (c : Cause) × (d ≡ fails st c)
 
 pub record DoneIs (Is : Value → Type 0) (st : Store) (d : Done) : Type 0 where
   pub more : List Object
   pub objects : d.store.objects ≡ st.objects ++ more
   pub symbols : d.store.symbols ≡ st.symbols
-  pub outcome : OutcomeIs Is d.outcome
+  pub outcome : OutcomeIs Is st d d.outcome
 
-abbrev pub GivenIs : (Value → Type 0) → Given → Type 0
-GivenIs Is (gives v) = Is v
-GivenIs Is (raises e) = Unit {0}
+-- a value, or an exception that isn't asked for its message
+abbrev pub GivenIs : (Value → Type 0) → World → Given → Type 0
+GivenIs Is w (gives v) = Is v
+GivenIs Is w (raises e) = is_asked w e ≡ false
 
 pub record AnswerIs (s : Source) (Is : Value → Type 0) (w : World) (a : Answer) : Type 0 where
   pub kept : Kept s a.world
   pub activations : a.world.activations ≡ w.activations
   pub out : a.world.out ≡ w.out
-  pub result : GivenIs Is a.result
+  pub result : GivenIs Is a.world a.result
 
 abbrev pub EntryIs : Source → (Value → Type 0) → World → Entry → Type 0
 EntryIs s Is w (answers a) = AnswerIs s Is w a
@@ -129,18 +137,30 @@ kept_more s w st more k e f = record {
   activations = k.activations;
 }
 
+-- what fails isn't asked for its message
+failure_given : (s : Source) (Is : Value → Type 0) (w : World) → Kept s w → (c : Cause)
+    → GivenIs Is (answer w (fails w.store c)).world (answer w (fails w.store c)).result
+unfolding fails
+failure_given s Is w k c = failure_unasked s w k.more k.symbols k.objects c
+
+raised_given : (s : Source) (Is : Value → Type 0) (w : World) (d : Done) → Kept s w → (x : Outcome) → d.outcome ≡ x
+    → (c : Cause) → d ≡ fails w.store c → GivenIs Is (answer_in w d.store x).world (answer_in w d.store x).result
+raised_given s Is w d k x e c f =
+    subst (λ (y : Outcome). GivenIs Is (answer_in w d.store y).world (answer_in w d.store y).result) e
+    (subst (λ (b : Done). GivenIs Is (answer w b).world (answer w b).result) (sym f) (failure_given s Is w k c))
+
 pub answered_as : (s : Source) (Is : Value → Type 0) (w : World) (d : Done) → Kept s w → DoneIs Is w.store d
     → AnswerIs s Is w (answer w d)
-answered_as s Is w d k g = by d.outcome g.outcome
+answered_as s Is w d k g = by d.outcome refl g.outcome
   where
-    by : (x : Outcome) → OutcomeIs Is x → AnswerIs s Is w (answer_in w d.store x)
-    by (outcome.Value v) is = record {
+    by : (x : Outcome) → d.outcome ≡ x → OutcomeIs Is w.store d x → AnswerIs s Is w (answer_in w d.store x)
+    by (outcome.Value v) e is = record {
       kept = kept_more s w d.store g.more k g.objects g.symbols;
       activations = refl;
       out = refl;
       result = is;
     }
-    by (outcome.Raise f) is =
+    by (outcome.Raise f) e is =
         let exception = exception_object f in
         record {
           kept = kept_more s w (with_object d.store exception) (g.more ++ exception ∷ []) k
@@ -148,12 +168,12 @@ answered_as s Is w d k g = by d.outcome g.outcome
               ∙ append_assoc w.store.objects g.more (exception ∷ [])) g.symbols;
           activations = refl;
           out = refl;
-          result = tt;
+          result = raised_given s Is w d k (outcome.Raise f) e is.0 is.1;
         }
 
 fails_done : (Is : Value → Type 0) (st : Store) (c : Cause) → DoneIs Is st (fails st c)
 unfolding fails
-fails_done Is st c = record { more = _; objects = refl; symbols = refl; outcome = tt }
+fails_done Is st c = record { more = _; objects = refl; symbols = refl; outcome = (c, refl) }
 
 pub failed : (s : Source) (Is : Value → Type 0) (w : World) (c : Cause) → Kept s w → AnswerIs s Is w (fail w c)
 unfolding fail
@@ -354,7 +374,7 @@ same_done st recv args block Rows.has_ancestor e = absurd (true≢false (sym e))
 same_done st recv args block Rows.class_text e = absurd (true≢false (sym e))
 same_done st recv args block Rows.method_of_block e = absurd (true≢false (sym e))
 same_done st recv args block Rows.initialize_exception e = absurd (true≢false (sym e))
-same_done st recv args block Rows.exception_message e = absurd (true≢false (sym e))
+same_done st recv args block Rows.exception_text e = absurd (true≢false (sym e))
 same_done st recv args block Rows.new_fiber e = absurd (true≢false (sym e))
 same_done st recv args block Rows.is_alive e = absurd (true≢false (sym e))
 

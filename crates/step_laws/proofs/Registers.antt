@@ -14,7 +14,7 @@ use Rattle.def_eval.specs.Configuration.{Place, Scope, Action, Part, operands, r
 use Rattle.def_eval.specs.Scopes.{same_local, value_in, put_value, no_scope, scope_at, outward, scopes_around, first_with, scope_of, variable, put_in, with_variable}
 use Rattle.def_machine.specs.State.{Registers, no_registers, body_at, list_at, slot_at, value_at, put}
 use Rattle.step_laws.specs.Site.{Site, place_in, register, Known}
-use Rattle.step_laws.specs.Behind.{Static, Holds, HoldsCall, OperandBehind, Behind, to_local, to_global, strict, breaks, begins_round}
+use Rattle.step_laws.specs.Behind.{Static, Holds, HoldsCall, OperandBehind, Behind, to_local, to_global, strict, breaks, begins_round, leaves_body}
 use Rattle.step_laws.specs.Relation.{Inside, Same}
 
 pub list_same : (l : List Registers) (n i : ℕ) (v : Slot) → n < length l
@@ -80,6 +80,7 @@ operand_kept h l l' a vs es low n r end around k above (to_local b) = to_local b
 operand_kept h l l' a vs es low n r end around k above (to_global b) = to_global b
 operand_kept h l l' a vs es low n r end around k above (breaks b) = breaks b
 operand_kept h l l' a vs es low n r end around k above (begins_round b) = begins_round b
+operand_kept h l l' a vs es low n r end around k above (leaves_body b) = leaves_body b
 operand_kept h l l' a vs es low n r end around k above (strict b) = strict (record {
   row = b.row;
   held = holds_kept h l l' r low vs k above (omega (arith, b.row)) b.held;

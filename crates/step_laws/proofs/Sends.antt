@@ -1,5 +1,5 @@
 -- Calls: the receiver, the items one after the other, and the call.
-use Rattle.std.proofs.Common.{◌≡◌, ℕ, ◌+◌, ◌<◌, List, [], ◌∷◌, refl, sym, ap, ◌∙◌, subst, arith, length, Bool, true, false}
+use Rattle.std.proofs.Common.{◌≡◌, ◌⊎◌, ℕ, ◌+◌, ◌<◌, List, [], ◌∷◌, refl, sym, ap, ◌∙◌, subst, arith, length, Bool, true, false}
 use Rattle.std.specs.Prelude.{is_some, if◌then◌else◌, Option, None, nat_lt}
 use Rattle.rb_value.specs.declared.value.Value.{Value}
 use Rattle.rb_value.specs.declared.exit.Slot.TheVariants.{V}
@@ -28,15 +28,19 @@ use Rattle.def_machine.specs.Entering.{enter as enter_machine}
 use Rattle.def_machine.specs.Turn.{call as call_machine, arguments}
 use Rattle.step_laws.specs.Site.{Site, within, place_in, at_line, LineAt, Room, number}
 use Rattle.step_laws.specs.Covered.{CoveredItems}
-use Rattle.step_laws.specs.Calm.{IsSteady}
+use Rattle.step_laws.specs.Calm.{IsSteady, Still}
+use Rattle.step_laws.specs.Methods.{EntersMethod, CallsMethods}
 use Rattle.step_laws.specs.Measure.{size_items, burden, measure}
+use Rattle.step_laws.proofs.Covers.{at_top}
 use Rattle.step_laws.proofs.Placed.{high, high-both, high-nothing, line-past, Stands, left, right, Rest, frame_at, turned}
 use Rattle.step_laws.proofs.Matching.{by_none, state_at, written}
 use Rattle.step_laws.specs.Behind.{Static, Holds, HoldsCall, CallBy}
 use Rattle.step_laws.specs.Relation.{Waits, Ground, over_levels, InFrame, Common, Related, Step}
 use Rattle.step_laws.proofs.Registers.{slot_same, slot_other, keeps_above}
 use Rattle.step_laws.proofs.Untouched.{put_only, frame_kept, grown, same_here, written_here, below_running}
-use Rattle.step_laws.proofs.Calling.{From, Worlds, entered}
+use Rattle.step_laws.proofs.Calling.{From, Worlds}
+use Rattle.step_laws.proofs.Called.{call_entered}
+use Rattle.step_laws.proofs.Entered.{then_enters, entered}
 use Rattle.step_laws.proofs.Literals.{aligned}
 use Rattle.step_laws.proofs.Operators.{few, arguments_are, calls_value, calls_self}
 
@@ -130,14 +134,25 @@ module _ (g : Ground) (h : Site) (static : Static h) (ks : List Item) (m : sourc
     next = next;
   }
 
+  -- the transition enters no body, or what is called are methods with code
+  abbrev MayCall : Config → Type 0
+  MayCall c = Still m (go h.source c) ⊎ CallsMethods h.source h.program m.world.store.objects
+
+  enters_by : (c : Config) (name : Name) (recv : Value) (vs : List Value) → MayCall c
+      → Still m (go h.source c) ⊎ EntersMethod h.source h.program (the_entry name recv vs)
+  enters_by c name recv vs calls =
+      then_enters h.source h.program m.world.store.objects (the_entry name recv vs)
+      (λ is. call_entered h.source h.program m.world is (activation_at m.world h.activation)
+      (by_name (number h.source name)) recv vs None) calls
+
   -- all items have their values
   call_now : (c : Config) (x : Rest) (n j : ℕ) (sender : Sending) (recv : Value) (vs : List Value)
       (b : CallSite g h k.lists recv vs no_items ks n)
       → From h c (frame (frame_at h x n) ∷ g.below) (aligned k m) m
       → go h.source c ≡ next_item h.source j sender recv vs no_items absent ks m
-      → sender ≡ by_name (number h.source b.name) → burden ks m < measure c
+      → sender ≡ by_name (number h.source b.name) → burden ks m < measure c → MayCall c
       → Step h c (state_at g h x n (aligned k m))
-  call_now c x n j sender recv vs b from goes e less =
+  call_now c x n j sender recv vs b from goes e less calls =
       let count : length vs + item_count no_items ≡ length vs = omega arith in
       let n253 = few h b.low b.name (length vs + item_count no_items) b.own b.o b.by in
       let goes' = goes ∙ goes_in j sender recv vs b.name e (ap (nat_lt 253) (sym count) ∙ n253) in
@@ -164,7 +179,7 @@ module _ (g : Ground) (h : Site) (static : Static h) (ks : List Item) (m : sourc
           let f = frame_at h (asking h x n b.low) n in
           entered h.source h.program c (frame (frame_at h x n) ∷ g.below) (aligned k m) m from (the_entry b.name recv vs) ks
           m g (frame f ∷ g.below) (aligned k m) goes' turns less refl (waiting_worlds (aligned k m) both f refl)
-          (waiting_frame x n b.low b.loop (aligned k m) both b.room next)
+          (waiting_frame x n b.low b.loop (aligned k m) both b.room next) (enters_by c b.name recv vs calls)
       by true by_that held at next goes' count n253 =
           let s = same_here g h m (aligned k m) both in
           let v = value_at k.lists h.list 0 in
@@ -184,19 +199,19 @@ module _ (g : Ground) (h : Site) (static : Static h) (ks : List Item) (m : sourc
           let f = frame_at h (asking h x n b.low) n in
           entered h.source h.program c (frame (frame_at h x n) ∷ g.below) (aligned k m) m from (the_entry b.name recv vs) ks
           m g (frame f ∷ g.below) k' goes' turns less refl (waiting_worlds k' both' f refl)
-          (waiting_frame x n b.low b.loop k' both' b.room next')
+          (waiting_frame x n b.low b.loop k' both' b.room next') (enters_by c b.name recv vs calls)
 
   -- the next item, or the call
   pub items_on : (c : Config) (x : Rest) (n j : ℕ) (sender : Sending) (recv : Value) (vs : List Value) (is : Items)
       (b : CallSite g h k.lists recv vs is ks n)
       → From h c (frame (frame_at h x n) ∷ g.below) (aligned k m) m
       → go h.source c ≡ next_item h.source j sender recv vs is absent ks m
-      → sender ≡ by_name (number h.source b.name) → size_items is + burden ks m < measure c
+      → sender ≡ by_name (number h.source b.name) → size_items is + burden ks m < measure c → MayCall c
       → Step h c (state_at g h x n (aligned k m))
-  items_on c x n j sender recv vs no_items b from goes e less =
-      call_now c x n j sender recv vs b from goes e (omega (arith, less))
-  items_on c x n j sender recv vs (splat i is) b from goes e less = absurd b.covered
-  items_on c x n j sender recv vs (plain i is) b from goes e less =
+  items_on c x n j sender recv vs no_items b from goes e less calls =
+      call_now c x n j sender recv vs b from goes e (omega (arith, less)) calls
+  items_on c x n j sender recv vs (splat i is) b from goes e less calls = absurd b.covered
+  items_on c x n j sender recv vs (plain i is) b from goes e less calls =
       let r = b.r in
       let p = gen (within h b.loop) b.s r i in
       let q = pass_in_registers (within h b.loop) (past b.s p) (r + 1) is in
@@ -216,7 +231,7 @@ module _ (g : Ground) (h : Site) (static : Static h) (ks : List Item) (m : sourc
           loop = b.loop;
           s = b.s;
           here = b.here;
-          covered = b.covered.0;
+          covered = at_top h b.loop r b.s j i b.covered.0;
           above = omega (arith, b.room.above, b.row);
           code = left h n p q b.code;
           next = record {

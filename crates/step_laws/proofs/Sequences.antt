@@ -24,7 +24,7 @@ use Rattle.step_laws.proofs.Literals.{aligned, written_by}
 
 module _ (g : Ground) (h : Site) (static : Static h) (ks : List Item) (m : source.Memory) (ls : List Level)
     (k : machine.Memory) (both : Common g h m (aligned k m)) where
-  pub do_seq : (j : ℕ) (es : Forms) (d : Doing g h (seq es) ks m.place ls k.lists)
+  pub do_seq : (j : ℕ) (es : Forms) (d : Doing g h j (seq es) ks m.place ls k.lists)
       → Step h (Run (perform j (seq es)) ks m) (state_at g h d.x d.n (aligned k m))
   unfolding do_form
   do_seq j none d =

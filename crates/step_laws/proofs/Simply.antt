@@ -9,4 +9,4 @@ use Rattle.step_laws.proofs.Calms.{stays_calm}
 
 pub simply : (s : Source) (p : Program) (input : List ℕ) → IsSimple (form_of (body_at s 0)) → IsCodeOf s p
     → Implements s p input
-simply s p input is c = implements s p input c (stays_calm s input is)
+simply s p input is c = implements s p input c (stays_calm s p input is)

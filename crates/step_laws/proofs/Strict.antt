@@ -35,6 +35,7 @@ use Rattle.step_laws.specs.Strict.{strict_op, IsReady, arity}
 use Rattle.step_laws.specs.Covered.{Covered}
 use Rattle.step_laws.specs.Calm.{IsSteady, Quiet}
 use Rattle.step_laws.specs.Measure.{size, burden, measure}
+use Rattle.step_laws.proofs.Covers.{at_top}
 use Rattle.step_laws.proofs.Placed.{high, high-both, high-puts, high-nothing, line-past, Stands, nothing_stands, left, right, the_line, Rest, frame_at}
 use Rattle.step_laws.specs.Behind.{Static, Holds, StrictBehind, strict}
 use Rattle.step_laws.specs.Relation.{Ground, InFrame, Common, GivesIn, Related, Step}
@@ -275,7 +276,7 @@ module _ (g : Ground) (h : Site) (static : Static h) (ks : List Item) (m : sourc
           loop = d.loop;
           s = b.s;
           here = b.here;
-          covered = b.covered;
+          covered = at_top h d.loop (d.r + 1) b.s j e b.covered;
           above = omega (arith, b.room.above, b.row);
           code = b.code;
           next = record {
@@ -330,7 +331,7 @@ module _ (g : Ground) (h : Site) (static : Static h) (ks : List Item) (m : sourc
           loop = loop;
           s = s;
           here = line_is;
-          covered = covered;
+          covered = at_top h loop r s j e covered;
           above = room.above;
           code = left h n p (does o) code;
           next = record {
@@ -388,7 +389,7 @@ module _ (g : Ground) (h : Site) (static : Static h) (ks : List Item) (m : sourc
           loop = loop;
           s = s;
           here = line_is;
-          covered = covered;
+          covered = at_top h loop r s j e covered;
           above = room.above;
           code = left h n p q both_code;
           next = record {

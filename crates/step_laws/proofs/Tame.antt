@@ -1,5 +1,5 @@
 -- What the evaluation of simple forms keeps, and what calls come to there.
-use Rattle.std.proofs.Common.{◌≡◌, ℕ, zero, suc, ◌+◌, ◌-◌, ◌≤◌, List, [], ◌∷◌, ◌++◌, refl, sym, ap, ◌∙◌, subst, arith, length, length-append, get_or, set, Bool, true, false}
+use Rattle.std.proofs.Common.{◌≡◌, inl, ℕ, zero, suc, ◌+◌, ◌-◌, ◌≤◌, List, [], ◌∷◌, ◌++◌, refl, sym, ap, ◌∙◌, subst, arith, length, length-append, get_or, set, Bool, true, false}
 use Rattle.std.specs.Prelude.{if◌then◌else◌, codes, Some, None, unwrap_or}
 use Rattle.std.proofs.lemmas.List.{append-nil, get_or_append_left, get_or_push}
 use Rattle.rb_value.specs.declared.value.ObjId.{ObjId}
@@ -7,17 +7,19 @@ use Rattle.rb_value.specs.declared.value.Value.{Value}
 use Rattle.rb_value.specs.declared.value.Value.TheVariants.{Nil, Obj}
 use Rattle.def_core.specs.declared.cause.Cause.TheVariants as cause
 use Rattle.rb_store.specs.Opening.{main_object}
+use Rattle.rite_code.specs.Code.{Program}
 use Rattle.ir_core.specs.CoreForm as form
 use Rattle.ir_core.specs.CoreForm.{Name, Local}
 use Rattle.def_calls.specs.World.{World, Answer, Result as Given, gives, raises, Activation, core_method, activation_at, no_activation, with_activation, fail}
-use Rattle.def_calls.specs.Calls.{Sending, by_name, Entry, answers, enters, begins, is_full, settle, main_activation, close_run, close}
+use Rattle.def_calls.specs.Calls.{Sending, by_name, Entry, answers, enters, begins, is_full, settle, main_activation, close_run, close, is_asked}
 use Rattle.def_calls.specs.Plans.{Iteration}
 use Rattle.def_eval.specs.Source.{Source}
 use Rattle.def_eval.specs.Configuration.{Place, Scope, raise, assign, Part, operands, receiver, items, block, elements, hash_key, hash_value, pieces, rest, test, chosen, and_then, or_else, loop_test, loop_body, rescued, clause_class, clause_target, clause_body, ensured, Item, part, activation, iteration, ensuring, Focus, perform, give, travel, Memory, with_world, Config, Run, Halt, Exit, leave_loop, next, Action, leave_call, leave_round}
 use Rattle.def_eval.specs.Scopes.{same_local, value_in, put_value, scope_at, scope_of, variable}
 use Rattle.def_eval.specs.Entering.{after_result, depth, open_iteration, enter}
+use Rattle.def_eval.specs.Transition.{go}
 use Rattle.step_laws.specs.Site.{number}
-use Rattle.step_laws.specs.Calm.{QuietFocus, Grows, Quiet}
+use Rattle.step_laws.specs.Calm.{QuietFocus, Grows, Quiet, Still, Peace}
 use Rattle.step_laws.specs.Simple.{IsOperator, IsSimple, AreSimple, AreSimpleItems, AreSimpleBranches}
 use Rattle.step_laws.proofs.Outcomes.{IsImmediate, AreImmediate, IsOfPuts, Kept, GivenIs, AnswerIs, EntryIs, failed}
 
@@ -85,30 +87,51 @@ GivenTo v (activation a p ∷ ks) = IsImmediate v
 GivenTo v (iteration a it p ∷ ks) = Unit {0}
 GivenTo v (ensuring o ∷ ks) = IsImmediate v
 
-pub data IsExit (x : Exit) : Type 0 where
-  raised : (e : ObjId) → x ≡ raise e → IsExit x
-  left : (v : Value) → x ≡ leave_loop v → IsImmediate v → IsExit x
-  anew : (v : Value) → x ≡ next v → IsImmediate v → IsExit x
+-- an exception isn't asked for its message
+pub data IsExit (w : World) (x : Exit) : Type 0 where
+  raised : (e : ObjId) → x ≡ raise e → is_asked w e ≡ false → IsExit w x
+  left : (v : Value) → x ≡ leave_loop v → IsImmediate v → IsExit w x
+  anew : (v : Value) → x ≡ next v → IsImmediate v → IsExit w x
 
-abbrev pub FocusIs : Focus → List Item → Place → Type 0
-FocusIs (perform j e) ks place = IsSimple e × (place.activation ≡ 1)
-FocusIs (give v) ks place = GivenTo v ks
-FocusIs (travel x) ks place = IsExit x
+abbrev pub FocusIs : World → Focus → List Item → Place → Type 0
+FocusIs w (perform j e) ks place = IsSimple e × (place.activation ≡ 1)
+FocusIs w (give v) ks place = GivenTo v ks
+FocusIs w (travel x) ks place = IsExit w x
 
 pub record MemoryIs (s : Source) (f : Focus) (ks : List Item) (m : Memory) : Type 0 where
   pub kept : Kept s m.world
   pub scopes : ScopesAre m.scopes
   pub alone : m.fibers.resumer ≡ None
-  pub focus : FocusIs f ks m.place
+  pub focus : FocusIs m.world f ks m.place
   pub items : ItemsAre s m.world ks m.place
 
 abbrev pub IsTame : Source → Config → Type 0
 IsTame s (Halt e) = Unit {0}
 IsTame s (Run f ks m) = MemoryIs s f ks m
 
+-- no scope was opened since, nothing was written where an exception was raised, and activations were added alone
+abbrev pub Rests : Memory → Config → Type 0
+Rests m (Run f ks l) = (length l.scopes ≡ length m.scopes) × QuietFocus f ks m l × Grows m.world l.world
+Rests m (Halt e) = Unit {0}
+
 -- a transition from that memory comes to this
 abbrev pub Fine : Source → Memory → Config → Type 0
-Fine s m c = IsTame s c × Quiet m c
+Fine s m c = IsTame s c × Rests m c
+
+-- what rests enters no body
+pub peaceful : (s : Source) (p : Program) (f : Focus) (ks : List Item) (m : Memory) → Rests m (go s (Run f ks m))
+    → Peace s p f ks m
+peaceful s p f ks m r = by (go s (Run f ks m)) refl r
+  where
+    by : (c : Config) → go s (Run f ks m) ≡ c → Rests m c → Peace s p f ks m
+    by (Halt e) is at = record {
+      quiet = subst (Quiet m) (sym is) tt;
+      calls = inl (subst (Still m) (sym is) tt);
+    }
+    by (Run h js l) is at = record {
+      quiet = subst (Quiet m) (sym is) (at.1, at.2);
+      calls = inl (subst (Still m) (sym is) at.0);
+    }
 
 pub quiet_given : (v : Value) (ks : List Item) (m l : Memory) → l.world.out ≡ m.world.out
     → QuietFocus (give v) ks m l
@@ -210,13 +233,13 @@ answer_fine s Is m l w ks a g out same scopes all alone under to = by a.result g
     grows : Grows m.world a.world
     grows = same_grows m.world a.world (g.activations ∙ same)
 
-    by : (x : Given) → GivenIs Is x → Fine s m (after_result x a.world ks l)
+    by : (x : Given) → GivenIs Is a.world x → Fine s m (after_result x a.world ks l)
     by (gives v) i = (
       record { kept = g.kept; scopes = all; alone = alone; focus = to v i; items = still },
       (scopes, quiet_given v ks m (with_world l a.world) (g.out ∙ out), grows),
     )
     by (raises e) i = (
-      record { kept = g.kept; scopes = all; alone = alone; focus = raised e refl; items = still },
+      record { kept = g.kept; scopes = all; alone = alone; focus = raised e refl i; items = still },
       (scopes, g.out ∙ out, grows),
     )
 

@@ -29,6 +29,7 @@ use Rattle.def_machine.specs.State.{Level, frame, State, slot_at, value_at}
 use Rattle.def_machine.specs.Turn.{act, on_object, new_text}
 use Rattle.step_laws.specs.Site.{Site, within, place_in, at_line, Room}
 use Rattle.step_laws.specs.Covered.{CoveredForms}
+use Rattle.step_laws.proofs.Covers.{at_top}
 use Rattle.step_laws.proofs.Placed.{high, high-both, high-puts, high-nothing, line-past, Stands, moved, left, right, the_line, Rest, frame_at, turned}
 use Rattle.step_laws.specs.Behind.{Static}
 use Rattle.step_laws.specs.Relation.{Ground, InFrame, Common, Doing, GivesIn, Related, Step}
@@ -65,7 +66,7 @@ on_with g h j id (more e es) ks m k x n low end loop s both there room covered h
         loop = loop;
         s = s;
         here = here;
-        covered = covered.0;
+        covered = at_top h loop (low + 1) s j e covered.0;
         above = omega (arith, room.above);
         code = left h n p (does o) first;
         next = record {
@@ -112,7 +113,7 @@ module _ (g : Ground) (h : Site) (x : Rest) (n low : ℕ) (k : machine.Memory) (
 
 module _ (g : Ground) (h : Site) (static : Static h) (ks : List Item) (m : source.Memory) (ls : List Level)
     (k : machine.Memory) (both : Common g h m (aligned k m)) where
-  pub do_text : (j : ℕ) (es : Forms) (d : Doing g h (text es) ks m.place ls k.lists)
+  pub do_text : (j : ℕ) (es : Forms) (d : Doing g h j (text es) ks m.place ls k.lists)
       → Step h (Run (perform j (text es)) ks m) (state_at g h d.x d.n (aligned k m))
   unfolding do_form
   do_text j es d =

@@ -164,6 +164,7 @@ sites_changed s p hs cs cs' l l' w h a site same scopes lists elsewhere o = reco
       opened = i.opened;
       self = i.self;
       runs = i.runs;
+      home = i.home;
     }
 
 -- activations that are there stay
@@ -194,6 +195,7 @@ sites_grow s p hs cs l w u g a = record { scopes = a.scopes; lists = a.lists; ea
           opened = omega (arith, i.opened, longer);
           self = ap (λ (x : Activation). x.self) e ∙ i.self;
           runs = ap (λ (x : Activation). x.runs) e ∙ i.runs;
+          home = ap (λ (x : Activation). x.home) e ∙ i.home;
         }
 
 -- Both sides, after a change.

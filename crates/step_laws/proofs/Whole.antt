@@ -1,6 +1,6 @@
 -- The step law, by cases on the focus, and the theorem for a main program.
 use Rattle.std.proofs.Common.{◌≡◌, ℕ, zero, suc, List, [], ◌∷◌, refl, sym, ap, ◌∙◌, subst, arith, length, length-set, get_or, get_or-set_same, get_or-set_other, replicate, Bool, true, false, true≢false}
-use Rattle.std.specs.Prelude.{is_some, Option, Some, None, unwrap_or, if◌then◌else◌, slice_get}
+use Rattle.std.specs.Prelude.{Option, Some, None, unwrap_or, if◌then◌else◌, slice_get}
 use Rattle.std.proofs.lemmas.List.{length-replicate}
 use Rattle.rb_value.specs.declared.value.Value.{Value}
 use Rattle.rb_value.specs.declared.value.Value.TheVariants.{Nil, Obj}
@@ -27,12 +27,12 @@ use Rattle.def_machine.specs.State as machine
 use Rattle.def_machine.specs.State.{Level, State, On, Off, Stuck, start, shown, frame}
 use Rattle.def_machine.specs.Turn.{turn}
 use Rattle.step_laws.specs.Site.{Site, LineAt, register}
-use Rattle.step_laws.specs.Covered.{Covered}
+use Rattle.step_laws.specs.Covers.{Covers}
 use Rattle.step_laws.specs.Calm.{IsCalm, StaysCalm}
 use Rattle.step_laws.specs.Measure.{measure}
 use Rattle.step_laws.specs.Implements.{main_site, IsCodeOf, Implements}
 use Rattle.step_laws.specs.Behind.{Static}
-use Rattle.step_laws.specs.Relation.{Same, Common, Doing, GivesIn, raised, leaping, Step, stops, Ground, SiteIs, SitesAre, Both, Running, Alike, Advances, Shared, Throwing, Leaps, Travels}
+use Rattle.step_laws.specs.Relation.{Same, Common, Doing, GivesIn, raised, leaping, returning, Step, stops, Ground, SiteIs, SitesAre, Both, Running, Alike, Advances, Shared, Throwing, Leaps, GoesHome, Travels}
 use Rattle.step_laws.proofs.Placed.{high, Stands, Rest, frame_at}
 use Rattle.step_laws.proofs.Matching.{state_at}
 use Rattle.step_laws.proofs.Literals.{aligned, do_nil, do_truth, do_falsehood, do_self, do_int}
@@ -49,6 +49,8 @@ use Rattle.step_laws.proofs.Sequences.{do_seq, give_rest}
 use Rattle.step_laws.proofs.Bare.{do_call_bare}
 use Rattle.step_laws.proofs.Branches.{do_cond, give_test, give_chosen, do_and, do_or, give_and, give_or}
 use Rattle.step_laws.proofs.Jumps.{do_break, do_next, leap_on}
+use Rattle.step_laws.proofs.Definitions.{do_define}
+use Rattle.step_laws.proofs.Returns.{do_return, passes_on, comes_home}
 use Rattle.step_laws.proofs.Loops.{do_while, give_loop_test, give_loop_body}
 use Rattle.step_laws.proofs.Calls.{do_call_to, do_call_self, give_receiver, give_item}
 use Rattle.step_laws.proofs.Iterations.{give_iteration}
@@ -59,15 +61,15 @@ use Rattle.def_calls.specs.Fibers as fibers
 
 module _ (g : Ground) (h : Site) (static : Static h) (ks : List Item) (m : source.Memory) (ls : List Level) (k : machine.Memory)
     (both : Common g h m (aligned k m)) where
-  form_matched : (j : ℕ) (e : form.CoreForm) → IsCalm h.source (Run (perform j e) ks m)
-      → (d : Doing g h e ks m.place ls k.lists)
+  form_matched : (j : ℕ) (e : form.CoreForm) → IsCalm h.source h.program (Run (perform j e) ks m)
+      → (d : Doing g h j e ks m.place ls k.lists)
       → Step h (Run (perform j e) ks m) (state_at g h d.x d.n (aligned k m))
   form_matched j form.nil c d = do_nil g h static j ks m ls k both d
   form_matched j form.truth c d = do_truth g h static j ks m ls k both d
   form_matched j form.falsehood c d = do_falsehood g h static j ks m ls k both d
   form_matched j form.self_ref c d = do_self g h static j ks m ls k both d
   form_matched j (form.int z) c d = do_int g h static j ks m ls k both z d
-  form_matched j (form.str t) c d = do_str g h static j ks m ls k both t d c.3
+  form_matched j (form.str t) c d = do_str g h static j ks m ls k both t d c.3.quiet
   form_matched j (form.sym x) c d = do_symbol g h static j ks m ls k both x d
   form_matched j (form.local x) c d = do_local g h static ks m ls k both j x d
   form_matched j (form.own x) c d = absurd d.covered
@@ -77,7 +79,7 @@ module _ (g : Ground) (h : Site) (static : Static h) (ks : List Item) (m : sourc
   form_matched j (form.set_ivar x e) c d = do_set_ivar g h static j ks m ls k both c.0 x e d
   form_matched j (form.gvar x) c d = do_gvar g h static j ks m ls k both x d
   form_matched j (form.set_gvar x e) c d = do_set_gvar g h static ks m ls k both j x e d
-  form_matched j (form.constant x) c d = do_constant g h static j ks m ls k both x d c.3
+  form_matched j (form.constant x) c d = do_constant g h static j ks m ls k both x d c.3.quiet
   form_matched j (form.top_constant x) c d = absurd d.covered
   form_matched j (form.in_constant e x) c d = do_in_constant g h static j ks m ls k both c.0 e x d
   form_matched j (form.set_constant x e) c d = do_set_constant g h static j ks m ls k both c.0 x e d
@@ -106,33 +108,33 @@ module _ (g : Ground) (h : Site) (static : Static h) (ks : List Item) (m : sourc
   form_matched j (form.function f) c d = absurd d.covered
   form_matched j (form.lambda f) c d = absurd d.covered
   form_matched j (form.begin_form b cs o e) c d = absurd d.covered
-  form_matched j (form.return_form e) c d = absurd d.covered
+  form_matched j (form.return_form e) c d = do_return g h static ks m ls k both j e d
   form_matched j (form.break_form e) c d = do_break g h static ks m ls k both j e d
   form_matched j (form.next_form e) c d = do_next g h static ks m ls k both j e d
   form_matched j form.retry c d = absurd d.covered
-  form_matched j (form.define x f) c d = absurd d.covered
+  form_matched j (form.define x f) c d = do_define g h static ks m ls k both c.0 j x f d c.1 c.3.quiet
   form_matched j (form.define_on e x f) c d = absurd d.covered
   form_matched j (form.class_form s x p f) c d = absurd d.covered
   form_matched j (form.module_form s x f) c d = absurd d.covered
   form_matched j (form.singleton_class e f) c d = absurd d.covered
-  form_matched j (form.alias_form x y) c d = do_alias g h static ks m ls k both j x y d c.3
-  form_matched j (form.undef_form x) c d = do_undef g h static ks m ls k both j x d c.3
-  form_matched j (form.defined q x form.absent) c d = do_defined g h static ks m ls k both c.0 j q x d c.3
+  form_matched j (form.alias_form x y) c d = do_alias g h static ks m ls k both j x y d c.3.quiet
+  form_matched j (form.undef_form x) c d = do_undef g h static ks m ls k both j x d c.3.quiet
+  form_matched j (form.defined q x form.absent) c d = do_defined g h static ks m ls k both c.0 j q x d c.3.quiet
   form_matched j (form.defined q x (form.there e)) c d = do_defined_of g h static ks m ls k both c.0 j q x e d
   form_matched j (form.item e i) c d = do_item g h static j ks m ls k both c.0 e i d
   form_matched j (form.rest_of e from post) c d = do_rest_of g h static j ks m ls k both c.0 e from post d
   form_matched j (form.tail_of e from count) c d = do_tail_of g h static j ks m ls k both c.0 e from count d
 
-  part_matched : (v : Value) (p : Part) → IsCalm h.source (Run (give v) (part p ∷ ks) m)
+  part_matched : (v : Value) (p : Part) → IsCalm h.source h.program (Run (give v) (part p ∷ ks) m)
       → (d : GivesIn g h v (part p ∷ ks) m.place ls k.lists)
       → Step h (Run (give v) (part p ∷ ks) m) (state_at g h d.x d.n (aligned k m))
-  part_matched v (operands j a vs es) c d = give_operand g h static j ks m ls k both c.0 v j a vs es d c.3
+  part_matched v (operands j a vs es) c d = give_operand g h static j ks m ls k both c.0 v j a vs es d c.3.quiet
   part_matched v (receiver j x is b) c d = give_receiver g h static ks m ls k both c.0 v j x is b d c.3
   part_matched v (items j s recv vs is b) c d = give_item g h static ks m ls k both c.0 v j s recv vs is b d c.3
   part_matched v (block s recv vs) c d = absurd d.next.behind
   part_matched v (elements j q o s is) c d = give_element g h static j ks m ls k both v j q o s is d c.1
   part_matched v (hash_key j o e ps) c d = give_key g h static ks m ls k both v j o e ps d
-  part_matched v (hash_value j o u ps) c d = give_pair g h static ks m ls k both v j o u ps d c.1 c.3
+  part_matched v (hash_value j o u ps) c d = give_pair g h static ks m ls k both v j o u ps d c.1 c.3.quiet
   part_matched v (pieces j o es) c d = give_piece g h static ks m ls k both v j o es d c.1
   part_matched v (rest j es) c d = give_rest g h static ks m ls k both v j es d
   part_matched v (test j b bs o) c d = give_test g h static ks m ls k both v j b bs o d
@@ -166,15 +168,15 @@ of_site s p h e f P x = subst (λ (q : Source). P q p) e (subst (λ (q : Program
 module _ (s : Source) (p : Program) (ks : List Item) (m : source.Memory) (ls : List Level) (k : machine.Memory) where
   -- by the site of the frame that runs
   in_frame : (f : Focus) (g : Ground) (h : Site) → Running s p g h m k
-      → (Static h → Common g h m (aligned k m) → IsCalm h.source (Run f ks m) → Step h (Run f ks m) (On ls (aligned k m)))
-      → IsCalm s (Run f ks m) → Advances s p (Run f ks m) (On ls k)
+      → (Static h → Common g h m (aligned k m) → IsCalm h.source h.program (Run f ks m) → Step h (Run f ks m) (On ls (aligned k m)))
+      → IsCalm s p (Run f ks m) → Advances s p (Run f ks m) (On ls k)
   in_frame f g h b by calm =
       let i = b.all.sites.each h b.site in
       let b' : Running s p g h m (aligned k m) =
       record { all = aligned_both s p g m k b.all; site = b.site; free = b.free } in
       realigned s p f ks m ls k b.all.world
       (of_site s p h i.source i.program (λ (t : Source) (q : Program). Running t q g h m (aligned k m)
-      → IsCalm t (Run f ks m) → Advances t q (Run f ks m) (On ls (aligned k m))) (by i.static) b' calm)
+      → IsCalm t q (Run f ks m) → Advances t q (Run f ks m) (On ls (aligned k m))) (by i.static) b' calm)
 
   on_levels : (f : Focus) (h : Site) (gs : List Level) → ls ≡ gs → Step h (Run f ks m) (On gs (aligned k m))
       → Step h (Run f ks m) (On ls (aligned k m))
@@ -182,16 +184,16 @@ module _ (s : Source) (p : Program) (ks : List Item) (m : source.Memory) (ls : L
 
 -- an exit, thrown or at a jump
 thrown_on : (s : Source) (p : Program) (x : Exit) (ks : List Item) (m : source.Memory) (ls : List Level)
-    (k : machine.Memory) → Throwing s p x ks m ls k → IsCalm s (Run (travel x) ks m)
+    (k : machine.Memory) → Throwing s p x ks m ls k → IsCalm s p (Run (travel x) ks m)
     → Advances s p (Run (travel x) ks m) (On ls k)
 thrown_on s p x [] m ls k z calm = travel_end s p m ls k x z
 thrown_on s p x (part q ∷ ks) m ls k z calm = travel_part_on s p m ls k x q ks z
-thrown_on s p x (activation a q ∷ ks) m ls k z calm = travel_activation_on s p m ls k x a q ks z calm.3
-thrown_on s p x (iteration a it q ∷ ks) m ls k z calm = travel_iteration_on s p m ls k x a it q ks z calm.2 calm.3
+thrown_on s p x (activation a q ∷ ks) m ls k z calm = travel_activation_on s p m ls k x a q ks z calm.3.quiet
+thrown_on s p x (iteration a it q ∷ ks) m ls k z calm = travel_iteration_on s p m ls k x a it q ks z calm.2 calm.3.quiet
 thrown_on s p x (ensuring y ∷ ks) m ls k z calm = absurd z.leaving
 
 leapt_on : (s : Source) (p : Program) (x : Exit) (ks : List Item) (m : source.Memory) (ls : List Level)
-    (k : machine.Memory) → Leaps s p x ks m ls k → IsCalm s (Run (travel x) ks m)
+    (k : machine.Memory) → Leaps s p x ks m ls k → IsCalm s p (Run (travel x) ks m)
     → Advances s p (Run (travel x) ks m) (On ls k)
 leapt_on s p x [] m ls k z calm = absurd z.way
 leapt_on s p x (part q ∷ ks) m ls k z calm =
@@ -203,13 +205,47 @@ leapt_on s p x (activation a q ∷ ks) m ls k z calm = absurd z.way
 leapt_on s p x (iteration a it q ∷ ks) m ls k z calm = absurd z.way
 leapt_on s p x (ensuring y ∷ ks) m ls k z calm = absurd z.way
 
+returned_on : (s : Source) (p : Program) (x : Exit) (ks : List Item) (m : source.Memory) (ls : List Level)
+    (k : machine.Memory) → GoesHome s p x ks m ls k → IsCalm s p (Run (travel x) ks m)
+    → Advances s p (Run (travel x) ks m) (On ls k)
+returned_on s p x [] m ls k z calm = absurd z.home
+returned_on s p x (part q ∷ ks) m ls k z calm =
+    in_frame s p (part q ∷ ks) m ls k (travel x) z.g z.h z.both (λ static both here.
+    on_levels s p (part q ∷ ks) m ls k (travel x) z.h (frame (frame_at z.h z.x z.n) ∷ z.g.below) z.is
+    (passes_on z.g z.h static ks m ls k both x q (record {
+      x = z.x;
+      n = z.n;
+      r = z.r;
+      value = z.value;
+      exit = z.exit;
+      at = z.at;
+      stands = z.stands;
+      home = z.home;
+    }))) calm
+returned_on s p x (activation a q ∷ ks) m ls k z calm =
+    in_frame s p (activation a q ∷ ks) m ls k (travel x) z.g z.h z.both (λ static both here.
+    on_levels s p (activation a q ∷ ks) m ls k (travel x) z.h (frame (frame_at z.h z.x z.n) ∷ z.g.below) z.is
+    (comes_home z.g z.h static ks m ls k both x a q (record {
+      x = z.x;
+      n = z.n;
+      r = z.r;
+      value = z.value;
+      exit = z.exit;
+      at = z.at;
+      stands = z.stands;
+      home = z.home;
+    }) here.3.quiet)) calm
+returned_on s p x (iteration a it q ∷ ks) m ls k z calm = absurd z.home
+returned_on s p x (ensuring y ∷ ks) m ls k z calm = absurd z.home
+
 travel_on : (s : Source) (p : Program) (x : Exit) (ks : List Item) (m : source.Memory) (ls : List Level)
-    (k : machine.Memory) → Travels s p x ks m ls k → IsCalm s (Run (travel x) ks m)
+    (k : machine.Memory) → Travels s p x ks m ls k → IsCalm s p (Run (travel x) ks m)
     → Advances s p (Run (travel x) ks m) (On ls k)
 travel_on s p x ks m ls k (raised z) calm = thrown_on s p x ks m ls k z calm
 travel_on s p x ks m ls k (leaping z) calm = leapt_on s p x ks m ls k z calm
+travel_on s p x ks m ls k (returning z) calm = returned_on s p x ks m ls k z calm
 
-matched : (s : Source) (p : Program) (c : Config) (t : State) → Alike s p c t → IsCalm s c → over (seen c) ≡ false
+matched : (s : Source) (p : Program) (c : Config) (t : State) → Alike s p c t → IsCalm s p c → over (seen c) ≡ false
     → Advances s p c t
 unfolding seen
 matched s p (Halt v) (Off d) r calm o = absurd (true≢false o)
@@ -229,7 +265,7 @@ matched s p (Run (give v) (part q ∷ ks) m) (On ls k) r calm o =
 matched s p (Run (give v) (activation a q ∷ ks) m) (On ls k) r calm o =
     in_frame s p (activation a q ∷ ks) m ls k (give v) r.0 r.1 r.2 (λ static both here.
     on_levels s p (activation a q ∷ ks) m ls k (give v) r.1 (frame (frame_at r.1 r.3.x r.3.n) ∷ r.0.below) r.3.is
-    (give_activation r.0 r.1 static ks m k both v a q ls r.3 here.3)) calm
+    (give_activation r.0 r.1 static ks m k both v a q ls r.3 here.3.quiet)) calm
 matched s p (Run (give v) (iteration a it q ∷ ks) m) (On ls k) r calm o =
     realigned s p (give v) (iteration a it q ∷ ks) m ls k r.both.world
     (subst (λ (gs : List Level). Advances s p (Run (give v) (iteration a it q ∷ ks) m) (On gs (aligned k m))) (sym r.is)
@@ -252,6 +288,7 @@ alike s p (Run (give v) (iteration a it q ∷ ks) m) (On ls k) r = ap (λ (w : W
 alike s p (Run (give v) (ensuring x ∷ ks) m) (On ls k) r = absurd r
 alike s p (Run (travel x) ks m) (On ls k) (raised r) = ap Going r.out
 alike s p (Run (travel x) ks m) (On ls k) (leaping r) = ap (λ (w : World). Going w.out) r.both.all.world
+alike s p (Run (travel x) ks m) (On ls k) (returning r) = ap (λ (w : World). Going w.out) r.both.all.world
 
 ended : (s : Source) (c : Config) → over (seen c) ≡ true → go s c ≡ c
 unfolding seen
@@ -264,7 +301,7 @@ stopped p (Off v) o = refl
 stopped p (On ls k) o = absurd (true≢false (sym o))
 stopped p (Stuck out) o = absurd (true≢false (sym o))
 
-shared_step : (s : Source) (p : Program) (c : Config) (t : State) → StaysCalm s c → Advances s p c t
+shared_step : (s : Source) (p : Program) (c : Config) (t : State) → StaysCalm s p c → Advances s p c t
     → Matched (go s) (turn p) seen shown measure (Shared s p) c t
 shared_step s p c t calm a = record {
   turns = a.turns;
@@ -358,6 +395,7 @@ module _ (s : Source) (p : Program) (input : List ℕ) (c : IsCodeOf s p) where
         opened = omega arith;
         self = refl;
         runs = refl;
+        home = refl;
       }
 
       at : (d : Site) (n : ℕ) → slice_get (h ∷ []) n ≡ Some d
@@ -384,6 +422,7 @@ module _ (s : Source) (p : Program) (input : List ℕ) (c : IsCodeOf s p) where
               activations = main_activation ∷ [];
               input = input;
               out = [];
+              asked = false;
             }) (sym c.names);
             sites = opening_sites;
             fibers = record { running = refl; running_too = refl; resumer = refl; rooted = λ e. refl; others = tt };
@@ -401,7 +440,7 @@ module _ (s : Source) (p : Program) (input : List ℕ) (c : IsCodeOf s p) where
           loop = c.context.loop;
           s = first_spot 0;
           here = refl;
-          covered = subst (λ (i : Option Loop). Covered h (is_some i) c.first (form_of (body_at s 0))) (sym c.outside)
+          covered = subst (λ (o : Option Loop). Covers h o c.first (first_spot 0) 1 (form_of (body_at s 0))) (sym c.outside)
               c.covered;
           above = omega arith;
           code = c.code;
@@ -415,7 +454,7 @@ module _ (s : Source) (p : Program) (input : List ℕ) (c : IsCodeOf s p) where
         },
       )
 
-  pub implements : StaysCalm s (opening s input) → Implements s p input
+  pub implements : StaysCalm s p (opening s input) → Implements s p input
   implements calm =
       follows (go s) (turn p) seen shown over measure (Shared s p) (step_law s p) (opening s input) (start p input)
       (opening_related, calm)

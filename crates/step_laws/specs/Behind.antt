@@ -15,12 +15,13 @@ use Rattle.gen_parts.specs.Pieces.{Piece, past, behind, nothing, ◌⊕◌, jump
 use Rattle.gen_forms.specs.declared.context.Loop.{Loop}
 use Rattle.gen_forms.specs.Gen.{Context, gen, gather, gather_pairs, gather_text, others_in_turn, pass_in_registers, choose, over, operator, symbol}
 use Rattle.def_calls.specs.Calls.{by_name}
-use Rattle.def_eval.specs.Configuration.{Action, assign, assign_gvar, leave_call, leave_round, Gathering, an_array, Part, operands, receiver, items, block, elements, hash_key, hash_value, pieces, rest, test, chosen, and_then, or_else, loop_test, loop_body, rescued, clause_class, clause_target, clause_body, ensured, Stop, passes, loops, rescues, assigns, retries, ensures}
+use Rattle.def_eval.specs.Configuration.{Action, assign, assign_gvar, leave_method, leave_call, leave_round, Gathering, an_array, Part, operands, receiver, items, block, elements, hash_key, hash_value, pieces, rest, test, chosen, and_then, or_else, loop_test, loop_body, rescued, clause_class, clause_target, clause_body, ensured, Stop, passes, loops, rescues, assigns, retries, ensures}
 use Rattle.def_eval.specs.Scopes.{same_local}
 use Rattle.def_machine.specs.State.{Registers, body_at, slot_at}
 use Rattle.step_laws.specs.Site.{Site, within, LineAt, Room, register, Known, IsThere, Named, number}
 use Rattle.step_laws.specs.Strict.{strict_op, IsReady, arity}
 use Rattle.step_laws.specs.Covered.{Covered, CoveredForms, CoveredItems, CoveredElements, CoveredPairs, CoveredBranches}
+use Rattle.step_laws.specs.Covers.{CoversAll}
 use Rattle.step_laws.specs.Standing.{high, Stands}
 
 -- what holds of the body all along
@@ -158,6 +159,14 @@ pub record NextBehind (h : Site) (a : Action) (vs : List Value) (es : Forms) (n 
   pub inside : around ≡ Some target
   pub leaves : LineAt h n (line.Leave target.round)
 
+-- the value is that of the method
+pub record ReturnBehind (h : Site) (a : Action) (vs : List Value) (es : Forms) (low n r : ℕ) : Type 0 where
+  pub at : low ≡ r
+  pub action : a ≡ leave_method
+  pub first : vs ≡ []
+  pub last : es ≡ none
+  pub returns : LineAt h n (line.Does (op.Return low))
+
 pub data OperandBehind (h : Site) (l : List Registers) (a : Action) (vs : List Value) (es : Forms) (low n r end : ℕ)
     (around : Option Loop) : Type 0 where
   to_local : LocalBehind h a vs es low n r end → OperandBehind h l a vs es low n r end around
@@ -165,6 +174,7 @@ pub data OperandBehind (h : Site) (l : List Registers) (a : Action) (vs : List V
   strict : StrictBehind h l a vs es low n r end around → OperandBehind h l a vs es low n r end around
   breaks : BreakBehind h a vs es low n r around → OperandBehind h l a vs es low n r end around
   begins_round : NextBehind h a vs es n around → OperandBehind h l a vs es low n r end around
+  leaves_body : ReturnBehind h a vs es low n r → OperandBehind h l a vs es low n r end around
 
 -- Arrays, Hashes and Strings: the object stands in register low, and gets what is awaited behind it.
 
@@ -268,7 +278,7 @@ Behind h l (rest j es) low n r end around = record {
   at : low ≡ r;
   s : Spot;
   here : s.line ≡ n;
-  covered : CoveredForms h (is_some around) low es;
+  covered : CoversAll h around low s j es;
   code : Stands h n (others_in_turn (within h around) s low es);
   ends : n + high (others_in_turn (within h around) s low es) ≡ end;
 }

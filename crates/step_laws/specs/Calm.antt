@@ -1,16 +1,20 @@
--- What an evaluation keeps that calls no body of the source.
-use Rattle.std.specs.Prelude.{◌≡◌, ℕ, List, [], ◌∷◌, ◌++◌, length, Some}
+-- What an evaluation keeps that calls no bodies of the source but those of methods.
+use Rattle.std.specs.Prelude.{◌≡◌, ◌⊎◌, ℕ, List, [], ◌∷◌, ◌++◌, length, Some}
 use Rattle.rb_value.specs.Object.{Object}
 use Rattle.rb_value.specs.declared.value.Value.TheVariants.{Obj}
+use Rattle.rite_code.specs.Code.{Program}
 use Rattle.def_core.specs.Changes.{intern}
 use Rattle.ir_core.specs.CoreForm.{Name}
-use Rattle.def_calls.specs.World.{World, Activation}
+use Rattle.def_calls.specs.World.{World, Activation, activation_at, class_around}
+use Rattle.def_calls.specs.Definitions.{space_in}
 use Rattle.def_calls.specs.Calls.{close}
+use Rattle.def_calls.specs.Plans as plans
 use Rattle.def_calls.specs.Views.{an_array, a_hash, a_string}
 use Rattle.def_eval.specs.Source.{Source}
 use Rattle.def_eval.specs.Configuration.{Part, operands, receiver, items, block, elements, hash_key, hash_value, pieces, rest, test, chosen, and_then, or_else, loop_test, loop_body, rescued, clause_class, clause_target, clause_body, ensured, Item, part, activation, iteration, ensuring, Focus, perform, give, travel, Memory, Config, Run, Halt}
 use Rattle.def_eval.specs.Transition.{go, go_times}
 use Rattle.step_laws.specs.Site.{IsThere, number}
+use Rattle.step_laws.specs.Methods.{CallsMethods}
 
 -- the object that a literal gathers into is still one of its kind
 abbrev pub IsAbout : Part → List Object → Type 0
@@ -35,9 +39,13 @@ IsAbout (clause_target n e b r) objects = Unit {0}
 IsAbout (clause_body r) objects = Unit {0}
 IsAbout (ensured n e) objects = Unit {0}
 
+-- the class around the text, in which methods are defined, is one
+abbrev pub IsWithin : World → Activation → Type 0
+IsWithin w a = space_in w.store.objects (Obj (class_around w a.classes)) ≡ Some (class_around w a.classes)
+
 -- and so it is where a value goes to it
 abbrev pub IsAboutNext : Focus → List Item → Memory → Type 0
-IsAboutNext (perform n e) ks m = Unit {0}
+IsAboutNext (perform n e) ks m = IsWithin m.world (activation_at m.world m.place.activation)
 IsAboutNext (give v) [] m = Unit {0}
 IsAboutNext (give v) (part k ∷ ks) m = IsAbout k m.world.store.objects
 IsAboutNext (give v) (activation a place ∷ ks) m = Unit {0}
@@ -67,19 +75,38 @@ pub record Grows (w u : World) : Type 0 where
   pub more : List Activation
   pub is : u.activations ≡ w.activations ++ more
 
--- and no scope was opened since
 abbrev pub Quiet : Memory → Config → Type 0
-Quiet m (Run f ks l) = (length l.scopes ≡ length m.scopes) × QuietFocus f ks m l × Grows m.world l.world
+Quiet m (Run f ks l) = QuietFocus f ks m l × Grows m.world l.world
 Quiet m (Halt e) = Unit {0}
+
+-- no body was entered: no scope was opened since
+abbrev pub Still : Memory → Config → Type 0
+Still m (Run f ks l) = length l.scopes ≡ length m.scopes
+Still m (Halt e) = Unit {0}
+
+-- the objects among which a transition finds what it calls: a plan of an iteration may have made some before
+abbrev pub objects_for : Focus → List Item → Memory → List Object
+objects_for (perform n e) ks m = m.world.store.objects
+objects_for (give v) [] m = m.world.store.objects
+objects_for (give v) (part k ∷ ks) m = m.world.store.objects
+objects_for (give v) (activation a place ∷ ks) m = m.world.store.objects
+objects_for (give v) (iteration a it place ∷ ks) m = (plans.next it v m.world.store).store.objects
+objects_for (give v) (ensuring o ∷ ks) m = m.world.store.objects
+objects_for (travel x) ks m = m.world.store.objects
+
+-- A transition keeps the peace: it enters no body, or what it calls are methods whose bodies have code.
+pub record Peace (s : Source) (p : Program) (f : Focus) (ks : List Item) (m : Memory) : Type 0 where
+  pub quiet : Quiet m (go s (Run f ks m))
+  pub calls : Still m (go s (Run f ks m)) ⊎ CallsMethods s p (objects_for f ks m)
 
 -- the numbers of the program's names stay
 pub record IsSteady (s : Source) (w : World) : Type 0 where
   pub names : (x : Name) → IsThere s x → (intern w.store x).symbol ≡ number s x
 
-abbrev pub IsCalm : Source → Config → Type 0
-IsCalm s (Halt e) = Unit {0}
-IsCalm s (Run f ks m) = IsSteady s m.world × IsAboutNext f ks m × Leaves f ks m × Quiet m (go s (Run f ks m))
+abbrev pub IsCalm : Source → Program → Config → Type 0
+IsCalm s p (Halt e) = Unit {0}
+IsCalm s p (Run f ks m) = IsSteady s m.world × IsAboutNext f ks m × Leaves f ks m × Peace s p f ks m
 
 -- so it is all along
-abbrev pub StaysCalm : Source → Config → Type 0
-StaysCalm s c = (n : ℕ) → IsCalm s (go_times n s c)
+abbrev pub StaysCalm : Source → Program → Config → Type 0
+StaysCalm s p c = (n : ℕ) → IsCalm s p (go_times n s c)

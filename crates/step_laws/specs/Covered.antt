@@ -4,9 +4,10 @@ use Rattle.rb_syntax.specs.declared.core_form.DefinedKind.{DefinedKind}
 use Rattle.rb_syntax.specs.declared.core_form.DefinedKind.TheVariants as asks
 use Rattle.rite_code.specs.declared.code.PoolItem.TheVariants as pool
 use Rattle.rite_code.specs.declared.operation.Operation.{Operation}
+use Rattle.rite_code.specs.declared.operation.Operation.TheVariants as op
 use Rattle.ir_counts.specs.Tables.{item_count}
 use Rattle.ir_core.specs.CoreForm.{Name, CoreForm, nil, truth, falsehood, self_ref, int, str, sym, local, own, exception, set_local, ivar, set_ivar, gvar, set_gvar, constant, top_constant, in_constant, set_constant, set_in_constant, array, hash, range, text, intern, seq, cond, and_form, or_form, while_form, call, yield_form, super_form, function, lambda, begin_form, return_form, break_form, next_form, retry, define, define_on, class_form, module_form, singleton_class, alias_form, undef_form, defined, item, rest_of, tail_of, absent, there, Forms, none, more, Items, no_items, plain, splat, Pairs, no_pairs, pair, Branches, no_branches, branch, to, on_self, bare}
-use Rattle.gen_forms.specs.Gen.{is_within, integer_entry, text_entry, operates}
+use Rattle.gen_forms.specs.Gen.{is_within, integer_entry, text_entry, operates, return_by}
 use Rattle.def_machine.specs.State.{body_at}
 use Rattle.step_laws.specs.Site.{Site, Room, Known, IsThere, Named}
 use Rattle.step_laws.specs.Strict.{IsSome}
@@ -99,7 +100,7 @@ abbrev mutual
   Covered h inside r (function f) = ⊥
   Covered h inside r (lambda f) = ⊥
   Covered h inside r (begin_form b cs o e) = ⊥
-  Covered h inside r (return_form e) = ⊥
+  Covered h inside r (return_form e) = (return_by h.context.kind_of r ≡ op.Return r) × Covered h inside r e
   Covered h inside r (break_form e) = (inside ≡ true) × Covered h inside r e
   Covered h inside r (next_form e) = (inside ≡ true) × Covered h inside r e
   Covered h inside r retry = ⊥

@@ -1,17 +1,21 @@
--- Programs of simple and of plain forms, and what is shown of them.
-use Rattle.std.specs.Prelude.{◌≡◌, ℕ, pos, false, List, [], ◌∷◌, codes, None}
+-- Programs of simple and of plain forms and one with methods, and what is shown of them.
+use Rattle.std.specs.Prelude.{◌≡◌, ℕ, ◌+◌, pos, false, List, [], ◌∷◌, codes, None}
+use Rattle.rb_value.specs.Object.{Object}
 use Rattle.rite_code.specs.Code.{Program, program}
-use Rattle.ir_core.specs.CoreForm.{named, hidden, Local, CoreForm, nil, truth, int, str, sym, local, set_local, gvar, set_gvar, array, hash, text, seq, cond, while_form, call, break_form, item, Body, plain_body, form_of, absent, Forms, more, two, no_items, plain, splat, no_pairs, pair, no_branches, branch, to, on_self}
+use Rattle.ir_core.specs.CoreForm.{named, hidden, Local, CoreForm, nil, truth, int, str, sym, local, set_local, gvar, set_gvar, array, hash, text, seq, cond, while_form, call, return_form, break_form, define, item, Body, body, plain_body, form_of, absent, Forms, more, two, no_items, plain, splat, no_pairs, pair, no_branches, branch, to, on_self}
 use Rattle.ir_core.specs.Program.{IsProgram}
 use Rattle.ir_counts.specs.Counts.{need}
 use Rattle.ir_counts.specs.Limits.{first_excess}
 use Rattle.gen_forms.specs.Making.{coded_program}
 use Rattle.def_calls.specs.Seen.{Ended, Uncaught, Over}
 use Rattle.def_eval.specs.Source.{source_of}
-use Rattle.def_eval.specs.Transition.{evaluation}
+use Rattle.def_eval.specs.Configuration.{Config, Run, Halt, opening}
+use Rattle.def_eval.specs.Transition.{go_times, evaluation}
 use Rattle.def_machine.specs.Turn.{machine}
 use Rattle.step_laws.specs.Simple.{IsSimple}
 use Rattle.step_laws.specs.Plain.{IsPlain}
+use Rattle.step_laws.specs.Methods.{MethodCode, CallsMethods}
+use Rattle.step_laws.specs.Implements.{IsCodeOf}
 
 abbrev pub code_of : Body → Program
 code_of b = program 2 (coded_program b)
@@ -86,3 +90,45 @@ pub record IsWitness (b : Body) : Type 0 where
   pub simple : IsSimple (form_of b)
   pub evaluates : evaluation (source_of b) [] 100 ≡ Over (Ended (codes "2\n1\n") 0)
   pub runs : machine (code_of b) [] 100 ≡ Over (Ended (codes "2\n1\n") 0)
+
+-- def least(a, i)
+--   return a if a < i
+--   i
+-- end
+-- def after(a, i)
+--   least(a, i) + 1
+-- end
+-- puts after(3, 2)
+abbrev pub of_two : CoreForm → Body
+of_two f =
+    body (record { required = a ∷ i ∷ []; optional = []; rest = []; post = []; block = [] }) [] f
+
+abbrev pub least : Body
+least = of_two (seq (two
+    (cond (branch (on (local a) (codes "<") (local i)) (return_form (local a)) no_branches) nil) (local i)))
+
+abbrev pub after : Body
+after = of_two (on (call on_self (codes "least") (plain (local a) (plain (local i) no_items)) absent) (codes "+")
+    (int (pos 1)))
+
+abbrev pub chooser : Body
+chooser = plain_body [] (seq (three (define (codes "least") least) (define (codes "after") after)
+    (call on_self (codes "puts")
+    (plain (call on_self (codes "after") (plain (int (pos 3)) (plain (int (pos 2)) no_items)) absent) no_items) absent)))
+
+abbrev pub objects_of : Config → List Object
+objects_of (Halt e) = []
+objects_of (Run f ks m) = m.world.store.objects
+
+-- It is a program within the limits whose code is code of it, the bodies of its methods have code, which is that of every
+-- method that there is when the first is called, and both sides end with the line 3.
+pub record IsMethodWitness (b : Body) : Type 0 where
+  pub program : IsProgram b
+  pub within : first_excess (need b) ≡ None
+  pub code : IsCodeOf (source_of b) (code_of b)
+  pub first : MethodCode (source_of b) (code_of b) 1
+  pub second : MethodCode (source_of b) (code_of b) 2
+  pub called : CallsMethods (source_of b) (code_of b)
+      (objects_of (go_times 8 (source_of b) (opening (source_of b) [])))
+  pub evaluates : evaluation (source_of b) [] 100 ≡ Over (Ended (codes "3\n") 0)
+  pub runs : machine (code_of b) [] 100 ≡ Over (Ended (codes "3\n") 0)

@@ -19,7 +19,7 @@ use Rattle.def_machine.specs.State as machine
 use Rattle.def_machine.specs.State.{all_symbols, start, shown}
 use Rattle.def_machine.specs.Turn.{turn}
 use Rattle.step_laws.specs.Site.{Site, at_line, LineAt, Lines, Known, register}
-use Rattle.step_laws.specs.Covered.{Covered}
+use Rattle.step_laws.specs.Covers.{Covers}
 
 -- the main program
 abbrev pub main_site : Source → Program → Bool → List ℕ → Context → ℕ → Site
@@ -52,7 +52,7 @@ pub record IsCodeOf (s : Source) (p : Program) : Type 0 where
   pub room : first ≤ (machine.body_at p 0).registers
   pub no_catches : (machine.body_at p 0).catches ≡ []
   pub outside : context.loop ≡ None
-  pub covered : Covered (main_site s p wide at context first) false first (form_of (body_at s 0))
+  pub covered : Covers (main_site s p wide at context first) None first (first_spot 0) 1 (form_of (body_at s 0))
   pub code : Lines (main_site s p wide at context first) 0
       (gen context (first_spot 0) first (form_of (body_at s 0))).lines
   pub stop : LineAt (main_site s p wide at context first)

@@ -1,12 +1,14 @@
 pub mod Site
 pub mod Strict
 pub mod Covered
+pub mod Covers
 pub mod Calm
 pub mod Simple
 pub mod Plain
 pub mod Measure
 pub mod Standing
 pub mod Behind
+pub mod Methods
 pub mod Relation
 pub mod Implements
 pub mod Example

@@ -43,7 +43,7 @@ abbrev mutual
   size (function f) = 1
   size (lambda f) = 1
   size (begin_form b cs o e) = 1
-  size (return_form e) = 1
+  size (return_form e) = 3 + size e
   size (break_form e) = 3 + size e
   size (next_form e) = 3 + size e
   size retry = 1
@@ -106,7 +106,7 @@ weight (ensured n e) = 1
 abbrev pub weights : List Item → ℕ
 weights [] = 0
 weights (part k ∷ ks) = weight k + weights ks
-weights (activation a place ∷ ks) = 1 + weights ks
+weights (activation a place ∷ ks) = 2 + weights ks
 weights (iteration a it place ∷ ks) = 3 + weights ks
 weights (ensuring o ∷ ks) = 1 + weights ks
 

@@ -1,5 +1,5 @@
 -- Forms without bodies: literals, variables and constants, their assignments, Arrays, Hashes, Ranges, texts, sequences,
--- branches, loops with break and next, elements of multiple assignments, `defined?`, other names of methods and methods
+-- branches, loops with break and next, returns, elements of multiple assignments, `defined?`, other names of methods and methods
 -- that are undefined, calls of a name alone, and calls of a value and of self with plain items and no block, no more of
 -- them than go into registers.
 use Rattle.std.specs.Prelude.{◌≡◌, false, nat_lt}
@@ -68,7 +68,7 @@ abbrev mutual
   IsPlain (function f) = ⊥
   IsPlain (lambda f) = ⊥
   IsPlain (begin_form b cs o e) = ⊥
-  IsPlain (return_form e) = ⊥
+  IsPlain (return_form e) = IsPlain e
   IsPlain (break_form e) = IsPlain e
   IsPlain (next_form e) = IsPlain e
   IsPlain retry = ⊥

@@ -1,6 +1,6 @@
 -- When a configuration of the evaluation and a state of the machine are alike: the fiber that runs, whose focus goes
 -- with its frame or its iteration, all that waits below, each other fiber, and each scope with its list of registers.
-use Rattle.std.specs.Prelude.{◌≡◌, ◌<◌, ◌≤◌, ℕ, ◌+◌, List, [], ◌∷◌, length, is_some, Option, Some, None, unwrap_or, nat_eq, if◌then◌else◌, slice_get}
+use Rattle.std.specs.Prelude.{◌≡◌, ◌<◌, ◌≤◌, ℕ, ◌+◌, List, [], ◌∷◌, length, Option, Some, None, unwrap_or, nat_eq, if◌then◌else◌, slice_get}
 use Rattle.rb_value.specs.declared.value.Value.{Value}
 use Rattle.rb_value.specs.declared.value.Value.TheVariants.{Nil}
 use Rattle.rb_value.specs.declared.value.ObjId.{ObjId}
@@ -20,7 +20,7 @@ use Rattle.def_calls.specs.Fibers.{Fibers}
 use Rattle.def_calls.specs.Fibers as fibers
 use Rattle.def_eval.specs.Source.{Source}
 use Rattle.def_eval.specs.Configuration as source
-use Rattle.def_eval.specs.Configuration.{Place, Scope, Exit, raise, leave_loop, next, Stop, passes, loops, rescues, assigns, retries, ensures, stop_of, Item, part, activation, iteration, ensuring, Kept, Focus, perform, give, travel, Config, Run, Halt, seen}
+use Rattle.def_eval.specs.Configuration.{Place, Scope, Exit, raise, return, leave_loop, next, Stop, passes, loops, rescues, assigns, retries, ensures, stop_of, Item, part, activation, iteration, ensuring, Kept, Focus, perform, give, travel, Config, Run, Halt, seen}
 use Rattle.def_eval.specs.Scopes.{value_in, scope_at}
 use Rattle.def_eval.specs.Transition.{go}
 use Rattle.def_machine.specs.State as machine
@@ -28,7 +28,7 @@ use Rattle.def_machine.specs.State.{Registers, Frame, Level, frame, State, On, O
 use Rattle.def_machine.specs.Unwind.{receive, throw}
 use Rattle.def_machine.specs.Turn.{turn}
 use Rattle.step_laws.specs.Site.{Site, within, place_in, at_line, LineAt, Room, register, Known}
-use Rattle.step_laws.specs.Covered.{Covered}
+use Rattle.step_laws.specs.Covers.{Covers}
 use Rattle.step_laws.specs.Calm.{StaysCalm}
 use Rattle.step_laws.specs.Measure.{measure}
 use Rattle.step_laws.specs.Standing.{high, Stands, Rest, frame_at}
@@ -170,6 +170,8 @@ pub record SiteIs (s : Source) (p : Program) (h : Site) (cs : List Scope) (l : L
     pub opened : h.activation ≤ length w.activations
     pub self : (activation_at w h.activation).self ≡ h.self
     pub runs : (activation_at w h.activation).runs ≡ h.runs
+    -- a return in it ends itself
+    pub home : (activation_at w h.activation).home ≡ h.activation
 
 -- each scope and the list of registers of its number have a site
 pub record SitesAre (s : Source) (p : Program) (hs : List Site) (cs : List Scope) (l : List Registers) (w : World)
@@ -232,7 +234,7 @@ abbrev pub Common : Ground → Site → source.Memory → machine.Memory → Typ
 Common g h m k = Running h.source h.program g h m k
 
 -- a form is about to be done in register r, from line n on
-pub record Doing (g : Ground) (h : Site) (e : CoreForm) (ks : List Item) (place : Place) (ls : List Level)
+pub record Doing (g : Ground) (h : Site) (j : ℕ) (e : CoreForm) (ks : List Item) (place : Place) (ls : List Level)
     (l : List Registers) : Type 0 where
   pub x : Rest
   pub n : ℕ
@@ -242,7 +244,7 @@ pub record Doing (g : Ground) (h : Site) (e : CoreForm) (ks : List Item) (place 
   pub loop : Option Loop
   pub s : Spot
   pub here : s.line ≡ n
-  pub covered : Covered h (is_some loop) r e
+  pub covered : Covers h loop r s j e
   pub above : h.first ≤ r
   pub code : Stands h n (gen (within h loop) s r e)
   pub next : InFrame g h l ks (n + high (gen (within h loop) s r e)) r loop
@@ -344,14 +346,39 @@ pub record Leaps (s : Source) (p : Program) (e : Exit) (ks : List Item) (m : sou
   pub by : LeavesTo h k.lists e n target
   pub way : Way g h k.lists ks target
 
+-- The parts that a return passes, down to the end of its activation, and what waits below.
+abbrev pub Home : Ground → Site → List Registers → List Item → Type 0
+Home g h l [] = ⊥
+Home g h l (part k ∷ ks) = IsPassed (stop_of k) × Home g h l ks
+Home g h l (activation a place ∷ ks) = (a ≡ h.activation) × Waits g.sites g.fiber l ks place g.below
+Home g h l (iteration a it place ∷ ks) = ⊥
+Home g h l (ensuring o ∷ ks) = ⊥
+
+-- The frame stands at the return, with the value in its register.
+pub record GoesHome (s : Source) (p : Program) (e : Exit) (ks : List Item) (m : source.Memory) (ls : List Level)
+    (k : machine.Memory) : Type 0 where
+  pub g : Ground
+  pub h : Site
+  pub both : Running s p g h m k
+  pub x : Rest
+  pub n : ℕ
+  pub r : ℕ
+  pub is : ls ≡ frame (frame_at h x n) ∷ g.below
+  pub value : Value
+  pub exit : e ≡ return h.activation value
+  pub at : LineAt h n (line.Does (op.Return r))
+  pub stands : slot_at k.lists h.list r ≡ V value
+  pub home : Home g h k.lists ks
+
 pub data Travels (s : Source) (p : Program) (x : Exit) (ks : List Item) (m : source.Memory) (ls : List Level)
     (k : machine.Memory) : Type 0 where
   raised : Throwing s p x ks m ls k → Travels s p x ks m ls k
   leaping : Leaps s p x ks m ls k → Travels s p x ks m ls k
+  returning : GoesHome s p x ks m ls k → Travels s p x ks m ls k
 
 abbrev pub Agree : Source → Program → Focus → List Item → source.Memory → List Level → machine.Memory → Type 0
 Agree s p (perform j e) ks m ls k =
-    (g : Ground) × (h : Site) × Running s p g h m k × Doing g h e ks m.place ls k.lists
+    (g : Ground) × (h : Site) × Running s p g h m k × Doing g h j e ks m.place ls k.lists
 Agree s p (give v) ks m ls k = Giving s p v ks m ls k
 Agree s p (travel x) ks m ls k = Travels s p x ks m ls k
 
@@ -377,4 +404,4 @@ Step h c t = Advances h.source h.program c t
 
 -- alike, and calm all along
 abbrev pub Shared : Source → Program → Config → State → Type 0
-Shared s p c t = Alike s p c t × StaysCalm s c
+Shared s p c t = Alike s p c t × StaysCalm s p c

@@ -1,14 +1,16 @@
-//! The step law of forms without bodies, over the whole definitions: the code that gen_forms gives for a form goes with the
-//! evaluation of the form, transition by transition. There is no code here.
+//! The step law of forms without bodies and of methods that are called, over the whole definitions: the code that gen_forms
+//! gives for a form goes with the evaluation of the form, transition by transition. There is no code here.
 //!
 //! - `specs::Covered`: the forms whose code is followed: nil, true, false, self, integers, strings, symbols, variables and
 //!   constants with their assignments, locals, Arrays with splats, Hashes, Ranges, texts, sequences, branches, `and` and
-//!   `or`, loops with break and next, elements of multiple assignments, `defined?`, other names of methods, calls of a
-//!   name alone, calls of a value and of self with plain items and no block. Operators are calls by look-up and row, and
-//!   `puts` is the iteration that it is, plan by plan.
+//!   `or`, loops with break and next, `return`, elements of multiple assignments, `defined?`, other names of methods,
+//!   calls of a name alone, calls of a value and of self with plain items and no block. Operators are calls by look-up and
+//!   row, and `puts` is the iteration that it is, plan by plan.
 //! - `specs::Plain`: the same as a condition on a form alone
 //! - `specs::Simple`: those over nil, true, false and integers, with operators and `puts`, whose evaluation calls no body
-//! - `specs::Calm`: what is asked of an evaluation otherwise: it calls no body of the source
+//! - `specs::Covers`: what defines a method besides, at the top of a body or in a sequence there
+//! - `specs::Methods`: code of the body of a method with required parameters, and a store whose methods have such code
+//! - `specs::Calm`: what is asked of an evaluation otherwise: it calls no bodies of the source but those of such methods
 //! - `specs::Implements`: code of a source, and what it means that code implements a source
 //! - `specs::Behind`: the code behind each part of a form that waits for its value
 //! - `specs::Relation`: when a configuration and a state are alike (`Alike`): one world on both sides; the focus goes with
@@ -41,7 +43,7 @@ ghost use Rattle.step_laws.specs.Relation.{Alike, Shared};
 ghost use Rattle.step_laws.specs.Simple.{IsSimple};
 ghost use Rattle.step_laws.specs.Plain.{IsPlain};
 ghost use Rattle.step_laws.specs.Implements.{IsCodeOf, Implements};
-ghost use Rattle.step_laws.specs.Example.{countdown, gatherer, IsWitness, IsPlainWitness};
+ghost use Rattle.step_laws.specs.Example.{countdown, gatherer, chooser, IsWitness, IsPlainWitness, IsMethodWitness};
 
 /// From a configuration and a state that are alike a transition is matched by few turns, after which they are alike again;
 /// what waits below the running frame, and in other fibers, may be anything that is alike. Both begin alike.
@@ -51,29 +53,32 @@ pub fn each_transition_is_matched()
         → Alike s p (opening s input) (start p input) }
 {}
 
-/// Code of a source implements it, for each input with which the evaluation calls no body of the source.
+/// Code of a source implements it, for each input with which the evaluation calls no bodies of the source but those of
+/// methods with code.
 #[tactic(auto, using(crate::proofs::Whole::implements))]
 pub fn code_implements()
-    ensures { (s : Source) (p : Program) (input : List ℕ) → IsCodeOf s p → StaysCalm s (opening s input)
-        → Implements s p input }
+    ensures { (s : Source) (p : Program) (input : List ℕ) → IsCodeOf s p
+        → StaysCalm s p (opening s input) → Implements s p input }
 {}
 
 /// The evaluation of simple forms calls none, so code of a main program of them implements it, for every input.
 #[tactic(auto, using(crate::proofs::Calms::stays_calm, crate::proofs::Simply::simply))]
 pub fn simple_code_implements()
-    ensures calm { (s : Source) (input : List ℕ) → IsSimple (form_of (body_at s 0)) → StaysCalm s (opening s input) }
+    ensures calm { (s : Source) (p : Program) (input : List ℕ) → IsSimple (form_of (body_at s 0))
+        → StaysCalm s p (opening s input) }
     ensures implemented { (s : Source) (p : Program) (input : List ℕ) → IsSimple (form_of (body_at s 0)) → IsCodeOf s p
         → Implements s p input }
 {}
 
 /// The code that gen_forms gives for a program of plain forms within the limits is code of it, so it implements it for
-/// each input with which the evaluation calls no body.
+/// each input with which the evaluation keeps to that.
 #[tactic(auto, using(crate::proofs::Coded::program_is_code, crate::proofs::Coded::program_implements))]
 pub fn plain_programs_are_coded()
     ensures coded { (b : Body) → IsProgram b → first_excess (need b) ≡ None → IsPlain (form.form_of b)
         → IsCodeOf (source_of b) (program 2 (coded_program b)) }
     ensures implemented { (b : Body) (input : List ℕ) → IsProgram b → first_excess (need b) ≡ None
-        → IsPlain (form.form_of b) → StaysCalm (source_of b) (opening (source_of b) input)
+        → IsPlain (form.form_of b)
+        → StaysCalm (source_of b) (program 2 (coded_program b)) (opening (source_of b) input)
         → Implements (source_of b) (program 2 (coded_program b)) input }
 {}
 
@@ -98,4 +103,12 @@ pub fn a_program_counts_down()
 #[tactic(auto, using(crate::proofs::Example::gathers))]
 pub fn a_program_gathers()
     ensures { IsPlainWitness gatherer }
+{}
+
+/// There is one that defines methods with parameters, one of which calls the other, with a return: its code is code of it
+/// and of the bodies of its methods, there are no others with a body when the first is called, and both sides come to
+/// the same end.
+#[tactic(auto, using(crate::proofs::Methods::chooses))]
+pub fn a_program_calls_methods()
+    ensures { IsMethodWitness chooser }
 {}

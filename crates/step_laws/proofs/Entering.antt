@@ -1,0 +1,363 @@
+-- The body of a method is entered: its frame is opened and ENTER binds its arguments, in one transition and two turns.
+use Rattle.std.proofs.Common.{◌≡◌, ◌⊎◌, inl, inr, ℕ, zero, suc, ◌+◌, ◌-◌, ◌<◌, List, [], ◌∷◌, ◌++◌, refl, sym, ap, ◌∙◌, subst, arith, length, length-append, get_or, Bool}
+use Rattle.std.specs.Prelude.{if◌then◌else◌, is_some, Option, Some, None}
+use Rattle.std.proofs.lemmas.List.{get_or_push}
+use Rattle.rb_value.specs.declared.value.Value.{Value}
+use Rattle.def_core.specs.declared.bound.Bound.TheVariants.{Values, Wrong}
+use Rattle.def_core.specs.declared.bound.BindKind.{BindKind}
+use Rattle.def_core.specs.declared.bound.BindKind.TheVariants as kinds
+use Rattle.def_core.specs.Bind.{Binding, least, most, bind as bind_arguments}
+use Rattle.rb_value.specs.declared.method.Shape.{Shape}
+use Rattle.rite_code.specs.Code.{Program}
+use Rattle.rite_code.specs.declared.operation.Operation.TheVariants as op
+use Rattle.ir_core.specs.CoreForm.{Parameters, Body}
+use Rattle.gen_parts.specs.Pieces.{behind}
+use Rattle.gen_forms.specs.Gen.{first_spot, parameters}
+use Rattle.path_eval.specs.Steps.{times}
+use Rattle.def_core.specs.declared.cause.Cause.{Cause}
+use Rattle.def_core.specs.declared.cause.Cause.TheVariants as cause
+use Rattle.def_core.specs.Changes.{fails as failures}
+use Rattle.def_core.specs.Store.{next_number}
+use Rattle.rb_value.specs.declared.value.ObjId.{ObjId}
+use Rattle.rb_value.specs.declared.exit.Exit.TheVariants.{Raise}
+use Rattle.def_calls.specs.World.{World, Answer, Result, raises, fail, Activation, no_activation, activation_at, next_activation, with_activation, with_store}
+use Rattle.def_calls.specs.Calls.{Opening}
+use Rattle.def_eval.specs.Source.{Source, body_at, form_of, parameters_of, locals_of}
+use Rattle.def_eval.specs.Configuration as source
+use Rattle.def_eval.specs.Configuration.{Scope, raise, Item, activation, perform, travel, Config, Run, seen}
+use Rattle.def_eval.specs.Scopes.{first_variables, block_value}
+use Rattle.def_eval.specs.Entering.{after, after_result, first_of, next_place, open_bound, open_body}
+use Rattle.def_eval.specs.Transition.{go}
+use Rattle.def_machine.specs.State as machine
+use Rattle.def_machine.specs.State.{Registers, Level, frame, State, On, fresh_registers, shown}
+use Rattle.def_machine.specs.Entering.{new_frame, open_frame, first_of as first_of_machine}
+use Rattle.def_machine.specs.Unwind.{throw, after as after_machine, after_result as after_result_machine}
+use Rattle.def_machine.specs.Turn.{turn, enter_by, block_value as block_value_machine}
+use Rattle.step_laws.specs.Site.{Site, at_line}
+use Rattle.step_laws.specs.Covered.{Covered}
+use Rattle.step_laws.specs.Calm.{Quiet}
+use Rattle.step_laws.specs.Standing.{Rest, frame_at}
+use Rattle.step_laws.specs.Methods.{MethodAt, OpensMethod}
+use Rattle.step_laws.specs.Relation.{returns, Ground, over_levels, Waits, Same, SiteIs, Both, Running, raised, Alike, Advances}
+use Rattle.step_laws.proofs.Covers.{at_top}
+use Rattle.step_laws.proofs.Placed.{line-behind, turned}
+use Rattle.step_laws.proofs.Untouched.{same_activations, below_running}
+use Rattle.step_laws.proofs.Opened.{waits_more, opened}
+use Rattle.step_laws.proofs.Parameters.{set_row}
+use Rattle.step_laws.proofs.Begun.{begun_same, nil_same}
+use Rattle.step_laws.proofs.Bound.{required_shape, shape_is, shape_is_too, Binds, fit, wrong, binds, written_row}
+use Rattle.step_laws.proofs.Matching.{one_turn}
+use Rattle.step_laws.proofs.Calling.{Origin, Worlds}
+
+-- a transition that is matched by two turns, the first of which shows what stands after it
+pub two_turns : (s : Source) (p : Program) (c : Config) (t u v : State) → shown t ≡ seen c → turn p t ≡ u
+    → shown u ≡ seen (go s c) → turn p u ≡ v → Alike s p (go s c) v → Advances s p c t
+two_turns s p c t u v e one e' two r = record {
+  turns = 2;
+  few = omega arith;
+  related = subst (Alike s p (go s c)) (sym (ap (turn p) one ∙ two)) r;
+  between = between;
+  falls = λ z. absurd (omega arith);
+}
+  where
+    between : (j : ℕ) → j < 2 → (shown (times j (turn p) t) ≡ seen c) ⊎ (shown (times j (turn p) t) ≡ seen (go s c))
+    between zero l = inl e
+    between (suc zero) l = inr (ap shown one ∙ e')
+    between (suc (suc j)) l = absurd (omega arith)
+
+module _ (s : Source) (p : Program) (c : Config) (ls : List Level) (k : machine.Memory) (m : source.Memory)
+    (from : Origin s c ls k m) (o : Opening) (w : World) (ks : List Item) (m' : source.Memory) (g : Ground)
+    (gs : List Level) (k' : machine.Memory) (goes : go s c ≡ open_body s o ks m' w)
+    (turns : turn p (On ls k) ≡ open_frame p o w gs k') (is : OpensMethod s p w o)
+    (both : Worlds s p (over_levels g gs) m m' k') (waits : Waits g.sites g.fiber k'.lists ks m'.place gs) where
+  abbrev b : Body
+  b = body_at s o.body
+
+  abbrev ps : Parameters
+  ps = parameters_of b
+
+  -- the site of the run
+  abbrev d : Site
+  d = record {
+    source = s;
+    program = p;
+    body = o.body;
+    activation = next_activation w;
+    list = length k'.lists;
+    self = o.activation.self;
+    runs = o.activation.runs;
+    wide = is.code.wide;
+    at = is.code.at;
+    context = is.code.context;
+    first = is.code.first;
+  }
+
+  at : MethodAt d
+  at = is.code.everywhere (next_activation w) (length k'.lists) o.activation.self o.activation.runs
+
+  abbrev x : Rest
+  x = record { after = 0; waits = 0; arguments = o.arguments; block = o.block; binds = o.binds }
+
+  -- ENTER takes the arguments away
+  abbrev y : Rest
+  y = record { after = 0; waits = 0; arguments = []; block = o.block; binds = o.binds }
+
+  abbrev scope : Scope
+  scope = record {
+    parent = first_of o.scopes;
+    variables = first_variables ps (locals_of b) o.arguments o.block;
+  }
+
+  abbrev fresh : Registers
+  fresh = fresh_registers (machine.body_at p o.body) (first_of_machine o.scopes) o.activation.self
+
+  -- its registers, when ENTER has bound the arguments
+  abbrev registers : Registers
+  registers = record fresh { slots = set_row fresh.slots 1 (o.arguments ++ block_value_machine o.block ∷ []) }
+
+  -- both sides come to that world
+  abbrev u : World
+  u = with_activation (with_store w w.store) o.activation
+
+  abbrev memory : source.Memory
+  memory = record m' { place = next_place m' w; scopes = m'.scopes ++ scope ∷ []; world = u }
+
+  abbrev memory_too : machine.Memory
+  memory_too = record k' { lists = k'.lists ++ registers ∷ []; world = u }
+
+  abbrev conf : Config
+  conf = Run (perform (o.body + 1) (form_of b)) (activation (next_activation w) m'.place ∷ ks) memory
+
+  opened_frame : open_frame p o w gs k' ≡ On (frame (frame_at d x 0) ∷ gs)
+      (record k' { lists = k'.lists ++ fresh ∷ []; world = with_activation w o.activation })
+  opened_frame =
+      ap (λ (i : ℕ). On (frame (record (new_frame o w k') { place = i }) ∷ gs)
+      (record k' { lists = k'.lists ++ fresh ∷ []; world = with_activation w o.activation })) (sym at.begins)
+
+  -- what a site of the run needs besides its scope and its list
+  site_of : (cs : List Scope) (l : List Registers) (v : World)
+      → v.activations ≡ w.activations ++ o.activation ∷ [] → Same d cs l → SiteIs s p d cs l v
+  unfolding activation_at
+  site_of cs l v e same =
+      let acts = w.activations in
+      let last : get_or v.activations (length acts + 1 - 1) no_activation ≡ o.activation =
+      ap (λ (xs : List Activation). get_or xs (length acts + 1 - 1) no_activation) e
+      ∙ get_or_push acts o.activation no_activation (length acts + 1 - 1) (omega arith) in
+      record {
+        source = refl;
+        program = refl;
+        static = at.static;
+        same = same;
+        from_one = omega arith;
+        opened = omega (arith, ap length e, length-append acts (o.activation ∷ []));
+        self = ap (λ (q : Activation). q.self) last;
+        runs = ap (λ (q : Activation). q.runs) last;
+        home = ap (λ (q : Activation). q.home) last ∙ is.home;
+      }
+
+  -- the arguments fit
+  module _ (right : length o.arguments ≡ length ps.required)
+      (fits : bind_arguments w.store (required_shape (length ps.required)) o.arguments kinds.Method
+      ≡ record { bound = Values o.arguments 0; store = w.store }) where
+    went : go s c ≡ conf
+    went =
+        goes
+        ∙ ap (λ (q : Shape). open_bound o b (bind_arguments w.store q o.arguments o.binds) ks m' w) (shape_is ps at.required)
+        ∙ ap (λ (q : BindKind). open_bound o b (bind_arguments w.store (required_shape (length ps.required)) o.arguments q) ks m' w)
+        is.binds
+        ∙ ap (λ (q : Binding). open_bound o b q ks m' w) fits
+
+    entered_frame : turn p (On (frame (frame_at d x 0) ∷ gs)
+        (record k' { lists = k'.lists ++ fresh ∷ []; world = with_activation w o.activation }))
+        ≡ On (frame (frame_at d y 1) ∷ gs) memory_too
+    entered_frame =
+        let k1 : machine.Memory =
+        record k' { lists = k'.lists ++ fresh ∷ []; world = with_activation w o.activation } in
+        let e = op.Enter (parameters ps) in
+        let f = frame_at d x 0 in
+        let by : Binding → State = λ q. enter_by p (parameters ps) q (at_line d (0 + 1)) f gs k1 in
+        turned d x 0 e gs k1 at.enters
+        ∙ ap (λ (q : Shape). by (bind_arguments w.store q o.arguments o.binds)) (shape_is_too ps at.required)
+        ∙ ap (λ (q : BindKind). by (bind_arguments w.store (required_shape (length ps.required)) o.arguments q)) is.binds
+        ∙ ap by fits
+        ∙ ap (λ (q : machine.Memory). On (frame (frame_at d y 1) ∷ gs) q)
+        (written_row (machine.with_world k' u) k'.lists fresh f 1 (o.arguments ++ block_value_machine o.block ∷ []) refl)
+
+    quiet : Quiet m conf
+    quiet = subst (Quiet m) went from.quiet
+
+    base : Both s p (over_levels g gs) (source.with_world m' u) (machine.with_world k' u)
+    base = both u quiet.1
+
+    runs : SiteIs s p d (m'.scopes ++ scope ∷ []) (k'.lists ++ registers ∷ []) u
+        → Alike s p conf (On (frame (frame_at d y 1) ∷ gs) memory_too)
+    runs new = (
+      record { sites = g.sites ++ d ∷ []; fiber = g.fiber; below = gs },
+      d,
+      opened s p g gs (source.with_world m' u) (machine.with_world k' u) d scope registers (next_place m' w) u ks m'.place
+          base waits base.sites.lists new (same_activations u u refl),
+      record {
+        x = y;
+        n = 1;
+        r = d.first;
+        is = refl;
+        there = ap (λ (i : ℕ). record { activation = next_activation w; scope = i })
+            (base.sites.scopes ∙ sym base.sites.lists);
+        loop = d.context.loop;
+        s = behind (first_spot o.body);
+        here = line-behind (first_spot o.body);
+        covered = at_top d d.context.loop d.first (behind (first_spot o.body)) (o.body + 1) (form_of b)
+            (subst (λ (i : Bool). Covered d i d.first (form_of b)) (sym (ap is_some at.outside)) at.covered);
+        above = omega arith;
+        code = at.code;
+        next = (
+          record {
+            is = refl;
+            by = returns at.ends (waits_more g.sites d g.fiber k'.lists registers base.sites.lists ks m'.place gs waits);
+          },
+          at.outside,
+        );
+      },
+    )
+
+    begins : SiteIs s p d (m'.scopes ++ scope ∷ []) (k'.lists ++ registers ∷ []) u → Advances s p c (On ls k)
+    unfolding shown seen
+    begins new =
+        two_turns s p c (On ls k) (On (frame (frame_at d x 0) ∷ gs)
+        (record k' { lists = k'.lists ++ fresh ∷ []; world = with_activation w o.activation }))
+        (On (frame (frame_at d y 1) ∷ gs) memory_too) from.alike (turns ∙ opened_frame)
+        (sym (ap seen went)) entered_frame
+        (subst (λ (q : Config). Alike s p q (On (frame (frame_at d y 1) ∷ gs) memory_too)) (sym went) (runs new))
+
+  -- The arguments are too many or too few: ENTER raises, in the body.
+  module _ (wrongly : bind_arguments w.store (required_shape (length ps.required)) o.arguments kinds.Method
+      ≡ record { bound = Wrong (length o.arguments); store = w.store }) where
+    -- its scope, all of whose variables are nil
+    abbrev empty : Scope
+    empty = record { parent = first_of o.scopes; variables = first_variables ps (locals_of b) [] None }
+
+    abbrev inside : source.Memory
+    inside = record m' { place = next_place m' w; scopes = m'.scopes ++ empty ∷ []; world = u }
+
+    abbrev cause_of : Shape → Cause
+    cause_of q = cause.WrongCount (length o.arguments) (least q) (if q.rest then None else Some (most q))
+
+    abbrev failure : Answer
+    failure = fail u (cause_of (required_shape (length ps.required)))
+
+    abbrev thrown : ObjId
+    thrown = next_number (failures u.store (cause_of (required_shape (length ps.required)))).store
+
+    fails : failure.result ≡ raises thrown
+    unfolding fail failures
+    fails = refl
+
+    out_same : failure.world.out ≡ w.out
+    unfolding fail failures
+    out_same = refl
+
+    activations_same : failure.world.activations ≡ w.activations ++ o.activation ∷ []
+    unfolding fail failures
+    activations_same = refl
+
+    abbrev left : Config
+    left = Run (travel (raise thrown)) (activation (next_activation w) m'.place ∷ ks) (source.with_world inside failure.world)
+
+    went_wrong : go s c ≡ left
+    went_wrong =
+        goes
+        ∙ ap (λ (q : Shape). open_bound o b (bind_arguments w.store q o.arguments o.binds) ks m' w)
+        (shape_is ps at.required)
+        ∙ ap (λ (q : BindKind). open_bound o b (bind_arguments w.store (required_shape (length ps.required)) o.arguments q) ks
+        m' w) is.binds
+        ∙ ap (λ (q : Binding). open_bound o b q ks m' w) wrongly
+        ∙ ap (λ (q : Shape). after (fail u (cause_of q)) (activation (next_activation w) m'.place ∷ ks) inside)
+        (shape_is ps at.required)
+        ∙ ap (λ (q : Result). after_result q failure.world (activation (next_activation w) m'.place ∷ ks) inside) fails
+
+    abbrev before : machine.Memory
+    before = record k' { lists = k'.lists ++ fresh ∷ []; world = with_activation w o.activation }
+
+    throws : turn p (On (frame (frame_at d x 0) ∷ gs) before)
+        ≡ throw p (Raise thrown) (frame (frame_at d x 0) ∷ gs) (machine.with_world before failure.world)
+    throws =
+        let e = op.Enter (parameters ps) in
+        let f = frame_at d x 0 in
+        let by : Binding → State = λ q. enter_by p (parameters ps) q (at_line d (0 + 1)) f gs before in
+        turned d x 0 e gs before at.enters
+        ∙ ap (λ (q : Shape). by (bind_arguments w.store q o.arguments o.binds)) (shape_is_too ps at.required)
+        ∙ ap (λ (q : BindKind). by (bind_arguments w.store (required_shape (length ps.required)) o.arguments q)) is.binds
+        ∙ ap by wrongly
+        ∙ ap (λ (q : Shape). after_machine p (fail u (cause_of q)) 0 (at_line d (0 + 1)) f gs (machine.with_world before u))
+        (shape_is_too ps at.required)
+        ∙ ap (λ (q : Result). after_result_machine p q 0 (at_line d (0 + 1)) f gs (machine.with_world before failure.world))
+        fails
+
+    still : Quiet m left
+    still = subst (Quiet m) went_wrong from.quiet
+
+    ground : Both s p (over_levels g gs) (source.with_world m' failure.world) (machine.with_world k' failure.world)
+    ground = both failure.world still.1
+
+    abbrev above : Ground
+    above = record { sites = g.sites ++ d ∷ []; fiber = g.fiber; below = gs }
+
+    running : SiteIs s p d (m'.scopes ++ empty ∷ []) (k'.lists ++ fresh ∷ []) failure.world
+        → Running s p above d (source.with_world inside failure.world) (machine.with_world before failure.world)
+    running new = opened s p g gs (source.with_world m' failure.world) (machine.with_world k' failure.world) d empty fresh
+        (next_place m' w) failure.world ks m'.place ground waits ground.sites.lists new
+        (same_activations failure.world failure.world refl)
+
+    raises_inside : SiteIs s p d (m'.scopes ++ empty ∷ []) (k'.lists ++ fresh ∷ []) failure.world
+        → Advances s p c (On ls k)
+    raises_inside new =
+        let run = running new in
+        one_turn s p c (On ls k) (On (frame (frame_at d x 0) ∷ gs) before) from.alike (turns ∙ opened_frame)
+        (subst (λ (q : Config). Alike s p q (On (frame (frame_at d x 0) ∷ gs) before)) (sym went_wrong) (raised (record {
+          g = over_levels above (frame (frame_at d x 0) ∷ gs);
+          e = thrown;
+          exception = refl;
+          memory = machine.with_world before failure.world;
+          throws = throws;
+          out = sym out_same;
+          both = below_running above d (source.with_world inside failure.world)
+              (machine.with_world before failure.world) run (frame_at d x 0) refl;
+          leaving = record {
+            h = d;
+            x = x;
+            at = 0;
+            below = gs;
+            is = refl;
+            site = run.site;
+            same = refl;
+            next = waits_more g.sites d g.fiber k'.lists fresh ground.sites.lists ks m'.place gs waits;
+          };
+        })))
+
+  block_same : (q : Option ObjId) → block_value_machine q ≡ block_value q
+  block_same None = refl
+  block_same (Some i) = refl
+
+  -- A transition that opens the body of a method is matched.
+  pub enters_method : length m'.scopes ≡ length k'.lists → Advances s p c (On ls k)
+  enters_method long = by (binds (length ps.required) w.store o.arguments)
+    where
+      by : Binds (length ps.required) w.store o.arguments → Advances s p c (On ls k)
+      by (fit right fits) =
+          begins right fits (site_of (m'.scopes ++ scope ∷ []) (k'.lists ++ registers ∷ []) u refl
+          (subst (λ (q : Value). Same d (m'.scopes ++ scope ∷ [])
+          (k'.lists ++ (record fresh { slots = set_row fresh.slots 1 (o.arguments ++ q ∷ []) }) ∷ [])) (sym (block_same o.block))
+          (subst (λ (q : Option ℕ). Same d (m'.scopes ++ (record {
+            parent = q;
+            variables = first_variables ps (locals_of b) o.arguments o.block;
+          }) ∷ []) (k'.lists ++ (record fresh { slots = set_row fresh.slots 1 (o.arguments ++ block_value o.block ∷ []) }) ∷ []))
+          (sym (ap first_of is.alone))
+          (begun_same d at o.arguments o.block right m'.scopes k'.lists (first_of_machine o.scopes) refl long))))
+      by (wrong wrongly) =
+          raises_inside wrongly (site_of (m'.scopes ++ empty wrongly ∷ []) (k'.lists ++ fresh ∷ []) (failure wrongly).world
+          (activations_same wrongly)
+          (subst (λ (q : Option ℕ). Same d (m'.scopes ++ (record {
+            parent = q;
+            variables = first_variables ps (locals_of b) [] None;
+          }) ∷ []) (k'.lists ++ fresh ∷ [])) (sym (ap first_of is.alone))
+          (nil_same d at m'.scopes k'.lists (first_of_machine o.scopes) refl long)))
