@@ -53,7 +53,7 @@ wide_name text at from s = Ok (
 )
 
 abbrev pub label : List ℕ → ℕ → ℕ → State → Result (State × ℕ) ℕ
-label text at end s = Ok (pushed s at (kinds.Label (spelled text at end)) contexts.Value, end + 1)
+label text at end s = Ok (pushed s at (kinds.Label (spelled text at end)) contexts.Start, end + 1)
 
 -- a colon, and no other after it
 abbrev pub is_colon : List ℕ → ℕ → Bool

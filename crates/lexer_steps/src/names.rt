@@ -124,7 +124,7 @@ fn push_label(
     ensures fault { IfErr result (λ e. IsWithin (length text.now) e) }
 {
     let name = Bytes::from_slice(alloc, &text[at..end])?;
-    lexer.push(at, TokenKind::Label(name), Context::Value)?;
+    lexer.push(at, TokenKind::Label(name), Context::Start)?;
     Ok(end + 1)
 }
 

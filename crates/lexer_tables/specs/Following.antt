@@ -7,7 +7,7 @@ use Rattle.rb_syntax.specs.declared.punctuator.Punctuator.TheVariants as marks
 use Rattle.lexer_tables.specs.declared.context.Context.{Context}
 use Rattle.lexer_tables.specs.declared.context.Context.TheVariants as contexts
 
--- a value is expected at the start, after what can't end a statement, after a label and its kin, and after a jump
+-- a value is expected at the start, after what can't end a statement, after `rescue` and its kin, and after a jump
 abbrev pub expects_value : Context → Bool
 expects_value contexts.Start = true
 expects_value contexts.Question = true

@@ -4,13 +4,13 @@ use rb_syntax::{Keyword, Punctuator};
 /// What stands before a place.
 #[derive(Clone, Copy, Debug, PartialEq, Eq)]
 pub enum Context {
-    /// The text's beginning, the end of a line or what can't end a statement.
+    /// The text's beginning, the end of a line, a label or what can't end a statement.
     Start,
     /// The `?` of a conditional: as `Start`.
     Question,
     /// `{` or `do`: as `Start`, and a `|` opens the parameters of a block.
     Block,
-    /// A label, `rescue`, `case` or the `|` that closes parameters.
+    /// `rescue`, `case` or the `|` that closes parameters.
     Value,
     /// `return`, `break` or `next`.
     Jump,

@@ -91,6 +91,11 @@ fn white_space_and_newlines(rt: HostRuntime) -> Result<(), Fail> {
             ("=begin\nx\n=end\ny", "id:y "),
             ("x\n=begin\ny", "Syntax 2 "),
             ("x = begin\n1\nend", "id:x Assign Begin 1 nl End "),
+            ("f a:\n1\nb", "id:f label:a 1 nl id:b "),
+            (
+                "{ a: # one\n\n  -1 }",
+                "OpenBrace label:a Minus 1 CloseBrace ",
+            ),
             ("a\n__END__\n'", "id:a nl "),
             ("a\n__END__\r\n'", "id:a nl "),
             ("a\n__END__ \n", "id:a nl id:__END__ nl "),
