@@ -1,5 +1,5 @@
 -- What building, executing and running on the general path do, and what is told of it.
-use Rattle.std.specs.Prelude.{◌≡◌, ℕ, List, [], ◌++◌, codes, decimal, Bool, true, false, if◌then◌else◌, Option, Some, None}
+use Rattle.std.specs.Prelude.{◌≡◌, ℕ, List, [], ◌++◌, codes, decimal, Bool, true, false, ◌&&◌, if◌then◌else◌, Option, Some, None}
 use Rattle.rb_refusal.specs.Writing.{Stream}
 use Rattle.file_maker.specs.Disk.{Disk}
 use Rattle.file_maker.specs.Storing.{IsLeft}
@@ -34,9 +34,26 @@ text_of n played.NoMemory = texts.no_memory
 text_of n played.InputFault = []
 text_of n played.OutputFault = []
 
--- the counts of a run, where they are wanted
+-- the counts of a run are told where they are wanted and the program came to an end or to its last turn
+abbrev pub has_run : Played → Bool
+has_run (played.Ended status) = true
+has_run (played.Uncaught line) = true
+has_run played.Spent = true
+has_run (played.Refused cause) = false
+has_run played.FileFault = false
+has_run played.NoMemory = false
+has_run played.InputFault = false
+has_run played.OutputFault = false
+
+abbrev pub tells_counts : Bool → Played → Bool
+tells_counts wanted p = wanted && has_run p
+
 abbrev pub counted : Bool → ℕ → ℕ → List ℕ
-counted wanted turns probes = if wanted then texts.counts turns probes else []
+counted told turns peak = if told then texts.counts turns peak else []
+
+-- what is told of a run: its counts, then the line for how it came out
+abbrev pub run_text : Run → Played → ℕ → ℕ → List ℕ
+run_text run p turns peak = counted (tells_counts run.counts p) turns peak ++ text_of run.steps p
 
 -- A source was built or executed so, and so it was told.
 abbrev pub IsBuilt : Disk → Disk → Stream → Stream → List ℕ → List ℕ → End → Type 0
@@ -59,5 +76,5 @@ Executes before after given told n source file (Some end) = IsExecuted before af
 -- a file was run so, and so it was told, with its counts where they were wanted
 abbrev pub IsRun : Disk → Disk → Stream → Stream → Run → End → Type 0
 IsRun before after given told run end =
-    (p : Played) × (turns : ℕ) × (probes : ℕ) × exec.Runs before after run.file p
-    × IsAnswer (text_of run.steps p ++ counted run.counts turns probes) (end_of p) given told end
+    (p : Played) × (turns : ℕ) × (peak : ℕ) × exec.Runs before after run.file p
+    × IsAnswer (run_text run p turns peak) (end_of p) given told end

@@ -11,3 +11,4 @@ pub mod Reporting
 pub mod Answer
 pub mod Status
 pub mod General
+pub mod Sampling

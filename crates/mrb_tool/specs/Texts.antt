@@ -21,9 +21,9 @@ refused r = line (codes "refused: " ++ refusal_text r)
 abbrev pub spent : ℕ → List ℕ
 spent n = line (codes "spent: " ++ decimal n ++ codes " turns")
 
--- how many turns a run made, and how many classes and modules its searches for methods asked
+-- how many turns a run made, and its peak
 abbrev pub counts : ℕ → ℕ → List ℕ
-counts turns probes = line (codes "turns: " ++ decimal turns) ++ line (codes "probes: " ++ decimal probes)
+counts turns peak = line (codes "turns " ++ decimal turns ++ codes " peak " ++ decimal peak)
 
 abbrev pub no_memory : List ℕ
 no_memory = line (codes "no memory")

@@ -110,3 +110,15 @@ run_after words = options_of words >>= λ o. of_file o.0 (stats_of o.1).0 (one_f
 abbrev pub run_of : List (List ℕ) → Option Run
 run_of [] = None
 run_of (word ∷ words) = if bytes_eq word (codes "run") then run_after words else None
+
+-- the size of a sample that a number may be
+abbrev pub sample_size : Option ℕ → Option ℕ
+sample_size None = None
+sample_size (Some n) = if nat_le 1 n && nat_le n 200 then Some n else None
+
+-- the size of the sample that the words ask for, which are no run and none of the commands
+abbrev pub sample_of : List (List ℕ) → Option ℕ
+sample_of [] = None
+sample_of (word ∷ []) = None
+sample_of (word ∷ (size ∷ [])) = if bytes_eq word (codes "sample") then sample_size (number_of size) else None
+sample_of (word ∷ (size ∷ (other ∷ words))) = None

@@ -1,70 +1,61 @@
-//! The general path: `build` and `exec` of sources that have a form beyond those of the first path, and `run`.
+//! The general path: `build` and `exec` of sources that have a form beyond those of the first path, `run`, `sample`.
 
 ghost use Rattle.std.specs.Prelude.{◌≡◌, ◌++◌, ℕ, List, Some, map, string_bytes, MatchOption};
 ghost use Rattle.rb_refusal.specs.Writing.{Says};
 ghost use Rattle.mrb_tool.specs.Asked.{command_meant, run_meant};
 ghost use Rattle.mrb_tool.specs.General as general;
 ghost use Rattle.mrb_tool.specs.Words as meant;
-ghost use Rattle.mrb_tool.specs.Words.{command_of, run_of};
+ghost use Rattle.mrb_tool.specs.Sampling.{Samples};
+ghost use Rattle.mrb_tool.specs.Words.{command_of, run_of, sample_of};
 
 use crate::end::End;
+use crate::played::{end_of, tell};
+use crate::sampling::sample;
 use crate::sending::send_answer;
-use crate::texts::{tell_counts, tell_file_fault, tell_no_memory, tell_refused, tell_spent};
+use crate::texts::tell_counts;
 use crate::told::OfSink;
-use crate::words::{Command, Run, read_run, read_words};
+use crate::words::{Command, Run, read_run, read_sample, read_words};
 use file_maker::OfFiles;
-use rb_base::{Buffered, Failed, Files, Sink, Source, write_all};
+use rb_base::{Buffered, Failed, Files, Sink, Source};
 use rb_exec::{Counts, Played, build, exec, run};
 use std::alloc::Global;
 
-/// The answer that is given for a program that came out so.
-fn end_of(played: &Played) -> End
-    ensures { result ≡ general.end_of played.now }
+/// Whether the counts of a run that came out so are told: where they are wanted, and the program came to an end or to the
+/// last turn that was allowed.
+fn tells_counts(wanted: bool, played: &Played) -> bool
+    ensures { result ≡ general.tells_counts wanted played.now }
 {
-    match played {
-        Played::Ended(status) => End::Ended(*status),
-        Played::Uncaught(_) => End::Uncaught,
-        Played::Spent => End::Spent,
-        Played::Refused(refusal) => End::Refused(*refusal),
-        Played::FileFault => End::FileFault,
-        Played::NoMemory => End::NoMemory,
-        Played::InputFault => End::InputFault,
-        Played::OutputFault => End::OutputFault,
-    }
+    wanted
+        && matches!(
+            played,
+            Played::Ended(_) | Played::Uncaught(_) | Played::Spent
+        )
 }
 
-/// Writes the line for a program of at most `steps` turns that came out so, if there is one.
-fn tell<E: Sink>(played: &Played, steps: u64, err: &mut E) -> Result<(), Failed>
-    ensures { Says (general.text_of steps played.now)
+/// Writes the counts of a run, where they are told.
+fn tell_counted<E: Sink>(told: bool, counts: Counts, err: &mut E) -> Result<(), Failed>
+    ensures { Says (general.counted told counts.turns counts.peak)
         (⟦<E as OfSink>⟧.told err.old) (⟦<E as OfSink>⟧.told err.new) result }
 {
-    match played {
-        Played::Ended(_) | Played::InputFault | Played::OutputFault => Ok(()),
-        Played::Uncaught(line) => write_all(err, line),
-        Played::Spent => tell_spent(err, steps),
-        Played::Refused(refusal) => tell_refused(err, *refusal),
-        Played::FileFault => tell_file_fault(err),
-        Played::NoMemory => tell_no_memory(err),
+    if told {
+        tell_counts(err, counts)
+    } else {
+        Ok(())
     }
 }
 
-/// Writes that line, and the counts of the run where they are wanted.
+/// Writes the counts of a run that came out so, where they are told, and then the line for it.
 fn tell_run<E: Sink>(
     played: &Played,
     asked: Run<'_>,
     counts: Counts,
     err: &mut E,
 ) -> Result<(), Failed>
-    ensures { Says (general.text_of asked.entry.steps played.now
-        ++ general.counted asked.entry.counts counts.turns counts.probes)
+    ensures { Says (general.run_text (run_meant asked.entry) played.now counts.turns counts.peak)
         (⟦<E as OfSink>⟧.told err.old) (⟦<E as OfSink>⟧.told err.new) result }
 {
-    tell(played, asked.steps, err)?;
-    if asked.counts {
-        tell_counts(err, counts)
-    } else {
-        Ok(())
-    }
+    tell_counted(tells_counts(asked.counts, played), counts, err)?;
+    tell(played, asked.steps, err)
 }
 
 /// Runs a file, and tells of it.
@@ -152,8 +143,8 @@ fn obey<F: Files, S: Source, O: Sink + Drop, E: Sink + Drop>(
 /// Does what the words ask, and tells of it, where it is for the general path. Nothing is done for other words and other
 /// sources. `build` ends with 0, and `exec` runs, only where the file holds the file of the source, whose code is
 /// verified; every other file is as before, and that file too where the source is refused, which it is exactly for its
-/// first count past the limit. `run` changes no file.
-#[tactic(auto, using(crate::proofs::Alone::alone))]
+/// first count past the limit. `run` changes no file, and `sample` touches neither files nor the input.
+#[tactic(auto, using(crate::proofs::Alone::alone, crate::proofs::Alone::no_run, crate::proofs::Alone::no_command))]
 pub fn play<F: Files, S: Source, O: Sink + Drop, E: Sink + Drop>(
     alloc: Global,
     words: &[String],
@@ -172,9 +163,18 @@ pub fn play<F: Files, S: Source, O: Sink + Drop, E: Sink + Drop>(
     ensures ran { (run : meant.Run) → run_of (map string_bytes words.now) ≡ Some run →
         MatchOption result ⊥ (general.IsRun (⟦<F as OfFiles>⟧.told files.old) (⟦<F as OfFiles>⟧.told files.new)
         (⟦<Buffered<E> as OfSink>⟧.told err.old) (⟦<Buffered<E> as OfSink>⟧.told err.new) run) }
+    ensures sampled { (size : ℕ) → sample_of (map string_bytes words.now) ≡ Some size →
+        MatchOption result ⊥ (Samples size
+        (record { out = ⟦<Buffered<O> as OfSink>⟧.told out.old; err = ⟦<Buffered<E> as OfSink>⟧.told err.old })
+        (record { out = ⟦<Buffered<O> as OfSink>⟧.told out.new; err = ⟦<Buffered<E> as OfSink>⟧.told err.new })) }
+    ensures untouched { (size : ℕ) → sample_of (map string_bytes words.now) ≡ Some size →
+        (files.new ≡ files.old) × (input.new ≡ input.old) }
 {
     if let Some(asked) = read_run(words) {
         return Some(run_file(alloc, asked, files, input, out, err));
+    }
+    if let Some(size) = read_sample(words) {
+        return Some(sample(alloc, size, out, err));
     }
     obey(alloc, read_words(words)?, files, input, out, err)
 }

@@ -5,8 +5,10 @@ mod building;
 mod end;
 mod exec;
 mod general;
+mod played;
 mod report;
 mod rite;
+mod sampling;
 mod sending;
 mod showing;
 mod stop;
@@ -67,6 +69,8 @@ fn given_words(rt: &HostRuntime) -> Result<Vec<String>, Report> {
 
 #[cfg(test)]
 mod file_tests;
+#[cfg(test)]
+mod sample_tests;
 #[cfg(test)]
 mod tests;
 #[cfg(test)]

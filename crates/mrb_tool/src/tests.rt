@@ -344,5 +344,7 @@ fn refuses_words_that_are_no_command(rt: HostRuntime) -> Result<(), Fail> {
     )?;
     is_usage(&rt, rt.alloc(), &["exec", "--stats", "b"])?;
     is_usage(&rt, rt.alloc(), &["build", "a"])?;
+    is_usage(&rt, rt.alloc(), &["sample", "0"])?;
+    is_usage(&rt, rt.alloc(), &["sample", "201"])?;
     Ok(())
 }

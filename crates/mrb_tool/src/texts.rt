@@ -31,20 +31,20 @@ pub fn tell_spent<E: Sink>(err: &mut E, steps: u64) -> Result<(), Failed>
     )
 }
 
-/// Writes how many turns a run made, and how many classes and modules its searches for methods asked.
+/// Writes how many turns a run made, and its peak.
 pub fn tell_counts<E: Sink>(err: &mut E, counts: Counts) -> Result<(), Failed>
-    ensures { Says (texts.counts counts.turns counts.probes)
+    ensures { Says (texts.counts counts.turns counts.peak)
         (⟦<E as OfSink>⟧.told err.old) (⟦<E as OfSink>⟧.told err.new) result }
 {
     let mut turns = Buffer::new();
-    let mut probes = Buffer::new();
+    let mut peak = Buffer::new();
     write_pieces(
         err,
         &[
-            b"turns: ",
+            b"turns ",
             turns.format(counts.turns).as_bytes(),
-            b"\nprobes: ",
-            probes.format(counts.probes).as_bytes(),
+            b" peak ",
+            peak.format(counts.peak).as_bytes(),
             b"\n",
         ],
     )

@@ -1,8 +1,10 @@
 //! What the words after the program's name mean.
-ghost use Rattle.std.specs.Prelude.{◌≡◌, true, nat_le, if◌then◌else◌, map, string_bytes};
-ghost use Rattle.mrb_tool.specs.Words.{is_digit, are_digits, is_numeral, value_after, most_turns, number_of, is_name, two_files, one_file, options_of, exec_of, command_of, stats_of, run_after, run_of};
+ghost use Rattle.std.specs.Prelude.{◌≡◌, ◌≤◌, IfSome, true, nat_le, if◌then◌else◌, map, string_bytes};
+ghost use Rattle.mrb_tool.specs.Words.{is_digit, are_digits, is_numeral, value_after, most_turns, number_of, is_name, two_files, one_file, options_of, exec_of, command_of, stats_of, run_after, run_of, sample_size, sample_of};
 ghost use Rattle.mrb_tool.specs.Asked.{asked, run_asked};
 ghost use Rattle.std.specs.Option.{option_map};
+
+use sample_source::LARGEST;
 
 /// What the words ask for.
 #[derive(Clone, Copy, Debug)]
@@ -107,6 +109,30 @@ fn stats(words: &[String]) -> (bool, &[String])
     match words {
         [word, rest @ ..] if word.as_bytes() == b"--stats".as_slice() => (true, rest),
         _ => (false, words),
+    }
+}
+
+/// The size of the sample that the words ask for, if they do.
+pub fn read_sample(words: &[String]) -> Option<u64>
+    ensures asked { result ≡ sample_of (map string_bytes words.now) }
+    ensures within { IfSome result (λ size. size ≤ 200) }
+{
+    match words {
+        [word, size] if word.as_bytes() == b"sample".as_slice() => sample_size(size.as_bytes()),
+        _ => None,
+    }
+}
+
+// The size of a sample that the word spells.
+fn sample_size(word: &[u8]) -> Option<u64>
+    ensures spelled { result ≡ sample_size (number_of word.now) }
+    ensures within { IfSome result (λ size. size ≤ 200) }
+{
+    let size = number(word)?;
+    if 1 <= size && size <= LARGEST {
+        Some(size)
+    } else {
+        None
     }
 }
 

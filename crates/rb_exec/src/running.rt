@@ -24,11 +24,11 @@ pub enum Played {
     OutputFault,
 }
 
-/// How many turns a run made, and how many classes and modules the searches for methods asked.
+/// How many turns a run made, and its peak: the most blocks of 64 registers that its frames held at once.
 #[derive(Clone, Copy, Debug, Default, PartialEq, Eq)]
 pub struct Counts {
     pub turns: u64,
-    pub probes: u64,
+    pub peak: usize,
 }
 
 /// The line of an exception that nothing rescued: its class and its message.
@@ -76,7 +76,7 @@ pub(crate) fn run_code<S: Source, O: Sink + Drop>(
     let ran = machine.run(steps, input, out);
     let counts = Counts {
         turns: machine.turns(),
-        probes: machine.probes(),
+        peak: machine.peak(),
     };
     let played = match out.flush() {
         Ok(()) => come_out(&machine, ran),

@@ -1,8 +1,9 @@
-use Rattle.std.proofs.Common.{map, string_bytes, subst}
+use Rattle.std.proofs.Common.{ℕ, map, string_bytes, subst}
 use Rattle.mrb_tool.specs.Asked.{run_meant}
 use Rattle.mrb_tool.specs.General.{IsRun}
-use Rattle.mrb_tool.specs.Words.{Run, run_of}
-use Rattle.mrb_tool.proofs.Alone.{same_run}
+use Rattle.mrb_tool.specs.Sampling.{Streams, Samples}
+use Rattle.mrb_tool.specs.Words.{Run, run_of, sample_of}
+use Rattle.mrb_tool.proofs.Alone.{same_run, same_size}
 use Rattle.mrb_tool.proofs.Disks.{disk}
 use Rattle.mrb_tool.proofs.Sent.{buffered}
 use Rattle.mrb_tool.proofs.general.play.Goals as goal
@@ -16,3 +17,18 @@ returns-in-Some-clause-ran g c = λ run is.
     subst (λ (r : Run). IsRun before after given told r c.run_file.result)
     (same_run (run_meant c.in-Some.asked) run (run_of (map string_bytes c.args.words.now)) c.in-Some.ensures is)
     c.run_file.ensures
+
+pub returns-in-Some-read_sample-clause-sampled : goal.returns-in-Some-read_sample-clause-sampled
+returns-in-Some-read_sample-clause-sampled g c = λ size is.
+    let before : Streams = record {
+      out = buffered g.O.Sink.taken g.O.Sink.faults c.args.out.now;
+      err = buffered g.E.Sink.taken g.E.Sink.faults c.args.err.now;
+    } in
+    let after : Streams = record {
+      out = buffered g.O.Sink.taken g.O.Sink.faults c.sample.new.out;
+      err = buffered g.E.Sink.taken g.E.Sink.faults c.sample.new.err;
+    } in
+    subst (λ (n : ℕ). Samples n before after c.sample.result)
+    (same_size c.in-Some-read_sample.size size (sample_of (map string_bytes c.args.words.now))
+    c.in-Some-read_sample.ensures.asked is)
+    c.sample.ensures
