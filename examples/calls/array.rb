@@ -222,187 +222,194 @@ row(193) { [1, 3, 2].sort { |a, b| b <=> a } } # not Ruby's: a block of sort, mi
 row(194) { [1, 3, 2].max { |a, b| b <=> a } } # not Ruby's: a block of sort, min and max is ignored
 row(195) { ["aa", "b"].min { |a, b| a.length <=> b.length } } # not Ruby's: a block of sort, min and max is ignored
 row(196) { [3, 1, 2].sort_by { |x| [x] } }
-row(197) { [1, "a"].sort } # not Ruby's: text of a comparison
-row(198) { [1, "a"].min } # not Ruby's: text of a comparison
-row(199) { [1, "a"].max } # not Ruby's: text of a comparison
-row(200) { [1, "a"].sort! } # not Ruby's: text of a comparison
-row(201) { [nil, 1].sort } # not Ruby's: text of a comparison
-row(202) { [1, 2, 3, 4].rotate }
-row(203) { [1, 2, 3, 4].rotate(0) }
-row(204) { [1, 2, 3, 4].rotate(1) }
-row(205) { [1, 2, 3, 4].rotate(-1) }
-row(206) { [1, 2, 3, 4].rotate(5) }
-row(207) { [1, 2, 3, 4].rotate(-6) }
-row(208) { [].rotate(3) }
-row(209) { [1, [2, [3, [4]], []]].flatten }
-row(210) { [[1, 2], [3, 4], [5, 6]].transpose }
-row(211) { [].transpose }
-row(212) { [[1, 2], [3]].transpose } # not Ruby's: text of lengths
-row(213) { [1].transpose } # not Ruby's: text of a type
-row(214) { [3, 1, 3, 2, 1].uniq }
-row(215) { [3, 1, 3, 2, 1].tally }
-row(216) { ["a", :a, "a", 1].uniq }
-row(217) { ["a", :a, "a", 1].tally }
-row(218) { [1, 2, 3, 2].index(1) }
-row(219) { [1, 2, 3, 2].index(2) }
-row(220) { [1, 2, 3, 2].index(9) }
-row(221) { [1, 2, nil].include?(2) }
-row(222) { [1, 2, nil].include?(3) }
-row(223) { [1, 2, nil].include?(nil) }
-row(224) { [1, 2, 2].count }
-row(225) { [1, 2, 2].count(2) }
-row(226) { [1, 2, 2].count(3) }
-row(227) { [1, 2, 2].count { |x| x == 2 } }
-row(228) { [].all? }
-row(229) { [].any? }
-row(230) { [].none? }
-row(231) { [1, nil].all? }
-row(232) { [1, nil].any? }
-row(233) { [1, nil].none? }
-row(234) { [nil, false].all? }
-row(235) { [nil, false].any? }
-row(236) { [nil, false].none? }
-row(237) { [1, 2].all? }
-row(238) { [1, 2].any? }
-row(239) { [1, 2].none? }
-row(240) { [1, 2, 3].all? { |x| x < 3 } }
-row(241) { [1, 2, 3].all? { |x| x < 9 } }
-row(242) { [1, 2, 3].any? { |x| x < 3 } }
-row(243) { [1, 2, 3].any? { |x| x < 9 } }
-row(244) { [1, 2, 3].none? { |x| x < 3 } }
-row(245) { [1, 2, 3].none? { |x| x < 9 } }
-row(246) { [1, 2, 3].count { |x| x < 3 } }
-row(247) { [1, 2, 3].count { |x| x < 9 } }
-row(248) { [1, 2, 3].find { |x| x < 3 } }
-row(249) { [1, 2, 3].find { |x| x < 9 } }
-row(250) { [1, 2, 3].detect { |x| x < 3 } }
-row(251) { [1, 2, 3].detect { |x| x < 9 } }
-row(252) { [1, 2, 3].find_index { |x| x < 3 } }
-row(253) { [1, 2, 3].find_index { |x| x < 9 } }
-row(254) { [1, 2, 3].select { |x| x < 3 } }
-row(255) { [1, 2, 3].select { |x| x < 9 } }
-row(256) { [1, 2, 3].filter { |x| x < 3 } }
-row(257) { [1, 2, 3].filter { |x| x < 9 } }
-row(258) { [1, 2, 3].reject { |x| x < 3 } }
-row(259) { [1, 2, 3].reject { |x| x < 9 } }
-row(260) { [1, 2, 3].partition { |x| x < 3 } }
-row(261) { [1, 2, 3].partition { |x| x < 9 } }
-row(262) { [1, 2, 3].take_while { |x| x < 3 } }
-row(263) { [1, 2, 3].take_while { |x| x < 9 } }
-row(264) { [1, 2, 3].drop_while { |x| x < 3 } }
-row(265) { [1, 2, 3].drop_while { |x| x < 9 } }
-row(266) { [1, 2, 3].map { |x| -x } }
-row(267) { [1, 2, 3].collect { |x| -x } }
-row(268) { [1, 2, 3].flat_map { |x| -x } }
-row(269) { [1, 2, 3].group_by { |x| -x } }
-row(270) { [1, 2, 3].min_by { |x| -x } }
-row(271) { [1, 2, 3].max_by { |x| -x } }
-row(272) { [1, 2, 3].sort_by { |x| -x } }
-row(273) { [1, 2, 3].flat_map { |x| [x, [x]] } }
-row(274) { ["bb", "a", "cc", "d"].sort_by { |s| s.length } }
-row(275) { ["bb", "a", "cc", "d"].min_by { |s| s.length } }
-row(276) { ["bb", "a", "cc", "d"].max_by { |s| s.length } }
-row(277) { ["bb", "a", "cc", "d"].group_by { |s| s.length } }
-row(278) { [].find { |x| x } }
-row(279) { [].detect { |x| x } }
-row(280) { [].find_index { |x| x } }
-row(281) { [].min_by { |x| x } }
-row(282) { [].max_by { |x| x } }
-row(283) { [].map { |x| x } }
-row(284) { [].select { |x| x } }
-row(285) { [].partition { |x| x } }
-row(286) { [].group_by { |x| x } }
-row(287) { [].sort_by { |x| x } }
-row(288) { [].flat_map { |x| x } }
-row(289) { [1, "a"].sort_by { |x| x } } # not Ruby's: text of a comparison
-row(290) { seen([1, 2], :each) }
-row(291) { seen([1, 2], :each_index) }
-row(292) { seen([1, 2], :each_with_index) }
-row(293) { seen([1, 2], :reverse_each) }
-row(294) { seen([1, 2], :map) }
-row(295) { seen([1, 2], :select) }
-row(296) { seen([1, 2, 3, 4, 5], :each_slice, 1) }
-row(297) { seen([1, 2, 3, 4, 5], :each_slice, 2) }
-row(298) { seen([1, 2, 3, 4, 5], :each_slice, 5) }
-row(299) { seen([1, 2, 3, 4, 5], :each_slice, 6) }
-row(300) { seen([1, 2, 3, 4, 5], :each_cons, 1) }
-row(301) { seen([1, 2, 3, 4, 5], :each_cons, 2) }
-row(302) { seen([1, 2, 3, 4, 5], :each_cons, 5) }
-row(303) { seen([1, 2, 3, 4, 5], :each_cons, 6) }
-row(304) { seen([[1, 2], [3, 4]], :each) }
-row(305) { seen([[1, 2], [3, 4]], :map) }
-row(306) { seen([[1, 2], [3, 4]], :each_with_index) }
-row(307) { [1, 2].each { |x| nil } }
-row(308) { [1, 2].each_index { |x| nil } }
-row(309) { [1, 2].each_with_index { |x| nil } }
-row(310) { [1, 2].reverse_each { |x| nil } }
-row(311) { [1, 2].delete_if { |x| nil } }
-row(312) { [1, 2].each { |x| break x * 10 } }
-row(313) { [1, 2].map { |x| break x * 10 } }
-row(314) { [1, 2].select { |x| break x * 10 } }
-row(315) { [1, 2].each_index { |x| break x * 10 } }
-row(316) { [1, 2].each_slice(0) { |x| x } } # not Ruby's: text of a count
-row(317) { [1, 2].each_cons(-1) { |x| x } } # not Ruby's: text of a count
-row(318) { [1, 2].each_with_object([]) { |x, a| a << x * 2 } }
-row(319) { [[1, 2], [3, 4]].map { |a, b| a + b } }
-row(320) { [[1, 2], [3, 4]].each_with_object([]) { |(a, b), c| c << a * b } }
-row(321) { [[1, [2, 3]]].map { |a, (b, c)| [c, b, a] } }
-row(322) { [1, 2].map!{ |x| x + 1 } }
-row(323) { changed([1, 2]) { |a| a.map! { |x| x.to_s } } }
-row(324) { changed([1]) { |a| a.each { |x| a << x + 1 if x < 4 } } }
-row(325) { [1, 2, 3].map(&:to_s) }
-row(326) { [1, 2, 3].select(&:odd?) }
-row(327) { [1, 2].each } # not Ruby's: no enumerators of rows
-row(328) { [1, 2].map } # not Ruby's: no enumerators of rows
-row(329) { [1, 2].select } # not Ruby's: no enumerators of rows
-row(330) { [1, 2].each_with_index } # not Ruby's: no enumerators of rows
-row(331) { [1, 2].group_by } # not Ruby's: no enumerators of rows
-row(332) { [1, 2].sort_by } # not Ruby's: no enumerators of rows
-row(333) { [1, 2].each_index } # not Ruby's: no enumerators of rows
-row(334) { [1, 2].delete_if } # not Ruby's: no enumerators of rows
-row(335) { [1, 2].find } # not Ruby's: no enumerators of rows
-row(336) { [1, 2].partition } # not Ruby's: no enumerators of rows
-row(337) { [1, 2].flat_map } # not Ruby's: no enumerators of rows
-row(338) { [1, 2, 3].inject { |a, b| a * 10 + b } }
-row(339) { [1, 2, 3].reduce { |a, b| a * 10 + b } }
-row(340) { [1, 2, 3].inject(:+) }
-row(341) { [1, 2, 3].inject(:*) }
-row(342) { [1, 2, 3].inject(10, :-) }
-row(343) { [1, 2, 3].inject("+") }
-row(344) { [1, 2, 3].inject(4) { |a, b| a - b } }
-row(345) { [].inject { |a, b| a } }
-row(346) { [].inject(1) { |a, b| a } }
-row(347) { [5].inject(:+) }
-row(348) { [1, 2, 3].sum(10) }
-row(349) { ["a", "b"].sum("") }
-row(350) { [[1], [2]].sum([]) }
-row(351) { ["a"].sum } # not Ruby's: text of a type
-row(352) { [1, 2].inject(:nope) } # not Ruby's: text of a missing method
-row(353) { [1, 2].zip([3, 4]) }
-row(354) { [1, 2].zip([3]) }
-row(355) { [1].zip([3, 4]) }
-row(356) { [1, 2].to_a }
-row(357) { [1, 2].entries }
-row(358) { [1, 2].dup }
-row(359) { [1, 2].clone }
-row(360) { [1, 2].length }
-row(361) { [1, 2].size }
-row(362) { [1, 2].empty? }
-row(363) { [1, [2, nil]].inspect }
-row(364) { [1, [2, nil]].to_s }
-row(365) { [1, [2, [nil, "a"]], :b].join() }
-row(366) { [1, [2, [nil, "a"]], :b].join(",") }
-row(367) { [1, [2, [nil, "a"]], :b].join("--") }
-row(368) { [].join(",") }
-row(369) { [1, 2].join(1) } # not Ruby's: text of a type
-row(370) { [1, 2].freeze << 3 } # not Ruby's: freeze has no effect
-row(371) { [1, 2].nope } # not Ruby's: text of a missing method
-row(372) { [1, 2].length(1) }
-row(373) { [1, 2].index(1, 2) } # not Ruby's: one item
-row(374) { Asked.new.then { |x| [x].include?(x) } }
-row(375) { Asked.new.then { |x| [x].index(x) } }
-row(376) { Asked.new.then { |x| [x].count(x) } }
-row(377) { Asked.new.then { |x| [[x].delete(x).equal?(x), [x] == [x], {1 => x} == {1 => x}, {1 => x}.value?(x), {1 => x}.key(x)] } }
-row(378) { Asked.new.then { |x| [([x] - [x]).length, ([x] & [x]).length, ([x] | [x]).length] } }
-row(379) { Class.new(Array).new(2, 1).then { |x| [x.to_a, x.to_a.class, x.to_a.equal?(x), x.class == Array] } }
-row(380) { [1].then { |x| x.to_a.equal?(x) } }
+row(197) { (1..12).sort_by { |n| [n % 3] } }
+row(198) { [["b", 2], ["a", 3], ["b", 1], ["a"], [], ["ab", 0]].sort }
+row(199) { [["b", 2], ["a", 3], ["b", 1], ["a"], [], ["ab", 0]].min }
+row(200) { [["b", 2], ["a", 3], ["b", 1], ["a"], [], ["ab", 0]].max }
+row(201) { [[3, "a"], [2, nil], [1]].sort }
+row(202) { [[1, nil], [0], [1, 2]].sort } # not Ruby's: text of a comparison
+row(203) { [3, 1, 2].sort_by { |n| n > 1 ? [nil, n] : [n] } } # not Ruby's: text of a comparison
+row(204) { [1, "a"].sort } # not Ruby's: text of a comparison
+row(205) { [1, "a"].min } # not Ruby's: text of a comparison
+row(206) { [1, "a"].max } # not Ruby's: text of a comparison
+row(207) { [1, "a"].sort! } # not Ruby's: text of a comparison
+row(208) { [nil, 1].sort } # not Ruby's: text of a comparison
+row(209) { [1, 2, 3, 4].rotate }
+row(210) { [1, 2, 3, 4].rotate(0) }
+row(211) { [1, 2, 3, 4].rotate(1) }
+row(212) { [1, 2, 3, 4].rotate(-1) }
+row(213) { [1, 2, 3, 4].rotate(5) }
+row(214) { [1, 2, 3, 4].rotate(-6) }
+row(215) { [].rotate(3) }
+row(216) { [1, [2, [3, [4]], []]].flatten }
+row(217) { [[1, 2], [3, 4], [5, 6]].transpose }
+row(218) { [].transpose }
+row(219) { [[1, 2], [3]].transpose } # not Ruby's: text of lengths
+row(220) { [1].transpose } # not Ruby's: text of a type
+row(221) { [3, 1, 3, 2, 1].uniq }
+row(222) { [3, 1, 3, 2, 1].tally }
+row(223) { ["a", :a, "a", 1].uniq }
+row(224) { ["a", :a, "a", 1].tally }
+row(225) { [1, 2, 3, 2].index(1) }
+row(226) { [1, 2, 3, 2].index(2) }
+row(227) { [1, 2, 3, 2].index(9) }
+row(228) { [1, 2, nil].include?(2) }
+row(229) { [1, 2, nil].include?(3) }
+row(230) { [1, 2, nil].include?(nil) }
+row(231) { [1, 2, 2].count }
+row(232) { [1, 2, 2].count(2) }
+row(233) { [1, 2, 2].count(3) }
+row(234) { [1, 2, 2].count { |x| x == 2 } }
+row(235) { [].all? }
+row(236) { [].any? }
+row(237) { [].none? }
+row(238) { [1, nil].all? }
+row(239) { [1, nil].any? }
+row(240) { [1, nil].none? }
+row(241) { [nil, false].all? }
+row(242) { [nil, false].any? }
+row(243) { [nil, false].none? }
+row(244) { [1, 2].all? }
+row(245) { [1, 2].any? }
+row(246) { [1, 2].none? }
+row(247) { [1, 2, 3].all? { |x| x < 3 } }
+row(248) { [1, 2, 3].all? { |x| x < 9 } }
+row(249) { [1, 2, 3].any? { |x| x < 3 } }
+row(250) { [1, 2, 3].any? { |x| x < 9 } }
+row(251) { [1, 2, 3].none? { |x| x < 3 } }
+row(252) { [1, 2, 3].none? { |x| x < 9 } }
+row(253) { [1, 2, 3].count { |x| x < 3 } }
+row(254) { [1, 2, 3].count { |x| x < 9 } }
+row(255) { [1, 2, 3].find { |x| x < 3 } }
+row(256) { [1, 2, 3].find { |x| x < 9 } }
+row(257) { [1, 2, 3].detect { |x| x < 3 } }
+row(258) { [1, 2, 3].detect { |x| x < 9 } }
+row(259) { [1, 2, 3].find_index { |x| x < 3 } }
+row(260) { [1, 2, 3].find_index { |x| x < 9 } }
+row(261) { [1, 2, 3].select { |x| x < 3 } }
+row(262) { [1, 2, 3].select { |x| x < 9 } }
+row(263) { [1, 2, 3].filter { |x| x < 3 } }
+row(264) { [1, 2, 3].filter { |x| x < 9 } }
+row(265) { [1, 2, 3].reject { |x| x < 3 } }
+row(266) { [1, 2, 3].reject { |x| x < 9 } }
+row(267) { [1, 2, 3].partition { |x| x < 3 } }
+row(268) { [1, 2, 3].partition { |x| x < 9 } }
+row(269) { [1, 2, 3].take_while { |x| x < 3 } }
+row(270) { [1, 2, 3].take_while { |x| x < 9 } }
+row(271) { [1, 2, 3].drop_while { |x| x < 3 } }
+row(272) { [1, 2, 3].drop_while { |x| x < 9 } }
+row(273) { [1, 2, 3].map { |x| -x } }
+row(274) { [1, 2, 3].collect { |x| -x } }
+row(275) { [1, 2, 3].flat_map { |x| -x } }
+row(276) { [1, 2, 3].group_by { |x| -x } }
+row(277) { [1, 2, 3].min_by { |x| -x } }
+row(278) { [1, 2, 3].max_by { |x| -x } }
+row(279) { [1, 2, 3].sort_by { |x| -x } }
+row(280) { [1, 2, 3].flat_map { |x| [x, [x]] } }
+row(281) { ["bb", "a", "cc", "d"].sort_by { |s| s.length } }
+row(282) { ["bb", "a", "cc", "d"].min_by { |s| s.length } }
+row(283) { ["bb", "a", "cc", "d"].max_by { |s| s.length } }
+row(284) { ["bb", "a", "cc", "d"].group_by { |s| s.length } }
+row(285) { [].find { |x| x } }
+row(286) { [].detect { |x| x } }
+row(287) { [].find_index { |x| x } }
+row(288) { [].min_by { |x| x } }
+row(289) { [].max_by { |x| x } }
+row(290) { [].map { |x| x } }
+row(291) { [].select { |x| x } }
+row(292) { [].partition { |x| x } }
+row(293) { [].group_by { |x| x } }
+row(294) { [].sort_by { |x| x } }
+row(295) { [].flat_map { |x| x } }
+row(296) { [1, "a"].sort_by { |x| x } } # not Ruby's: text of a comparison
+row(297) { seen([1, 2], :each) }
+row(298) { seen([1, 2], :each_index) }
+row(299) { seen([1, 2], :each_with_index) }
+row(300) { seen([1, 2], :reverse_each) }
+row(301) { seen([1, 2], :map) }
+row(302) { seen([1, 2], :select) }
+row(303) { seen([1, 2, 3, 4, 5], :each_slice, 1) }
+row(304) { seen([1, 2, 3, 4, 5], :each_slice, 2) }
+row(305) { seen([1, 2, 3, 4, 5], :each_slice, 5) }
+row(306) { seen([1, 2, 3, 4, 5], :each_slice, 6) }
+row(307) { seen([1, 2, 3, 4, 5], :each_cons, 1) }
+row(308) { seen([1, 2, 3, 4, 5], :each_cons, 2) }
+row(309) { seen([1, 2, 3, 4, 5], :each_cons, 5) }
+row(310) { seen([1, 2, 3, 4, 5], :each_cons, 6) }
+row(311) { seen([[1, 2], [3, 4]], :each) }
+row(312) { seen([[1, 2], [3, 4]], :map) }
+row(313) { seen([[1, 2], [3, 4]], :each_with_index) }
+row(314) { [1, 2].each { |x| nil } }
+row(315) { [1, 2].each_index { |x| nil } }
+row(316) { [1, 2].each_with_index { |x| nil } }
+row(317) { [1, 2].reverse_each { |x| nil } }
+row(318) { [1, 2].delete_if { |x| nil } }
+row(319) { [1, 2].each { |x| break x * 10 } }
+row(320) { [1, 2].map { |x| break x * 10 } }
+row(321) { [1, 2].select { |x| break x * 10 } }
+row(322) { [1, 2].each_index { |x| break x * 10 } }
+row(323) { [1, 2].each_slice(0) { |x| x } } # not Ruby's: text of a count
+row(324) { [1, 2].each_cons(-1) { |x| x } } # not Ruby's: text of a count
+row(325) { [1, 2].each_with_object([]) { |x, a| a << x * 2 } }
+row(326) { [[1, 2], [3, 4]].map { |a, b| a + b } }
+row(327) { [[1, 2], [3, 4]].each_with_object([]) { |(a, b), c| c << a * b } }
+row(328) { [[1, [2, 3]]].map { |a, (b, c)| [c, b, a] } }
+row(329) { [1, 2].map!{ |x| x + 1 } }
+row(330) { changed([1, 2]) { |a| a.map! { |x| x.to_s } } }
+row(331) { changed([1]) { |a| a.each { |x| a << x + 1 if x < 4 } } }
+row(332) { [1, 2, 3].map(&:to_s) }
+row(333) { [1, 2, 3].select(&:odd?) }
+row(334) { [1, 2].each } # not Ruby's: no enumerators of rows
+row(335) { [1, 2].map } # not Ruby's: no enumerators of rows
+row(336) { [1, 2].select } # not Ruby's: no enumerators of rows
+row(337) { [1, 2].each_with_index } # not Ruby's: no enumerators of rows
+row(338) { [1, 2].group_by } # not Ruby's: no enumerators of rows
+row(339) { [1, 2].sort_by } # not Ruby's: no enumerators of rows
+row(340) { [1, 2].each_index } # not Ruby's: no enumerators of rows
+row(341) { [1, 2].delete_if } # not Ruby's: no enumerators of rows
+row(342) { [1, 2].find } # not Ruby's: no enumerators of rows
+row(343) { [1, 2].partition } # not Ruby's: no enumerators of rows
+row(344) { [1, 2].flat_map } # not Ruby's: no enumerators of rows
+row(345) { [1, 2, 3].inject { |a, b| a * 10 + b } }
+row(346) { [1, 2, 3].reduce { |a, b| a * 10 + b } }
+row(347) { [1, 2, 3].inject(:+) }
+row(348) { [1, 2, 3].inject(:*) }
+row(349) { [1, 2, 3].inject(10, :-) }
+row(350) { [1, 2, 3].inject("+") }
+row(351) { [1, 2, 3].inject(4) { |a, b| a - b } }
+row(352) { [].inject { |a, b| a } }
+row(353) { [].inject(1) { |a, b| a } }
+row(354) { [5].inject(:+) }
+row(355) { [1, 2, 3].sum(10) }
+row(356) { ["a", "b"].sum("") }
+row(357) { [[1], [2]].sum([]) }
+row(358) { ["a"].sum } # not Ruby's: text of a type
+row(359) { [1, 2].inject(:nope) } # not Ruby's: text of a missing method
+row(360) { [1, 2].zip([3, 4]) }
+row(361) { [1, 2].zip([3]) }
+row(362) { [1].zip([3, 4]) }
+row(363) { [1, 2].to_a }
+row(364) { [1, 2].entries }
+row(365) { [1, 2].dup }
+row(366) { [1, 2].clone }
+row(367) { [1, 2].length }
+row(368) { [1, 2].size }
+row(369) { [1, 2].empty? }
+row(370) { [1, [2, nil]].inspect }
+row(371) { [1, [2, nil]].to_s }
+row(372) { [1, [2, [nil, "a"]], :b].join() }
+row(373) { [1, [2, [nil, "a"]], :b].join(",") }
+row(374) { [1, [2, [nil, "a"]], :b].join("--") }
+row(375) { [].join(",") }
+row(376) { [1, 2].join(1) } # not Ruby's: text of a type
+row(377) { [1, 2].freeze << 3 } # not Ruby's: freeze has no effect
+row(378) { [1, 2].nope } # not Ruby's: text of a missing method
+row(379) { [1, 2].length(1) }
+row(380) { [1, 2].index(1, 2) } # not Ruby's: one item
+row(381) { Asked.new.then { |x| [x].include?(x) } }
+row(382) { Asked.new.then { |x| [x].index(x) } }
+row(383) { Asked.new.then { |x| [x].count(x) } }
+row(384) { Asked.new.then { |x| [[x].delete(x).equal?(x), [x] == [x], {1 => x} == {1 => x}, {1 => x}.value?(x), {1 => x}.key(x)] } }
+row(385) { Asked.new.then { |x| [([x] - [x]).length, ([x] & [x]).length, ([x] | [x]).length] } }
+row(386) { Class.new(Array).new(2, 1).then { |x| [x.to_a, x.to_a.class, x.to_a.equal?(x), x.class == Array] } }
+row(387) { [1].then { |x| x.to_a.equal?(x) } }
