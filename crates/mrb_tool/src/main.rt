@@ -1,29 +1,11 @@
 //! The program `rite`.
 #![tactic(auto)]
 
-mod building;
-mod end;
-mod exec;
-mod general;
-mod played;
-mod report;
-mod rite;
-mod sampling;
-mod sending;
-mod showing;
-mod stop;
-mod texts;
-mod told;
-mod words;
-
-use general::play;
 use rb_base::{Buffered, DiskFiles, StdSink, StdSource};
-use report::Report;
-use rite::rite;
+use rite_tool::{Report, Stop, play, rite};
 use std::env;
 use std::io::ErrorKind;
 use std::process::ExitCode;
-use stop::Stop;
 
 fn main(rt: HostRuntime) -> ExitCode {
     let mut err = Buffered::new(StdSink::new(rt.stderr()));
@@ -66,12 +48,3 @@ fn given_words(rt: &HostRuntime) -> Result<Vec<String>, Report> {
         Err(_) => Err(Report::Stopped(Stop::NoMemory)),
     }
 }
-
-#[cfg(test)]
-mod file_tests;
-#[cfg(test)]
-mod sample_tests;
-#[cfg(test)]
-mod tests;
-#[cfg(test)]
-mod trial;

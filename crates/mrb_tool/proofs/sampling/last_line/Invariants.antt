@@ -1,6 +1,0 @@
-use Rattle.std.proofs.Common.{◌≡◌, drop}
-use Rattle.mrb_tool.specs.Sampling.{line_at_end}
-use Rattle.mrb_tool.proofs.sampling.last_line.Given as goal
-
-abbrev pub invariant-bytes : goal.invariant-bytes
-invariant-bytes l = line_at_end l.line (drop l.at l.text) ≡ line_at_end l.text l.text
