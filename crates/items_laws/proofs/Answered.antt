@@ -18,7 +18,7 @@ use Rattle.items_laws.proofs.Visits.{one, settled_by, array_by}
 
 -- `map`
 
-abbrev mapping : ObjId → Shape
+abbrev pub mapping : ObjId → Shape
 mapping b = record {
   task = task.Map;
   block = b;
@@ -32,7 +32,7 @@ mapping b = record {
   holds = λ v ns xs r after h. IsArrayOf h (v.kept ++ answers ns) r after;
 }
 
-maps : (b : ObjId) → Method (mapping b)
+pub maps : (b : ObjId) → Method (mapping b)
 maps b = record {
   asks = λ held v. refl;
   calls = λ held v. refl;
@@ -61,7 +61,7 @@ mapped held after recv v s b ts is = whole next held s b alone ts (λ h items. I
 abbrev part_of : Turn → List Value
 part_of n = flat n.answer (elements_in n.held.store.objects n.answer)
 
-abbrev flattening : ObjId → Shape
+abbrev pub flattening : ObjId → Shape
 flattening b = record {
   task = task.FlatMap;
   block = b;
@@ -75,7 +75,7 @@ flattening b = record {
   holds = λ v ns xs r after h. IsArrayOf h (v.kept ++ flattened ns) r after;
 }
 
-flattens : (b : ObjId) → Method (flattening b)
+pub flattens : (b : ObjId) → Method (flattening b)
 flattens b = record {
   asks = λ held v. refl;
   calls = λ held v. refl;

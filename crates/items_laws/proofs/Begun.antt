@@ -30,10 +30,10 @@ use Rattle.iter_items.specs.Rows.{StartsVisit, starts, ByArguments, GathersVisit
 use Rattle.iter_items.specs.Sources.{source_of, place_for}
 use Rattle.iter_items.specs.Stage as over_items
 use Rattle.run_rows.specs.declared.row.StarRow.TheVariants as row
-use Rattle.core_iter.specs.Rows.{GoesOn as FollowsOf}
+use Rattle.core_iter.specs.Rows.{Starts as FirstOf, GoesOn as FollowsOf}
 use Rattle.core_iter.specs.Stage.{Stage, items}
 use Rattle.items_laws.specs.Run.{Turn, Runs, Gives, waiting}
-use Rattle.items_laws.specs.Items.{IsRunOf, of_its_own, of_those_of_each, with_arguments, gathers_in, collected_in}
+use Rattle.items_laws.specs.Items.{IsRunBy, IsRunOf, of_its_own, of_those_of_each, with_arguments, with_arguments_by, gathers_in, collected_in}
 use Rattle.items_laws.proofs.Inversion.{unmoved}
 use Rattle.items_laws.proofs.Course.{Course, Plain, course}
 use Rattle.items_laws.proofs.Fitted.{Fits}
@@ -49,6 +49,35 @@ record Visiting (held : Held) (t : Task) (recv : Value) (args : List Value) (blo
 visiting : (held : Held) (t : Task) (recv : Value) (args : List Value) (block : Option ObjId)
     (p : Planned over_items.Stage) → StartsVisit held t recv args block p → Visiting held t recv args block p
 visiting held t recv args block p (starts after q e by) = record { after = after; same = e; by_arguments = by }
+
+-- what the method wants first is what its visit begins with
+pub record Beginning (t : Task) (held : Held) (recv : Value) (s : Source) (value : Option Value) (name : Option SymId)
+    (size : ℕ) (block : Option ObjId) (p : Planned Stage) : Type 0 where
+  pub begun : Held
+  pub same : begun.store ≡ held.store
+  pub first : Planned over_items.Stage
+  pub begins : BeginsWith begun t recv s (arguments value name size) block first
+  pub moved : p ≡ as_moved items first
+
+pub beginning : (t : Task) (held : Held) (recv : Value) (s : Source) (args : List Value) (value : Option Value)
+    (name : Option SymId) (size : ℕ) (block : Option ObjId) (p : Planned Stage)
+    → (given t held args block).arguments ≡ Ok (arguments value name size)
+    → source_of (given t held args block).held.store recv (is_backwards t) ≡ Some s
+    → FirstOf (row.Items (items_row.Visits t)) held recv args block p
+    → Beginning t (given t held args block).held recv s value name size block p
+beginning t held recv s args value name size block p is source starts_so =
+    let moved = unmoved items (over_rows.Starts (items_row.Visits t) held recv args block) p starts_so in
+    let visit = visiting held t recv args block moved.inner moved.meant in
+    let there = ap (λ (st : Store). source_of st recv (is_backwards t)) visit.same ∙ source in
+    record {
+      begun = visit.after;
+      same = visit.same;
+      first = moved.inner;
+      begins = subst (λ (o : Option Source). ByArguments visit.after t recv o (Ok (arguments value name size)) block moved.inner) there
+          (subst (λ x. ByArguments visit.after t recv (source_of visit.after.store recv (is_backwards t))
+          x block moved.inner) is visit.by_arguments);
+      moved = moved.same;
+    }
 
 -- the run from the beginning of the visit on
 pub record Started (t : Task) (held : Held) (recv : Value) (s : Source) (value : Option Value)
@@ -67,17 +96,13 @@ pub started : (t : Task) (held : Held) (recv : Value) (s : Source) (args : List 
     → Gives (row.Items (items_row.Visits t)) held recv args block ts v after
     → Started t (given t held args block).held recv s value name size block ts v after
 started t held recv s args value name size block ts v after is source run =
-    let moved = unmoved items (over_rows.Starts (items_row.Visits t) held recv args block) run.first run.starts in
-    let visit = visiting held t recv args block moved.inner moved.meant in
-    let there = ap (λ (st : Store). source_of st recv (is_backwards t)) visit.same ∙ source in
+    let b = beginning t held recv s args value name size block run.first is source run.starts in
     record {
-      begun = visit.after;
-      same = visit.same;
-      first = moved.inner;
-      begins = subst (λ (o : Option Source). ByArguments visit.after t recv o (Ok (arguments value name size)) block moved.inner) there
-          (subst (λ x. ByArguments visit.after t recv (source_of visit.after.store recv (is_backwards t))
-          x block moved.inner) is visit.by_arguments);
-      runs = subst (λ (q : Planned Stage). Runs q ts (gives after v)) moved.same run.runs;
+      begun = b.begun;
+      same = b.same;
+      first = b.first;
+      begins = b.begins;
+      runs = subst (λ (q : Planned Stage). Runs q ts (gives after v)) b.moved run.runs;
     }
 
 -- the same of a method of Enumerable, once `each` has returned
@@ -93,20 +118,21 @@ gathering_by : (held : Held) (t : Task) (g : of_each.Gathering) (a : ObjId) (p :
     → Gathering held t g.receiver g.args g.block (Some (Elements a (place_for (is_backwards t)))) p
 gathering_by held t g a p (visited after q e by) = record { after = after; same = e; by_arguments = by }
 
-gathered : (t : Task) (before : Held) (recv : Value) (args : List Value) (b : ObjId) (each : Turn) (collected a : ObjId)
-    (value : Option Value) (name : Option SymId) (size : ℕ) (ts : List Turn) (v : Value) (after : Held)
-    → Gives (row.Items (items_row.Gathers (gathering.Visits t))) before recv args (Some b) (each ∷ ts) v after
-    → waiting each.wanted.plan ≡ Some (gathers_in t recv args b collected)
+gathered : (t : Task) (before : Held) (recv : Value) (args : List Value) (block : Option ObjId) (each : Turn)
+    (collected a : ObjId) (value : Option Value) (name : Option SymId) (size : ℕ) (ts : List Turn) (v : Value)
+    (after : Held)
+    → Gives (row.Items (items_row.Gathers (gathering.Visits t))) before recv args block (each ∷ ts) v after
+    → waiting each.wanted.plan ≡ Some (gathers_in t recv args block collected)
     → array_given each.held.store (collected_in each collected) ≡ Obj a
-    → (given t (with_array each.held (collected_in each collected)) args (Some b)).arguments
+    → (given t (with_array each.held (collected_in each collected)) args block).arguments
     ≡ Ok (arguments value name size)
-    → Started t (given t (with_array each.held (collected_in each collected)) args (Some b)).held recv
-    (Elements a (place_for (is_backwards t))) value name size (Some b) ts v after
-gathered t before recv args b each collected a value name size ts v after run waits array is =
-    let g = gathering_of (gathering.Visits t) recv args (Some b) collected in
+    → Started t (given t (with_array each.held (collected_in each collected)) args block).held recv
+    (Elements a (place_for (is_backwards t))) value name size block ts v after
+gathered t before recv args block each collected a value name size ts v after run waits array is =
+    let g = gathering_of (gathering.Visits t) recv args block collected in
     let held = with_array each.held (collected_in each collected) in
     let leads = run.runs.1 in
-    let stage = some_same leads.stage (gathers_in t recv args b collected) (sym leads.waits ∙ waits) in
+    let stage = some_same leads.stage (gathers_in t recv args block collected) (sym leads.waits ∙ waits) in
     let moved = unmoved items (over_rows.GoesOn each.held (over_items.gathers g) each.answer) leads.next
     (subst (λ (x : Stage). FollowsOf each.held x each.answer leads.next) stage leads.follows) in
     let visit = gathering_by held t g a moved.inner
@@ -115,26 +141,35 @@ gathered t before recv args b each collected a value name size ts v after run wa
       begun = visit.after;
       same = visit.same;
       first = moved.inner;
-      begins = subst (λ x. ByArguments visit.after t recv (Some (Elements a (place_for (is_backwards t)))) x (Some b)
+      begins = subst (λ x. ByArguments visit.after t recv (Some (Elements a (place_for (is_backwards t)))) x block
           moved.inner) is visit.by_arguments;
       runs = subst (λ (q : Planned Stage). Runs q ts (gives after v)) moved.same leads.further;
     }
+
+-- with a block or without one
+pub begun_by : (t : Task) (held : Held) (recv : Value) (s : Source) (args : List Value) (block : Option ObjId)
+    (value : Option Value) (name : Option SymId) (size : ℕ) (ts : List Turn) (v : Value) (after : Held)
+    → (given t held args block).arguments ≡ Ok (arguments value name size)
+    → IsRunBy t held recv s args block ts v after
+    → Started t (with_arguments_by t held args block) recv s value name size block ts v after
+begun_by t held recv s args block value name size ts v after is (of_its_own run over) =
+    started t held recv s args value name size block ts v after is over run
+begun_by t held recv s args block value name size ts v after is (of_those_of_each before each collected a run waits same array there) =
+    subst (λ (x : Source). Started t (with_arguments_by t held args block) recv x value name size block ts v after) (sym there)
+    (subst (λ (h : Held). Started t (with_arguments_by t h args block) recv (Elements a (place_for (is_backwards t))) value
+    name size block ts v after) (sym same)
+    (gathered t before recv args block each collected a value name size ts v after run waits array
+    (subst (λ (h : Held). (given t h args block).arguments ≡ Ok (arguments value name size)) same is)))
 
 pub begun_so : (t : Task) (held : Held) (recv : Value) (s : Source) (args : List Value) (b : ObjId)
     (value : Option Value) (name : Option SymId) (size : ℕ) (ts : List Turn) (v : Value) (after : Held)
     → (given t held args (Some b)).arguments ≡ Ok (arguments value name size)
     → IsRunOf t held recv s args b ts v after
     → Started t (with_arguments t held args b) recv s value name size (Some b) ts v after
-begun_so t held recv s args b value name size ts v after is (of_its_own run over) =
-    started t held recv s args value name size (Some b) ts v after is over run
-begun_so t held recv s args b value name size ts v after is (of_those_of_each before each collected a run waits same array there) =
-    subst (λ (x : Source). Started t (with_arguments t held args b) recv x value name size (Some b) ts v after) (sym there)
-    (subst (λ (h : Held). Started t (with_arguments t h args b) recv (Elements a (place_for (is_backwards t))) value name
-    size (Some b) ts v after) (sym same)
-    (gathered t before recv args b each collected a value name size ts v after run waits array
-    (subst (λ (h : Held). (given t h args (Some b)).arguments ≡ Ok (arguments value name size)) same is)))
+begun_so t held recv s args b value name size ts v after is run =
+    begun_by t held recv s args (Some b) value name size ts v after is run
 
-abbrev BeginsFor : Bool → Held → Task → Value → Source → Option Value → Option SymId → ℕ → ObjId
+abbrev pub BeginsFor : Bool → Held → Task → Value → Source → Option Value → Option SymId → ℕ → ObjId
     → Planned over_items.Stage → Type 0
 BeginsFor c held t recv s value name size b =
     Begins (if c then with_new held (core class.Hash) (kind.Hash no_pairs) else held)

@@ -39,7 +39,7 @@ one_behind n k less = counted n (omega (arith, less))
 pub still_less : (n k : ℕ) → n + suc k < 2 ^ 63 → n + 1 + k < 2 ^ 63
 still_less n k less = omega (arith, less)
 
-skipped : (n k : ℕ) → n + suc k < 2 ^ 63 → n + k < 2 ^ 63
+pub skipped : (n k : ℕ) → n + suc k < 2 ^ 63 → n + k < 2 ^ 63
 skipped n k less = omega (arith, less)
 
 pub from_zero : (k : ℕ) → k < 2 ^ 63 → 0 + k < 2 ^ 63
@@ -47,10 +47,10 @@ from_zero k less = omega (arith, less)
 
 -- `find_index`
 
-place_here : (n : ℕ) (a : Value) (us : List Value) → is_true a ≡ true → place_from n is_true (a ∷ us) ≡ Int (pos n)
+pub place_here : (n : ℕ) (a : Value) (us : List Value) → is_true a ≡ true → place_from n is_true (a ∷ us) ≡ Int (pos n)
 place_here n a us e = rw e refl
 
-place_later : (n : ℕ) (a : Value) (us : List Value) → is_true a ≡ false
+pub place_later : (n : ℕ) (a : Value) (us : List Value) → is_true a ≡ false
     → place_from n is_true (a ∷ us) ≡ place_from (n + 1) is_true us
 place_later n a us e = rw e refl
 
@@ -71,7 +71,7 @@ place_further n t ns r after h e is = λ less.
     as_value (place_from n is_true (t.answer ∷ answers ns)) (place_from (n + 1) is_true (answers ns)) r after h
     (place_later n t.answer (answers ns) e) (there (still_less n (length ns) less))
 
-abbrev placing : ObjId → Shape
+abbrev pub placing : ObjId → Shape
 placing b = record {
   task = task.FindIndex;
   block = b;
@@ -85,7 +85,7 @@ placing b = record {
   holds = λ v ns xs r after h. IsPlace v.tally ns r after h;
 }
 
-places : (b : ObjId) → Method (placing b)
+pub places : (b : ObjId) → Method (placing b)
 places b = record {
   asks = λ held v. refl;
   calls = λ held v. refl;
@@ -110,7 +110,7 @@ placed held after recv v s b ts less is = resulting next held s b (Until is_true
 
 -- `count` with a block
 
-abbrev no_value : Option Value → Option Value
+abbrev pub no_value : Option Value → Option Value
 no_value o = None
 
 abbrev counted_if : Bool → Visit → Visit
@@ -147,7 +147,7 @@ count_by v t ns r after h false e is = λ less.
     (Int (pos (counted_from v.tally is_true (answers ns)))) r after h
     (rw e refl) (is (skipped v.tally (length ns) less))
 
-abbrev counting : ObjId → Shape
+abbrev pub counting : ObjId → Shape
 counting b = record {
   task = task.Count;
   block = b;
@@ -161,7 +161,7 @@ counting b = record {
   holds = λ v ns xs r after h. IsCount v.tally ns r after h;
 }
 
-counts : (b : ObjId) → Method (counting b)
+pub counts : (b : ObjId) → Method (counting b)
 counts b = record {
   asks = λ held v. refl;
   calls = λ held v. refl;
@@ -215,7 +215,7 @@ take_further kept xs us x a r after h e is =
     (append_assoc kept (x ∷ []) (picked_while is_true xs us)
     ∙ ap (λ (vs : List Value). kept ++ vs) (sym (while_goes x a xs us e))) is
 
-abbrev taking : ObjId → Shape
+abbrev pub taking : ObjId → Shape
 taking b = record {
   task = task.TakeWhile;
   block = b;
@@ -229,7 +229,7 @@ taking b = record {
   holds = λ v ns xs r after h. IsTaken v.kept xs (answers ns) r after h;
 }
 
-takes : (b : ObjId) → Method (taking b)
+pub takes : (b : ObjId) → Method (taking b)
 takes b = record {
   asks = λ held v. refl;
   calls = λ held v. refl;

@@ -180,7 +180,7 @@ count_course (t ∷ ts) r after = λ held c bytes k.
     turn_by t ts r after held c c.next refl bytes (count_course ts r after) k
 
 -- from a plan that counts
-counts_from : (held : Held) (c : Count) (p : Planned Stage) (ts : List Turn) (r : Value) (after : Held)
+pub counts_from : (held : Held) (c : Count) (p : Planned Stage) (ts : List Turn) (r : Value) (after : Held)
     → c.of_bytes ≡ false → p ≡ counting.count_next held c → Runs p ts (gives after r)
     → CountedBy c.next c ts × IsValue (last_heap held ts) c.gives r after
 counts_from held c p ts r after bytes begins runs = count_course ts r after held c bytes

@@ -190,7 +190,7 @@ over held v r after w u later none ends same left = record {
 
 -- an item is left: the block is called with it, and its answer heard
 
-abbrev called_with : ObjId → (Visit → Passed) → Visit → sources.Passed Source → Value → Site → Planned Stage
+abbrev pub called_with : ObjId → (Visit → Passed) → Visit → sources.Passed Source → Value → Site → Planned Stage
 called_with b with_values v p x site = record {
   plan = calls (items (over_items.visits (at_item v p x site))) b (args_of (with_values (record (with_source v p) { item = x }))) None;
   held = p.held;

@@ -24,7 +24,7 @@ use Rattle.items_laws.proofs.Visits.{visits_none, visits_more}
 use Rattle.items_laws.proofs.Walks.{Walk, as_left, Walks, Called, Done, Goes, plan_at, walks, one_same}
 use Rattle.items_laws.proofs.Small.{none_some, some_none}
 
-abbrev elements : Walk Visit
+abbrev pub elements : Walk Visit
 elements = record {
   fits = λ w. Unit {0};
   as_state = λ w. state.Visiting w;
@@ -34,10 +34,10 @@ elements = record {
   ending = λ w. Obj w.array;
 }
 
-elements_go : Goes elements
+pub elements_go : Goes elements
 elements_go = record { goes = λ h s y p f e. e; beats = λ h s f. tt; later = λ h s a f. tt }
 
-abbrev beat_by : Held → Visit → Option Value → Beaten Visit
+abbrev pub beat_by : Held → Visit → Option Value → Beaten Visit
 beat_by held w o = visiting.beat_by held w o
 
 abbrev EachRest : List Turn → Value → Held → Type 0

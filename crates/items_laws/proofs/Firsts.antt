@@ -34,7 +34,7 @@ pair_same : (h k : Held) (s : Source) (o : Option HashItem) → h.store ≡ k.st
 pair_same h k s None same = refl
 pair_same h k s (Some p) same = ap (λ (st : Store). (pair_passed (record h { store = st }) s (Some p)).item) same
 
-next_same : (h k : Held) (s : Source) → h.store ≡ k.store → (next h s).item ≡ (next k s).item
+pub next_same : (h k : Held) (s : Source) → h.store ≡ k.store → (next h s).item ≡ (next k s).item
 next_same h k (source.Elements a n) same = ap (λ (st : Store). slice_get (elements_at st.objects a) n) same
 next_same h k (source.Pairs ps n) same = pair_same h k (source.Pairs ps (one_more n)) (slice_get ps n) same
 next_same h k (source.Numbers n) same =

@@ -73,7 +73,7 @@ injected held after recv v first s b ts is =
 abbrev with_value : Visit → Passed
 with_value v = Two v.item (value_or_nil v)
 
-abbrev passing_on : ObjId → Shape
+abbrev pub passing_on : ObjId → Shape
 passing_on b = record {
   task = task.EachWithObject;
   block = b;
@@ -87,7 +87,7 @@ passing_on b = record {
   holds = λ v ns xs r after h. IsValue h (value_or_nil v) r after;
 }
 
-passes_on : (b : ObjId) → Method (passing_on b)
+pub passes_on : (b : ObjId) → Method (passing_on b)
 passes_on b = record {
   asks = λ held v. refl;
   calls = λ held v. refl;
@@ -114,7 +114,7 @@ passed_on held after recv v object s b ts is =
 abbrev with_tally : Visit → Passed
 with_tally v = Two v.item (tally_value v)
 
-abbrev numbering : ObjId → Shape
+abbrev pub numbering : ObjId → Shape
 numbering b = record {
   task = task.EachWithIndex;
   block = b;
@@ -128,7 +128,7 @@ numbering b = record {
   holds = λ v ns xs r after h. IsValue h v.receiver r after;
 }
 
-numbers : (b : ObjId) → Method (numbering b)
+pub numbers : (b : ObjId) → Method (numbering b)
 numbers b = record {
   asks = λ held v. refl;
   calls = λ held v. refl;
@@ -152,7 +152,7 @@ numbered held after recv v s b ts is =
 
 -- `reverse_each`
 
-abbrev reversing : ObjId → Shape
+abbrev pub reversing : ObjId → Shape
 reversing b = record {
   task = task.ReverseEach;
   block = b;
@@ -166,7 +166,7 @@ reversing b = record {
   holds = λ v ns xs r after h. IsValue h v.receiver r after;
 }
 
-reverses : (b : ObjId) → Method (reversing b)
+pub reverses : (b : ObjId) → Method (reversing b)
 reverses b = record {
   asks = λ held v. refl;
   calls = λ held v. refl;

@@ -41,3 +41,9 @@ pub mod Summed
 pub mod Dropping
 pub mod Untouched
 pub mod Totals
+pub mod Slid
+pub mod Asking
+pub mod Combined
+pub mod Equal
+pub mod Decided
+pub mod Stepped

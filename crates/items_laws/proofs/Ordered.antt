@@ -67,7 +67,7 @@ one_further Of vs us xs ys x y is =
     subst (λ (zs : List Value). Of zs (us ++ y ∷ ys)) (append_assoc vs (x ∷ []) xs)
     (subst (λ (zs : List Value). Of ((vs ++ x ∷ []) ++ xs) zs) (append_assoc us (y ∷ []) ys) is)
 
-abbrev seeking_least : ObjId → Shape
+abbrev pub seeking_least : ObjId → Shape
 seeking_least b = record {
   task = task.MinBy;
   block = b;
@@ -81,7 +81,7 @@ seeking_least b = record {
   holds = λ v ns xs r after h. IsExtreme Least h (v.kept ++ xs) (v.others ++ answers ns) r after;
 }
 
-seeks_least : (b : ObjId) → Method (seeking_least b)
+pub seeks_least : (b : ObjId) → Method (seeking_least b)
 seeks_least b = record {
   asks = λ held v. refl;
   calls = λ held v. refl;
@@ -103,7 +103,7 @@ least held after recv v s b ts is =
     whole next held s b alone ts (λ h items. IsExtreme Least h items (answers ts) v after)
     (iterates_so (seeking_least b) (seeks_least b) held recv s [] None None 0 ts v after refl refl refl is)
 
-abbrev seeking_greatest : ObjId → Shape
+abbrev pub seeking_greatest : ObjId → Shape
 seeking_greatest b = record {
   task = task.MaxBy;
   block = b;
@@ -117,7 +117,7 @@ seeking_greatest b = record {
   holds = λ v ns xs r after h. IsExtreme Greatest h (v.kept ++ xs) (v.others ++ answers ns) r after;
 }
 
-seeks_greatest : (b : ObjId) → Method (seeking_greatest b)
+pub seeks_greatest : (b : ObjId) → Method (seeking_greatest b)
 seeks_greatest b = record {
   asks = λ held v. refl;
   calls = λ held v. refl;
@@ -148,7 +148,7 @@ sorted_settled held later v u (wish.Raises e) f = f
 sorted_settled held later v u (wish.Calls b) f = f
 sorted_settled held later v u (wish.Asks recv argument) f = f
 
-abbrev sorting : ObjId → Shape
+abbrev pub sorting : ObjId → Shape
 sorting b = record {
   task = task.SortBy;
   block = b;
@@ -162,7 +162,7 @@ sorting b = record {
   holds = λ v ns xs r after h. IsSortedBy h (v.kept ++ xs) (v.others ++ answers ns) r after;
 }
 
-sorts : (b : ObjId) → Method (sorting b)
+pub sorts : (b : ObjId) → Method (sorting b)
 sorts b = record {
   asks = λ held v. refl;
   calls = λ held v. refl;
@@ -218,7 +218,7 @@ parts_by held later v u vs us r e =
     (array_given (with_parts held vs us).store (parts held vs us)) r e in
     record { value = k.value; left = k.left }
 
-abbrev parting : ObjId → Shape
+abbrev pub parting : ObjId → Shape
 parting b = record {
   task = task.Partition;
   block = b;
@@ -232,7 +232,7 @@ parting b = record {
   holds = λ v ns xs r after h. ArePartsOf h (v.kept ++ picked is_true xs (answers ns)) (v.others ++ picked is_untrue xs (answers ns)) r after;
 }
 
-parts_items : (b : ObjId) → Method (parting b)
+pub parts_items : (b : ObjId) → Method (parting b)
 parts_items b = record {
   asks = λ held v. refl;
   calls = λ held v. refl;

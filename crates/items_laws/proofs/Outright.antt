@@ -38,7 +38,7 @@ abbrev elements : Held → ObjId → List Value
 elements held a = elements_at held.store.objects a
 
 -- what is told where some element decides, or none does
-abbrev answer_of : Task → Bool → Value
+abbrev pub answer_of : Task → Bool → Value
 answer_of t true = truth (is_any t)
 answer_of t false = truth (not (is_any t))
 
@@ -138,15 +138,15 @@ shorter : (held h : Held) (a : ObjId) → h.store ≡ held.store → length (ele
     → length (elements h a) < 2 ^ 64
 shorter held h a same less = subst (λ (st : Store). length (elements_at st.objects a) < 2 ^ 64) (sym same) less
 
-any_is : (c : Bool) → answer_of task.Any c ≡ truth c
+pub any_is : (c : Bool) → answer_of task.Any c ≡ truth c
 any_is true = refl
 any_is false = refl
 
-all_is : (c : Bool) → answer_of task.All c ≡ truth (not c)
+pub all_is : (c : Bool) → answer_of task.All c ≡ truth (not c)
 all_is true = refl
 all_is false = refl
 
-none_is : (c : Bool) → answer_of task.Never c ≡ truth (not c)
+pub none_is : (c : Bool) → answer_of task.Never c ≡ truth (not c)
 none_is true = refl
 none_is false = refl
 

@@ -49,10 +49,10 @@ range_items held z l k (t ∷ ts) (x ∷ xs) hands =
     ap (λ (y : Value). y ∷ xs) (sym h.item)
     ∙ ap (λ (ys : List Value). Int z ∷ ys) (range_items t.held (behind z) l (k - 1) ts xs h.rest)
 
-above_zero : (k : ℕ) → nat_eq k 0 ≡ false → 0 < k
+pub above_zero : (k : ℕ) → nat_eq k 0 ≡ false → 0 < k
 above_zero k e = grind (arith, nat_tests, e)
 
-is_zero : (k : ℕ) → nat_eq k 0 ≡ true → 0 ≡ k
+pub is_zero : (k : ℕ) → nat_eq k 0 ≡ true → 0 ≡ k
 is_zero k e = grind (arith, nat_tests, e)
 
 none_left : (held : Held) (z l : ℤ) (k : ℕ) (c : Bool) → nat_eq k 0 ≡ c → (passed_if c held z l k).item ≡ None → 0 ≡ k

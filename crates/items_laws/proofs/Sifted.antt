@@ -53,7 +53,7 @@ goes_if b held v false = refl
 
 -- `select`
 
-abbrev selecting : ObjId → Shape
+abbrev pub selecting : ObjId → Shape
 selecting b = record {
   task = task.Select;
   block = b;
@@ -67,7 +67,7 @@ selecting b = record {
   holds = λ v ns xs r after h. IsArrayOf h (v.kept ++ picked is_true xs (answers ns)) r after;
 }
 
-selects : (b : ObjId) → Method (selecting b)
+pub selects : (b : ObjId) → Method (selecting b)
 selects b = record {
   asks = λ held v. refl;
   calls = λ held v. refl;
@@ -94,7 +94,7 @@ selected held after recv v s b ts no_hash is =
 
 -- `reject`
 
-abbrev rejecting : ObjId → Shape
+abbrev pub rejecting : ObjId → Shape
 rejecting b = record {
   task = task.Reject;
   block = b;
@@ -108,7 +108,7 @@ rejecting b = record {
   holds = λ v ns xs r after h. IsArrayOf h (v.kept ++ picked is_untrue xs (answers ns)) r after;
 }
 
-rejects : (b : ObjId) → Method (rejecting b)
+pub rejects : (b : ObjId) → Method (rejecting b)
 rejects b = record {
   asks = λ held v. refl;
   calls = λ held v. refl;

@@ -31,6 +31,10 @@ pub true_is : (c : Bool) → not c ≡ false → c ≡ true
 true_is true e = refl
 true_is false e = absurd (cc)
 
+pub not_both : (c : Bool) → c ≡ true → c ≡ false → ⊥
+not_both true so otherwise = cc
+not_both false so otherwise = cc
+
 -- a value that is another
 
 pub as_value : (x y r : Value) (after h : Held) → x ≡ y → IsValue h y r after → IsValue h x r after

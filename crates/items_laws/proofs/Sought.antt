@@ -29,7 +29,7 @@ first_untrue a x xs us e = rw e refl
 
 -- `find`
 
-abbrev finding : ObjId → Shape
+abbrev pub finding : ObjId → Shape
 finding b = record {
   task = task.Find;
   block = b;
@@ -43,7 +43,7 @@ finding b = record {
   holds = λ v ns xs r after h. IsValue h (first_or_nil (picked is_true xs (answers ns))) r after;
 }
 
-finds : (b : ObjId) → Method (finding b)
+pub finds : (b : ObjId) → Method (finding b)
 finds b = record {
   asks = λ held v. refl;
   calls = λ held v. refl;
@@ -72,7 +72,7 @@ any_untrue : (test : Value → Bool) (a : Value) (us : List Value) → test a �
     → any_of test (a ∷ us) ≡ any_of test us
 any_untrue test a us e = rw e refl
 
-abbrev telling_any : ObjId → Shape
+abbrev pub telling_any : ObjId → Shape
 telling_any b = record {
   task = task.Any;
   block = b;
@@ -86,7 +86,7 @@ telling_any b = record {
   holds = λ v ns xs r after h. IsValue h (truth (any_of is_true (answers ns))) r after;
 }
 
-tells_any : (b : ObjId) → Method (telling_any b)
+pub tells_any : (b : ObjId) → Method (telling_any b)
 tells_any b = record {
   asks = λ held v. refl;
   calls = λ held v. refl;
@@ -106,7 +106,7 @@ pub any_told : (held after : Held) (recv v : Value) (s : Source) (b : ObjId) (ts
     → Iterates next held s b (Until is_true) alone ts (λ h items. IsValue h (truth (any_of is_true (answers ts))) v after)
 any_told held after recv v s b ts is = iterates_so (telling_any b) (tells_any b) held recv s [] None None 0 ts v after refl refl refl is
 
-abbrev telling_none : ObjId → Shape
+abbrev pub telling_none : ObjId → Shape
 telling_none b = record {
   task = task.Never;
   block = b;
@@ -120,7 +120,7 @@ telling_none b = record {
   holds = λ v ns xs r after h. IsValue h (truth (not (any_of is_true (answers ns)))) r after;
 }
 
-tells_none : (b : ObjId) → Method (telling_none b)
+pub tells_none : (b : ObjId) → Method (telling_none b)
 tells_none b = record {
   asks = λ held v. refl;
   calls = λ held v. refl;
@@ -140,7 +140,7 @@ pub none_told : (held after : Held) (recv v : Value) (s : Source) (b : ObjId) (t
     → Iterates next held s b (Until is_true) alone ts (λ h items. IsValue h (truth (not (any_of is_true (answers ts)))) v after)
 none_told held after recv v s b ts is = iterates_so (telling_none b) (tells_none b) held recv s [] None None 0 ts v after refl refl refl is
 
-abbrev telling_all : ObjId → Shape
+abbrev pub telling_all : ObjId → Shape
 telling_all b = record {
   task = task.All;
   block = b;
@@ -154,7 +154,7 @@ telling_all b = record {
   holds = λ v ns xs r after h. IsValue h (truth (not (any_of is_untrue (answers ns)))) r after;
 }
 
-tells_all : (b : ObjId) → Method (telling_all b)
+pub tells_all : (b : ObjId) → Method (telling_all b)
 tells_all b = record {
   asks = λ held v. refl;
   calls = λ held v. refl;

@@ -83,11 +83,11 @@ Behind b name ts r after = (t : Turn) (us : List Turn) → ts ≡ t ∷ us → S
 
 -- the plan of a wish, and what it gives at once
 
-abbrev planned_by : Site → Held → Visit → Option Wish → Planned over_items.Stage
+abbrev pub planned_by : Site → Held → Visit → Option Wish → Planned over_items.Stage
 planned_by site held v None = gives held Nil
 planned_by site held v (Some w) = planned held (at_site v site) w
 
-abbrev once_by : Held → Visit → Option Wish → Option Given × Store
+abbrev pub once_by : Held → Visit → Option Wish → Option Given × Store
 once_by held v None = (None, held.store)
 once_by held v (Some (wish.Ends x)) = (None, held.store)
 once_by held v (Some (wish.Fails c)) = (None, held.store)
@@ -104,10 +104,10 @@ message b name held v x y site = record {
 
 -- no value comes of one that raises
 
-abbrev raising : Held → ObjId → Planned Stage
+abbrev pub raising : Held → ObjId → Planned Stage
 raising k e = record { plan = raises e; held = k }
 
-raised : (ts : List Turn) (k : Held) (e : ObjId) (r : Value) (after : Held) → Runs (raising k e) ts (gives after r) → ⊥
+pub raised : (ts : List Turn) (k : Held) (e : ObjId) (r : Value) (after : Held) → Runs (raising k e) ts (gives after r) → ⊥
 raised [] k e r after runs = not_given (raising k e) after r refl runs
 raised (t ∷ ts) k e r after runs =
     no_turn t (raising k e) (λ next. Runs next ts (gives after r)) refl runs.0 runs.1

@@ -11,7 +11,7 @@ use Rattle.core_iter.specs.declared.iteration.Iteration.{Iteration}
 use Rattle.core_iter.specs.Sending.{Beaten, beat_or, call_beat, goes_on, with_one}
 use Rattle.core_iter.specs.Stage.{Stage, own}
 use Rattle.core_iter.specs.Rows.{GoesOn}
-use Rattle.items_laws.specs.Run.{Turn, Runs}
+use Rattle.items_laws.specs.Run.{Turn, Leads, Runs}
 use Rattle.items_laws.specs.Items.{call_of}
 use Rattle.items_laws.proofs.Course.{given, waits_for}
 use Rattle.items_laws.proofs.Inversion.{not_given}
@@ -59,6 +59,29 @@ Walks w [] held s r after = Done w held s r after
 Walks w (t ∷ ts) held s r after = Called w held s t (Walks w ts (w.left t.held (w.beat held s).state t.answer)
     (w.later t.held (w.beat held s).state t.answer) r after)
 
+-- a call that was answered: by the answer comes the next plan
+pub called_at : {S : Type 0} (w : Walk S) (goes : Goes w) (t : Turn) (held : Held) (s : S) (c : Beat)
+    (Further : Planned Stage → Type 0) (Rest : Type 0) → w.fits s → (w.beat held s).beat ≡ Some c
+    → t.wanted ≡ call_beat (w.beat held s).held (own (w.as_state (w.beat held s).state)) c → Leads t Further
+    → (w.fits (w.later t.held (w.beat held s).state t.answer)
+    → Further (plan_at w (w.left t.held (w.beat held s).state t.answer) (w.later t.held (w.beat held s).state t.answer))
+    → Rest)
+    → Called w held s t Rest
+called_at w goes t held s c Further Rest fits there same leads rest =
+    let b = w.beat held s in
+    let plan = call_beat b.held (own (w.as_state b.state)) c in
+    let stage = waits_for t plan (own (w.as_state b.state)) leads.stage same refl leads.waits in
+    let fit = goes.beats held s fits in
+    let next = goes.goes t.held b.state t.answer leads.next fit
+    (subst (λ (x : Stage). GoesOn t.held x t.answer leads.next) stage leads.follows) in
+    record {
+      call = c;
+      there = there;
+      called = ap (λ (q : Planned Stage). call_of q.plan) same;
+      asked = ap (λ (q : Planned Stage). q.held) same;
+      rest = rest (goes.later t.held b.state t.answer fit) (subst Further next leads.further);
+    }
+
 walk_at : {S : Type 0} (w : Walk S) (goes : Goes w) (ts : List Turn) (held : Held) (s : S) (r : Value) (after : Held)
     (o : Option Beat)
     → ((t : Turn) (us : List Turn) → ts ≡ t ∷ us → (h : Held) (u : S) → w.fits u → Runs (plan_at w h u) us (gives after r)
@@ -75,22 +98,10 @@ walk_at w goes (t ∷ ts) held s r after None rest fits there runs =
 walk_at w goes [] held s r after (Some c) rest fits there runs =
     absurd (not_given (call_beat (w.beat held s).held (own (w.as_state (w.beat held s).state)) c) after r refl runs)
 walk_at w goes (t ∷ ts) held s r after (Some c) rest fits there runs =
-    let b = w.beat held s in
-    let plan = call_beat b.held (own (w.as_state b.state)) c in
-    let leads = runs.1 in
-    let stage = waits_for t plan (own (w.as_state b.state)) leads.stage runs.0 refl leads.waits in
-    let fit = goes.beats held s fits in
-    let next = goes.goes t.held b.state t.answer leads.next fit
-    (subst (λ (x : Stage). GoesOn t.held x t.answer leads.next) stage leads.follows) in
-    record {
-      call = c;
-      there = there;
-      called = ap (λ (q : Planned Stage). call_of q.plan) runs.0;
-      asked = ap (λ (q : Planned Stage). q.held) runs.0;
-      rest = rest t ts refl (w.left t.held b.state t.answer) (w.later t.held b.state t.answer)
-          (goes.later t.held b.state t.answer fit)
-          (subst (λ (q : Planned Stage). Runs q ts (gives after r)) next leads.further);
-    }
+    called_at w goes t held s c (λ next. Runs next ts (gives after r)) (Walks w ts
+    (w.left t.held (w.beat held s).state t.answer) (w.later t.held (w.beat held s).state t.answer) r after) fits there runs.0
+    runs.1 (λ fit run. rest t ts refl (w.left t.held (w.beat held s).state t.answer)
+    (w.later t.held (w.beat held s).state t.answer) fit run)
 
 pub walks : {S : Type 0} (w : Walk S) (goes : Goes w) (ts : List Turn) (held : Held) (s : S) (r : Value) (after : Held)
     → w.fits s → Runs (plan_at w held s) ts (gives after r) → Walks w ts held s r after

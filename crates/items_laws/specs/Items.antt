@@ -104,29 +104,37 @@ pub record Iterates (pass : Passing) (held : Held) (s : Source) (b : ObjId) (End
   pub visits : Visits pass begun s b End passed ts Result
 
 -- the heap once the arguments are read, by which a name is a symbol then
+
+abbrev pub with_arguments_by : Task → Held → List Value → Option ObjId → Held
+with_arguments_by t held args block = (given t held args block).held
+
 abbrev pub with_arguments : Task → Held → List Value → ObjId → Held
-with_arguments t held args b = (given t held args (Some b)).held
+with_arguments t held args b = with_arguments_by t held args (Some b)
 
 -- where a method of Enumerable stands while `each` collects the items in an Array
-abbrev pub gathers_in : Task → Value → List Value → ObjId → ObjId → Stage
-gathers_in t recv args b collected =
-    over_items (gathers (gathering_of (gathering.Visits t) recv args (Some b) collected))
+abbrev pub gathers_in : Task → Value → List Value → Option ObjId → ObjId → Stage
+gathers_in t recv args block collected =
+    over_items (gathers (gathering_of (gathering.Visits t) recv args block collected))
 
 abbrev pub collected_in : Turn → ObjId → List Value
 collected_in each collected = elements_at each.held.store.objects collected
 
--- the run of a method with a block, over these items from a heap on, which gives a value and leaves a heap
-pub data IsRunOf (t : Task) (held : Held) (recv : Value) (s : Source) (args : List Value) (b : ObjId) (ts : List Turn)
-    (v : Value) (after : Held) : Type 0 where
+-- the run of a method with a block or without one, over these items from a heap on, which gives a value and leaves a heap
+pub data IsRunBy (t : Task) (held : Held) (recv : Value) (s : Source) (args : List Value) (block : Option ObjId)
+    (ts : List Turn) (v : Value) (after : Held) : Type 0 where
   -- of an Array, a Hash or a Range
-  of_its_own : Gives (row.Items (items_row.Visits t)) held recv args (Some b) ts v after
-      → source_of (with_arguments t held args b).store recv (is_backwards t) ≡ Some s
-      → IsRunOf t held recv s args b ts v after
+  of_its_own : Gives (row.Items (items_row.Visits t)) held recv args block ts v after
+      → source_of (with_arguments_by t held args block).store recv (is_backwards t) ≡ Some s
+      → IsRunBy t held recv s args block ts v after
   -- of Enumerable, once `each` has returned: over a new Array of what that collected
   of_those_of_each : (before : Held) (each : Turn) (collected a : ObjId)
-      → Gives (row.Items (items_row.Gathers (gathering.Visits t))) before recv args (Some b) (each ∷ ts) v after
-      → waiting each.wanted.plan ≡ Some (gathers_in t recv args b collected)
+      → Gives (row.Items (items_row.Gathers (gathering.Visits t))) before recv args block (each ∷ ts) v after
+      → waiting each.wanted.plan ≡ Some (gathers_in t recv args block collected)
       → held ≡ with_array each.held (collected_in each collected)
       → array_given each.held.store (collected_in each collected) ≡ Obj a
       → s ≡ Elements a (place_for (is_backwards t))
-      → IsRunOf t held recv s args b ts v after
+      → IsRunBy t held recv s args block ts v after
+
+-- with a block
+abbrev pub IsRunOf : Task → Held → Value → Source → List Value → ObjId → List Turn → Value → Held → Type 0
+IsRunOf t held recv s args b ts v after = IsRunBy t held recv s args (Some b) ts v after

@@ -16,3 +16,6 @@ pub mod Texts
 pub mod Looped
 pub mod Sums
 pub mod Dropping
+pub mod Neighbours
+pub mod Asked
+pub mod Decided

@@ -6,10 +6,14 @@
 //! - `specs::Read`, `specs::Numbers`: which items an Array, a Hash or a Range has, and the numbers that are counted
 //! - `specs::Lists`, `specs::Keys`, `specs::Firsts`, `specs::Dropped`: what comes of items and answers, as plain lists
 //! - `specs::Settled`, `specs::Made`, `specs::Changed`, `specs::Dropping`: where each answer changes a new Hash, or the receiver
-//! - `specs::Slices`, `specs::Sums`, `specs::Texts`, `specs::Looped`: items by so many at once, sums, parts of a String, `loop`
+//! - `specs::Slices`, `specs::Neighbours`, `specs::Sums`, `specs::Texts`, `specs::Looped`: items by so many at once, sums, parts
+//!   of a String, `loop`
+//! - `specs::Decided`, `specs::Asked`: items that decide without a call, and values that are asked for a method
 #![tactic(auto)]
 
-ghost use Rattle.std.specs.Prelude.{◌≡◌, ℕ, ◌<◌, ◌+◌, ◌^◌, ℤ, pos, negsuc, ◌-ℤ◌, List, [], ◌∷◌, length, map, take, drop, slice_get, not, true, false, Option, Some, None, Ok};
+pub mod asked;
+
+ghost use Rattle.std.specs.Prelude.{◌≡◌, ℕ, ◌<◌, ◌+◌, ◌^◌, ℤ, pos, negsuc, ◌-ℤ◌, int_lt, List, [], ◌∷◌, length, map, take, drop, slice_get, not, true, false, Option, Some, None, Ok};
 ghost use Rattle.rb_value.specs.declared.value.Value.{Value};
 ghost use Rattle.rb_value.specs.declared.value.Value.TheVariants.{Int, Obj};
 ghost use Rattle.rb_value.specs.declared.hash.HashItem.{HashItem};
@@ -52,17 +56,19 @@ ghost use Rattle.core_iter.specs.Sending.{call_beat};
 ghost use Rattle.core_iter.specs.Stage.{Stage, own, items as over_items, stage_of};
 ghost use Rattle.core_iter.specs.Rows.{Starts, Beats, GoesOn};
 ghost use Rattle.items_laws.specs.Changed.{LeftAlone, HasElements, ThinsOut, Fills, replaced_from, owned};
+ghost use Rattle.items_laws.specs.Decided.{Decides};
 ghost use Rattle.items_laws.specs.Dropped.{DropsOn};
 ghost use Rattle.items_laws.specs.Dropping.{Drops};
 ghost use Rattle.items_laws.specs.Example.{turn};
 ghost use Rattle.items_laws.specs.Firsts.{FoldsOn};
 ghost use Rattle.items_laws.specs.Looped.{LoopsOn};
+ghost use Rattle.items_laws.specs.Neighbours.{HandsNeighbours};
 ghost use Rattle.items_laws.specs.Run.{Turn, Runs, Gives};
 ghost use Rattle.items_laws.specs.Slices.{slices};
 ghost use Rattle.items_laws.specs.Sums.{AddsUp, AddsIntegers, plus, total, with_plus};
 ghost use Rattle.items_laws.specs.Texts.{HandsTexts, HandsBytes, characters, lines};
 ghost use Rattle.items_laws.specs.Numbers.{Counts, Places, integers, integers_from, so_many};
-ghost use Rattle.items_laws.specs.Items.{Hands, Visits, Iterates, IsRunOf, IsArrayOf, IsValue, Whole, Until, answers, calls_of, last_heap, left_of, with_arguments};
+ghost use Rattle.items_laws.specs.Items.{Hands, Visits, Iterates, IsRunBy, IsRunOf, IsArrayOf, IsValue, Whole, Until, answers, calls_of, last_heap, left_of, with_arguments};
 ghost use Rattle.items_laws.specs.Read.{heaps_before, elements_read, pair_in, pairs_read};
 ghost use Rattle.items_laws.specs.Lists.{alone, with_places, with_object, in_turn, flattened, picked, picked_while, first_or_nil, last_of, any_of, place_from, counted_from, is_untrue};
 ghost use Rattle.items_laws.specs.Keys.{IsExtreme, IsSortedBy, ArePartsOf};
@@ -155,6 +161,19 @@ pub fn elements_decide()
         × (after.store ≡ held.store) }
 {}
 
+/// The same of all items of a Hash, a Range or any other receiver: whether any item is true, all are, or none is; nothing is
+/// called.
+pub fn items_decide()
+    ensures any { (held after : Held) (recv v : Value) (s : Source) (ts : List Turn)
+        → IsRunBy task.Any held recv s [] None ts v after → Decides (λ xs. truth (any_of is_true xs)) held s ts v after }
+    ensures every { (held after : Held) (recv v : Value) (s : Source) (ts : List Turn)
+        → IsRunBy task.All held recv s [] None ts v after
+        → Decides (λ xs. truth (not (any_of is_untrue xs))) held s ts v after }
+    ensures none { (held after : Held) (recv v : Value) (s : Source) (ts : List Turn)
+        → IsRunBy task.Never held recv s [] None ts v after
+        → Decides (λ xs. truth (not (any_of is_true xs))) held s ts v after }
+{}
+
 /// `inject` with a first value, or with its first item as one: the block is called with what came so far and each item, and
 /// the last answer is given; `each_with_object`: with each item and the object, which is given.
 pub fn inject_folds()
@@ -212,6 +231,14 @@ pub fn slices_are_handed_on()
         → Iterates (slices n) held s b Whole alone ts (λ h items. IsValue h recv v after) }
     ensures array { (held : Held) (a : ObjId) (n k : ℕ) → k + n < 2 ^ 64
         → (taken n held (source.Elements a k)).items ≡ take n (drop k (elements_at held.store.objects a)) }
+{}
+
+/// `each_cons`: the block is called with a new Array of each so many neighbours, made when the last of them has come, and the
+/// receiver is given.
+pub fn neighbours_are_handed_on()
+    ensures { (held after : Held) (recv size v : Value) (n : ℕ) (s : Source) (b : ObjId) (ts : List Turn)
+        → size_of held.store size ≡ Ok n → IsRunOf task.EachCons held recv s (size ∷ []) b ts v after
+        → HandsNeighbours n held s b ts recv v after }
 {}
 
 /// `min_by` and `max_by`: the first item whose answer is the least, or the greatest; `sort_by`: a new Array of the items in
@@ -307,6 +334,21 @@ pub fn numbers_are_counted()
         → range_in (kind_in held.store.objects recv) ≡ Some (integers a z true) → fits (z -ℤ pos 1) ≡ true
         → Gives (row.Visit visit.EachOfRange) held recv [] (Some b) ts v after
         → Counts a (z -ℤ pos 1) (pos 1) b ts × IsValue (last_heap held ts) recv v after }
+{}
+
+/// `step` of a Range of Integers: the block is called with each number from the first one to the last one by steps above 0,
+/// and the Range is given.
+pub fn ranges_are_stepped_through()
+    ensures range { (held after : Held) (recv size v : Value) (a z by : ℤ) (b : ObjId) (ts : List Turn)
+        → range_in (kind_in held.store.objects recv) ≡ Some (integers a z false)
+        → integer held.store size ≡ Ok by → int_lt (pos 0) by ≡ true
+        → Gives (row.Visit visit.StepOfRange) held recv (size ∷ []) (Some b) ts v after
+        → Counts a z by b ts × IsValue (last_heap held ts) recv v after }
+    ensures range_before { (held after : Held) (recv size v : Value) (a z by : ℤ) (b : ObjId) (ts : List Turn)
+        → range_in (kind_in held.store.objects recv) ≡ Some (integers a z true) → fits (z -ℤ pos 1) ≡ true
+        → integer held.store size ≡ Ok by → int_lt (pos 0) by ≡ true
+        → Gives (row.Visit visit.StepOfRange) held recv (size ∷ []) (Some b) ts v after
+        → Counts a (z -ℤ pos 1) by b ts × IsValue (last_heap held ts) recv v after }
 {}
 
 /// The items of an Array: its elements at one place after another, each as it stands when the answer before has come, so

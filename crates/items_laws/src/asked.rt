@@ -1,0 +1,39 @@
+//! What comes of runs that ask values for a method, one after another.
+
+ghost use Rattle.std.specs.Prelude.{◌≡◌, ◌^◌, ◌-◌, pos, min, List, [], ◌∷◌, codes, Option, Some, None, Ok};
+ghost use Rattle.rb_value.specs.declared.value.Value.{Value};
+ghost use Rattle.rb_value.specs.declared.value.Value.TheVariants.{Int};
+ghost use Rattle.rb_value.specs.declared.value.ObjId.{ObjId};
+ghost use Rattle.rb_value.specs.declared.value.SymId.{SymId};
+ghost use Rattle.rb_store.specs.Held.{Held};
+ghost use Rattle.core_calls.specs.Checks.{name_in};
+ghost use Rattle.iter_items.specs.declared.row.Task.TheVariants as task;
+ghost use Rattle.iter_items.specs.declared.source.Source.{Source};
+ghost use Rattle.iter_items.specs.Sources.{next, left};
+ghost use Rattle.items_laws.specs.Run.{Turn};
+ghost use Rattle.items_laws.specs.Items.{IsRunBy};
+ghost use Rattle.items_laws.specs.Asked.{CountsEqual, Combines, CombinesFirst, with_name_of, with_symbol};
+
+/// `count` of a value: how many items are equal to it, by what each replies to `==`; without a value and a block: how many
+/// items there are, and nothing is called.
+pub fn equal_items_are_counted()
+    ensures equal { (held after : Held) (recv y v : Value) (s : Source) (block : Option ObjId) (ts : List Turn)
+        → IsRunBy task.Count held recv s (y ∷ []) block ts v after → CountsEqual held s y ts v after }
+    ensures all { (held after : Held) (recv v : Value) (s : Source) (ts : List Turn)
+        → IsRunBy task.Count held recv s [] None ts v after
+        → (ts ≡ []) × (v ≡ Int (pos (min (left (with_symbol (codes "==") held).store s) (2 ^ 63 - 1))))
+        × (after.store ≡ (with_symbol (codes "==") held).store) }
+{}
+
+/// `inject` by the name of a method, with a first value or with its first item as one: what came so far is asked for that
+/// method with each item, and the last reply is given.
+pub fn items_are_combined()
+    ensures from_value { (held after : Held) (recv first n v : Value) (name : SymId) (s : Source) (block : Option ObjId)
+        (ts : List Turn) → (name_in held.store n).name ≡ Ok name
+        → IsRunBy task.Inject held recv s (first ∷ n ∷ []) block ts v after
+        → Combines name (with_name_of n held) s first ts v after }
+    ensures from_first { (held after : Held) (recv first n v : Value) (name : SymId) (s : Source) (ts : List Turn)
+        → (name_in held.store n).name ≡ Ok name → (next (with_name_of n held) s).item ≡ Some first
+        → IsRunBy task.Inject held recv s (n ∷ []) None ts v after
+        → CombinesFirst name (with_name_of n held) s first ts v after }
+{}
