@@ -47,3 +47,7 @@ pub mod Combined
 pub mod Equal
 pub mod Decided
 pub mod Stepped
+pub mod Cut
+pub mod Leaving
+pub mod Stopped
+pub mod CutWalks

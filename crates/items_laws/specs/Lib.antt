@@ -19,3 +19,4 @@ pub mod Dropping
 pub mod Neighbours
 pub mod Asked
 pub mod Decided
+pub mod Cut

@@ -9,9 +9,11 @@
 //! - `specs::Slices`, `specs::Neighbours`, `specs::Sums`, `specs::Texts`, `specs::Looped`: items by so many at once, sums, parts
 //!   of a String, `loop`
 //! - `specs::Decided`, `specs::Asked`: items that decide without a call, and values that are asked for a method
+//! - `specs::Cut`: runs that are left
 #![tactic(auto)]
 
 pub mod asked;
+pub mod left;
 
 ghost use Rattle.std.specs.Prelude.{◌≡◌, ℕ, ◌<◌, ◌+◌, ◌^◌, ℤ, pos, negsuc, ◌-ℤ◌, int_lt, List, [], ◌∷◌, length, map, take, drop, slice_get, not, true, false, Option, Some, None, Ok};
 ghost use Rattle.rb_value.specs.declared.value.Value.{Value};

@@ -1,0 +1,58 @@
+//! Runs that are left, since what they called raised, broke out or went elsewhere.
+
+ghost use Rattle.std.specs.Prelude.{◌≡◌, true, List, [], ◌∷◌, Some};
+ghost use Rattle.rb_value.specs.declared.value.Value.{Value};
+ghost use Rattle.rb_value.specs.declared.value.ObjId.{ObjId};
+ghost use Rattle.def_core.specs.Store.{Store};
+ghost use Rattle.def_calls.specs.Views.{an_array};
+ghost use Rattle.rb_store.specs.Held.{Held};
+ghost use Rattle.def_plans.specs.Plan.{Planned};
+ghost use Rattle.iter_items.specs.declared.row.Task.{Task};
+ghost use Rattle.iter_items.specs.declared.row.Task.TheVariants as task;
+ghost use Rattle.iter_items.specs.declared.source.Source.{Source};
+ghost use Rattle.iter_items.specs.declared.source.Source.TheVariants as source;
+ghost use Rattle.iter_items.specs.Sources.{next, previous};
+ghost use Rattle.run_rows.specs.declared.row.StarRow.TheVariants as row;
+ghost use Rattle.run_rows.specs.declared.row.VisitRow.TheVariants as visit;
+ghost use Rattle.core_iter.specs.declared.iteration.Iteration.{Iteration};
+ghost use Rattle.core_iter.specs.Rows.{Starts, caught};
+ghost use Rattle.core_iter.specs.Stage.{Stage};
+ghost use Rattle.items_laws.specs.Run.{Turn, Runs, waiting};
+ghost use Rattle.items_laws.specs.Items.{answers, with_arguments};
+ghost use Rattle.items_laws.specs.Lists.{alone, in_turn, with_object, with_places};
+ghost use Rattle.items_laws.specs.Cut.{Cut, IsLeft, IsCut, Stops, hands_alone};
+
+/// Where the block never answers, by an exception or an exit, it was called with the items one after another until then, each
+/// in the heap as the answer before left it, and nothing else was handed on: in whatever a method does with the answers.
+pub fn runs_are_left()
+    ensures alone { (held : Held) (recv : Value) (t : Task) (s : Source) (b : ObjId) (ts : List Turn)
+        (last : Planned Stage) → hands_alone s t ≡ true → IsLeft t held recv s [] b ts last
+        → IsCut next held s b alone ts last }
+    ensures backwards { (held : Held) (recv : Value) (s : Source) (b : ObjId) (ts : List Turn) (last : Planned Stage)
+        → IsLeft task.ReverseEach held recv s [] b ts last → IsCut previous held s b alone ts last }
+    ensures counting { (held : Held) (recv : Value) (s : Source) (b : ObjId) (ts : List Turn) (last : Planned Stage)
+        → IsLeft task.Count held recv s [] b ts last
+        → IsCut next (with_arguments task.Count held [] b) s b alone ts last }
+    ensures with_index { (held : Held) (recv : Value) (s : Source) (b : ObjId) (ts : List Turn) (last : Planned Stage)
+        → IsLeft task.EachWithIndex held recv s [] b ts last → IsCut next held s b (with_places 0) ts last }
+    ensures object { (held : Held) (recv object : Value) (s : Source) (b : ObjId) (ts : List Turn) (last : Planned Stage)
+        → IsLeft task.EachWithObject held recv s (object ∷ []) b ts last
+        → IsCut next held s b (with_object object) ts last }
+    ensures folding { (held : Held) (recv first : Value) (s : Source) (b : ObjId) (ts : List Turn) (last : Planned Stage)
+        → IsLeft task.Inject held recv s (first ∷ []) b ts last
+        → IsCut next held s b (in_turn (first ∷ answers ts)) ts last }
+{}
+
+/// So it is of `each` of an Array.
+pub fn each_is_left()
+    ensures { (held : Held) (recv : Value) (a b : ObjId) (ts : List Turn) (first last : Planned Stage) (stage : Stage)
+        → an_array held.store.objects recv ≡ Some a → Starts (row.Visit visit.EachElement) held recv [] (Some b) first
+        → Runs first ts last → waiting last.plan ≡ Some stage
+        → Cut next held (source.Elements a 0) b alone ts last }
+{}
+
+/// An iteration that catches an exception is a `loop`, the exception is a StopIteration, and its result is given; so any
+/// other exception leaves a `loop`, and each exception leaves whatever other iteration.
+pub fn loops_are_stopped()
+    ensures { (st : Store) (s : Iteration) (e : ObjId) (v : Value) → caught st s e ≡ Some v → Stops st s e v }
+{}
