@@ -51,3 +51,4 @@ pub mod Cut
 pub mod Leaving
 pub mod Stopped
 pub mod CutWalks
+pub mod Replied

@@ -1,9 +1,9 @@
 -- Values that are asked for a method with another value, one after another.
-use Rattle.std.specs.Prelude.{◌≡◌, ◌<◌, ◌^◌, ℕ, pos, List, [], ◌∷◌, ◌++◌, length, codes, Bool, true, false, Option, Some, None}
+use Rattle.std.specs.Prelude.{◌≡◌, ◌<◌, ◌^◌, ℕ, ℤ, pos, List, [], ◌∷◌, ◌++◌, length, codes, Bool, true, false, Option, Some, None}
 use Rattle.rb_value.specs.declared.value.Value.{Value}
 use Rattle.rb_value.specs.declared.value.Value.TheVariants.{Nil, True, Int}
 use Rattle.rb_value.specs.declared.value.SymId.{SymId}
-use Rattle.rb_value.specs.Value.{is_true}
+use Rattle.rb_value.specs.Value.{is_true, truth}
 use Rattle.def_core.specs.Changes.{intern}
 use Rattle.rb_store.specs.Held.{Held}
 use Rattle.run_values.specs.declared.given.Given.TheVariants.{Gives}
@@ -87,3 +87,16 @@ pub record CombinesFirst (name : SymId) (held : Held) (s : Source) (first : Valu
   pub same : begun.store ≡ held.store
   pub there : (next begun s).item ≡ Some first
   pub sums : Sums name None (next begun s).held (next begun s).source first ts v after
+
+-- A value replies to a message with another value, and so the result is by the reply.
+pub record IsReply (name : List ℕ) (held : Held) (x y : Value) (ts : List Turn) (Result : Value → Type 0) (after : Held)
+    : Type 0 where
+  pub reply : Value
+  pub replies : Replies false (symbol name held) (with_symbol name held) x (y ∷ []) ts reply after
+  pub result : Result reply
+
+-- a reply that is an Integer, and whether it passes
+pub record IsSign (test : ℤ → Bool) (v reply : Value) : Type 0 where
+  pub sign : ℤ
+  pub same : reply ≡ Int sign
+  pub value : v ≡ truth (test sign)

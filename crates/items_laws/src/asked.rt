@@ -1,18 +1,23 @@
 //! What comes of runs that ask values for a method, one after another.
 
-ghost use Rattle.std.specs.Prelude.{◌≡◌, ◌^◌, ◌-◌, pos, min, List, [], ◌∷◌, codes, Option, Some, None, Ok};
+ghost use Rattle.std.specs.Prelude.{◌≡◌, ◌^◌, ◌-◌, pos, int_lt, int_le, min, not, List, [], ◌∷◌, codes, Option, Some, None, Ok};
 ghost use Rattle.rb_value.specs.declared.value.Value.{Value};
 ghost use Rattle.rb_value.specs.declared.value.Value.TheVariants.{Int};
 ghost use Rattle.rb_value.specs.declared.value.ObjId.{ObjId};
 ghost use Rattle.rb_value.specs.declared.value.SymId.{SymId};
+ghost use Rattle.rb_value.specs.Value.{is_true, truth};
 ghost use Rattle.rb_store.specs.Held.{Held};
 ghost use Rattle.core_calls.specs.Checks.{name_in};
+ghost use Rattle.iter_comparing.specs.declared.row.ComparingRow.TheVariants as comparing_row;
+ghost use Rattle.iter_comparing.specs.declared.row.OrderRow.TheVariants as order_row;
+ghost use Rattle.iter_items.specs.declared.row.ItemsRow.TheVariants as items_row;
 ghost use Rattle.iter_items.specs.declared.row.Task.TheVariants as task;
 ghost use Rattle.iter_items.specs.declared.source.Source.{Source};
 ghost use Rattle.iter_items.specs.Sources.{next, left};
-ghost use Rattle.items_laws.specs.Run.{Turn};
+ghost use Rattle.run_rows.specs.declared.row.StarRow.TheVariants as row;
+ghost use Rattle.items_laws.specs.Run.{Turn, Gives};
 ghost use Rattle.items_laws.specs.Items.{IsRunBy};
-ghost use Rattle.items_laws.specs.Asked.{CountsEqual, Combines, CombinesFirst, with_name_of, with_symbol};
+ghost use Rattle.items_laws.specs.Asked.{CountsEqual, Combines, CombinesFirst, IsReply, IsSign, with_name_of, with_symbol};
 
 /// `count` of a value: how many items are equal to it, by what each replies to `==`; without a value and a block: how many
 /// items there are, and nothing is called.
@@ -36,4 +41,31 @@ pub fn items_are_combined()
         → (name_in held.store n).name ≡ Ok name → (next (with_name_of n held) s).item ≡ Some first
         → IsRunBy task.Inject held recv s (n ∷ []) None ts v after
         → CombinesFirst name (with_name_of n held) s first ts v after }
+{}
+
+/// `!=` and `===` of Object: the receiver is asked whether it is `==` a value; whether what it replies isn't true, or is.
+pub fn a_reply_decides()
+    ensures differs { (held after : Held) (recv y v : Value) (block : Option ObjId) (ts : List Turn)
+        → Gives (row.Items (items_row.Compares comparing_row.Differs)) held recv (y ∷ []) block ts v after
+        → IsReply (codes "==") held recv y ts (λ a. v ≡ truth (not (is_true a))) after }
+    ensures matches { (held after : Held) (recv y v : Value) (block : Option ObjId) (ts : List Turn)
+        → Gives (row.Items (items_row.Compares comparing_row.Matches)) held recv (y ∷ []) block ts v after
+        → IsReply (codes "==") held recv y ts (λ a. v ≡ truth (is_true a)) after }
+{}
+
+/// `<`, `<=`, `>` and `>=` of Comparable: the receiver is asked how it stands to a value, and replies with an Integer; whether
+/// that is below 0, or not above it, or above it, or not below it.
+pub fn a_reply_orders()
+    ensures less { (held after : Held) (recv y v : Value) (block : Option ObjId) (ts : List Turn)
+        → Gives (row.Items (items_row.Compares (comparing_row.Order order_row.Less))) held recv (y ∷ []) block ts v after
+        → IsReply (codes "<=>") held recv y ts (IsSign (λ z. int_lt z (pos 0)) v) after }
+    ensures at_most { (held after : Held) (recv y v : Value) (block : Option ObjId) (ts : List Turn)
+        → Gives (row.Items (items_row.Compares (comparing_row.Order order_row.AtMost))) held recv (y ∷ []) block ts v after
+        → IsReply (codes "<=>") held recv y ts (IsSign (λ z. int_le z (pos 0)) v) after }
+    ensures greater { (held after : Held) (recv y v : Value) (block : Option ObjId) (ts : List Turn)
+        → Gives (row.Items (items_row.Compares (comparing_row.Order order_row.Greater))) held recv (y ∷ []) block ts v after
+        → IsReply (codes "<=>") held recv y ts (IsSign (λ z. int_lt (pos 0) z) v) after }
+    ensures at_least { (held after : Held) (recv y v : Value) (block : Option ObjId) (ts : List Turn)
+        → Gives (row.Items (items_row.Compares (comparing_row.Order order_row.AtLeast))) held recv (y ∷ []) block ts v after
+        → IsReply (codes "<=>") held recv y ts (IsSign (λ z. int_le (pos 0) z) v) after }
 {}
