@@ -27,7 +27,7 @@ use Rattle.items_laws.specs.Numbers.{Counts, numbers_from, is_past, any_past, is
 use Rattle.items_laws.proofs.Walks.{Walk, as_left, Walks, Called, Done, Goes, walks, one_same}
 use Rattle.items_laws.proofs.Small.{none_some, some_none}
 
-abbrev counting_up : Walk Count
+abbrev pub counting_up : Walk Count
 counting_up = record {
   fits = λ c. c.of_bytes ≡ false;
   as_state = λ c. state.Counting c;
@@ -42,7 +42,7 @@ stays_by : (held : Held) (c : Count) (o : Option ℤ) → c.of_bytes ≡ false
 stays_by held c None same = same
 stays_by held c (Some z) same = same
 
-counting_goes : Goes counting_up
+pub counting_goes : Goes counting_up
 counting_goes = record {
   goes = λ h c a p same e. e;
   beats = λ h c same. stays_by h c (counting.due c) same;
@@ -55,7 +55,7 @@ abbrev due_of : Bool → ℤ → Option ℤ
 due_of true z = None
 due_of false z = Some z
 
-due_is : (c : Count) (z : ℤ) (d : Bool) → c.next ≡ Some z → is_past c.last c.by z ≡ d → counting.due c ≡ due_of d z
+pub due_is : (c : Count) (z : ℤ) (d : Bool) → c.next ≡ Some z → is_past c.last c.by z ≡ d → counting.due c ≡ due_of d z
 due_is c z d there past = ap (λ (o : Option ℤ). counting.due_by c o) there ∙ by_past d past
   where
     by_past : (d : Bool) → is_past c.last c.by z ≡ d
@@ -97,7 +97,7 @@ none_due held c r after none d = record {
   left = d.left ∙ ap (λ (o : Option ℤ). (counting.beat_by held c o).held) none;
 }
 
-no_call : (held : Held) (c : Count) (t : Turn) (Rest : Type 0) → counting.due c ≡ None
+pub no_call : (held : Held) (c : Count) (t : Turn) (Rest : Type 0) → counting.due c ≡ None
     → Called counting_up held c t Rest → ⊥
 no_call held c t Rest none k = none_some k.call
     (subst (λ (o : Option ℤ). (counting.beat_by held c o).beat ≡ Some k.call) none k.there)
@@ -121,10 +121,10 @@ end_by held c r after (Some z) there d = past_by (is_past c.last c.by z) refl
 
 -- a number is due
 
-abbrev counted_on : Count → ℤ → Count
+abbrev pub counted_on : Count → ℤ → Count
 counted_on c z = record c { next = counting.within (z +ℤ c.by) }
 
-number_called : (held : Held) (c : Count) (z : ℤ) (t : Turn) (Rest : Type 0) → c.of_bytes ≡ false
+pub number_called : (held : Held) (c : Count) (z : ℤ) (t : Turn) (Rest : Type 0) → c.of_bytes ≡ false
     → counting.due c ≡ Some z → Called counting_up held c t Rest
     → call_of t.wanted.plan ≡ Some (c.block, Int z ∷ [])
 number_called held c z t Rest bytes due k =

@@ -29,18 +29,18 @@ use Rattle.items_laws.proofs.Small.{none_some, not_cons, tail_same}
 use Rattle.items_laws.proofs.Walks.{Walk, Goes, Called, plan_at, called_at, one_same}
 
 -- the call that isn't answered
-record CutEnd {S : Type 0} (w : Walk S) (held : Held) (s : S) (last : Planned Stage) : Type 0 where
-  call : Beat
-  there : (w.beat held s).beat ≡ Some call
-  called : call_of last.plan ≡ Some (call.callee, args_of call.passed)
-  left : last.held ≡ (w.beat held s).held
+pub record CutEnd {S : Type 0} (w : Walk S) (held : Held) (s : S) (last : Planned Stage) : Type 0 where
+  pub call : Beat
+  pub there : (w.beat held s).beat ≡ Some call
+  pub called : call_of last.plan ≡ Some (call.callee, args_of call.passed)
+  pub left : last.held ≡ (w.beat held s).held
 
-abbrev CutWalks : {S : Type 0} → Walk S → List Turn → Held → S → Planned Stage → Type 0
+abbrev pub CutWalks : {S : Type 0} → Walk S → List Turn → Held → S → Planned Stage → Type 0
 CutWalks w [] held s last = CutEnd w held s last
 CutWalks w (t ∷ ts) held s last = Called w held s t (CutWalks w ts (w.left t.held (w.beat held s).state t.answer)
     (w.later t.held (w.beat held s).state t.answer) last)
 
-abbrev Recursion : {S : Type 0} → Walk S → List Turn → Planned Stage → Type 0
+abbrev pub Recursion : {S : Type 0} → Walk S → List Turn → Planned Stage → Type 0
 Recursion {S = S} w ts last = (held : Held) (s : S) → w.fits s → Runs (plan_at w held s) ts last → CutWalks w ts held s last
 
 cut_at : {S : Type 0} (w : Walk S) (goes : Goes w) (ts : List Turn) (held : Held) (s : S) (last : Planned Stage)
@@ -65,7 +65,7 @@ cut_at w goes (t ∷ ts) held s last stage (Some c) waits rest fits there runs =
     (λ fit run. rest t ts refl (w.left t.held (w.beat held s).state t.answer)
     (w.later t.held (w.beat held s).state t.answer) fit run)
 
-cut_walks : {S : Type 0} (w : Walk S) (goes : Goes w) (ts : List Turn) (last : Planned Stage) (stage : Stage)
+pub cut_walks : {S : Type 0} (w : Walk S) (goes : Goes w) (ts : List Turn) (last : Planned Stage) (stage : Stage)
     → waiting last.plan ≡ Some stage → Recursion w ts last
 cut_walks w goes [] last stage waits = λ held s fits runs.
     cut_at w goes [] held s last stage (w.beat held s).beat waits (λ t us e. absurd (not_cons t us (sym e))) fits refl runs

@@ -52,3 +52,4 @@ pub mod Leaving
 pub mod Stopped
 pub mod CutWalks
 pub mod Replied
+pub mod CutCounts

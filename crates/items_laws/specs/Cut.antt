@@ -1,7 +1,7 @@
 -- Runs that are left: what was called last never answers, since it raised, broke out or went elsewhere.
-use Rattle.std.specs.Prelude.{◌≡◌, List, [], ◌∷◌, ◌++◌, map, not, Bool, true, false, Some}
+use Rattle.std.specs.Prelude.{◌≡◌, suc, ℤ, List, [], ◌∷◌, ◌++◌, length, map, not, Bool, true, false, Some}
 use Rattle.rb_value.specs.declared.value.Value.{Value}
-use Rattle.rb_value.specs.declared.value.Value.TheVariants.{Obj}
+use Rattle.rb_value.specs.declared.value.Value.TheVariants.{Int, Obj}
 use Rattle.rb_value.specs.declared.value.ObjId.{ObjId}
 use Rattle.rb_value.specs.declared.core_class.CoreClass.TheVariants as class
 use Rattle.def_core.specs.Classes.{plain_class_of}
@@ -23,6 +23,7 @@ use Rattle.core_iter.specs.Stage.{Stage}
 use Rattle.core_iter.specs.Rows.{Starts}
 use Rattle.items_laws.specs.Run.{Turn, Runs, waiting}
 use Rattle.items_laws.specs.Items.{Passing, Hands, call_of, calls_of, last_heap, left_of, with_arguments}
+use Rattle.items_laws.specs.Numbers.{numbers_from}
 
 -- a run of a method with a block over the items of an Array, a Hash or a Range, in which the last thing that is wanted isn't
 -- answered
@@ -70,6 +71,11 @@ hands_alone s task.All = true
 hands_alone s task.Any = true
 hands_alone s task.Never = true
 hands_alone s _ = false
+
+-- The block was called with numbers from one on by steps, and the last call isn't answered.
+abbrev pub CutsOff : ℤ → ℤ → ObjId → List Turn → Planned Stage → Type 0
+CutsOff first by b ts last = calls_of ts ++ call_of last.plan ∷ []
+    ≡ map (λ z. Some (b, Int z ∷ [])) (numbers_from first by (suc (length ts)))
 
 -- a `loop` that a StopIteration ends by its result
 pub record Stops (st : Store) (s : Iteration) (e : ObjId) (v : Value) : Type 0 where

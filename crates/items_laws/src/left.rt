@@ -1,6 +1,6 @@
 //! Runs that are left, since what they called raised, broke out or went elsewhere.
 
-ghost use Rattle.std.specs.Prelude.{◌≡◌, true, List, [], ◌∷◌, Some};
+ghost use Rattle.std.specs.Prelude.{◌≡◌, ℤ, true, false, List, [], ◌∷◌, Some};
 ghost use Rattle.rb_value.specs.declared.value.Value.{Value};
 ghost use Rattle.rb_value.specs.declared.value.ObjId.{ObjId};
 ghost use Rattle.def_core.specs.Store.{Store};
@@ -14,13 +14,15 @@ ghost use Rattle.iter_items.specs.declared.source.Source.TheVariants as source;
 ghost use Rattle.iter_items.specs.Sources.{next, previous};
 ghost use Rattle.run_rows.specs.declared.row.StarRow.TheVariants as row;
 ghost use Rattle.run_rows.specs.declared.row.VisitRow.TheVariants as visit;
+ghost use Rattle.core_iter.specs.Counting.{count_next};
+ghost use Rattle.core_iter.specs.declared.counting.Count.{Count};
 ghost use Rattle.core_iter.specs.declared.iteration.Iteration.{Iteration};
 ghost use Rattle.core_iter.specs.Rows.{Starts, caught};
 ghost use Rattle.core_iter.specs.Stage.{Stage};
 ghost use Rattle.items_laws.specs.Run.{Turn, Runs, waiting};
 ghost use Rattle.items_laws.specs.Items.{answers, with_arguments};
 ghost use Rattle.items_laws.specs.Lists.{alone, in_turn, with_object, with_places};
-ghost use Rattle.items_laws.specs.Cut.{Cut, IsLeft, IsCut, Stops, hands_alone};
+ghost use Rattle.items_laws.specs.Cut.{Cut, CutsOff, IsLeft, IsCut, Stops, hands_alone};
 
 /// Where the block never answers, by an exception or an exit, it was called with the items one after another until then, each
 /// in the heap as the answer before left it, and nothing else was handed on: in whatever a method does with the answers.
@@ -49,6 +51,14 @@ pub fn each_is_left()
         → an_array held.store.objects recv ≡ Some a → Starts (row.Visit visit.EachElement) held recv [] (Some b) first
         → Runs first ts last → waiting last.plan ≡ Some stage
         → Cut next held (source.Elements a 0) b alone ts last }
+{}
+
+/// And of `times`, `upto`, `downto`, `step` and `each` of a Range of Integers: wherever such an iteration stands, the block is
+/// called with each number from the next one on until it doesn't answer.
+pub fn numbers_are_left()
+    ensures { (held : Held) (c : Count) (z : ℤ) (ts : List Turn) (last : Planned Stage) (stage : Stage)
+        → c.next ≡ Some z → c.of_bytes ≡ false → Runs (count_next held c) ts last → waiting last.plan ≡ Some stage
+        → CutsOff z c.by c.block ts last }
 {}
 
 /// An iteration that catches an exception is a `loop`, the exception is a StopIteration, and its result is given; so any
