@@ -79,7 +79,7 @@ cut_walks w goes (t ∷ ts) last stage waits = λ held s fits runs.
 abbrev one_called : ObjId → List (List Value) → List (Option (ObjId × List Value))
 one_called b xs = map (λ args. Some (b, args)) xs
 
-cut_none : (pass : Passing) (held : Held) (s : Source) (b : ObjId) (x : Value) (last : Planned Stage)
+pub cut_none : (pass : Passing) (held : Held) (s : Source) (b : ObjId) (x : Value) (last : Planned Stage)
     → (pass held s).item ≡ Some x → call_of last.plan ≡ Some (b, x ∷ []) → last.held ≡ (pass held s).held
     → Cut pass held s b alone [] last
 cut_none pass held s b x last there called left = record {
@@ -91,7 +91,7 @@ cut_none pass held s b x last there called left = record {
   left = left;
 }
 
-cut_more : (pass : Passing) (held : Held) (s : Source) (b : ObjId) (t : Turn) (ts : List Turn) (x : Value)
+pub cut_more : (pass : Passing) (held : Held) (s : Source) (b : ObjId) (t : Turn) (ts : List Turn) (x : Value)
     (last : Planned Stage) → (pass held s).item ≡ Some x → call_of t.wanted.plan ≡ Some (b, x ∷ [])
     → t.wanted.held ≡ (pass held s).held → Cut pass t.held (pass held s).source b alone ts last
     → Cut pass held s b alone (t ∷ ts) last

@@ -53,3 +53,4 @@ pub mod Stopped
 pub mod CutWalks
 pub mod Replied
 pub mod CutCounts
+pub mod CutReplaced

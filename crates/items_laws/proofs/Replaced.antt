@@ -36,7 +36,7 @@ stay_by held w (Some v) = record { beat = Some (with_one w.block v); state = w; 
 abbrev pub stay : Held → Visit → Beaten Visit
 stay held w = stay_by held w (visiting.element held.store w)
 
-abbrev replacing : Walk Visit
+abbrev pub replacing : Walk Visit
 replacing = record {
   fits = λ w. Unit {0};
   as_state = λ w. state.Replacing w;
@@ -46,12 +46,12 @@ replacing = record {
   ending = λ w. Obj w.array;
 }
 
-plan_is : (held : Held) (w : Visit) (o : Option Value)
+pub plan_is : (held : Held) (w : Visit) (o : Option Value)
     → visiting.replace_at held w o ≡ goes_on (λ w. state.Replacing w) (Obj w.array) (stay_by held w o)
 plan_is held w None = refl
 plan_is held w (Some v) = refl
 
-replacing_goes : Goes replacing
+pub replacing_goes : Goes replacing
 replacing_goes = record {
   goes = λ h w a p f e. e ∙ plan_is (visiting.replaced h w a) (visiting.passed w)
       (visiting.element (visiting.replaced h w a).store (visiting.passed w));
@@ -75,7 +75,7 @@ replace_end held w r after (Some x) there d =
     absurd (some_none (with_one w.block x) (subst (λ (o : Option Value). (stay_by held w o).beat ≡ None) there d.none))
 
 -- the turn with its answer in the place of the element
-abbrev replaced_turn : Visit → Turn → Turn
+abbrev pub replaced_turn : Visit → Turn → Turn
 replaced_turn w t = record t { held = with_element t.held w.array w.place t.answer }
 
 replace_turn : (t : Turn) (ts : List Turn) (r : Value) (after held : Held) (w : Visit) (o : Option Value)

@@ -1,6 +1,6 @@
 //! Runs that are left, since what they called raised, broke out or went elsewhere.
 
-ghost use Rattle.std.specs.Prelude.{◌≡◌, ℤ, true, false, List, [], ◌∷◌, Some};
+ghost use Rattle.std.specs.Prelude.{◌≡◌, ◌<◌, ◌^◌, ℤ, true, false, List, [], ◌∷◌, length, Some};
 ghost use Rattle.rb_value.specs.declared.value.Value.{Value};
 ghost use Rattle.rb_value.specs.declared.value.ObjId.{ObjId};
 ghost use Rattle.def_core.specs.Store.{Store};
@@ -22,6 +22,7 @@ ghost use Rattle.core_iter.specs.Stage.{Stage};
 ghost use Rattle.items_laws.specs.Run.{Turn, Runs, waiting};
 ghost use Rattle.items_laws.specs.Items.{answers, with_arguments};
 ghost use Rattle.items_laws.specs.Lists.{alone, in_turn, with_object, with_places};
+ghost use Rattle.items_laws.specs.Changed.{replaced_from};
 ghost use Rattle.items_laws.specs.Cut.{Cut, CutsOff, IsLeft, IsCut, Stops, hands_alone};
 
 /// Where the block never answers, by an exception or an exit, it was called with the items one after another until then, each
@@ -45,9 +46,14 @@ pub fn runs_are_left()
         → IsCut next held s b (in_turn (first ∷ answers ts)) ts last }
 {}
 
-/// So it is of `each` of an Array.
+/// So it is of `each` of an Array, and of `map!`, in whose heaps each answer so far has taken the place of its element.
 pub fn each_is_left()
-    ensures { (held : Held) (recv : Value) (a b : ObjId) (ts : List Turn) (first last : Planned Stage) (stage : Stage)
+    ensures replacing { (held : Held) (recv : Value) (a b : ObjId) (ts : List Turn) (first last : Planned Stage)
+        (stage : Stage) → length ts < 2 ^ 64 → an_array held.store.objects recv ≡ Some a
+        → Starts (row.Visit visit.MapInPlace) held recv [] (Some b) first → Runs first ts last
+        → waiting last.plan ≡ Some stage
+        → Cut next held (source.Elements a 0) b alone (replaced_from a 0 ts) last }
+    ensures each { (held : Held) (recv : Value) (a b : ObjId) (ts : List Turn) (first last : Planned Stage) (stage : Stage)
         → an_array held.store.objects recv ≡ Some a → Starts (row.Visit visit.EachElement) held recv [] (Some b) first
         → Runs first ts last → waiting last.plan ≡ Some stage
         → Cut next held (source.Elements a 0) b alone ts last }
