@@ -25,6 +25,7 @@ use Rattle.iter_items.specs.Sources.{of_array}
 use Rattle.iter_items.specs.Stage as over_items
 use Rattle.core_iter.specs.Stage.{items}
 use Rattle.items_laws.specs.Items.{IsRunOf, of_its_own}
+use Rattle.items_laws.specs.Cut.{IsLeft}
 use Rattle.items_laws.specs.Example as example
 
 -- the visit at its beginning, at the element, and with the answer
@@ -97,3 +98,16 @@ a_run held recv x y a b array there = of_its_own (record {
     },
   );
 }) (ap (λ (o : Option ObjId). of_array held.store recv false o) array)
+
+-- the same where the block doesn't answer
+pub a_left_run : (held : Held) (recv x y : Value) (a b : ObjId) → an_array held.store.objects recv ≡ Some a
+    → elements_at held.store.objects a ≡ x ∷ []
+    → IsLeft task.Map held recv (source.Elements a 0) [] b [] (example.turn held recv a b x y).wanted
+a_left_run held recv x y a b array there = record {
+  first = as_moved items (example.asked held recv a b x);
+  starts = moves (example.asked held recv a b x) (starts_so held recv x a b array there);
+  over = ap (λ (o : Option ObjId). of_array held.store recv false o) array;
+  runs = refl;
+  stage = items (over_items.visits (at_element recv a b x));
+  waits = refl;
+}

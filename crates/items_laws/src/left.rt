@@ -3,6 +3,7 @@
 ghost use Rattle.std.specs.Prelude.{◌≡◌, ◌<◌, ◌^◌, ℤ, true, false, List, [], ◌∷◌, length, Some};
 ghost use Rattle.rb_value.specs.declared.value.Value.{Value};
 ghost use Rattle.rb_value.specs.declared.value.ObjId.{ObjId};
+ghost use Rattle.def_core.specs.Parts.{elements_at};
 ghost use Rattle.def_core.specs.Store.{Store};
 ghost use Rattle.def_calls.specs.Views.{an_array};
 ghost use Rattle.rb_store.specs.Held.{Held};
@@ -19,6 +20,7 @@ ghost use Rattle.core_iter.specs.declared.counting.Count.{Count};
 ghost use Rattle.core_iter.specs.declared.iteration.Iteration.{Iteration};
 ghost use Rattle.core_iter.specs.Rows.{Starts, caught};
 ghost use Rattle.core_iter.specs.Stage.{Stage};
+ghost use Rattle.items_laws.specs.Example.{turn};
 ghost use Rattle.items_laws.specs.Run.{Turn, Runs, waiting};
 ghost use Rattle.items_laws.specs.Items.{answers, with_arguments};
 ghost use Rattle.items_laws.specs.Lists.{alone, in_turn, with_object, with_places};
@@ -71,4 +73,11 @@ pub fn numbers_are_left()
 /// other exception leaves a `loop`, and each exception leaves whatever other iteration.
 pub fn loops_are_stopped()
     ensures { (st : Store) (s : Iteration) (e : ObjId) (v : Value) → caught st s e ≡ Some v → Stops st s e v }
+{}
+
+/// A run of `map` over an Array of one element, whose block doesn't answer.
+pub fn a_left_run()
+    ensures { (held : Held) (recv x y : Value) (a b : ObjId) → an_array held.store.objects recv ≡ Some a
+        → elements_at held.store.objects a ≡ x ∷ []
+        → IsLeft task.Map held recv (source.Elements a 0) [] b [] (turn held recv a b x y).wanted }
 {}
