@@ -54,3 +54,4 @@ pub mod CutWalks
 pub mod Replied
 pub mod CutCounts
 pub mod CutReplaced
+pub mod Uncombined

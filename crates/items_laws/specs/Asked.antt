@@ -5,12 +5,14 @@ use Rattle.rb_value.specs.declared.value.Value.TheVariants.{Nil, True, Int}
 use Rattle.rb_value.specs.declared.value.SymId.{SymId}
 use Rattle.rb_value.specs.Value.{is_true, truth}
 use Rattle.def_core.specs.Changes.{intern}
+use Rattle.def_core.specs.Parts.{elements_at}
 use Rattle.rb_store.specs.Held.{Held}
 use Rattle.run_values.specs.declared.given.Given.TheVariants.{Gives}
 use Rattle.core_calls.specs.Checks.{name_in}
 use Rattle.iter_comparing.specs.Ordering.{same_value}
 use Rattle.iter_comparing.specs.Outright.{outright}
 use Rattle.iter_items.specs.declared.source.Source.{Source}
+use Rattle.iter_items.specs.declared.source.Source.TheVariants as source
 use Rattle.iter_items.specs.Sources.{Passed, next}
 use Rattle.items_laws.specs.Run.{Turn}
 use Rattle.items_laws.specs.Lists.{counted_from}
@@ -100,3 +102,9 @@ pub record IsSign (test : ℤ → Bool) (v reply : Value) : Type 0 where
   pub sign : ℤ
   pub same : reply ≡ Int sign
   pub value : v ≡ truth (test sign)
+
+-- a source that has no items, at whatever place
+abbrev pub IsEmpty : Held → Source → Type 0
+IsEmpty held (source.Elements a n) = elements_at held.store.objects a ≡ []
+IsEmpty held (source.Pairs ps n) = ps ≡ []
+IsEmpty held (source.Numbers n) = n.left ≡ 0

@@ -2,7 +2,7 @@
 
 ghost use Rattle.std.specs.Prelude.{◌≡◌, ◌^◌, ◌-◌, pos, int_lt, int_le, min, not, List, [], ◌∷◌, codes, Option, Some, None, Ok};
 ghost use Rattle.rb_value.specs.declared.value.Value.{Value};
-ghost use Rattle.rb_value.specs.declared.value.Value.TheVariants.{Int};
+ghost use Rattle.rb_value.specs.declared.value.Value.TheVariants.{Nil, Int};
 ghost use Rattle.rb_value.specs.declared.value.ObjId.{ObjId};
 ghost use Rattle.rb_value.specs.declared.value.SymId.{SymId};
 ghost use Rattle.rb_value.specs.Value.{is_true, truth};
@@ -17,7 +17,7 @@ ghost use Rattle.iter_items.specs.Sources.{next, left};
 ghost use Rattle.run_rows.specs.declared.row.StarRow.TheVariants as row;
 ghost use Rattle.items_laws.specs.Run.{Turn, Gives};
 ghost use Rattle.items_laws.specs.Items.{IsRunBy};
-ghost use Rattle.items_laws.specs.Asked.{CountsEqual, Combines, CombinesFirst, IsReply, IsSign, with_name_of, with_symbol};
+ghost use Rattle.items_laws.specs.Asked.{CountsEqual, Combines, CombinesFirst, IsEmpty, IsReply, IsSign, with_name_of, with_symbol};
 
 /// `count` of a value: how many items are equal to it, by what each replies to `==`; without a value and a block: how many
 /// items there are, and nothing is called.
@@ -41,6 +41,17 @@ pub fn items_are_combined()
         → (name_in held.store n).name ≡ Ok name → (next (with_name_of n held) s).item ≡ Some first
         → IsRunBy task.Inject held recv s (n ∷ []) None ts v after
         → CombinesFirst name (with_name_of n held) s first ts v after }
+{}
+
+/// `inject` of no items, with a block or by a name: nil, and nothing is called.
+pub fn nothing_is_combined()
+    ensures block { (held after : Held) (recv v : Value) (s : Source) (b : ObjId) (ts : List Turn) → IsEmpty held s
+        → IsRunBy task.Inject held recv s [] (Some b) ts v after
+        → (ts ≡ []) × (v ≡ Nil) × (after.store ≡ held.store) }
+    ensures name { (held after : Held) (recv n v : Value) (name : SymId) (s : Source) (ts : List Turn)
+        → (name_in held.store n).name ≡ Ok name → IsEmpty (with_name_of n held) s
+        → IsRunBy task.Inject held recv s (n ∷ []) None ts v after
+        → (ts ≡ []) × (v ≡ Nil) × (after.store ≡ (with_name_of n held).store) }
 {}
 
 /// `!=` and `===` of Object: the receiver is asked whether it is `==` a value; whether what it replies isn't true, or is.
