@@ -43,6 +43,9 @@ pub mod Found
 pub mod Unasked
 pub mod Outcomes
 pub mod Tame
+pub mod CalmForms
+pub mod CalmPuts
+pub mod CalmExits
 pub mod Calms
 pub mod Simply
 pub mod Passing
