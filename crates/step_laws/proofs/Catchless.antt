@@ -1,6 +1,7 @@
--- The code of plain forms has no entry in the catch table.
+-- The code of plain forms has no entry in the catch table, and makes no bodies.
 use Rattle.std.proofs.Common.{◌≡◌, ℕ, ◌+◌, List, [], ◌++◌, refl, ap, ◌∙◌, Bool, true, false}
 use Rattle.std.specs.Prelude.{pos, neg_ℤ, Option, Some, None}
+use Rattle.rite_code.specs.declared.code.Irep.{Irep}
 use Rattle.rite_code.specs.declared.operation.Operation.{Operation}
 use Rattle.rite_code.specs.declared.operation.Operation.TheVariants as op
 use Rattle.ir_core.specs.CoreForm as form
@@ -21,19 +22,23 @@ use Rattle.gen_forms.specs.Gen.{write, in_loop, Code, Context, gen, in_turn, oth
 use Rattle.step_laws.specs.Plain.{IsPlain, ArePlain, ArePlainItems, ArePlainElements, ArePlainPairs, ArePlainBranches}
 
 unfoldable pub IsBare : Piece → Type 0
-IsBare p = p.catches ≡ []
+IsBare p = (p.catches ≡ []) × (p.children ≡ []) × (p.bodies ≡ [])
 
 bare_both : (p q : Piece) → IsBare p → IsBare q → IsBare (p ⊕ q)
 unfolding IsBare both
-bare_both p q e f = ap (λ (cs : List Catch). cs ++ q.catches) e ∙ f
+bare_both p q e f = (
+  ap (λ (cs : List Catch). cs ++ q.catches) e.0 ∙ f.0,
+  ap (λ (cs : List ℕ). cs ++ q.children) e.1 ∙ f.1,
+  ap (λ (bs : List Irep). bs ++ q.bodies) e.2 ∙ f.2,
+)
 
 bare_puts : (l : Line) → IsBare (puts l)
 unfolding IsBare puts
-bare_puts l = refl
+bare_puts l = (refl, refl, refl)
 
 bare_nothing : IsBare nothing
 unfolding IsBare nothing
-bare_nothing = refl
+bare_nothing = (refl, refl, refl)
 
 -- a code that stands bare everywhere
 abbrev Bare : Code → Type 0

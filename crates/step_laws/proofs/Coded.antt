@@ -1,54 +1,57 @@
--- The code of a program of plain forms within the limits is code of it.
-use Rattle.std.proofs.Common.{◌≡◌, ◌≤◌, ℕ, ◌+◌, List, [], ◌∷◌, ◌++◌, length, map, arith, refl, sym, ap, ◌∙◌, subst, Bool, true}
-use Rattle.std.specs.Prelude.{Some, None}
-use Rattle.std.proofs.lemmas.List.{append-nil, length-map}
-use Rattle.rite_code.specs.Code.{program}
-use Rattle.rite_code.specs.declared.code.Irep.{Irep}
+-- The code of a program of plain forms and of methods of such forms within the limits is code of it.
+use Rattle.std.proofs.Common.{◌≡◌, ◌<◌, ◌≤◌, ℕ, zero, suc, ◌+◌, List, [], ◌∷◌, ◌++◌, length, map, arith, refl, sym, ap, subst, Bool, true}
+use Rattle.std.specs.Prelude.{◌&&◌, None}
+use Rattle.std.proofs.lemmas.List.{append-nil}
+use Rattle.rite_code.specs.Code.{Program, program}
 use Rattle.rite_code.specs.declared.operation.Operation.TheVariants as op
 use Rattle.ir_core.specs.CoreForm as form
 use Rattle.ir_core.specs.CoreForm.{Name, Local, Parameters, CoreForm, Body, form_of}
-use Rattle.ir_core.specs.Program.{IsProgram, is_form, has_no_parameters, within_program}
+use Rattle.ir_core.specs.Program.{IsProgram, is_form, are_forms, has_no_parameters, within_program}
 use Rattle.ir_walk.specs.Walk.{walked}
 use Rattle.ir_walk.specs.Width.{width}
 use Rattle.ir_walk.specs.declared.extent.Extent.TheVariants as extent
 use Rattle.ir_counts.specs.declared.tally.Tally.{Tally}
 use Rattle.ir_counts.specs.Counts.{need, tally}
 use Rattle.ir_counts.specs.Limits.{first_excess}
+use Rattle.scope_resolver.specs.declared.body_kind.BodyKind.TheVariants as kind
+use Rattle.scope_resolver.specs.Layout.{named_slots}
 use Rattle.gen_parts.specs.declared.line.Line.TheVariants as line
 use Rattle.gen_parts.specs.declared.line.Catch.{Catch}
-use Rattle.gen_parts.specs.Pieces.{Piece, both, puts, does, ◌⊕◌}
-use Rattle.gen_parts.specs.Assembly.{entry_by, assembled}
-use Rattle.gen_forms.specs.Gen.{Context, gen, first_spot}
+use Rattle.gen_parts.specs.Pieces.{Piece, nothing, both, puts, does, ◌⊕◌}
+use Rattle.gen_parts.specs.Assembly.{places, entry_by, assembled}
+use Rattle.gen_forms.specs.Gen.{Context, gen, others_in_turn, first_spot}
 use Rattle.gen_forms.specs.Open.{coded}
 use Rattle.gen_forms.specs.Making.{coded_program}
 use Rattle.code_laws.proofs.Shares.{Fits, many}
 use Rattle.code_laws.proofs.Noting.{noted_of, whole}
 use Rattle.code_laws.proofs.Limits.{Counted, within_limits, steps_of}
+use Rattle.code_laws.proofs.Binding.{main_knows}
 use Rattle.text_set.specs.Sets.{is_among}
-use Rattle.def_core.specs.Store.{Store}
 use Rattle.rb_store.specs.Opening.{with_names}
 use Rattle.def_calls.specs.Rows
-use Rattle.def_eval.specs.Source.{over, named_in, body_at as source_body, source_of, all_names}
+use Rattle.def_eval.specs.Source.{over, in_order, body_at as source_body, no_parameters, source_of, all_names}
 use Rattle.def_eval.specs.Configuration.{opening}
-use Rattle.def_machine.specs.State.{all_symbols}
+use Rattle.def_machine.specs.State.{body_at, no_body, all_symbols}
 use Rattle.step_laws.specs.Site.{Site, LineAt, Lines, IsThere, opening_store}
 use Rattle.step_laws.specs.Simple.{IsSimple}
-use Rattle.step_laws.specs.Plain.{IsPlain}
+use Rattle.step_laws.specs.Covers.{Covers}
 use Rattle.step_laws.specs.Calm.{StaysCalm}
+use Rattle.step_laws.specs.Methods.{MethodCode}
+use Rattle.step_laws.specs.Tops.{AreTops, IsPlainProgram, no_tops, form_before}
 use Rattle.step_laws.specs.Implements.{main_site, IsCodeOf, Implements}
-use Rattle.step_laws.proofs.Covers.{at_top}
 use Rattle.step_laws.proofs.Placed.{high, Stands, left, right, the_line}
 use Rattle.step_laws.proofs.Apart.{apart}
 use Rattle.step_laws.proofs.Simply.{simply}
 use Rattle.step_laws.proofs.Plainly.{simple_plain}
 use Rattle.step_laws.proofs.Whole.{implements}
 use Rattle.step_laws.proofs.Found.{both_true}
-use Rattle.step_laws.proofs.Names.{Knows, among_known, same_symbols}
-use Rattle.step_laws.proofs.Bodiless.{no_bodies, none_many}
-use Rattle.step_laws.proofs.Catchless.{IsBare, bare}
+use Rattle.step_laws.proofs.Naming.{one_more, names_written, all_known}
+use Rattle.step_laws.proofs.Written.{Written, AllWritten, nth_written, tops_written, tops_catchless}
+use Rattle.step_laws.proofs.Topped as topped
 use Rattle.step_laws.proofs.Laid.{first_place}
 use Rattle.step_laws.proofs.Fitting as fitting
-use Rattle.step_laws.proofs.Covering.{Has, covered}
+use Rattle.step_laws.proofs.Covering.{Has}
+use Rattle.step_laws.proofs.Coding as coding
 
 fits_main : (p : Parameters) (ls : List Local) (f : CoreForm) → Counted (form.body p ls f)
     → Fits (form.body p ls f)
@@ -58,13 +61,30 @@ fits_main p ls f c = (
       (whole (walked extent.Program [] f)),
 )
 
+-- a method of the source by its number in the code
+method_of : (s : List Body) (c : Program) (n : ℕ) (b : Body) → c.version ≡ 2 → source_body s n ≡ b
+    → Written n b (body_at c n) → ((x : Name) → is_among x (tally b).symbols ≡ true → IsThere s x) → MethodCode s c n
+method_of s c n (form.body p ls f) version mine w there =
+    coding.method_coded s c n (record {
+      parameters = p;
+      locals = ls;
+      form_of_it = f;
+      version = version;
+      mine = mine;
+      written = w;
+      there = there;
+    })
+
 module _ (p : Parameters) (ls : List Local) (f : CoreForm) (program_is : IsProgram (form.body p ls f))
-    (limits : first_excess (need (form.body p ls f)) ≡ None) (plain : IsPlain f) where
+    (limits : first_excess (need (form.body p ls f)) ≡ None) (tops : AreTops (form.more f form.none)) where
   abbrev b : Body
   b = form.body p ls f
 
   abbrev t : Tally
   t = tally b
+
+  abbrev code : Program
+  code = program 2 (coded_program b)
 
   within : Counted b
   within = within_limits b limits
@@ -75,104 +95,129 @@ module _ (p : Parameters) (ls : List Local) (f : CoreForm) (program_is : IsProgr
   formed : is_form (within_program ls) f ≡ true
   formed = (both_true (has_no_parameters p) (is_form (within_program ls) f) program_is).1
 
+  all_formed : are_forms (within_program ls) (form.more f form.none) ≡ true
+  all_formed = ap (λ (x : Bool). x && true) formed
+
   few : many f ≤ 65535
-  few = let n = none_many f plain in omega (arith, n)
+  few = omega (arith, within.few)
 
   abbrev start : ℕ
-  start = fitting.start p ls f fits (within_program ls) refl formed few
+  start = fitting.start kind.Main p ls f fits
 
   abbrev around : Context
-  around = fitting.around p ls f fits (within_program ls) refl formed few
+  around = fitting.around kind.Main p ls f fits
 
   abbrev wide : Bool
-  wide = fitting.wide p ls f fits (within_program ls) refl formed few
-
-  abbrev at : List ℕ
-  at = fitting.at p ls f fits (within_program ls) refl formed few
-
-  abbrev site : Site
-  site = main_site (source_of b) (program 2 (coded_program b)) wide at around start
+  wide = fitting.wide kind.Main p ls f fits
 
   abbrev q : Piece
   q = gen around (first_spot 0) start f
 
+  abbrev at : List ℕ
+  at = places wide 0 (q.lines ++ line.Does op.Stop ∷ [])
+
+  abbrev site : Site
+  site = main_site (source_of b) code wide at around start
+
   placed : Lines site 0 (q.lines ++ line.Does op.Stop ∷ [])
-  placed = fitting.lines_placed p ls f fits (within_program ls) refl formed few (source_of b)
+  unfolding coded assembled both puts
+  placed =
+      fitting.lines_placed kind.Main p ls f fits 0 q (fitting.main_inner p ls f fits (within_program ls) refl formed)
+      op.Stop (fitting.main_ready p ls f fits (within_program ls) refl formed)
+      (fitting.main_entered p ls f fits (within_program ls) refl formed) few site refl refl refl refl
 
   both_stand : Stands site 0 (q ⊕ does op.Stop)
   unfolding Stands both puts
   both_stand = placed
 
-  no_inner : q.bodies ≡ []
-  no_inner = empty q.bodies (fitting.bodies p ls f fits (within_program ls) refl formed few ∙ none_many f plain)
-    where
-      empty : (bs : List Irep) → length bs ≡ 0 → bs ≡ []
-      empty [] e = refl
-      empty (x ∷ bs) e = absurd (omega (arith, e))
+  no_catches : (body_at code 0).catches ≡ []
+  unfolding coded assembled both puts nothing
+  no_catches = ap (λ (cs : List Catch). map (entry_by at) cs) (tops_catchless tops around (first_spot 0) start)
 
-  no_entry : q.catches ≡ []
-  unfolding IsBare
-  no_entry = bare f plain around (first_spot 0) start
+  -- The other bodies.
 
-  -- the symbols of its bodies are those of the first
-  symbols_are : all_symbols (coded_program b) ≡ t.symbols
-  unfolding coded assembled both puts
-  symbols_are =
-      ap (λ (bs : List Irep). t.symbols ++ all_symbols (bs ++ [])) no_inner ∙ append-nil t.symbols
+  written : AllWritten 1 (over in_order f) (q.bodies ++ [])
+  unfolding both nothing
+  written =
+      subst (λ (bs : List Body). AllWritten 1 bs (q.bodies ++ [])) (append-nil (over in_order f))
+      (tops_written tops t (within_program ls) around (first_spot 0) start (fits.1, tt) all_formed)
+
+  nth_there : (n : ℕ) (x : Name) → n < length (source_of b) → is_among x (tally (source_body (source_of b) n)).symbols ≡ true
+      → IsThere (source_of b) x
+  unfolding IsThere opening_store source_body
+  nth_there n x lt e = all_known (source_of b) n (form.body no_parameters [] form.nil) Rows.opening x lt e
+
+  methods : (n : ℕ) → 0 < n → n < length (source_of b) → MethodCode (source_of b) code n
+  unfolding coded assembled both puts source_body
+  methods zero some lt = absurd (omega (arith, some))
+  methods (suc k) some lt =
+      let w = nth_written 1 k (over in_order f) (q.bodies ++ []) (form.body no_parameters [] form.nil) no_body written
+      (omega (arith, lt)) in
+      let same : 1 + k ≡ suc k = omega arith in
+      method_of (source_of b) code (suc k) (source_body (source_of b) (suc k)) refl refl
+      (subst (λ (n : ℕ). Written n (source_body (source_of b) (suc k)) (body_at code (suc k))) same w)
+      (λ x e. nth_there (suc k) x lt e)
 
   -- both sides have the same symbols
-  names_are : with_names Rows.opening (all_names (source_of b)) ≡ with_names Rows.opening t.symbols
-  names_are =
-      ap (λ (bs : List Body). with_names Rows.opening (all_names (b ∷ bs))) (no_bodies f plain)
-      ∙ ap (with_names Rows.opening) (append-nil (over named_in f))
-      ∙ sym (same_symbols p ls f Rows.opening)
-
-  there : (x : Name) → is_among x t.symbols ≡ true → IsThere (source_of b) x
-  unfolding IsThere opening_store
-  there x e = subst (λ (st : Store). Knows st x) (sym names_are) (among_known x t.symbols Rows.opening e)
-
-  has : Has site ls t (start + width f)
+  names_are : with_names Rows.opening (all_names (source_of b)) ≡ with_names Rows.opening (all_symbols code.bodies)
   unfolding coded assembled both puts
+  names_are =
+      one_more p ls f (over in_order f) (q.bodies ++ [])
+      (λ st. names_written 1 (over in_order f) (q.bodies ++ []) written st) Rows.opening
+
+  has : Has site (named_slots ls) ls t (start + width f)
+  unfolding coded assembled both puts source_body
   has = record {
     scopes = refl;
+    held = (main_knows p ls f).0;
     symbols = refl;
     integers = refl;
     texts = refl;
     own_symbols = refl;
     own_pool = refl;
     registers = refl;
-    first = omega (arith, length-map ls (λ (x : Local). Some x));
-    there = there;
+    first = omega arith;
+    there = λ x e. nth_there 0 x (omega arith) e;
     returns = λ r. refl;
   }
 
-  code_of_it : IsCodeOf (source_of b) (program 2 (coded_program b))
+  all_stand : topped.Stands (body_at code 0).children (first_spot 0)
+      (others_in_turn around (first_spot 0) start (form.more f form.none)).children
+  unfolding coded assembled both puts nothing
+  all_stand = record { before = []; after = []; are = sym (append-nil (q.children ++ [])); count = refl }
+
+  covers : Covers site None start (first_spot 0) 1 f
+  covers =
+      (topped.tops_cover site (named_slots ls) ls t (start + width f) has tops (first_spot 0) start (width f)
+      (within_program ls) refl refl (fits.1, tt) all_formed (omega arith) (omega arith, tt) (omega arith) all_stand).0
+
+  code_of_it : IsCodeOf (source_of b) code
   unfolding coded assembled both puts high Stands source_body
   code_of_it = record {
     wide = wide;
     at = at;
     context = around;
     first = start;
-    apart = apart site (map Some ls) refl;
+    apart = apart site (named_slots ls) refl;
     begins = first_place wide 0 (q.lines ++ line.Does op.Stop ∷ []);
     some = omega arith;
     room = omega arith;
-    no_catches = ap (λ (cs : List Catch). map (entry_by at) (cs ++ [])) no_entry;
+    no_catches = no_catches;
     outside = refl;
-    covered = at_top site None start (first_spot 0) 1 f
-        (covered site ls t (start + width f) has f start (within_program ls) refl plain fits.1 formed (omega arith) (omega arith));
+    covered = covers;
     code = left site 0 q (does op.Stop) both_stand;
     stop = subst (λ (n : ℕ). LineAt site n (line.Does op.Stop)) (omega arith)
         (the_line site (0 + high q) (line.Does op.Stop) (right site 0 q (does op.Stop) both_stand));
-    names = names_are ∙ sym (ap (with_names Rows.opening) symbols_are);
+    methods = methods;
+    names = names_are;
   }
 
-pub program_is_code : (b : Body) → IsProgram b → first_excess (need b) ≡ None → IsPlain (form_of b)
+pub program_is_code : (b : Body) → IsProgram b → first_excess (need b) ≡ None → IsPlainProgram b
     → IsCodeOf (source_of b) (program 2 (coded_program b))
 program_is_code (form.body p ls f) h limits plain = code_of_it p ls f h limits plain
 
 pub program_implements : (b : Body) (input : List ℕ) → IsProgram b → first_excess (need b) ≡ None
-    → IsPlain (form_of b) → StaysCalm (source_of b) (program 2 (coded_program b)) (opening (source_of b) input)
+    → IsPlainProgram b → StaysCalm (source_of b) (program 2 (coded_program b)) (opening (source_of b) input)
     → Implements (source_of b) (program 2 (coded_program b)) input
 program_implements b input h limits plain calm =
     implements (source_of b) (program 2 (coded_program b)) input (program_is_code b h limits plain) calm
@@ -181,7 +226,7 @@ program_implements b input h limits plain calm =
 
 pub simple_is_code : (b : Body) → IsProgram b → first_excess (need b) ≡ None → IsSimple (form_of b)
     → IsCodeOf (source_of b) (program 2 (coded_program b))
-simple_is_code b h limits simple = program_is_code b h limits (simple_plain (form_of b) simple)
+simple_is_code b h limits simple = program_is_code b h limits (form_before (simple_plain (form_of b) simple) no_tops)
 
 pub simple_implements : (b : Body) (input : List ℕ) → IsProgram b → first_excess (need b) ≡ None
     → IsSimple (form_of b) → Implements (source_of b) (program 2 (coded_program b)) input

@@ -1,7 +1,6 @@
 -- Plain forms of a body within the limits are covered: their registers, locals and tables are there.
 use Rattle.std.proofs.Common.{◌≡◌, ◌≤◌, ◌<◌, ℕ, ◌+◌, ℤ, pos, negsuc, List, [], ◌∷◌, ◌++◌, length, map, get_or, arith, refl, ap, ◌∙◌, subst, Bool, true, false}
 use Rattle.std.specs.Prelude.{codes, ◌&&◌, bytes_eq, position, slice_get, if◌then◌else◌, Option, Some, None}
-use Rattle.std.proofs.lemmas.List.{length-map}
 use Rattle.std.specs.Ordering.{int_eq}
 use Rattle.rite_code.specs.declared.code.PoolItem.{PoolItem}
 use Rattle.rite_code.specs.declared.code.PoolItem.TheVariants as pool
@@ -17,8 +16,9 @@ use Rattle.ir_walk.specs.Width.{greatest, in_order, of_call, has_splat, width, w
 use Rattle.ir_counts.specs.declared.tally.Tally.{Tally}
 use Rattle.ir_counts.specs.Tables.{hidden_by, is_wide}
 use Rattle.scope_resolver.specs.declared.place.Place.{Place}
-use Rattle.scope_resolver.specs.Layout.{Scopes, innermost_count, place_of}
+use Rattle.scope_resolver.specs.Layout.{Slots, Scopes, innermost_count, place_of}
 use Rattle.gen_forms.specs.Gen.{place_or, is_within, integer_entry, text_entry, symbol, operates, return_by}
+use Rattle.code_laws.specs.Bound.{AreHeld}
 use Rattle.code_laws.proofs.Shares.{Numbered, Adds, Noted, Noted_all, Noted_items, Noted_pairs, Noted_branches}
 use Rattle.code_laws.proofs.Widths.{Under, InOrder, under_left, under_right, under_greatest, order_within, order_room, into_within, turn_within}
 use Rattle.def_machine.specs.State.{body_at}
@@ -28,26 +28,27 @@ use Rattle.step_laws.specs.Plain.{IsLookedIn, IsPlain, ArePlain, ArePlainItems, 
 use Rattle.step_laws.proofs.Found.{both_true}
 use Rattle.step_laws.proofs.Listing.{name_there, integer_there, text_there, wide_is, local_there}
 
--- What a body of locals and a tally has.
-pub record Has (h : Site) (ls : List Local) (t : Tally) (size : ℕ) : Type 0 where
-  pub scopes : h.context.scopes ≡ map Some ls ∷ []
+-- What a body has that sees no other: its slots, of which some locals are known, and its tally.
+pub record Has (h : Site) (ss : Slots) (ls : List Local) (t : Tally) (size : ℕ) : Type 0 where
+  pub scopes : h.context.scopes ≡ ss ∷ []
+  pub held : AreHeld (ss ∷ []) ls
   pub symbols : h.context.symbols ≡ t.symbols
   pub integers : h.context.integers ≡ t.integers
   pub texts : h.context.texts ≡ t.texts
   pub own_symbols : (body_at h.program h.body).symbols ≡ t.symbols
   pub own_pool : (body_at h.program h.body).pool ≡ map pool.Int t.integers ++ map pool.Text t.texts
   pub registers : (body_at h.program h.body).registers ≡ size
-  pub first : 1 + length ls + t.hidden ≤ h.first
+  pub first : 1 + length ss + t.hidden ≤ h.first
   pub there : (x : Name) → is_among x t.symbols ≡ true → IsThere h.source x
   pub returns : (r : ℕ) → return_by h.context.kind_of r ≡ op.Return r
 
-module _ (h : Site) (ls : List Local) (t : Tally) (registers : ℕ) (has : Has h ls t registers) where
-  room : (r : ℕ) → h.first ≤ r → r < registers → Room h r
+module _ (h : Site) (ss : Slots) (ls : List Local) (t : Tally) (registers : ℕ) (has : Has h ss ls t registers) where
+  pub room : (r : ℕ) → h.first ≤ r → r < registers → Room h r
   room r low high = record { within = omega (arith, high, has.registers); above = low }
 
   known : (x : Local) → IsScoped x → is_known x ls ≡ true → hidden_by x ≤ t.hidden → Known h x
   known (form.named x) is e few =
-      let l = local_there x ls e in
+      let l = local_there x ss (has.held (form.named x) tt e) in
       let place : place_of h.context.scopes (form.named x) ≡ record { levels = 0; register = l.place } =
       ap (λ (c : Scopes). place_of c (form.named x)) has.scopes ∙ l.is in
       let at : register h (form.named x) ≡ l.place = ap (λ (p : Place). p.register) place in
@@ -58,18 +59,18 @@ module _ (h : Site) (ls : List Local) (t : Tally) (registers : ℕ) (has : Has h
         low = omega (arith, at, l.high, has.first);
       }
   known (form.hidden d) is e few =
-      let at : register h (form.hidden d) ≡ 1 + length (map Some ls) + d =
+      let at : register h (form.hidden d) ≡ 1 + length ss + d =
       ap (λ (c : Scopes). 1 + innermost_count c + d) has.scopes in
       record {
         scoped = tt;
         level = refl;
         behind_self = omega arith;
-        low = omega (arith, at, length-map ls (λ (x : Local). Some x), few, has.first);
+        low = omega (arith, at, few, has.first);
       }
   known (form.pattern i) is e few = absurd is
   known form.rest is e few = absurd is
 
-  named : (x : Name) → is_among x t.symbols ≡ true → Named h x
+  pub named : (x : Name) → is_among x t.symbols ≡ true → Named h x
   named x e = record {
     there = has.there x e;
     listed = ap (λ (xs : List Name). get_or xs (symbol h.context x) []) has.own_symbols

@@ -1,39 +1,41 @@
--- The lines of the code of a main program stand where they are placed.
-use Rattle.std.proofs.Common.{◌≡◌, ◌≤◌, ℕ, ◌+◌, List, [], ◌∷◌, ◌++◌, length, arith, refl, sym, ap, ◌∙◌, subst, length-append, Bool, true, false, nat_lt}
+-- The lines of the code of a body that sees no other stand where they are placed: those of a main program, and those of
+-- a method whose parameters are all required.
+use Rattle.std.proofs.Common.{◌≡◌, ◌≤◌, ◌<◌, ℕ, ◌+◌, ◌*◌, List, [], ◌∷◌, ◌++◌, length, get_or, arith, refl, sym, ap, ◌∙◌, subst, length-append, Bool, true, false, nat_lt}
 use Rattle.std.specs.Prelude.{◌||◌}
 use Rattle.std.proofs.lemmas.Bool.{ltb-false}
-use Rattle.rite_code.specs.Code.{program}
 use Rattle.rite_code.specs.Spelling.{encodings}
+use Rattle.rite_code.specs.declared.operation.Operation.{Operation}
 use Rattle.rite_code.specs.declared.operation.Operation.TheVariants as op
 use Rattle.ir_core.specs.CoreForm as form
 use Rattle.ir_core.specs.CoreForm.{Local, Parameters, CoreForm, Body}
-use Rattle.ir_core.specs.Program.{Around, is_form}
+use Rattle.ir_core.specs.Program.{Around, within_method, is_form}
 use Rattle.ir_walk.specs.Walk.{walked}
 use Rattle.ir_walk.specs.declared.extent.Extent.TheVariants as extent
 use Rattle.ir_counts.specs.Counts.{tally, code_of}
 use Rattle.ir_counts.specs.Tally.{no_form}
+use Rattle.scope_resolver.specs.declared.body_kind.BodyKind.{BodyKind}
 use Rattle.scope_resolver.specs.declared.body_kind.BodyKind.TheVariants as kind
+use Rattle.scope_resolver.specs.Layout.{has_parameters, seen_around, slots_of}
 use Rattle.gen_parts.specs.declared.line.Line.{Line}
 use Rattle.gen_parts.specs.declared.line.Line.TheVariants as line
-use Rattle.gen_parts.specs.Pieces.{Piece, both, puts}
-use Rattle.gen_parts.specs.Assembly.{places, place_of, instructions, assembled}
-use Rattle.gen_forms.specs.Gen.{Context, gen, first_spot, opening, layout}
-use Rattle.gen_forms.specs.Open.{coded}
-use Rattle.gen_forms.specs.Making.{coded_program}
-use Rattle.code_laws.proofs.Wells.{FineLines, weights}
+use Rattle.gen_parts.specs.Pieces.{Piece, behind, both, puts, does}
+use Rattle.gen_parts.specs.Assembly.{places, place_of, instructions}
+use Rattle.gen_forms.specs.Gen.{Context, gen, first_spot, opening, layout, parameters}
+use Rattle.code_laws.proofs.Serves.{IsFew}
+use Rattle.code_laws.proofs.Wells.{Entered, weights}
 use Rattle.code_laws.proofs.Shares.{Fits, cost, many}
 use Rattle.code_laws.proofs.Sums.{tallied_bytes, cost_is}
-use Rattle.code_laws.proofs.Lines.{Own, tall, lines_append, weights_append}
-use Rattle.code_laws.proofs.Operating.{AreShort, Site, own}
+use Rattle.code_laws.proofs.Lines.{Own, tall, lower, lines_append, weights_append}
+use Rattle.code_laws.proofs.Operating.{AreShort, Site as Room, Ready, own}
 use Rattle.code_laws.proofs.Bodied.{first, site}
-use Rattle.code_laws.proofs.Sending.{stop_ready}
-use Rattle.code_laws.proofs.Entering.{no_inside, opened}
+use Rattle.code_laws.proofs.Sending.{stop_ready, return_ready}
+use Rattle.code_laws.proofs.Entering.{no_inside, opened, Inner, inner_straight, inner_entered}
 use Rattle.code_laws.proofs.Forms.{gen_well}
+use Rattle.code_laws.proofs.Wides.{width_some}
 use Rattle.code_laws.proofs.Assembled.{AllFit, sizes, sizes_weights, place_most}
-use Rattle.code_laws.proofs.Encoding.{AllFew, all_few, lines_fit}
-use Rattle.def_eval.specs.Source.{Source}
-use Rattle.step_laws.specs.Site.{at_line, Lines}
-use Rattle.step_laws.specs.Implements.{main_site}
+use Rattle.code_laws.proofs.Encoding.{AllFew, all_few, entered_fit}
+use Rattle.def_machine.specs.State.{body_at}
+use Rattle.step_laws.specs.Site.{Site, at_line, Lines}
 use Rattle.step_laws.proofs.Laid.{lines_stand}
 
 pub no_scopes : AreShort []
@@ -47,86 +49,177 @@ either_false : (x y : Bool) → (x || y) ≡ false → (x ≡ false) × (y ≡ f
 either_false true y e = absurd (cc e)
 either_false false y e = (refl, e)
 
-module _ (p : Parameters) (ls : List Local) (f : CoreForm) (fits : Fits (form.body p ls f)) (a : Around)
-    (outside : a.loops ≡ false) (formed : is_form a f ≡ true) (few : many f ≤ 65535) where
-  abbrev pub b : Body
-  b = form.body p ls f
+seen_none : (k : BodyKind) → seen_around k [] ≡ []
+seen_none kind.Main = refl
+seen_none kind.Method = refl
+seen_none kind.Block = refl
+seen_none kind.Class = refl
 
-  abbrev w : Site
-  w = site kind.Main [] p ls f fits no_scopes
+-- What is the same all over the body.
+module _ (k : BodyKind) (p : Parameters) (ls : List Local) (f : CoreForm) (fits : Fits (form.body p ls f)) where
+  abbrev pub w : Room
+  w = site k [] p ls f fits no_scopes
 
   abbrev pub start : ℕ
-  start = first kind.Main [] p ls f fits no_scopes
+  start = first k [] p ls f fits no_scopes
 
   abbrev pub around : Context
-  around = opening kind.Main b [] (tally b)
-
-  abbrev q : Piece
-  q = gen around (first_spot 0) start f
-
-  abbrev whole : List Line
-  whole = q.lines ++ line.Does op.Stop ∷ []
+  around = opening k (form.body p ls f) [] (tally (form.body p ls f))
 
   abbrev pub wide : Bool
-  wide = (layout kind.Main b (tally b)).head.wide
+  wide = (layout k (form.body p ls f) (tally (form.body p ls f))).head.wide
 
-  abbrev pub at : List ℕ
-  at = places wide 0 whole
-
-  never : a.loops ≡ true → kind.Main ≡ kind.Block
-  never e = absurd (cc (sym outside ∙ e))
-
-  well : Own (own w) (first_spot 0) q (cost f) (many f)
-  well =
-      gen_well f w a no_inside (first_spot 0) start (opened w a.loops (first_spot 0) never (omega arith)) fits.1 formed
-      (omega arith)
-
-  pub bodies : length q.bodies ≡ many f
-  bodies = well.count
-
-  code_is : (tally b).code ≡ cost f
+  code_is : (tally (form.body p ls f)).code ≡ cost f
   code_is =
       let i = tallied_bytes no_form (walked extent.Body [] f) in
       let j = cost_is f [] in
       omega (arith, i, j)
 
-  fine : FineLines (own w) (tall q) whole
-  unfolding tall
-  fine =
-      lines_append (own w) (length q.lines) q.lines (line.Does op.Stop ∷ [])
-      (subst (λ (n : ℕ). FineLines (own w) n q.lines) (omega arith) well.lines) ((stop_ready w refl).serve, tt)
+  -- its lines are fine, of which the last one does this
+  abbrev pub IsEntered : Piece → Operation → Type 0
+  IsEntered q o = Entered (has_parameters k) (1 + length (slots_of k (form.body p ls f))) (own w) (tall q)
+      (q.lines ++ line.Does o ∷ [])
 
-  light : weights whole ≤ cost f + 4
+-- Lines and the instruction that ends them.
+module _ (k : BodyKind) (p : Parameters) (ls : List Local) (f : CoreForm) (fits : Fits (form.body p ls f)) (m : ℕ)
+    (q : Piece) (inner : Inner k [] p ls f fits no_scopes m q) (o : Operation) (ready : Ready (own (w k p ls f fits)) o 4)
+    (entered : IsEntered k p ls f fits q o) (few : many f ≤ 65535) where
+  abbrev pub whole : List Line
+  whole = q.lines ++ line.Does o ∷ []
+
+  abbrev is_wide : Bool
+  is_wide = wide k p ls f fits
+
+  abbrev at : List ℕ
+  at = places is_wide 0 whole
+
+  light : weights whole ≤ code_of (form.body p ls f) (tally (form.body p ls f))
   light =
-      let sum = weights_append q.lines (line.Does op.Stop ∷ []) in
-      let last = (stop_ready w refl).light in
-      omega (arith, sum, last, well.light)
+      let sum = weights_append q.lines (line.Does o ∷ []) in
+      omega (arith, sum, ready.light, inner.light, code_is k p ls f fits)
 
-  within : (to : ℕ) → to ≤ tall q → place_of at to ≤ sizes wide whole
+  deep : length (own (w k p ls f fits)).scopes ≤ 65536
+  deep = omega (arith, ap length (seen_none k))
+
+  within : (to : ℕ) → to ≤ tall q → place_of at to ≤ sizes is_wide whole
   unfolding tall
   within to h =
-      let most = place_most wide 0 to whole (omega (arith, h, length-append q.lines (line.Does op.Stop ∷ []))) in
+      let most = place_most is_wide 0 to whole (omega (arith, h, length-append q.lines (line.Does o ∷ []))) in
       omega (arith, most)
 
-  narrow : wide ≡ false → (sizes wide whole ≤ 32767) × ((own w).registers ≤ 256)
+  narrow : is_wide ≡ false → (sizes is_wide whole ≤ 32767) × ((own (w k p ls f fits)).registers ≤ 256)
   narrow e =
-      let parts = either_false (nat_lt 32767 (code_of b (tally b))) (nat_lt 256 w.registers) e in
-      let heavy = sizes_weights wide whole in (
-        omega (arith, heavy, light, code_is, ltb-false 32767 (code_of b (tally b)) parts.0),
-        ltb-false 256 w.registers parts.1,
+      let parts = either_false (nat_lt 32767 (code_of (form.body p ls f) (tally (form.body p ls f))))
+      (nat_lt 256 (w k p ls f fits).registers) e in
+      let heavy = sizes_weights is_wide whole in (
+        omega (arith, heavy, light, ltb-false 32767 (code_of (form.body p ls f) (tally (form.body p ls f))) parts.0),
+        ltb-false 256 (w k p ls f fits).registers parts.1,
       )
 
-  all_fit : AllFit (instructions wide at 0 whole)
+  all_fit : AllFit (instructions is_wide at 0 whole)
   all_fit =
-      let heavy = sizes_weights wide whole in
-      lines_fit (own w) wide at (tall q) (sizes wide whole) (omega arith) w.able.few within
-      (omega (arith, heavy, light, code_is, fits.0.code)) narrow 0 whole (omega arith) fine
-      (few_more q.lines (line.Does op.Stop ∷ []) (all_few well.made (omega (arith, well.count, few))) (tt, tt))
+      let heavy = sizes_weights is_wide whole in
+      entered_fit (own (w k p ls f fits)) is_wide at (tall q) (sizes is_wide whole) deep (w k p ls f fits).able.few within
+      (omega (arith, heavy, light, fits.0.code)) narrow (has_parameters k)
+      (1 + length (slots_of k (form.body p ls f))) whole (omega arith) entered
+      (few_more q.lines (line.Does o ∷ []) (all_few inner.made (omega (arith, inner.count, few)))
+      (subst IsFew (sym ready.unused) tt, tt))
 
-  -- the lines of the form, and the stop
-  pub lines_placed : (s : Source) → Lines (main_site s (program 2 (coded_program b)) wide at around start) 0 whole
-  unfolding coded assembled both puts
-  lines_placed s =
-      lines_stand (main_site s (program 2 (coded_program b)) wide at around start)
-      (encodings (instructions wide at 0 whole)) refl refl 0 0 whole [] refl refl all_fit
-      (λ k le. ap (at_line (main_site s (program 2 (coded_program b)) wide at around start)) (omega arith))
+  -- so they stand in a body with that code
+  pub lines_placed : (h : Site) → h.program.version ≡ 2
+      → (body_at h.program h.body).code ≡ encodings (instructions is_wide at 0 whole) → h.wide ≡ is_wide → h.at ≡ at
+      → Lines h 0 whole
+  lines_placed h version is same places_are =
+      let by_places : instructions is_wide h.at 0 whole ≡ instructions is_wide at 0 whole =
+      ap (λ (xs : List ℕ). instructions is_wide xs 0 whole) places_are in
+      let all : instructions h.wide h.at 0 whole ≡ instructions is_wide at 0 whole =
+      ap (λ (v : Bool). instructions v h.at 0 whole) same ∙ by_places in
+      lines_stand h (encodings (instructions is_wide at 0 whole)) version is 0 0 whole []
+      (sym (ap encodings all)) refl (subst AllFit (sym all) all_fit)
+      (λ n le.
+      let here : at_line h (0 + n) ≡ at_line h n = ap (at_line h) (omega arith) in
+      here ∙ ap (λ (xs : List ℕ). get_or xs n 0) places_are
+      ∙ ap (λ (v : Bool). get_or (places v 0 whole) n 0) (sym same))
+
+-- A main program.
+module _ (p : Parameters) (ls : List Local) (f : CoreForm) (fits : Fits (form.body p ls f)) (a : Around)
+    (outside : a.loops ≡ false) (formed : is_form a f ≡ true) where
+  abbrev pub main_lines : Piece
+  main_lines = gen (around kind.Main p ls f fits) (first_spot 0) (start kind.Main p ls f fits) f
+
+  never : a.loops ≡ true → kind.Main ≡ kind.Block
+  never e = absurd (cc (sym outside ∙ e))
+
+  main_well : Own (own (w kind.Main p ls f fits)) (first_spot 0) main_lines (cost f) (many f)
+  main_well =
+      gen_well f (w kind.Main p ls f fits) a no_inside (first_spot 0) (start kind.Main p ls f fits)
+      (opened (w kind.Main p ls f fits) a.loops (first_spot 0) never (omega arith)) fits.1 formed (omega arith)
+
+  pub main_inner : Inner kind.Main [] p ls f fits no_scopes 0 main_lines
+  main_inner = inner_straight kind.Main [] p ls f fits no_scopes 0 main_lines refl main_well
+
+  pub main_ready : Ready (own (w kind.Main p ls f fits)) op.Stop 4
+  main_ready = stop_ready (w kind.Main p ls f fits) refl
+
+  pub main_entered : IsEntered kind.Main p ls f fits main_lines op.Stop
+  main_entered =
+      lines_append (own (w kind.Main p ls f fits)) (tall main_lines) main_lines.lines (line.Does op.Stop ∷ [])
+      main_inner.entered (main_ready.serve, tt)
+
+-- A method.
+abbrev optional_in : Operation → ℕ
+optional_in (op.Enter q) = q.optional
+optional_in o = 0
+
+abbrev optional_of : Line → ℕ
+optional_of (line.Does o) = optional_in o
+optional_of l = 0
+
+module _ (p : Parameters) (ls : List Local) (f : CoreForm) (fits : Fits (form.body p ls f)) (n : ℕ)
+    (formed : is_form (within_method p ls) f ≡ true) (straight : p.optional ≡ []) where
+  abbrev pub method_form : Piece
+  method_form = gen (around kind.Method p ls f fits) (behind (first_spot n)) (start kind.Method p ls f fits) f
+
+  abbrev pub method_lines : Piece
+  method_lines = both (does (op.Enter (parameters p))) method_form
+
+  never_optional : 0 < length p.optional → ⊥
+  never_optional some = absurd (omega (arith, some, ap length straight))
+
+  never_block : false ≡ true → kind.Method ≡ kind.Block
+  never_block e = absurd (cc e)
+
+  method_well : Own (own (w kind.Method p ls f fits)) (behind (first_spot n)) method_form (cost f) (many f)
+  method_well =
+      gen_well f (w kind.Method p ls f fits) (within_method p ls) no_inside (behind (first_spot n))
+      (start kind.Method p ls f fits)
+      (opened (w kind.Method p ls f fits) false (behind (first_spot n)) never_block (omega arith)) fits.1 formed
+      (omega arith)
+
+  pub method_inner : Inner kind.Method [] p ls f fits no_scopes n method_lines
+  method_inner =
+      inner_entered kind.Method [] p ls f fits no_scopes n method_form refl
+      (lower (own (w kind.Method p ls f fits)) ((behind (first_spot n)).line + tall method_form) (behind (first_spot n))
+      method_form (cost f) (6 * (length p.optional + 1) + cost f) (many f) (many f) (omega arith) refl method_well)
+      (λ some. absurd (never_optional some))
+
+  pub method_ready : Ready (own (w kind.Method p ls f fits)) (op.Return (start kind.Method p ls f fits)) 4
+  method_ready =
+      return_ready (w kind.Method p ls f fits) (start kind.Method p ls f fits) (omega (arith, width_some f))
+
+  pub method_entered : IsEntered kind.Method p ls f fits method_lines (op.Return (start kind.Method p ls f fits))
+  unfolding both puts
+  method_entered =
+      let i = method_inner.entered in
+      let none : length p.optional ≡ i.0.parameters.optional = ap optional_of i.0.is in (
+        record {
+          parameters = i.0.parameters;
+          is = i.0.is;
+          count = i.0.count;
+          spare = i.0.spare;
+          fit = i.0.fit;
+          follow = λ some. absurd (never_optional (omega (arith, some, none)));
+        },
+        lines_append (own (w kind.Method p ls f fits)) (tall method_lines) method_form.lines
+            (line.Does (op.Return (start kind.Method p ls f fits)) ∷ []) i.1 (method_ready.serve, tt),
+      )

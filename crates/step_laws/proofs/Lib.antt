@@ -50,7 +50,6 @@ pub mod Calms
 pub mod Simply
 pub mod Passing
 pub mod Example
-pub mod Methods
 pub mod Listing
 pub mod Plainly
 pub mod Bodiless
@@ -59,4 +58,9 @@ pub mod Covering
 pub mod Laid
 pub mod Fitting
 pub mod Catchless
+pub mod Written
+pub mod Topped
+pub mod Naming
+pub mod Coding
 pub mod Coded
+pub mod Methods

@@ -1,6 +1,6 @@
 -- What the tables of a body have: the entry of a name, of an integer, and the register of a local.
-use Rattle.std.proofs.Common.{◌≡◌, ◌≤◌, ◌<◌, ℕ, suc, ◌+◌, ℤ, pos, negsuc, List, [], ◌∷◌, ◌++◌, length, map, get_or, arith, refl, sym, ap, ◌∙◌, subst, Bool, true, false, true≢false}
-use Rattle.std.specs.Prelude.{◌||◌, not, bytes_eq, position, slice_get, if◌then◌else◌, Some, None}
+use Rattle.std.proofs.Common.{◌≡◌, ◌≤◌, ◌<◌, ℕ, zero, suc, ◌+◌, ℤ, pos, negsuc, List, [], ◌∷◌, ◌++◌, length, map, get_or, arith, refl, sym, ap, ◌∙◌, subst, Bool, true, false, true≢false}
+use Rattle.std.specs.Prelude.{◌||◌, not, bytes_eq, position, slice_get, if◌then◌else◌, unwrap_or, Option, Some, None}
 use Rattle.std.specs.List.{position_or_len, list_any}
 use Rattle.std.specs.Ordering.{int_eq}
 use Rattle.std.proofs.lemmas.Bool.{lt-ltb}
@@ -10,11 +10,11 @@ use Rattle.rite_code.specs.declared.code.PoolItem.TheVariants as pool
 use Rattle.text_set.specs.Sets.{is_among}
 use Rattle.integer_set.specs.Sets as integers
 use Rattle.ir_core.specs.CoreForm.{Name, Local, named}
-use Rattle.ir_core.specs.Program.{are_same, is_bound}
 use Rattle.ir_counts.specs.Tables.{is_wide}
 use Rattle.scope_resolver.specs.declared.seek.Search.{Search}
 use Rattle.scope_resolver.specs.declared.seek.Search.TheVariants.{Found, Past}
-use Rattle.scope_resolver.specs.Layout.{seek, place_at, place_or_self}
+use Rattle.scope_resolver.specs.Layout.{Slots, seek, place_at, place_or_self, place_of}
+use Rattle.code_laws.specs.Bound.{IsFirst, IsBound, Binds}
 use Rattle.gen_forms.specs.Gen.{place_or, is_within}
 use Rattle.step_laws.proofs.Apart.{stays_found}
 
@@ -136,47 +136,39 @@ wide_is (negsuc n) e = lt-ltb 2147483647 n (grind (arith, nat_tests, e))
 
 -- Locals.
 
-record SoughtAt (x : Name) (xs : List Local) (n : ℕ) : Type 0 where
-  pub place : ℕ
-  pub found : seek (named x) (map Some xs) (Past n) ≡ Found place
-  pub low : n ≤ place
-  pub high : place < n + length xs
+-- the first slot of a local is the one that is found
+first_sought : (x : Local) (ss : Slots) (n place : ℕ) → IsFirst x ss place
+    → (seek x ss (Past n) ≡ Found (n + place)) × (place < length ss)
+first_sought x [] n place f = absurd f
+first_sought x (s ∷ ss) n zero f = (
+  ap (λ (b : Bool). seek x ss (if b then Found n else Past (n + 1))) f ∙ stays_found x ss n
+      ∙ ap Found (omega arith),
+  omega arith,
+)
+first_sought x (s ∷ ss) n (suc place) f =
+    let g = first_sought x ss (n + 1) place f.1 in (
+      ap (λ (b : Bool). seek x ss (if b then Found n else Past (n + 1))) f.0 ∙ g.0 ∙ ap Found (omega arith),
+      omega (arith, g.1),
+    )
 
-bound_at : (x : Name) (xs : List Local) (n : ℕ) → is_bound (named x) xs ≡ true → SoughtAt x xs n
-bound_at x [] n h = absurd (true≢false (sym h))
-bound_at x (y ∷ ys) n h = by (λ g. bound_at x ys (n + 1) g) (are_same (named x) y) refl h
-  where
-    by : (is_bound (named x) ys ≡ true → SoughtAt x ys (n + 1)) → (b : Bool) → are_same (named x) y ≡ b
-        → (if b then true else is_bound (named x) ys) ≡ true → SoughtAt x (y ∷ ys) n
-    by further true e g = record {
-      place = n;
-      found = ap (λ (b : Bool). seek (named x) (map Some ys) (if b then Found n else Past (n + 1))) e
-          ∙ stays_found (named x) (map Some ys) n;
-      low = omega arith;
-      high = omega arith;
-    }
-    by further false e g =
-        let s = further g in
-        record {
-          place = s.place;
-          found = ap (λ (b : Bool). seek (named x) (map Some ys) (if b then Found n else Past (n + 1))) e ∙ s.found;
-          low = omega (arith, s.low);
-          high = omega (arith, s.high);
-        }
-
-pub record LocalAt (x : Name) (xs : List Local) : Type 0 where
+pub record LocalAt (x : Name) (ss : Slots) : Type 0 where
   pub place : ℕ
-  pub is : place_or_self (place_at (seek (named x) (map Some xs) (Past 1)) 0 None)
-      ≡ record { levels = 0; register = place }
+  pub is : place_of (ss ∷ []) (named x) ≡ record { levels = 0; register = place }
   pub low : 1 ≤ place
-  pub high : place ≤ length xs
+  pub high : place ≤ length ss
 
-pub local_there : (x : Name) (xs : List Local) → is_bound (named x) xs ≡ true → LocalAt x xs
-local_there x xs h =
-    let s = bound_at x xs 1 h in
-    record {
-      place = s.place;
-      is = ap (λ (q : Search). place_or_self (place_at q 0 None)) s.found;
-      low = s.low;
-      high = omega (arith, s.high);
-    }
+-- a local that a body binds which sees no other
+pub local_there : (x : Name) (ss : Slots) → Binds (ss ∷ []) (named x) → LocalAt x ss
+local_there x ss b = by b.levels b.place b.bound
+  where
+    by : (levels place : ℕ) → IsBound (ss ∷ []) (named x) levels place → LocalAt x ss
+    by zero place c =
+        let same : ss ≡ c.slots = ap (λ (o : Option Slots). unwrap_or o ss) c.body in
+        let g = first_sought (named x) ss 1 place (subst (λ (ts : Slots). IsFirst (named x) ts place) (sym same) c.first) in
+        record {
+          place = 1 + place;
+          is = ap (λ (q : Search). place_or_self (place_at q 0 None)) g.0;
+          low = omega arith;
+          high = omega (arith, g.1);
+        }
+    by (suc levels) place c = absurd (cc c.body)

@@ -372,7 +372,7 @@ mutual
 abbrev pub Knows : Store → Name → Type 0
 Knows st x = is_some (position (bytes_eq x) st.symbols) ≡ true
 
-knows_named : (ns : List Name) (st : Store) (x : Name) → Knows st x → Knows (with_names st ns) x
+pub knows_named : (ns : List Name) (st : Store) (x : Name) → Knows st x → Knows (with_names st ns) x
 knows_named ns st x e =
     let h = has_of st x e in ap (λ (o : Option ℕ). is_some o) (has_named ns st x h.0 h.1).at
 
@@ -402,7 +402,7 @@ knows_interned st x = by (position (bytes_eq x) st.symbols) refl
     by None e = last_known st.symbols x
     by (Some n) e = ap (λ (o : Option ℕ). is_some o) e
 
-named_append : (xs ys : List Name) (st : Store) → with_names st (xs ++ ys) ≡ with_names (with_names st xs) ys
+pub named_append : (xs ys : List Name) (st : Store) → with_names st (xs ++ ys) ≡ with_names (with_names st xs) ys
 unfolding with_names
 named_append [] ys st = refl
 named_append (x ∷ xs) ys st = named_append xs ys (intern st x).store

@@ -14,8 +14,8 @@ use Rattle.def_eval.specs.Transition.{go_times, evaluation}
 use Rattle.def_machine.specs.Turn.{machine}
 use Rattle.step_laws.specs.Simple.{IsSimple}
 use Rattle.step_laws.specs.Plain.{IsPlain}
-use Rattle.step_laws.specs.Methods.{MethodCode, CallsMethods}
-use Rattle.step_laws.specs.Implements.{IsCodeOf}
+use Rattle.step_laws.specs.Methods.{CallsMethods}
+use Rattle.step_laws.specs.Tops.{IsPlainProgram}
 
 abbrev pub code_of : Body → Program
 code_of b = program 2 (coded_program b)
@@ -120,14 +120,12 @@ abbrev pub objects_of : Config → List Object
 objects_of (Halt e) = []
 objects_of (Run f ks m) = m.world.store.objects
 
--- It is a program within the limits whose code is code of it, the bodies of its methods have code, which is that of every
--- method that there is when the first is called, and both sides end with the line 3.
+-- It is a program of plain forms and methods within the limits, every method that there is when the first is called has
+-- a body with code, and both sides end with the line 3.
 pub record IsMethodWitness (b : Body) : Type 0 where
   pub program : IsProgram b
   pub within : first_excess (need b) ≡ None
-  pub code : IsCodeOf (source_of b) (code_of b)
-  pub first : MethodCode (source_of b) (code_of b) 1
-  pub second : MethodCode (source_of b) (code_of b) 2
+  pub plain : IsPlainProgram b
   pub called : CallsMethods (source_of b) (code_of b)
       (objects_of (go_times 8 (source_of b) (opening (source_of b) [])))
   pub evaluates : evaluation (source_of b) [] 100 ≡ Over (Ended (codes "3\n") 0)

@@ -9,6 +9,7 @@ pub mod Measure
 pub mod Standing
 pub mod Behind
 pub mod Methods
+pub mod Tops
 pub mod Relation
 pub mod Implements
 pub mod Example

@@ -7,6 +7,7 @@
 //!   calls of a name alone, calls of a value and of self with plain items and no block. Operators are calls by look-up and
 //!   row, and `puts` is the iteration that it is, plan by plan.
 //! - `specs::Plain`: the same as a condition on a form alone
+//! - `specs::Tops`: programs of such forms and of methods of such forms
 //! - `specs::Simple`: those over nil, true, false and integers, with operators and `puts`, whose evaluation calls no body
 //! - `specs::Covers`: what defines a method besides, at the top of a body or in a sequence there
 //! - `specs::Methods`: code of the body of a method with required parameters, and a store whose methods have such code
@@ -41,7 +42,7 @@ ghost use Rattle.step_laws.specs.Calm.{StaysCalm};
 ghost use Rattle.step_laws.specs.Measure.{measure};
 ghost use Rattle.step_laws.specs.Relation.{Alike, Shared};
 ghost use Rattle.step_laws.specs.Simple.{IsSimple};
-ghost use Rattle.step_laws.specs.Plain.{IsPlain};
+ghost use Rattle.step_laws.specs.Tops.{IsPlainProgram};
 ghost use Rattle.step_laws.specs.Implements.{IsCodeOf, Implements};
 ghost use Rattle.step_laws.specs.Example.{countdown, gatherer, chooser, IsWitness, IsPlainWitness, IsMethodWitness};
 
@@ -70,14 +71,15 @@ pub fn simple_code_implements()
         → Implements s p input }
 {}
 
-/// The code that gen_forms gives for a program of plain forms within the limits is code of it, so it implements it for
-/// each input with which the evaluation keeps to that.
+/// The code that gen_forms gives for a program of plain forms, and of methods of such forms whose parameters are all
+/// required, within the limits is code of it and of its methods, so it implements it for each input with which the
+/// evaluation keeps to that.
 #[tactic(auto, using(crate::proofs::Coded::program_is_code, crate::proofs::Coded::program_implements))]
 pub fn plain_programs_are_coded()
-    ensures coded { (b : Body) → IsProgram b → first_excess (need b) ≡ None → IsPlain (form.form_of b)
+    ensures coded { (b : Body) → IsProgram b → first_excess (need b) ≡ None → IsPlainProgram b
         → IsCodeOf (source_of b) (program 2 (coded_program b)) }
     ensures implemented { (b : Body) (input : List ℕ) → IsProgram b → first_excess (need b) ≡ None
-        → IsPlain (form.form_of b)
+        → IsPlainProgram b
         → StaysCalm (source_of b) (program 2 (coded_program b)) (opening (source_of b) input)
         → Implements (source_of b) (program 2 (coded_program b)) input }
 {}
@@ -105,9 +107,8 @@ pub fn a_program_gathers()
     ensures { IsPlainWitness gatherer }
 {}
 
-/// There is one that defines methods with parameters, one of which calls the other, with a return: its code is code of it
-/// and of the bodies of its methods, there are no others with a body when the first is called, and both sides come to
-/// the same end.
+/// There is one that defines methods with parameters, one of which calls the other, with a return: there are no others
+/// with a body when the first is called, and both sides come to the same end.
 #[tactic(auto, using(crate::proofs::Methods::chooses))]
 pub fn a_program_calls_methods()
     ensures { IsMethodWitness chooser }
