@@ -14,12 +14,12 @@ use Rattle.def_machine.specs.Unwind.{throw, after_result, after}
 use Rattle.def_machine.specs.Entering.{answer_result, answer}
 use Rattle.def_machine.specs.Turn.{jump, set, only_result, only}
 use Rattle.def_machine.specs.Fits.{IsStart, IsException, RunsWell, Fits}
-use Rattle.world_laws.specs.Fine.{Extends, Keeps}
+use Rattle.world_laws.specs.Fine.{Extends, Fine, Keeps}
 use Rattle.world_laws.specs.Outcomes.{ResultIs, AnswerIs}
 use Rattle.world_laws.proofs.Growing.{value_stays, sort_stays}
 use Rattle.machine_laws.specs.Levels.{WaitsWell, StandsWell, ExitGoes}
 use Rattle.machine_laws.proofs.Codes.{handler_starts}
-use Rattle.machine_laws.proofs.Memories.{kept_world, runs_still, waits_still}
+use Rattle.machine_laws.proofs.Memories.{later_world, kept_world, runs_still, waits_still}
 use Rattle.machine_laws.proofs.Receiving.{moved, written, received}
 use Rattle.machine_laws.proofs.Throwing.{stands_of, stands_running, thrown}
 use Rattle.machine_laws.proofs.Worlds.{bodies}
@@ -64,9 +64,13 @@ module _ (p : Program) (whole : IsWhole p) (verified : IsVerified p) where
       → Keeps (bodies p m.lists) m.world w → RunsWell p (l ∷ ls) (with_world m w)
   in_world w l ls m h k = runs_still p m (with_world m w) (kept_world p m h.memory w k) refl l ls h
 
+  pub waits_later : (w : World) (ls : List Level) (m : Memory) → WaitsWell p ls m → Fine (bodies p m.lists) w
+      → Extends m.world w → WaitsWell p ls (with_world m w)
+  waits_later w ls m h fine e = waits_still p m (with_world m w) (later_world p m h.memory w fine e) refl ls h
+
   pub waits_in_world : (w : World) (ls : List Level) (m : Memory) → WaitsWell p ls m
       → Keeps (bodies p m.lists) m.world w → WaitsWell p ls (with_world m w)
-  waits_in_world w ls m h k = waits_still p m (with_world m w) (kept_world p m h.memory w k) refl ls h
+  waits_in_world w ls m h k = waits_later w ls m h k.fine k.extends
 
   pub afters : (r : Answer) (a next : ℕ) (f : Frame) (ls : List Level) (m : Memory) → RunsWell p (frame f ∷ ls) m
       → IsStart p f.body next → AnswerIs (bodies p m.lists) m.world r → Fits p (after p r a next f ls m)

@@ -31,10 +31,10 @@ use Rattle.world_laws.proofs.Ending.{close_keeps, one_of_is, read_is}
 use Rattle.world_laws.proofs.Entering.{proc_enters}
 use Rattle.world_laws.proofs.Growing.{value_stays, sort_stays, activation_number_stays}
 use Rattle.world_laws.proofs.Plans.{next_is}
-use Rattle.world_laws.proofs.Worlds.{keeps_io}
+use Rattle.world_laws.proofs.Worlds.{extends_written, fine_written}
 use Rattle.machine_laws.specs.Levels.{WaitsWell}
 use Rattle.machine_laws.proofs.Alike.{state_is, state_fits}
-use Rattle.machine_laws.proofs.Answering.{throws, answered, waits_in_world}
+use Rattle.machine_laws.proofs.Answering.{throws, answered, waits_later, waits_in_world}
 use Rattle.machine_laws.proofs.Entering.{enters_fit}
 use Rattle.machine_laws.proofs.Fibers.{found_named, OnwardFits, goes_on, back_fits}
 use Rattle.machine_laws.proofs.Given.{fiber_runs}
@@ -202,10 +202,11 @@ module _ (p : Program) (whole : IsWhole p) (verified : IsVerified p) where
       (proc_enters (bodies p m.lists) m.world (fine ls m h) args b is.2 is.3 q
       (is_good m.world.store Proc q is.1).there) tt
   carries (writes it bytes) a ls m h active is =
-      let k = keeps_io (bodies p m.lists) m.world (fine ls m h) m.world.input (m.world.out ++ bytes) in
+      let e = extends_written m.world bytes in
       iterates p ls (with_world m (write_out m.world bytes)) a it Nil
-      (waits_in_world p whole verified (write_out m.world bytes) ls m h k)
-      (activation_number_stays m.world (write_out m.world bytes) k.extends a active)
+      (waits_later p whole verified (write_out m.world bytes) ls m h
+      (fine_written (bodies p m.lists) m.world (fine ls m h) bytes) e)
+      (activation_number_stays m.world (write_out m.world bytes) e a active)
       (state_fits (census m.world.store) it is) tt
   carries (reads it) a ls m h active is =
       answered p whole verified (read m.world) (waiting a it ls) m

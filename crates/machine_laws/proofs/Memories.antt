@@ -9,7 +9,7 @@ use Rattle.def_calls.specs.World.{World}
 use Rattle.def_calls.specs.Fibers as fibers
 use Rattle.def_machine.specs.State.{Registers, Level, Memory, put, with_world}
 use Rattle.def_machine.specs.Fits.{RegistersFit, NameFits, FiberFits, WorldFits, NamesFit, AreApart, MemoryFits, RunsWell}
-use Rattle.world_laws.specs.Fine.{Extends, Keeps}
+use Rattle.world_laws.specs.Fine.{Extends, Fine, Keeps}
 use Rattle.world_laws.proofs.Growing.{extends_itself}
 use Rattle.machine_laws.specs.Growth.{Grows, Everywhere}
 use Rattle.machine_laws.specs.Levels.{WaitsWell}
@@ -78,12 +78,15 @@ module _ (p : Program) (m v : Memory) where
 
 module _ (p : Program) (m : Memory) (h : MemoryFits p m) where
   -- another world, which is fine
-  pub kept_world : (w : World) → Keeps (bodies p m.lists) m.world w → Changes p m (with_world m w)
-  kept_world w k = record {
-    grows = record { world = k.extends; lists = lists_stay m.lists; exits = λ n held lt c f below x. x };
-    world = fitting_world p m.lists w k.fine;
-    registers = registers_later m.world w k.extends m.lists h.registers;
+  pub later_world : (w : World) → Fine (bodies p m.lists) w → Extends m.world w → Changes p m (with_world m w)
+  later_world w fine e = record {
+    grows = record { world = e; lists = lists_stay m.lists; exits = λ n held lt c f below x. x };
+    world = fitting_world p m.lists w fine;
+    registers = registers_later m.world w e m.lists h.registers;
   }
+
+  pub kept_world : (w : World) → Keeps (bodies p m.lists) m.world w → Changes p m (with_world m w)
+  kept_world w k = later_world w k.fine k.extends
 
   -- a value in a register of any list
   pub value_put : (n i : ℕ) (v : Value) → IsValue (census m.world.store) v

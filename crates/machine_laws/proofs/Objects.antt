@@ -37,7 +37,7 @@ there w id h = record { holds = ap (plays_at Any) h }
 
 module _ (p : Program) (ls : List Registers) where
   itself : (w : World) → Fine (bodies p ls) w → Keeps (bodies p ls) w w
-  itself w fine = record { fine = fine; extends = extends_itself w }
+  itself w fine = record { fine = fine; extends = extends_itself w; out = refl }
 
   given : (w : World) (id : ObjId) → Fine (bodies p ls) w → HasSort (census w.store) sort.Hash id
       → AnswerIs (bodies p ls) w (give w (Obj id))

@@ -26,7 +26,7 @@ use Rattle.world_laws.specs.Outcomes.{AnswerIs, OpensIn, BlockArgumentIs}
 use Rattle.world_laws.proofs.Growing.{role_stays, activation_number_stays}
 use Rattle.world_laws.proofs.Standing.{keeps_itself, keeps_then}
 use Rattle.world_laws.proofs.Stores.{keeps_object}
-use Rattle.world_laws.proofs.Worlds.{keeps_io, keeps_activation, keeps_enclosing, extends_activation}
+use Rattle.world_laws.proofs.Worlds.{keeps_input, keeps_activation, keeps_enclosing, extends_activation}
 use Rattle.world_laws.proofs.Answers.{answer_then, gives_value, makes_items, makes_text, fails_with}
 use Rattle.world_laws.proofs.Changing.{keeps_default, keeps_sent}
 use Rattle.world_laws.proofs.Holding.{runs_proc}
@@ -129,7 +129,7 @@ module _ (b : Bodies) (w : World) (fine : Fine b w) where
   line_is : (n : ℕ) → AnswerIs b w (read_line w n)
   line_is n =
       let v : World = record w { input = drop n w.input } in
-      let k = keeps_io b w fine (drop n w.input) w.out in
+      let k = keeps_input b w fine (drop n w.input) in
       answer_then b w v (make v (text_object (take n w.input))) k (makes_text b v k.fine (take n w.input))
 
   limit_is : (n : ℕ) → AnswerIs b w (read_limit w n)
@@ -139,7 +139,7 @@ module _ (b : Bodies) (w : World) (fine : Fine b w) where
           (if c then fail (record w { input = drop (2 ^ 28) w.input }) cause.StringTooLong else read_line w n)
       by true =
           let v : World = record w { input = drop (2 ^ 28) w.input } in
-          let k = keeps_io b w fine (drop (2 ^ 28) w.input) w.out in
+          let k = keeps_input b w fine (drop (2 ^ 28) w.input) in
           answer_then b w v (fail v cause.StringTooLong) k (fails_with b v k.fine cause.StringTooLong tt)
       by false = line_is n
 

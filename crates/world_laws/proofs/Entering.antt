@@ -61,6 +61,7 @@ report_begins b w fine e is = record {
   keeps = keeps_asking b w fine;
   state = is;
   activation = core_opens (asking w) (Obj e) (has_any w.store sort.Exception e is);
+  core = refl;
 }
 
 runs_by : (k : Census) (self : Value) (p : ObjId) (lambda : Bool) → Is k Proc p → RunIs k self (proc_runs lambda p)
@@ -119,6 +120,7 @@ entry_then b w v (begins it a u) k h = record {
   keeps = keeps_then b w v u k h.keeps;
   state = h.state;
   activation = h.activation;
+  core = h.core;
 }
 
 -- an activation to open, and what is entered, are right where only the store grows
@@ -163,6 +165,7 @@ module _ (b : Bodies) (w : World) (fine : Fine b w) where
       keeps = keeps_itself b w fine;
       state = (is, all, proc);
       activation = core_opens w recv is;
+      core = refl;
     }
 
     pub row_is : (r : ℕ) (recv : Value) → IsValue (census w.store) recv → EntryIs b w (enter_row w r recv args block)

@@ -1,5 +1,5 @@
 -- What is right in a fine world is right in each later one.
-use Rattle.std.proofs.Common.{ℕ, suc, List, [], ◌∷◌}
+use Rattle.std.proofs.Common.{ℕ, suc, List, [], ◌∷◌, refl, ◌∙◌}
 use Rattle.rb_value.specs.declared.method.Method.{Method}
 use Rattle.rb_value.specs.declared.method.Method.TheVariants as method
 use Rattle.rb_value.specs.declared.value.Value.{Value}
@@ -79,10 +79,14 @@ module _ (w v : World) (e : Extends w v) where
 
 module _ (b : Bodies) where
   pub keeps_itself : (w : World) → Fine b w → Keeps b w w
-  keeps_itself w fine = record { fine = fine; extends = extends_itself w }
+  keeps_itself w fine = record { fine = fine; extends = extends_itself w; out = refl }
 
   pub keeps_then : (w v u : World) → Keeps b w v → Keeps b v u → Keeps b w u
-  keeps_then w v u h g = record { fine = g.fine; extends = extends_both w v u h.extends g.extends }
+  keeps_then w v u h g = record {
+    fine = g.fine;
+    extends = extends_both w v u h.extends g.extends;
+    out = g.out ∙ h.out;
+  }
 
   -- a later world with nothing but another store
   pub keeps_store : (w : World) (st : Store) → Fine b w → Extends w (with_store w st) → Sound st
@@ -96,6 +100,7 @@ module _ (b : Bodies) where
       activations = activations_stay w (with_store w st) e w.activations fine.activations;
     };
     extends = e;
+    out = refl;
   }
 
 -- A world that is fine is fine with any other bodies that are right where these are.

@@ -1,5 +1,5 @@
 -- Changes of what is beside the store that keep a world fine.
-use Rattle.std.proofs.Common.{ℕ, suc, ◌+◌, ◌<◌, List, [], ◌∷◌, ◌++◌, length, Bool, true, arith}
+use Rattle.std.proofs.Common.{ℕ, suc, ◌+◌, ◌<◌, List, [], ◌∷◌, ◌++◌, length, Bool, true, refl, arith}
 use Rattle.std.specs.Prelude.{nat_eq}
 use Rattle.indexmap.specs.IndexMap.{insert_entry}
 use Rattle.rb_value.specs.declared.value.Value.{Value}
@@ -8,7 +8,7 @@ use Rattle.rb_value.specs.declared.value.SymId.{SymId}
 use Rattle.def_core.specs.Sound.{Census, sorts_of, census, ClassOrModule, Is, IsSymbol, IsValue, AllAre}
 use Rattle.def_core.proofs.Keeps.{named_kept}
 use Rattle.def_core.proofs.PartsSound.{all_more}
-use Rattle.def_calls.specs.World.{World, Activation, Enclosing, with_global, with_activation, with_enclosing}
+use Rattle.def_calls.specs.World.{World, Activation, Enclosing, write, with_global, with_activation, with_enclosing}
 use Rattle.def_calls.specs.Calls.{asking}
 use Rattle.world_laws.specs.Fine.{Bodies, Extends, IsClasses, ActivationIs, EnclosingAre, GlobalIs, Fine, Keeps}
 use Rattle.world_laws.specs.Outcomes.{OpensIn}
@@ -50,33 +50,45 @@ enclosing_more : (k : Census) (n : ℕ) (es : List Enclosing) (c : Enclosing) �
 enclosing_more k n [] c h is lt = (is, omega (arith, lt), tt)
 enclosing_more k n (e ∷ es) c h is lt = (h.0, h.1, enclosing_more k (suc n) es c h.2 is (omega (arith, lt)))
 
+pub extends_written : (w : World) (bytes : List ℕ) → Extends w (write w bytes)
+extends_written w bytes = extends_beside w w.globals w.input (w.out ++ bytes) w.asked
+
 module _ (b : Bodies) (w : World) (fine : Fine b w) where
-  pub keeps_beside : (globals : List (ℕ × Value)) (input out : List ℕ) (asked : Bool)
-      → AllAre (GlobalIs (census w.store)) globals → Keeps b w (beside w globals input out asked)
-  keeps_beside globals input out asked all =
+  fine_beside : (globals : List (ℕ × Value)) (input out : List ℕ) (asked : Bool)
+      → AllAre (GlobalIs (census w.store)) globals → Fine b (beside w globals input out asked)
+  fine_beside globals input out asked all =
       let v : World = beside w globals input out asked in
       let e = extends_beside w globals input out asked in
       record {
-        fine = record {
-          store = fine.store;
-          objects = objects_stay b w v e w.store.objects fine.objects;
-          globals = all;
-          enclosing = fine.enclosing;
-          activations = activations_stay w v e w.activations fine.activations;
-        };
-        extends = e;
+        store = fine.store;
+        objects = objects_stay b w v e w.store.objects fine.objects;
+        globals = all;
+        enclosing = fine.enclosing;
+        activations = activations_stay w v e w.activations fine.activations;
       }
 
-  pub keeps_io : (input out : List ℕ) → Keeps b w (record w { input = input; out = out })
-  keeps_io input out = keeps_beside w.globals input out w.asked fine.globals
+  keeps_beside : (globals : List (ℕ × Value)) (input : List ℕ) (asked : Bool)
+      → AllAre (GlobalIs (census w.store)) globals → Keeps b w (beside w globals input w.out asked)
+  keeps_beside globals input asked all = record {
+    fine = fine_beside globals input w.out asked all;
+    extends = extends_beside w globals input w.out asked;
+    out = refl;
+  }
+
+  pub keeps_input : (input : List ℕ) → Keeps b w (record w { input = input })
+  keeps_input input = keeps_beside w.globals input w.asked fine.globals
+
+  -- what is written is no part of a fine world
+  pub fine_written : (bytes : List ℕ) → Fine b (write w bytes)
+  fine_written bytes = fine_beside w.globals w.input (w.out ++ bytes) w.asked fine.globals
 
   pub keeps_asking : Keeps b w (asking w)
-  keeps_asking = keeps_beside w.globals w.input w.out true fine.globals
+  keeps_asking = keeps_beside w.globals w.input true fine.globals
 
   pub keeps_global : (name : SymId) (x : Value) → IsSymbol (census w.store) name → IsValue (census w.store) x
       → Keeps b w (with_global w name x)
   keeps_global name x symbol value =
-      keeps_beside (insert_entry nat_eq w.globals name.0 x) w.input w.out w.asked
+      keeps_beside (insert_entry nat_eq w.globals name.0 x) w.input w.asked
       (named_kept (census w.store) (IsValue (census w.store)) w.globals name.0 x fine.globals (symbol.below, value))
 
   pub keeps_activation : (a : Activation) → OpensIn w a → Keeps b w (with_activation w a)
@@ -93,6 +105,7 @@ module _ (b : Bodies) (w : World) (fine : Fine b w) where
               (activations_stay w v e w.activations fine.activations) (opens, tt);
         };
         extends = e;
+        out = refl;
       }
 
   pub keeps_enclosing : (c : ObjId) (around : ℕ) → Is (census w.store) ClassOrModule c → IsClasses w around
@@ -110,4 +123,5 @@ module _ (b : Bodies) (w : World) (fine : Fine b w) where
           activations = activations_stay w v e w.activations fine.activations;
         };
         extends = e;
+        out = refl;
       }

@@ -125,7 +125,8 @@ pub record Fine (b : Bodies) (w : World) : Type 0 where
   pub enclosing : EnclosingAre (census w.store) 1 w.enclosing
   pub activations : AllAre (ActivationIs w) w.activations
 
--- what every outcome leaves: a fine world that extends the one before it
+-- what every outcome leaves: a fine world that extends the one before it, with the output that it had
 pub record Keeps (b : Bodies) (w v : World) : Type 0 where
   pub fine : Fine b v
   pub extends : Extends w v
+  pub out : v.out ≡ w.out

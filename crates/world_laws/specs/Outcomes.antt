@@ -10,7 +10,7 @@ use Rattle.def_core.specs.Sound.{Census, census, Proc, Fiber, Array, Is, IsSymbo
 use Rattle.class_model.specs.Given.{IsClass, GivesClass}
 use Rattle.rb_raise.specs.Causes.{SoundCause}
 use Rattle.run_values.specs.Raisable.{IsRaisable}
-use Rattle.def_calls.specs.World.{World, Activation, Result, gives, raises, Answer, with_store, with_activation}
+use Rattle.def_calls.specs.World.{World, Activation, core_method, Result, gives, raises, Answer, with_store, with_activation}
 use Rattle.def_calls.specs.Views.{Callable, by_body, by_row}
 use Rattle.def_calls.specs.Values.{Splatted}
 use Rattle.def_calls.specs.Plans.{Iteration, begun, handing, putting, putting_text, printing, printing_text, inspecting, inspecting_text, raising, looping, visiting, counting, initializing, messaging, telling, telling_text, reporting, reported, Plan, Planned}
@@ -126,6 +126,7 @@ pub record BeginsIs (b : Bodies) (w : World) (it : Iteration) (a : Activation) (
   pub keeps : Keeps b w v
   pub state : StateIs (census v.store) it
   pub activation : OpensIn v a
+  pub core : a.runs ≡ core_method
 
 abbrev pub EntryIs : Bodies → World → Entry → Type 0
 EntryIs b w (answers a) = AnswerIs b w a
