@@ -9,7 +9,7 @@ use Rattle.def_core.specs.Store.{core}
 use Rattle.def_core.specs.Sound.{census}
 use Rattle.ir_core.specs.CoreForm.{CoreForm, Maybe, absent, there, Forms, none, more, Clauses, no_clauses, clause}
 use Rattle.ir_core.specs.Program.{Around, within_clause, within_target}
-use Rattle.def_calls.specs.World.{Answer, Result, gives, raises}
+use Rattle.def_calls.specs.World.{World, Answer, Result, gives, raises}
 use Rattle.def_calls.specs.Calls.{is_of}
 use Rattle.def_eval.specs.Source.{Source, span, span_maybe, span_forms}
 use Rattle.def_eval.specs.Configuration as eval
@@ -31,12 +31,12 @@ pub record RestStands (s : Source) (a : Around) (n : ℕ) (es : Forms) (t : Mayb
   pub body : FormStands s (within_clause a) (n + span_forms es + span_maybe t) b
   pub others : ClausesStand s a (n + span_forms es + span_maybe t + span b) cs
 
-module _ (s : Source) (ks : List Item) (m : Memory) (a : Around) (x : Text s ks m a) where
+module _ (s : Source) (early : World) (ks : List Item) (m : Memory) (a : Around) (x : Text s early ks m a) where
   pub body_in_clause : (n : ℕ) (b : CoreForm) (r : Rescue) → FormStands s (within_clause a) n b → RescueStands s a r
-      → Fits s (do_clause_body n b r ks m)
+      → Fits s early (do_clause_body n b r ks m)
   body_in_clause n b r h rescue =
-      let over = over_part s (eval.clause_body r) ks m a x rescue in
-      does s n b (eval.part (eval.clause_body r) ∷ ks) m (within_clause a) (record {
+      let over = over_part s early (eval.clause_body r) ks m a x rescue in
+      does s early n b (eval.part (eval.clause_body r) ∷ ks) m (within_clause a) (record {
         under = over.under;
         there = over.there;
         around = record {
@@ -48,13 +48,13 @@ module _ (s : Source) (ks : List Item) (m : Memory) (a : Around) (x : Text s ks 
 
   target_taken : (n : ℕ) (e : ObjId) (t : Maybe) (b : CoreForm) (r : Rescue) → IsException (census m.world.store) e
       → MaybeStands s (within_target a) n t → FormStands s (within_clause a) (n + span_maybe t) b → RescueStands s a r
-      → Fits s (take_exception n e t b r ks m)
+      → Fits s early (take_exception n e t b r ks m)
   target_taken n e absent b r is h g rescue =
       body_in_clause n b r (behind_absent s n (λ i. FormStands s (within_clause a) i b) g) rescue
   target_taken n e (there t) b r is h g rescue =
       let p = eval.clause_target (n + span t) e b r in
-      let over = over_part s p ks m a x (is, g, rescue) in
-      does s n t (eval.part p ∷ ks) m (within_target a) (record {
+      let over = over_part s early p ks m a x (is, g, rescue) in
+      does s early n t (eval.part p ∷ ks) m (within_target a) (record {
         under = over.under;
         there = over.there;
         around = record {
@@ -66,14 +66,14 @@ module _ (s : Source) (ks : List Item) (m : Memory) (a : Around) (x : Text s ks 
 
   taken_if : (c : Answer) (n : ℕ) (e : ObjId) (es : Forms) (t : Maybe) (b : CoreForm) (cs : Clauses) (r : Rescue)
       (further : Config) → AnswerIs (bodies s m.scopes) m.world c → IsException (census m.world.store) e
-      → RestStands s a n es t b cs → RescueStands s a r → Fits s further
-      → Fits s (take_if c c.result n e es t b r ks m further)
+      → RestStands s a n es t b cs → RescueStands s a r → Fits s early further
+      → Fits s early (take_if c c.result n e es t b r ks m further)
   taken_if c n e es t b cs r further h is stands rescue next = by c.result
     where
-      by : (z : Result) → Fits s (take_if c z n e es t b r ks m further)
-      by (gives v) = either (Fits s) (is_true v) (take_exception (n + span_forms es) e t b r ks m) further
+      by : (z : Result) → Fits s early (take_if c z n e es t b r ks m further)
+      by (gives v) = either (Fits s early) (is_true v) (take_exception (n + span_forms es) e t b r ks m) further
           (target_taken (n + span_forms es) e t b r is stands.target stands.body rescue) next
-      by (raises y) = after_fits s c ks m x.under h
+      by (raises y) = after_fits s early c ks m x.under h
 
   -- the number of what stands behind more classes
   moved : (P : ℕ → Type 0) (n i j : ℕ) → P (n + (i + j)) → P (n + i + j)
@@ -81,12 +81,12 @@ module _ (s : Source) (ks : List Item) (m : Memory) (a : Around) (x : Text s ks 
 
   class_asked : (n : ℕ) (e : ObjId) (c : CoreForm) (es : Forms) (t : Maybe) (b : CoreForm) (cs : Clauses) (r : Rescue)
       → IsException (census m.world.store) e → RestStands s a n (more c es) t b cs → RescueStands s a r
-      → Fits s (Run (eval.perform n c) (eval.part (eval.clause_class (n + span c) e es t b cs r) ∷ ks) m)
+      → Fits s early (Run (eval.perform n c) (eval.part (eval.clause_class (n + span c) e es t b cs r) ∷ ks) m)
   class_asked n e c es t b cs r is h rescue =
       let p = eval.clause_class (n + span c) e es t b cs r in
       let i = span c in
       let j = span_forms es in
-      let over = over_part s p ks m a x (
+      let over = over_part s early p ks m a x (
         is,
         h.classes.1,
         moved (λ k. MaybeStands s (within_target a) k t) n i j h.target,
@@ -94,7 +94,7 @@ module _ (s : Source) (ks : List Item) (m : Memory) (a : Around) (x : Text s ks 
         moved (λ k. ClausesStand s a (k + span_maybe t + span b) cs) n i j h.others,
         rescue,
       ) in
-      does s n c (eval.part p ∷ ks) m (within_clause a) (record {
+      does s early n c (eval.part p ∷ ks) m (within_clause a) (record {
         under = over.under;
         there = over.there;
         around = record {
@@ -105,9 +105,9 @@ module _ (s : Source) (ks : List Item) (m : Memory) (a : Around) (x : Text s ks 
       }) h.classes.0
 
   pub clauses_done : (n : ℕ) (e : ObjId) (cs : Clauses) (r : Rescue) → IsException (census m.world.store) e
-      → ClausesStand s a n cs → RescueStands s a r → Fits s (next_clause n e cs r ks m)
+      → ClausesStand s a n cs → RescueStands s a r → Fits s early (next_clause n e cs r ks m)
   unfolding next_clause
-  clauses_done n e no_clauses r is h rescue = goes s (eval.travel (eval.raise e)) ks m x.under is
+  clauses_done n e no_clauses r is h rescue = goes s early (eval.travel (eval.raise e)) ks m x.under is
   clauses_done n e (clause none t b cs) r is h rescue =
       taken_if (is_standard m e) n e none t b cs r (next_clause (n + span_maybe t + span b) e cs r ks m)
       (is_of_is (bodies s m.scopes) m.world x.under.memory.world (Obj e) (Obj (core class.StandardError))) is
@@ -118,14 +118,14 @@ module _ (s : Source) (ks : List Item) (m : Memory) (a : Around) (x : Text s ks 
       class_asked n e c es t b cs r is (record { classes = h.0; target = h.1; body = h.2; others = h.3 }) rescue
 
   next_asked : (n : ℕ) (e : ObjId) (es : Forms) (t : Maybe) (b : CoreForm) (cs : Clauses) (r : Rescue) (further : Config)
-      → IsException (census m.world.store) e → RestStands s a n es t b cs → RescueStands s a r → Fits s further
-      → Fits s (next_class n e es t b cs r ks m further)
+      → IsException (census m.world.store) e → RestStands s a n es t b cs → RescueStands s a r → Fits s early further
+      → Fits s early (next_class n e es t b cs r ks m further)
   next_asked n e none t b cs r further is h rescue next = next
   next_asked n e (more c es) t b cs r further is h rescue next = class_asked n e c es t b cs r is h rescue
 
   pub class_matched : (n : ℕ) (v : Value) (e : ObjId) (es : Forms) (t : Maybe) (b : CoreForm) (cs : Clauses)
       (r : Rescue) → IsException (census m.world.store) e → RestStands s a n es t b cs → RescueStands s a r
-      → Fits s (match_class n v e es t b cs r ks m)
+      → Fits s early (match_class n v e es t b cs r ks m)
   class_matched n v e es t b cs r is h rescue =
       let others = next_clause (n + span_forms es + span_maybe t + span b) e cs r ks m in
       taken_if (is_of m.world (Obj e) v) n e es t b cs r (next_class n e es t b cs r ks m others)
@@ -133,6 +133,6 @@ module _ (s : Source) (ks : List Item) (m : Memory) (a : Around) (x : Text s ks 
       (next_asked n e es t b cs r others is h rescue
       (clauses_done (n + span_forms es + span_maybe t + span b) e cs r is h.others rescue))
 
-  pub rescue_begun : (r : Rescue) → RescueStands s a r → Fits s (begin_rescue r ks m)
+  pub rescue_begun : (r : Rescue) → RescueStands s a r → Fits s early (begin_rescue r ks m)
   rescue_begun r h =
-      does_part s (eval.rescued r.number r.body r.clauses r.otherwise) r.number r.body ks m a x h h.0
+      does_part s early (eval.rescued r.number r.body r.clauses r.otherwise) r.number r.body ks m a x h h.0

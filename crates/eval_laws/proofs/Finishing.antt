@@ -10,7 +10,7 @@ use Rattle.def_core.specs.declared.cause.Cause.TheVariants as cause
 use Rattle.def_core.specs.Sound.{Census, census, ClassOrModule, Is, IsValue, OptionIs, AllAre}
 use Rattle.ir_core.specs.CoreForm.{Name, Forms, none, more}
 use Rattle.ir_core.specs.Program.{Around}
-use Rattle.def_calls.specs.World.{Answer, Result, gives, raises, fail, with_global}
+use Rattle.def_calls.specs.World.{World, Answer, Result, gives, raises, fail, with_global}
 use Rattle.def_calls.specs.Calls.{break_target}
 use Rattle.def_calls.specs.Views.{object_in}
 use Rattle.def_calls.specs.Constants.{get_constant_in, set_constant_in}
@@ -42,18 +42,18 @@ use Rattle.eval_laws.proofs.Entered.{class_fits}
 
 -- Exits that lead to an item that is under way.
 
-module _ (s : Source) (ks : List Item) (m : Memory) (u : Under s ks m) where
+module _ (s : Source) (early : World) (ks : List Item) (m : Memory) (u : Under s early ks m) where
   leaves_to : (exit : ℕ → Value → Exit) (failure : Answer) (v : Value) (o : Option ℕ)
       → ((a : ℕ) → is_under_way ks a ≡ true → ExitFits (census m.world.store) ks (exit a v))
-      → AnswerIs (bodies s m.scopes) m.world failure → Fits s (leave_to exit failure v ks m o)
-  leaves_to exit failure v None f h = after_fits s failure ks m u h
+      → AnswerIs (bodies s m.scopes) m.world failure → Fits s early (leave_to exit failure v ks m o)
+  leaves_to exit failure v None f h = after_fits s early failure ks m u h
   leaves_to exit failure v (Some a) f h =
-      tested (Fits s) (is_under_way ks a) (Run (eval.travel (exit a v)) ks m) (after failure ks m)
-      (λ e. goes s (eval.travel (exit a v)) ks m u (f a e)) (λ e. after_fits s failure ks m u h)
+      tested (Fits s early) (is_under_way ks a) (Run (eval.travel (exit a v)) ks m) (after failure ks m)
+      (λ e. goes s early (eval.travel (exit a v)) ks m u (f a e)) (λ e. after_fits s early failure ks m u h)
 
   leaves_from : (t : Bool) → in_loop ks ≡ t → (v : Value) → IsValue (census m.world.store) v
-      → Fits s (leave_from t v ks m)
-  leaves_from true e v is = goes s (eval.travel (eval.leave_loop v)) ks m u (e, is)
+      → Fits s early (leave_from t v ks m)
+  leaves_from true e v is = goes s early (eval.travel (eval.leave_loop v)) ks m u (e, is)
   leaves_from false e v is =
       leaves_to eval.break (fail m.world cause.BreakFromProc) v
       (break_target m.world m.place.activation (running m).runs) (λ a under. (under, is))
@@ -83,49 +83,49 @@ space_there k (Int z) h = absurd h
 space_there k (Sym x) h = absurd h
 space_there k (Obj id) h = h
 
-opened_space : (s : Source) (n : ℕ) (o : Option ObjId) (ks : List Item) (m : Memory) → Under s ks m
+opened_space : (s : Source) (early : World) (n : ℕ) (o : Option ObjId) (ks : List Item) (m : Memory) → Under s early ks m
     → OptionIs (Is (census m.world.store) ClassOrModule) o → ClassStands s n (body_at s n)
-    → Fits s (run_class s n o ks m)
-opened_space s n None ks m u h stands =
-    after_fits s (wrong_value m.world (codes "EXEC")) ks m u
+    → Fits s early (run_class s n o ks m)
+opened_space s early n None ks m u h stands =
+    after_fits s early (wrong_value m.world (codes "EXEC")) ks m u
     (wrong_value_is (bodies s m.scopes) m.world u.memory.world (codes "EXEC"))
-opened_space s n (Some c) ks m u h stands = class_fits s n c ks m u h stands
+opened_space s early n (Some c) ks m u h stands = class_fits s early n c ks m u h stands
 
 -- a method that is defined on a class
-defined_in : (s : Source) (ks : List Item) (m : Memory) (u : Under s ks m) (x : Name) (n : ℕ) (v : Value) → IsNamed s x
+defined_in : (s : Source) (early : World) (ks : List Item) (m : Memory) (u : Under s early ks m) (x : Name) (n : ℕ) (v : Value) → IsNamed s x
     → MethodStands s n (body_at s n) → IsValue (census m.world.store) v
     → AnswerIs (bodies s m.scopes) m.world (define_in m x n v)
 unfolding bodies
-defined_in s ks m u x n v named stands is =
-    let own = running_is s m u.memory in
-    within_is s ks m u (codes "DEF") v
+defined_in s early ks m u x n v named stands is =
+    let own = running_is s early m u.memory in
+    within_is s early ks m u (codes "DEF") v
     (λ c. definitions.define_method m.world c (symbol m x) n (running m).classes) is
     (λ c h. define_method_is (bodies s m.scopes) m.world u.memory.world c (symbol m x) n (running m).classes h
-    (symbol_is s m u.memory x named) (record { body = stands; classes = own.classes }))
+    (symbol_is s early m u.memory x named) (record { body = stands; classes = own.classes }))
 
-module _ (s : Source) (ks : List Item) (m : Memory) (u : Under s ks m) where
+module _ (s : Source) (early : World) (ks : List Item) (m : Memory) (u : Under s early ks m) where
   opened : (n : ℕ) (a : Answer) → AnswerIs (bodies s m.scopes) m.world a → GivesSpace (census a.world.store) a.result
-      → ClassStands s n (body_at s n) → Fits s (open_after s n a ks m)
+      → ClassStands s n (body_at s n) → Fits s early (open_after s n a ks m)
   opened n a h space stands = by a.result space
     where
-      by : (r : Result) → GivesSpace (census a.world.store) r → Fits s (run_opened s n r a.world ks m)
-      by (gives v) is = opened_space s n (object_in v) ks (with_world m a.world) (under_then s ks m a.world u h.keeps)
+      by : (r : Result) → GivesSpace (census a.world.store) r → Fits s early (run_opened s n r a.world ks m)
+      by (gives v) is = opened_space s early n (object_in v) ks (with_world m a.world) (under_then s early ks m a.world u h.keeps)
           (space_there (census a.world.store) v is) stands
       by (raises e) is =
-          goes s (eval.travel (eval.raise e)) ks (with_world m a.world) (under_then s ks m a.world u h.keeps) is
+          goes s early (eval.travel (eval.raise e)) ks (with_world m a.world) (under_then s early ks m a.world u h.keeps) is
 
   defined_after : (a : Answer) (x : Name) (n : ℕ) → AnswerIs (bodies s m.scopes) m.world a → IsNamed s x
-      → MethodStands s n (body_at s n) → Fits s (define_after a x n ks m a.result)
+      → MethodStands s n (body_at s n) → Fits s early (define_after a x n ks m a.result)
   defined_after a x n h named stands = by a.result h.result
     where
-      by : (r : Result) → ResultIs (census a.world.store) r → Fits s (define_after a x n ks m r)
+      by : (r : Result) → ResultIs (census a.world.store) r → Fits s early (define_after a x n ks m r)
       by (gives v) is =
           let w = with_world m a.world in
-          let later = under_then s ks m a.world u h.keeps in
-          after_fits s (define_in w x n v) ks m u
+          let later = under_then s early ks m a.world u h.keeps in
+          after_fits s early (define_in w x n v) ks m u
           (answer_then (bodies s m.scopes) m.world a.world (define_in w x n v) h.keeps
-          (defined_in s ks w later x n v named stands is))
-      by (raises e) is = after_fits s a ks m u h
+          (defined_in s early ks w later x n v named stands is))
+      by (raises e) is = after_fits s early a ks m u h
 
   -- What `defined?` tells.
 
@@ -158,83 +158,83 @@ module _ (s : Source) (ks : List Item) (m : Memory) (u : Under s ks m) where
 
 -- An action with its values.
 
-module _ (s : Source) (ks : List Item) (m : Memory) (a : Around) (t : Text s ks m a) where
+module _ (s : Source) (early : World) (ks : List Item) (m : Memory) (a : Around) (t : Text s early ks m a) where
   abbrev b : Bodies
   b = bodies s m.scopes
 
   pub finished : (action : Action) (v w : Value) → ActionFits s action → IsValue (census m.world.store) v
-      → IsValue (census m.world.store) w → Fits s (finish s action v w ks m)
+      → IsValue (census m.world.store) w → Fits s early (finish s action v w ks m)
   unfolding finish with_variable
   finished (eval.assign x) v w h is other =
-      goes s (eval.give v) ks (with_variable m x v) (under_variable s ks m x v t.under is) is
+      goes s early (eval.give v) ks (with_variable m x v) (under_variable s early ks m x v t.under is) is
   finished (eval.assign_ivar x) v w h is other =
       let fine = t.under.memory.world in
-      after_fits s (values.set_instance_variable m.world (self_of m) (symbol m x) v) ks m t.under
-      (set_instance_variable_is b m.world fine (self_of m) (symbol m x) v (running_is s m t.under.memory).self
-      (symbol_is s m t.under.memory x h) is)
+      after_fits s early (values.set_instance_variable m.world (self_of m) (symbol m x) v) ks m t.under
+      (set_instance_variable_is b m.world fine (self_of m) (symbol m x) v (running_is s early m t.under.memory).self
+      (symbol_is s early m t.under.memory x h) is)
   finished (eval.assign_gvar x) v w h is other =
-      let k = keeps_global b m.world t.under.memory.world (symbol m x) v (symbol_is s m t.under.memory x h) is in
+      let k = keeps_global b m.world t.under.memory.world (symbol m x) v (symbol_is s early m t.under.memory x h) is in
       let u = with_global m.world (symbol m x) v in
-      goes s (eval.give v) ks (with_world m u) (under_then s ks m u t.under k) is
+      goes s early (eval.give v) ks (with_world m u) (under_then s early ks m u t.under k) is
   finished (eval.constant_in x) v w h is other =
       let further : ObjId → Answer = λ c. get_constant_in m.world c (symbol m x) in
-      after_fits s (within m (codes "GETMCNST") v further) ks m t.under
-      (within_is s ks m t.under (codes "GETMCNST") v further is
+      after_fits s early (within m (codes "GETMCNST") v further) ks m t.under
+      (within_is s early ks m t.under (codes "GETMCNST") v further is
       (λ c space. get_constant_in_is b m.world t.under.memory.world c (symbol m x) space
-      (symbol_is s m t.under.memory x h)))
+      (symbol_is s early m t.under.memory x h)))
   finished (eval.assign_constant x) v w h is other =
-      after_fits s _ ks m t.under
+      after_fits s early _ ks m t.under
       (set_constant_is b m.world t.under.memory.world (running m).classes (symbol m x) v
-      (symbol_is s m t.under.memory x h) is)
+      (symbol_is s early m t.under.memory x h) is)
   finished (eval.assign_constant_in x) v w h is other =
       let further : ObjId → Answer = λ c. set_constant_in m.world c (symbol m x) w in
-      after_fits s (within m (codes "SETMCNST") v further) ks m t.under
-      (within_is s ks m t.under (codes "SETMCNST") v further is
+      after_fits s early (within m (codes "SETMCNST") v further) ks m t.under
+      (within_is s early ks m t.under (codes "SETMCNST") v further is
       (λ c space. set_constant_in_is b m.world t.under.memory.world c (symbol m x) w space
-      (symbol_is s m t.under.memory x h) other))
+      (symbol_is s early m t.under.memory x h) other))
   finished (eval.make_range x) v w h is other =
-      after_fits s (values.make_range m.world v w x) ks m t.under
+      after_fits s early (values.make_range m.world v w x) ks m t.under
       (make_range_is b m.world t.under.memory.world v w x)
   finished eval.make_symbol v w h is other =
-      after_fits s (values.make_symbol m.world v) ks m t.under (make_symbol_is b m.world t.under.memory.world v)
+      after_fits s early (values.make_symbol m.world v) ks m t.under (make_symbol_is b m.world t.under.memory.world v)
   finished (eval.element k) v w h is other =
-      after_fits s (values.element m.world v k) ks m t.under (element_is b m.world t.under.memory.world v k is)
+      after_fits s early (values.element m.world v k) ks m t.under (element_is b m.world t.under.memory.world v k is)
   finished (eval.elements_between from post) v w h is other =
-      after_fits s (values.elements_between m.world v from post) ks m t.under
+      after_fits s early (values.elements_between m.world v from post) ks m t.under
       (elements_between_is b m.world t.under.memory.world v from post is)
   finished (eval.last_elements from count) v w h is other =
-      after_fits s (values.last_elements m.world v from count) ks m t.under
+      after_fits s early (values.last_elements m.world v from count) ks m t.under
       (last_elements_is b m.world t.under.memory.world v from count is)
   finished eval.leave_method v w h is other =
-      leaves_to s ks m t.under eval.return (fail m.world cause.UnexpectedReturn) v (Some (running m).home)
+      leaves_to s early ks m t.under eval.return (fail m.world cause.UnexpectedReturn) v (Some (running m).home)
       (λ i under. (under, is)) (fails_with b m.world t.under.memory.world cause.UnexpectedReturn tt)
-  finished eval.leave_call v w h is other = leaves_from s ks m t.under (in_loop ks) refl v is
-  finished eval.leave_round v w h is other = goes s (eval.travel (eval.next v)) ks m t.under (t.there, is)
+  finished eval.leave_call v w h is other = leaves_from s early ks m t.under (in_loop ks) refl v is
+  finished eval.leave_round v w h is other = goes s early (eval.travel (eval.next v)) ks m t.under (t.there, is)
   finished (eval.define_on x n) v w h is other =
-      defined_after s ks m t.under (definitions.singleton_class m.world v) x n
+      defined_after s early ks m t.under (definitions.singleton_class m.world v) x n
       (singleton_class_is b m.world t.under.memory.world v is) h.0 h.1
   finished (eval.open_class x n) v w h is other =
-      let name = symbol_is s m t.under.memory x h.0 in
-      opened s ks m t.under n (definitions.open_class m.world v (symbol m x) w)
+      let name = symbol_is s early m t.under.memory x h.0 in
+      opened s early ks m t.under n (definitions.open_class m.world v (symbol m x) w)
       (open_class_is b m.world t.under.memory.world v (symbol m x) w is name other)
       (open_class_gives b m.world t.under.memory.world v (symbol m x) w is name other) h.1
   finished (eval.open_module x n) v w h is other =
-      let name = symbol_is s m t.under.memory x h.0 in
-      opened s ks m t.under n (definitions.open_module m.world v (symbol m x))
+      let name = symbol_is s early m t.under.memory x h.0 in
+      opened s early ks m t.under n (definitions.open_module m.world v (symbol m x))
       (open_module_is b m.world t.under.memory.world v (symbol m x) is name)
       (open_module_gives b m.world t.under.memory.world v (symbol m x) is name) h.1
   finished (eval.open_singleton n) v w h is other =
-      opened s ks m t.under n (definitions.singleton_class m.world v)
+      opened s early ks m t.under n (definitions.singleton_class m.world v)
       (singleton_class_is b m.world t.under.memory.world v is)
       (singleton_class_gives b m.world t.under.memory.world v is) h
   finished (eval.tell k x) v w h is other =
-      after_fits s (tell_of k x v m) ks m t.under (told s ks m t.under k x v)
+      after_fits s early (tell_of k x v m) ks m t.under (told s early ks m t.under k x v)
 
   -- the operands of an action, left to right
   pub operands_done : (n : ℕ) (action : Action) (vs : List Value) (es : Forms) → wanted action ≤ length vs + count es
-      → ActionFits s action → AllAre (IsValue (census m.world.store)) vs → FormsStand s a n es → Fits s (next_operand s n action vs es ks m)
+      → ActionFits s action → AllAre (IsValue (census m.world.store)) vs → FormsStand s a n es → Fits s early (next_operand s n action vs es ks m)
   operands_done n action vs none enough h all stands = finished action (get_or vs 0 Nil) (get_or vs 1 Nil) h
       (value_at (census m.world.store) vs 0 all) (value_at (census m.world.store) vs 1 all)
   operands_done n action vs (more e es) enough h all stands =
-      does_part s (eval.operands (n + span e) action vs es) n e ks m a t
+      does_part s early (eval.operands (n + span e) action vs es) n e ks m a t
       (h, all, stands.1, omega (arith, enough)) stands.0

@@ -1,5 +1,5 @@
 -- What is left where an evaluation goes on: a memory that fits, over items that fit.
-use Rattle.std.proofs.Common.{◌≡◌, ◌<◌, ℕ, ◌+◌, List, [], ◌∷◌, ◌++◌, length, Bool, true, false, cond, refl, sym, subst, true≢false}
+use Rattle.std.proofs.Common.{◌≡◌, ◌<◌, ℕ, ◌+◌, List, [], ◌∷◌, ◌++◌, length, Bool, true, false, cond, refl, sym, ◌∙◌, subst, true≢false}
 use Rattle.std.specs.Prelude.{Option, Some, None, is_some, bytes_eq, ◌||◌, unwrap_or}
 use Rattle.std.specs.List.{list_any, position, position_from}
 use Rattle.std.proofs.lemmas.Iterator.Adapters.{position_from-zero}
@@ -14,26 +14,26 @@ use Rattle.ir_core.specs.Program.{Around}
 use Rattle.def_calls.specs.World.{World, Answer, Result, gives, raises}
 use Rattle.def_eval.specs.Source.{Source}
 use Rattle.def_eval.specs.Configuration as eval
-use Rattle.def_eval.specs.Configuration.{Scope, Part, Item, Focus, perform, give, travel, Memory, with_world, Config, Run, stop_of}
+use Rattle.def_eval.specs.Configuration.{Halt, Scope, Part, Item, Focus, perform, give, travel, Memory, with_world, Config, Run, stop_of}
 use Rattle.def_eval.specs.Scopes.{value_in, scope_at, scopes_around, first_with, last_or, scope_of, variable, own_variable, with_variable, running, is_there}
 use Rattle.def_eval.specs.Entering.{symbol, after, after_result}
-use Rattle.world_laws.specs.Fine.{Extends, Keeps, ActivationIs}
+use Rattle.world_laws.specs.Fine.{Fine, Extends, Keeps, ActivationIs}
 use Rattle.world_laws.specs.Outcomes.{AnswerIs, ResultIs}
 use Rattle.world_laws.proofs.Ending.{activation_at_is}
-use Rattle.world_laws.proofs.Growing.{value_stays, extends_itself}
+use Rattle.world_laws.proofs.Growing.{value_stays, extends_itself, extends_both}
 use Rattle.eval_laws.specs.Standing.{IsNamed, FormStands}
-use Rattle.eval_laws.specs.Fits.{ScopesFit, AroundFits, begins_anew, in_clause, assigns_exception, has_exception, PartStands, ItemsFit, MemoryFits, FocusFits, Fits, bodies}
+use Rattle.eval_laws.specs.Fits.{ComesHushed, After, ScopesFit, AroundFits, begins_anew, in_clause, assigns_exception, has_exception, PartStands, ItemsFit, MemoryFits, FocusFits, Fits, bodies}
 use Rattle.eval_laws.proofs.Tests.{or_right}
 use Rattle.eval_laws.proofs.Scopes.{Values, Parents, later_itself, later_put, scopes_put, parents_of, value_found, scopes_there, last_there, first_there}
 use Rattle.eval_laws.proofs.Staying.{place_stays, items_stay, memories_stay, names_stay, fine_later}
 
-pub record Under (s : Source) (ks : List Item) (m : Memory) : Type 0 where
-  pub memory : MemoryFits s m
+pub record Under (s : Source) (early : World) (ks : List Item) (m : Memory) : Type 0 where
+  pub memory : MemoryFits s early m
   pub items : ItemsFit s m.world m.scopes m.place ks
 
 -- a form is done over items, under what stands around it
-pub record Text (s : Source) (ks : List Item) (m : Memory) (a : Around) : Type 0 where
-  pub under : Under s ks m
+pub record Text (s : Source) (early : World) (ks : List Item) (m : Memory) (a : Around) : Type 0 where
+  pub under : Under s early ks m
   pub there : is_there ks ≡ true
   pub around : AroundFits m.scopes m.place.scope ks a
 
@@ -79,7 +79,7 @@ within_or : (most n : ℕ) (o : Option ℕ) → n < most → OptionIs (λ m. m <
 within_or most n None lt h = lt
 within_or most n (Some m) lt h = h
 
-module _ (s : Source) where
+module _ (s : Source) (early : World) where
   pub scopes_stay : (w v : World) (cs : List Scope) → Extends w v → ScopesFit (census w.store) cs
       → ScopesFit (census v.store) cs
   scopes_stay w v cs e h n lt =
@@ -89,7 +89,7 @@ module _ (s : Source) where
       all_later [] all = tt
       all_later (x ∷ vs) all = (value_stays w v e x.1 all.0, all_later vs all.1)
 
-  module _ (m : Memory) (h : MemoryFits s m) where
+  module _ (m : Memory) (h : MemoryFits s early m) where
     pub symbol_is : (x : Name) → IsNamed s x → IsSymbol (census m.world.store) (symbol m x)
     symbol_is x is = name_is m.world.store x (h.names x is)
 
@@ -133,38 +133,48 @@ module _ (s : Source) where
 
     -- Another world.
 
+    -- a fine world that goes on from it and from another one
+    pub memory_later : (w : World) → Fine (bodies s m.scopes) w → Extends m.world w → (first : World) → Extends first w
+        → w.out ≡ first.out → MemoryFits s first (with_world m w)
+    memory_later w fine e first since out =
+        let p = parents_of (census m.world.store) m.scopes h.scopes in
+        record {
+          place = place_stays s m.world w e m.scopes m.scopes p (later_itself m.scopes) m.place h.place;
+          scopes = scopes_stay m.world w m.scopes e h.scopes;
+          world = fine;
+          names = names_stay s m.world w e h.names;
+          fibers = memories_stay s m.world w e m.scopes m.scopes p (later_itself m.scopes) m.fibers h.fibers;
+          since = since;
+          out = out;
+        }
+
     module _ (w : World) (k : Keeps (bodies s m.scopes) m.world w) where
       p : Parents m.scopes
       p = parents_of (census m.world.store) m.scopes h.scopes
 
-      pub memory_then : MemoryFits s (with_world m w)
-      memory_then = record {
-        place = place_stays s m.world w k.extends m.scopes m.scopes p (later_itself m.scopes) m.place h.place;
-        scopes = scopes_stay m.world w m.scopes k.extends h.scopes;
-        world = k.fine;
-        names = names_stay s m.world w k.extends h.names;
-        fibers = memories_stay s m.world w k.extends m.scopes m.scopes p (later_itself m.scopes) m.fibers h.fibers;
-      }
+      pub memory_then : MemoryFits s early (with_world m w)
+      memory_then =
+          memory_later w k.fine k.extends early (extends_both early m.world w h.since k.extends) (k.out ∙ h.out)
 
       pub items_then : (ks : List Item) → ItemsFit s m.world m.scopes m.place ks → ItemsFit s w m.scopes m.place ks
       items_then ks is =
           items_stay s m.world w k.extends m.scopes m.scopes p (later_itself m.scopes) m.place ks h.place.scope is
 
-  pub under_then : (ks : List Item) (m : Memory) (w : World) → Under s ks m → Keeps (bodies s m.scopes) m.world w
-      → Under s ks (with_world m w)
+  pub under_then : (ks : List Item) (m : Memory) (w : World) → Under s early ks m → Keeps (bodies s m.scopes) m.world w
+      → Under s early ks (with_world m w)
   under_then ks m w u k = record {
     memory = memory_then m u.memory w k;
     items = items_then m u.memory w k ks u.items;
   }
 
-  pub text_then : (ks : List Item) (m : Memory) (a : Around) (w : World) → Text s ks m a
-      → Keeps (bodies s m.scopes) m.world w → Text s ks (with_world m w) a
+  pub text_then : (ks : List Item) (m : Memory) (a : Around) (w : World) → Text s early ks m a
+      → Keeps (bodies s m.scopes) m.world w → Text s early ks (with_world m w) a
   text_then ks m a w t k = record { under = under_then ks m w t.under k; there = t.there; around = t.around }
 
   -- A variable that is set.
 
-  pub under_variable : (ks : List Item) (m : Memory) (x : Local) (v : Value) → Under s ks m
-      → IsValue (census m.world.store) v → Under s ks (with_variable m x v)
+  pub under_variable : (ks : List Item) (m : Memory) (x : Local) (v : Value) → Under s early ks m
+      → IsValue (census m.world.store) v → Under s early ks (with_variable m x v)
   unfolding with_variable
   under_variable ks m x v u is =
       let k = census m.world.store in
@@ -181,31 +191,33 @@ module _ (s : Source) where
           world = fine_later s m.scopes ds p l m.world u.memory.world;
           names = u.memory.names;
           fibers = memories_stay s m.world m.world e m.scopes ds p l m.fibers u.memory.fibers;
+          since = u.memory.since;
+          out = u.memory.out;
         };
         items = items_stay s m.world m.world e m.scopes ds p l m.place ks u.memory.place.scope u.items;
       }
 
   -- Configurations.
 
-  pub goes : (f : Focus) (ks : List Item) (m : Memory) → Under s ks m → FocusFits s ks m f → Fits s (Run f ks m)
+  pub goes : (f : Focus) (ks : List Item) (m : Memory) → Under s early ks m → FocusFits s ks m f → Fits s early (Run f ks m)
   goes f ks m u focus = record { memory = u.memory; focus = focus; items = u.items }
 
-  pub after_fits : (a : Answer) (ks : List Item) (m : Memory) → Under s ks m → AnswerIs (bodies s m.scopes) m.world a
-      → Fits s (after a ks m)
+  pub after_fits : (a : Answer) (ks : List Item) (m : Memory) → Under s early ks m → AnswerIs (bodies s m.scopes) m.world a
+      → Fits s early (after a ks m)
   after_fits a ks m u h = by a.result h.result
     where
-      by : (r : Result) → ResultIs (census a.world.store) r → Fits s (after_result r a.world ks m)
+      by : (r : Result) → ResultIs (census a.world.store) r → Fits s early (after_result r a.world ks m)
       by (gives v) is = goes (give v) ks (with_world m a.world) (under_then ks m a.world u h.keeps) is
       by (raises e) is = goes (travel (eval.raise e)) ks (with_world m a.world) (under_then ks m a.world u h.keeps) is
 
   -- a form that is done where it stands
-  pub does : (n : ℕ) (e : CoreForm) (ks : List Item) (m : Memory) (a : Around) → Text s ks m a → FormStands s a n e
-      → Fits s (Run (perform n e) ks m)
+  pub does : (n : ℕ) (e : CoreForm) (ks : List Item) (m : Memory) (a : Around) → Text s early ks m a → FormStands s a n e
+      → Fits s early (Run (perform n e) ks m)
   does n e ks m a t h = goes (perform n e) ks m t.under (t.there, (a, t.around, h))
 
   -- over a part that waits
-  pub over_part : (p : Part) (ks : List Item) (m : Memory) (a : Around) → Text s ks m a
-      → PartStands s (census m.world.store) a p → Text s (eval.part p ∷ ks) m a
+  pub over_part : (p : Part) (ks : List Item) (m : Memory) (a : Around) → Text s early ks m a
+      → PartStands s (census m.world.store) a p → Text s early (eval.part p ∷ ks) m a
   over_part p ks m a t h = record {
     under = record { memory = t.under.memory; items = ((a, t.around, h), t.there, t.under.items) };
     there = refl;
@@ -216,6 +228,27 @@ module _ (s : Source) where
     };
   }
 
-  pub does_part : (p : Part) (n : ℕ) (e : CoreForm) (ks : List Item) (m : Memory) (a : Around) → Text s ks m a
-      → PartStands s (census m.world.store) a p → FormStands s a n e → Fits s (Run (perform n e) (eval.part p ∷ ks) m)
+  pub does_part : (p : Part) (n : ℕ) (e : CoreForm) (ks : List Item) (m : Memory) (a : Around) → Text s early ks m a
+      → PartStands s (census m.world.store) a p → FormStands s a n e → Fits s early (Run (perform n e) (eval.part p ∷ ks) m)
   does_part p n e ks m a t h f = does n e (eval.part p ∷ ks) m a (over_part p ks m a t h) f
+
+-- Nothing was written.
+
+hushed_always : (q : Type 0) → q → (c : Config) → ComesHushed q c
+hushed_always q h (Run (perform n e) ks m) = tt
+hushed_always q h (Run (eval.give v) [] m) = h
+hushed_always q h (Run (eval.give v) (k ∷ ks) m) = tt
+hushed_always q h (Run (eval.travel x) ks m) = h
+hushed_always q h (Halt e) = tt
+
+pub quietly : (s : Source) (early : World) (c : Config) → Fits s early c → After s early c
+quietly s early c h = record { out = early.out; fits = h; hushed = hushed_always (early.out ≡ early.out) refl c }
+
+-- what is written makes no other world
+pub same_since : (early w : World) (out : List ℕ) → Extends early w → Extends (record early { out = out }) w
+same_since early w out e = record {
+  sorts = e.sorts;
+  symbols = e.symbols;
+  enclosing = e.enclosing;
+  activations = e.activations;
+}

@@ -1,8 +1,9 @@
 -- What fits a world and a list of scopes fits later ones.
-use Rattle.std.proofs.Common.{◌<◌, ℕ, List, [], ◌∷◌, length, sym, ap, ◌∙◌, arith}
+use Rattle.std.proofs.Common.{◌<◌, ℕ, ◌-◌, List, [], ◌∷◌, length, get_or, sym, ap, ◌∙◌, arith}
 use Rattle.std.specs.Prelude.{bytes_eq}
 use Rattle.std.specs.List.{list_any}
 use Rattle.std.proofs.lemmas.List.Folds.{list_any-append}
+use Rattle.std.proofs.lemmas.List.{get_or_append_left}
 use Rattle.rb_value.specs.declared.method.Method.{Method}
 use Rattle.rb_value.specs.declared.method.Method.TheVariants as method
 use Rattle.rb_value.specs.declared.kind.Kind.{Kind}
@@ -11,7 +12,7 @@ use Rattle.rb_value.specs.declared.kind.Sort.TheVariants as sort
 use Rattle.rb_value.specs.declared.procs.ProcContents.{ProcContents}
 use Rattle.def_core.specs.Sound.{census, Array}
 use Rattle.ir_core.specs.Program.{Around}
-use Rattle.def_calls.specs.World.{World}
+use Rattle.def_calls.specs.World.{World, Activation, no_activation, activation_at}
 use Rattle.def_calls.specs.Calls.{Sending, by_name, by_bare_name, to_proc, to_super}
 use Rattle.def_calls.specs.Fibers.{Fibers}
 use Rattle.world_laws.proofs.Plans.{values_stay, state_stays}
@@ -22,7 +23,7 @@ use Rattle.def_eval.specs.Configuration.{Place, Scope, Exit, Gathering, Part, Ou
 use Rattle.world_laws.specs.Fine.{Extends, Fine, KindIs, ObjectIs, MethodIs, EntryHas}
 use Rattle.world_laws.specs.Outcomes.{SendingIs, FibersAre}
 use Rattle.world_laws.proofs.Growing.{sort_stays, role_stays, symbol_stays, value_stays, activation_number_stays, all_stay}
-use Rattle.eval_laws.specs.Fits.{PlaceFits, ExitFits, OutgoingFits, GatheringFits, PartStands, PartFits, ItemsFit, KeptFits, ProcFits, NamesFit, bodies}
+use Rattle.eval_laws.specs.Fits.{PlaceFits, ExitFits, OutgoingFits, GatheringFits, PartStands, PartFits, IsCore, ItemsFit, KeptFits, ProcFits, NamesFit, bodies}
 use Rattle.eval_laws.proofs.Scopes.{Parents, Later, scopes_same, scene_later}
 use Rattle.eval_laws.proofs.Tests.{or_left}
 
@@ -77,6 +78,18 @@ module _ (s : Source) (w v : World) (e : Extends w v) where
   stands_still a (eval.clause_body r) h = h
   stands_still a (eval.ensured n x) h = h
 
+  core_stays : (a : ℕ) → IsCore w a → IsCore v a
+  unfolding activation_at
+  core_stays a h =
+      let more = e.activations.more in
+      record {
+        there = activation_number_stays w v e a h.there;
+        runs = ap (λ (xs : List Activation). (get_or xs (a - 1) no_activation).runs) e.activations.same
+            ∙ ap (λ (x : Activation). x.runs)
+            (get_or_append_left w.activations more no_activation (a - 1) (omega (arith, h.there.0, h.there.1)))
+            ∙ h.runs;
+      }
+
   module _ (cs ds : List Scope) (p : Parents cs) (l : Later cs ds) where
     pub place_stays : (q : Place) → PlaceFits w cs q → PlaceFits v ds q
     place_stays q h = record {
@@ -97,7 +110,7 @@ module _ (s : Source) (w v : World) (e : Extends w v) where
     items_stay q (eval.part x ∷ ks) lt h = (part_stays q.scope ks x lt h.0, h.1, items_stay q ks lt h.2)
     items_stay q (eval.activation a back ∷ ks) lt h = (h.0, place_stays back h.1, items_stay back ks h.1.scope h.2)
     items_stay q (eval.iteration a it back ∷ ks) lt h =
-        (h.0, state_stays w v e it h.1, place_stays back h.2, items_stay back ks h.2.scope h.3)
+        ((h.0.0, core_stays a h.0.1), state_stays w v e it h.1, place_stays back h.2, items_stay back ks h.2.scope h.3)
     items_stay q (eval.ensuring o ∷ ks) lt h = (outgoing_stays ks o h.0, h.1, items_stay q ks lt h.2)
 
     kept_stays : (k : Kept) → KeptFits s w cs k → KeptFits s v ds k

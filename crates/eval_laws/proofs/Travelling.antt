@@ -14,6 +14,7 @@ use Rattle.def_calls.specs.Plans.{Iteration, reporting, caught}
 use Rattle.def_calls.specs.Fibers.{Onward}
 use Rattle.def_calls.specs.Fibers as fibers
 use Rattle.def_calls.specs.Seen.{Ended, Uncaught}
+use Rattle.def_calls.specs.World.{World}
 use Rattle.def_eval.specs.Source.{Source, span}
 use Rattle.def_eval.specs.Configuration as eval
 use Rattle.def_eval.specs.Configuration.{Exit, Rescue, Part, Stop, Item, Kept, Memory, stop_of, Config, Run, Halt}
@@ -97,25 +98,25 @@ leads_on k ks stop (eval.leave_loop v) l b t h = (subst (λ c. (c || in_loop ks)
 leads_on k ks stop (eval.next v) l b t h = (t, h)
 leads_on k ks stop eval.begin_anew l b t h = subst (λ c. (c || in_clause ks) ≡ true) b h
 
-module _ (s : Source) (ks : List Item) (m : Memory) (a : Around) (t : Text s ks m a) where
+module _ (s : Source) (early : World) (ks : List Item) (m : Memory) (a : Around) (t : Text s early ks m a) where
   abbrev k : Census
   k = census m.world.store
 
-  goes_out : (x : Exit) → ExitFits k ks x → Fits s (Run (eval.travel x) ks m)
-  goes_out x h = goes s (eval.travel x) ks m t.under h
+  goes_out : (x : Exit) → ExitFits k ks x → Fits s early (Run (eval.travel x) ks m)
+  goes_out x h = goes s early (eval.travel x) ks m t.under h
 
   loop_left : (x : Exit) (n : ℕ) (e b : CoreForm) → StopStands s a (eval.loops n e b) → Leads k ks (eval.loops n e b) x
-      → Fits s (travel_loop x n e b ks m)
-  loop_left (eval.leave_loop v) n e b h l = goes s (eval.give v) ks m t.under l.1
-  loop_left (eval.next v) n e b h l = loop_done s n false e b ks m a t h.0 h.1
+      → Fits s early (travel_loop x n e b ks m)
+  loop_left (eval.leave_loop v) n e b h l = goes s early (eval.give v) ks m t.under l.1
+  loop_left (eval.next v) n e b h l = loop_done s early n false e b ks m a t h.0 h.1
   loop_left (eval.raise x) n e b h l = goes_out (eval.raise x) l
   loop_left (eval.return i v) n e b h l = goes_out (eval.return i v) l
   loop_left (eval.break i v) n e b h l = goes_out (eval.break i v) l
   loop_left eval.begin_anew n e b h l = goes_out eval.begin_anew l
 
   rescue_met : (x : Exit) (n : ℕ) (r : Rescue) → StopStands s a (eval.rescues n r) → Leads k ks (eval.rescues n r) x
-      → Fits s (travel_rescue x n r ks m)
-  rescue_met (eval.raise e) n r h l = clauses_done s ks m a t n e r.clauses r l h.0 h.1
+      → Fits s early (travel_rescue x n r ks m)
+  rescue_met (eval.raise e) n r h l = clauses_done s early ks m a t n e r.clauses r l h.0 h.1
   rescue_met (eval.return i v) n r h l = goes_out (eval.return i v) l
   rescue_met (eval.break i v) n r h l = goes_out (eval.break i v) l
   rescue_met (eval.leave_loop v) n r h l = goes_out (eval.leave_loop v) l
@@ -123,8 +124,8 @@ module _ (s : Source) (ks : List Item) (m : Memory) (a : Around) (t : Text s ks 
   rescue_met eval.begin_anew n r h l = goes_out eval.begin_anew l
 
   clause_left : (x : Exit) (r : Rescue) → RescueStands s a r → Leads k ks (eval.retries r) x
-      → Fits s (travel_clause x r ks m)
-  clause_left eval.begin_anew r h l = rescue_begun s ks m a t r h
+      → Fits s early (travel_clause x r ks m)
+  clause_left eval.begin_anew r h l = rescue_begun s early ks m a t r h
   clause_left (eval.raise e) r h l = goes_out (eval.raise e) l
   clause_left (eval.return i v) r h l = goes_out (eval.return i v) l
   clause_left (eval.break i v) r h l = goes_out (eval.break i v) l
@@ -140,14 +141,14 @@ module _ (s : Source) (ks : List Item) (m : Memory) (a : Around) (t : Text s ks 
   assigned e r (eval.next v) l = l
   assigned e r eval.begin_anew l = l
 
-  part_left : (x : Exit) (stop : Stop) → StopStands s a stop → Leads k ks stop x → Fits s (travel_part x stop ks m)
+  part_left : (x : Exit) (stop : Stop) → StopStands s a stop → Leads k ks stop x → Fits s early (travel_part x stop ks m)
   part_left x eval.passes h l = goes_out x (leads_on k ks eval.passes x refl refl t.there l)
   part_left x (eval.loops n e b) h l = loop_left x n e b h l
   part_left x (eval.rescues n r) h l = rescue_met x n r h l
   part_left x (eval.assigns e r) h l = clause_left x r h (assigned e r x l)
   part_left x (eval.retries r) h l = clause_left x r h l
   part_left x (eval.ensures n e) h l =
-      ensure_done s ks m a t n e (eval.exit x) h (leads_on k ks (eval.ensures n e) x refl refl t.there l)
+      ensure_done s early ks m a t n e (eval.exit x) h (leads_on k ks (eval.ensures n e) x refl refl t.there l)
 
 -- Activations and iterations.
 
@@ -162,79 +163,79 @@ for_below a b u h other = by (nat_eq b a) refl h
     by true e g = absurd (true≢false (sym (equal_back a b e) ∙ other))
     by false e g = g
 
-module _ (s : Source) (ks : List Item) (m : Memory) (u : Under s ks m) where
+module _ (s : Source) (early : World) (ks : List Item) (m : Memory) (u : Under s early ks m) where
   abbrev c : Census
   c = census m.world.store
 
   reached : (t : Bool) (x : Exit) (v : Value) → IsValue c v → (t ≡ false → ExitFits c ks x)
-      → Fits s (reach t x v ks m)
-  reached true x v is out = goes s (eval.give v) ks m u is
-  reached false x v is out = goes s (eval.travel x) ks m u (out refl)
+      → Fits s early (reach t x v ks m)
+  reached true x v is out = goes s early (eval.give v) ks m u is
+  reached false x v is out = goes s early (eval.travel x) ks m u (out refl)
 
   activation_left : (x : Exit) (a : ℕ) (back : _) → ExitFits c (eval.activation a back ∷ ks) x
-      → Fits s (travel_activation x a ks m)
+      → Fits s early (travel_activation x a ks m)
   activation_left (eval.return b v) a back h =
       by (nat_eq a b) refl
     where
-      by : (t : Bool) → nat_eq a b ≡ t → Fits s (reach t (eval.return b v) v ks m)
+      by : (t : Bool) → nat_eq a b ≡ t → Fits s early (reach t (eval.return b v) v ks m)
       by t e = reached t (eval.return b v) v h.1 (λ g. (for_below a b (is_under_way ks b) h.0 (e ∙ g), h.1))
   activation_left (eval.break b v) a back h =
       by (nat_eq a b) refl
     where
-      by : (t : Bool) → nat_eq a b ≡ t → Fits s (reach t (eval.break b v) v ks m)
+      by : (t : Bool) → nat_eq a b ≡ t → Fits s early (reach t (eval.break b v) v ks m)
       by t e = reached t (eval.break b v) v h.1 (λ g. (for_below a b (is_under_way ks b) h.0 (e ∙ g), h.1))
-  activation_left (eval.next v) a back h = goes s (eval.give v) ks m u h.1
-  activation_left (eval.raise e) a back h = goes s (eval.travel (eval.raise e)) ks m u h
+  activation_left (eval.next v) a back h = goes s early (eval.give v) ks m u h.1
+  activation_left (eval.raise e) a back h = goes s early (eval.travel (eval.raise e)) ks m u h
   activation_left (eval.leave_loop v) a back h = absurd (true≢false (sym h.0))
   activation_left eval.begin_anew a back h = absurd (true≢false (sym h))
 
   caught_or : (e : ObjId) (o : Option Value) → IsException c e → OptionIs (IsValue c) o
-      → Fits s (travel_caught e o ks m)
-  caught_or e None is h = goes s (eval.travel (eval.raise e)) ks m u is
-  caught_or e (Some v) is h = goes s (eval.give v) ks m u h
+      → Fits s early (travel_caught e o ks m)
+  caught_or e None is h = goes s early (eval.travel (eval.raise e)) ks m u is
+  caught_or e (Some v) is h = goes s early (eval.give v) ks m u h
 
   iteration_left : (x : Exit) (a : ℕ) (it : Iteration) (back : _) → ExitFits c (eval.iteration a it back ∷ ks) x
-      → Fits s (travel_iteration x a it ks m)
+      → Fits s early (travel_iteration x a it ks m)
   iteration_left (eval.raise e) a it back h =
       caught_or e (caught it e m.world.store) h
       (caught_is (bodies s m.scopes) m.world u.memory.world it e (has_any m.world.store sort.Exception e h))
   iteration_left (eval.return b v) a it back h =
       by (nat_eq a b) refl
     where
-      by : (t : Bool) → nat_eq a b ≡ t → Fits s (reach t (eval.return b v) v ks m)
+      by : (t : Bool) → nat_eq a b ≡ t → Fits s early (reach t (eval.return b v) v ks m)
       by t e = reached t (eval.return b v) v h.1 (λ g. (for_below a b (is_under_way ks b) h.0 (e ∙ g), h.1))
   iteration_left (eval.break b v) a it back h =
       by (nat_eq a b) refl
     where
-      by : (t : Bool) → nat_eq a b ≡ t → Fits s (reach t (eval.break b v) v ks m)
+      by : (t : Bool) → nat_eq a b ≡ t → Fits s early (reach t (eval.break b v) v ks m)
       by t e = reached t (eval.break b v) v h.1 (λ g. (for_below a b (is_under_way ks b) h.0 (e ∙ g), h.1))
-  iteration_left (eval.next v) a it back h = goes s (eval.give v) ks m u h.1
+  iteration_left (eval.next v) a it back h = goes s early (eval.give v) ks m u h.1
   iteration_left (eval.leave_loop v) a it back h = absurd (true≢false (sym h.0))
   iteration_left eval.begin_anew a it back h = absurd (true≢false (sym h))
 
 -- Past the last item.
 
-module _ (s : Source) (m : Memory) (h : MemoryFits s m) where
+module _ (s : Source) (early : World) (m : Memory) (h : MemoryFits s early m) where
   exception_leaves : (e : ObjId) (o : Option (Onward Kept)) → IsException (census m.world.store) e
-      → OptionIs (OnwardIs (census m.world.store) (KeptFits s m.world m.scopes)) o → Fits s (leave_fiber e o m)
+      → OptionIs (OnwardIs (census m.world.store) (KeptFits s m.world m.scopes)) o → Fits s early (leave_fiber e o m)
   exception_leaves e None is out = asked (is_asked m.world e)
     where
-      ends : (x : Unrescued) → Fits s (end_by x m.world.out)
-      ends x = either (Fits s) x.exits (Halt (Ended m.world.out x.status))
+      ends : (x : Unrescued) → Fits s early (end_by x m.world.out)
+      ends x = either (Fits s early) x.exits (Halt (Ended m.world.out x.status))
           (Halt (Uncaught m.world.out x.class x.message)) tt tt
 
-      asked : (c : Bool) → Fits s (end_or_ask c e m)
+      asked : (c : Bool) → Fits s early (end_or_ask c e m)
       asked true =
           let r = report_begins (bodies s m.scopes) m.world h.world e is in
-          iteration_opens s (reporting e) (core_activation m.world (Obj e)) [] m (record { memory = h; items = tt })
-          (asking m.world) r.keeps r.state r.activation
+          iteration_opens s early (reporting e) (core_activation m.world (Obj e)) [] m (record { memory = h; items = tt })
+          (asking m.world) r.keeps r.state r.activation r.core
       asked false = ends (unrescued m.world.store e)
   exception_leaves e (Some o) is out =
-      fiber_ended s (eval.travel (eval.raise e)) (Some o) m h out
+      fiber_ended s early (eval.travel (eval.raise e)) (Some o) m h out
       (λ i w k. sort_stays m.world w k.extends sort.Exception e is)
 
-  last_left : (x : Exit) → ExitFits (census m.world.store) [] x → Fits s (travel_out x m)
-  last_left (eval.raise e) is = exception_leaves e (fibers.finish m.fibers) is (finish_fits s m h)
+  last_left : (x : Exit) → ExitFits (census m.world.store) [] x → Fits s early (travel_out x m)
+  last_left (eval.raise e) is = exception_leaves e (fibers.finish m.fibers) is (finish_fits s early m h)
   last_left (eval.return a v) is = absurd (true≢false (sym is.0))
   last_left (eval.break a v) is = absurd (true≢false (sym is.0))
   last_left (eval.leave_loop v) is = absurd (true≢false (sym is.0))
@@ -251,23 +252,23 @@ leads_behind k ks o (eval.leave_loop v) t h = h
 leads_behind k ks o (eval.next v) t h = (t, h.1)
 leads_behind k ks o eval.begin_anew t h = h
 
-pub exit_done : (s : Source) (x : Exit) (ks : List Item) (m : Memory) → Under s ks m
-    → ExitFits (census m.world.store) ks x → Fits s (do_travel x ks m)
+pub exit_done : (s : Source) (early : World) (x : Exit) (ks : List Item) (m : Memory) → Under s early ks m
+    → ExitFits (census m.world.store) ks x → Fits s early (do_travel x ks m)
 unfolding do_travel
-exit_done s x [] m u h = last_left s m u.memory x h
-exit_done s x (eval.part p ∷ ks) m u h =
+exit_done s early x [] m u h = last_left s early m u.memory x h
+exit_done s early x (eval.part p ∷ ks) m u h =
     let g = u.items.0 in
-    part_left s ks m g.0
+    part_left s early ks m g.0
     (record { under = record { memory = u.memory; items = u.items.2 }; there = u.items.1; around = g.1 }) x (stop_of p)
     (stop_stands s (census m.world.store) g.0 p g.2) (leads_over (census m.world.store) ks p x h)
-exit_done s x (eval.activation a back ∷ ks) m u h =
-    let k = closed s m a u.memory in
-    activation_left s ks (returned m a back) (back_under s ks m a back u.memory u.items.1 u.items.2) x a back
+exit_done s early x (eval.activation a back ∷ ks) m u h =
+    let k = closed s early m a u.memory in
+    activation_left s early ks (returned m a back) (back_under s early ks m a back u.memory u.items.1 u.items.2) x a back
     (exit_stays s m.world (close m.world a) k.extends (eval.activation a back ∷ ks) x h)
-exit_done s x (eval.iteration a it back ∷ ks) m u h =
-    let k = closed s m a u.memory in
-    iteration_left s ks (returned m a back) (back_under s ks m a back u.memory u.items.2 u.items.3) x a it back
+exit_done s early x (eval.iteration a it back ∷ ks) m u h =
+    let k = closed s early m a u.memory in
+    iteration_left s early ks (returned m a back) (back_under s early ks m a back u.memory u.items.2 u.items.3) x a it back
     (exit_stays s m.world (close m.world a) k.extends (eval.iteration a it back ∷ ks) x h)
-exit_done s x (eval.ensuring o ∷ ks) m u h =
-    goes s (eval.travel x) ks m (record { memory = u.memory; items = u.items.2 })
+exit_done s early x (eval.ensuring o ∷ ks) m u h =
+    goes s early (eval.travel x) ks m (record { memory = u.memory; items = u.items.2 })
     (leads_behind (census m.world.store) ks o x u.items.1 h)

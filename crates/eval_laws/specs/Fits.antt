@@ -9,13 +9,13 @@ use Rattle.rb_value.specs.declared.kind.Sort.TheVariants as sort
 use Rattle.def_core.specs.Sound.{Census, census, Array, Is, IsValue, OptionIs, AllAre}
 use Rattle.ir_core.specs.CoreForm.{Name, Local, named, hidden, pattern, rest, CoreForm, Maybe, Forms, none, more, Clauses, Parameters}
 use Rattle.ir_core.specs.Program.{Around, within_loop, within_clause, within_target, is_bound, is_own}
-use Rattle.def_calls.specs.World.{World}
+use Rattle.def_calls.specs.World.{World, core_method, activation_at}
 use Rattle.def_eval.specs.Source.{Source, body_at, parameters_of, span, span_maybe, span_forms, span_clauses}
 use Rattle.def_eval.specs.Configuration as eval
 use Rattle.def_eval.specs.Configuration.{Place, Scope, Exit, Action, Gathering, Rescue, Part, Stop, Outgoing, Item, Kept, Focus, Memory, Config, Run, Halt, stop_of}
 use Rattle.def_eval.specs.Scopes.{value_in, scope_at, scopes_around, first_with, last_or, shape_of, is_there}
 use Rattle.def_eval.specs.Forms.{in_loop, is_under_way}
-use Rattle.world_laws.specs.Fine.{Goes, Bodies, Fine, HasSort, IsException, IsActivation, IsClasses}
+use Rattle.world_laws.specs.Fine.{Goes, Extends, Bodies, Fine, HasSort, IsException, IsActivation, IsClasses}
 use Rattle.world_laws.specs.Outcomes.{SendingIs, StateIs, FibersAre}
 use Rattle.eval_laws.specs.Standing.{IsNamed, IsAsked, FormStands, MaybeStands, FormsStand, ItemsStand, PairsStand, BranchesStand, ClausesStand, BlockStands, MethodStands, ClassStands, past_items, past_branches}
 
@@ -212,6 +212,11 @@ PartStands s k a (eval.ensured n e) = FormStands s a n e
 abbrev pub PartFits : Source → Census → List Scope → ℕ → List Item → Part → Type 0
 PartFits s k cs n ks p = (a : Around) × AroundFits cs n ks a × PartStands s k a p
 
+-- the activation is there, and is that of a core method
+pub record IsCore (w : World) (a : ℕ) : Type 0 where
+  pub there : IsActivation w a
+  pub runs : (activation_at w a).runs ≡ core_method
+
 -- Items. Those up to the end of an activation are done at its place, and those behind it at the place of its caller.
 -- Below a part or an ensure part there is at least the activation that it is in.
 abbrev pub ItemsFit : Source → World → List Scope → Place → List Item → Type 0
@@ -221,7 +226,7 @@ ItemsFit s w cs place (eval.part p ∷ ks) =
 ItemsFit s w cs place (eval.activation a back ∷ ks) =
     (a ≡ place.activation) × PlaceFits w cs back × ItemsFit s w cs back ks
 ItemsFit s w cs place (eval.iteration a it back ∷ ks) =
-    (a ≡ place.activation) × StateIs (census w.store) it × PlaceFits w cs back × ItemsFit s w cs back ks
+    ((a ≡ place.activation) × IsCore w a) × StateIs (census w.store) it × PlaceFits w cs back × ItemsFit s w cs back ks
 ItemsFit s w cs place (eval.ensuring o ∷ ks) =
     OutgoingFits (census w.store) ks o × (is_there ks ≡ true) × ItemsFit s w cs place ks
 
@@ -304,13 +309,16 @@ bodies s cs = record {
 abbrev pub NamesFit : Source → World → Type 0
 NamesFit s w = (x : Name) → IsNamed s x → list_any (bytes_eq x) w.store.symbols ≡ true
 
--- the lists of scopes, and all that is kept of a world beside them
-pub record MemoryFits (s : Source) (m : Memory) : Type 0 where
+-- the lists of scopes, and all that is kept of a world beside them; it goes on from an earlier
+-- world, without output since
+pub record MemoryFits (s : Source) (early : World) (m : Memory) : Type 0 where
   pub place : PlaceFits m.world m.scopes m.place
   pub scopes : ScopesFit (census m.world.store) m.scopes
   pub world : Fine (bodies s m.scopes) m.world
   pub names : NamesFit s m.world
   pub fibers : FibersAre (census m.world.store) (KeptFits s m.world m.scopes) m.fibers
+  pub since : Extends early m.world
+  pub out : m.world.out ≡ early.out
 
 -- a form that is done is one of a body, so there is an item below it
 abbrev pub FocusFits : Source → List Item → Memory → Focus → Type 0
@@ -319,11 +327,33 @@ FocusFits s ks m (eval.perform n e) =
 FocusFits s ks m (eval.give v) = IsValue (census m.world.store) v
 FocusFits s ks m (eval.travel x) = ExitFits (census m.world.store) ks x
 
-pub record RunFits (s : Source) (f : Focus) (ks : List Item) (m : Memory) : Type 0 where
-  pub memory : MemoryFits s m
+pub record RunFits (s : Source) (early : World) (f : Focus) (ks : List Item) (m : Memory) : Type 0 where
+  pub memory : MemoryFits s early m
   pub focus : FocusFits s ks m f
   pub items : ItemsFit s m.world m.scopes m.place ks
 
-abbrev pub Fits : Source → Config → Type 0
-Fits s (Run f ks m) = RunFits s f ks m
-Fits s (Halt e) = Unit {0}
+-- what has to be so of what goes on from a world
+abbrev pub Fits : Source → World → Config → Type 0
+Fits s early (Run f ks m) = RunFits s early f ks m
+Fits s early (Halt e) = Unit {0}
+
+-- What a transition comes to: it may have written, but not where an exit goes on or a value goes to nothing.
+
+abbrev pub IsHushed : Type 0 → Focus → List Item → Type 0
+IsHushed q (eval.perform n e) ks = Unit {0}
+IsHushed q (eval.give v) [] = q
+IsHushed q (eval.give v) (k ∷ ks) = Unit {0}
+IsHushed q (eval.travel x) ks = q
+
+abbrev pub ComesHushed : Type 0 → Config → Type 0
+ComesHushed q (Run f ks m) = IsHushed q f ks
+ComesHushed q (Halt e) = Unit {0}
+
+pub record After (s : Source) (early : World) (c : Config) : Type 0 where
+  pub out : List ℕ
+  pub fits : Fits s (record early { out = out }) c
+  pub hushed : ComesHushed (out ≡ early.out) c
+
+-- it goes on from that world, whatever was written since
+abbrev pub FitsSince : Source → World → Config → Type 0
+FitsSince s early c = (out : List ℕ) × Fits s (record early { out = out }) c

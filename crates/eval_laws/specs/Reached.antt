@@ -4,7 +4,15 @@ use Rattle.def_core.specs.Sound.{Sound}
 use Rattle.ir_core.specs.CoreForm.{Local}
 use Rattle.def_eval.specs.Configuration.{Memory, Config, Run, Halt}
 use Rattle.def_eval.specs.Scopes.{value_in, scope_at, scopes_around, last_or, scope_of}
-use Rattle.eval_laws.specs.Fits.{is_outward}
+use Rattle.def_calls.specs.World.{World}
+use Rattle.world_laws.specs.Fine.{Extends}
+use Rattle.eval_laws.specs.Fits.{is_outward, IsHushed}
+
+-- the world goes on from that one, as long as the evaluation does; there is no more output where an exit goes on or a
+-- value goes to nothing
+abbrev pub GoesOn : World → Config → Type 0
+GoesOn w (Run f ks m) = Extends w m.world × IsHushed (m.world.out ≡ w.out) f ks
+GoesOn w (Halt e) = Unit {0}
 
 -- the store is sound as long as the evaluation goes on
 abbrev pub SoundStore : Config → Type 0

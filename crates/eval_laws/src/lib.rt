@@ -17,28 +17,36 @@ ghost use Rattle.rb_value.specs.declared.value.ObjId.{ObjId};
 ghost use Rattle.def_core.specs.Sound.{census, IsValue};
 ghost use Rattle.ir_core.specs.CoreForm.{Local, CoreForm, none, local, own, exception, set_local, function, Body};
 ghost use Rattle.ir_core.specs.Program.{IsProgram, is_program};
-ghost use Rattle.def_eval.specs.Source.{Source, source_of, body_at};
-ghost use Rattle.def_eval.specs.Configuration.{Exit, raise, Action, operands, part, Item, perform, give, travel, Memory, Config, Run, opening};
+ghost use Rattle.def_calls.specs.World.{World};
+ghost use Rattle.def_calls.specs.Calls.{opening_world};
+ghost use Rattle.def_eval.specs.Source.{Source, source_of, body_at, all_names};
+ghost use Rattle.def_eval.specs.Configuration.{Exit, raise, Action, operands, part, Item, Focus, perform, give, travel, Memory, Config, Run, opening};
 ghost use Rattle.def_eval.specs.Transition.{go, go_times};
-ghost use Rattle.eval_laws.specs.Fits.{Fits, has_exception, wanted};
-ghost use Rattle.eval_laws.specs.Reached.{SoundStore, IsFound, IsOwn};
+ghost use Rattle.eval_laws.specs.Fits.{Fits, After, FitsSince, has_exception, wanted};
+ghost use Rattle.eval_laws.specs.Reached.{GoesOn, SoundStore, IsFound, IsOwn};
 ghost use Rattle.eval_laws.specs.Example as example;
 
 /// The opening configuration of a program fits, every transition keeps what fits, and so every configuration that the
-/// evaluation of a program comes to fits.
+/// evaluation of a program comes to fits. Its world goes on from that of the opening, and after each transition from the
+/// one before: objects keep their sort, symbols, activations and lists of classes their numbers. Nothing is written where
+/// an exit goes on.
 #[tactic(auto, using(crate::proofs::Start::opening_fits, crate::proofs::Kept::goes_fit, crate::proofs::Start::evaluation_fits))]
 pub fn laws_of_transitions()
-    ensures begun { (b : Body) (input : List ℕ) → IsProgram b → Fits (source_of b) (opening (source_of b) input) }
-    ensures kept { (s : Source) (c : Config) → Fits s c → Fits s (go s c) }
+    ensures begun { (b : Body) (input : List ℕ) → IsProgram b
+        → Fits (source_of b) (opening_world (all_names (source_of b)) input) (opening (source_of b) input) }
+    ensures goes_on { (s : Source) (early : World) (f : Focus) (ks : List Item) (m : Memory)
+        → Fits s early (Run f ks m) → GoesOn m.world (go s (Run f ks m)) }
+    ensures kept { (s : Source) (early : World) (c : Config) → Fits s early c → After s early (go s c) }
     ensures reached { (b : Body) (input : List ℕ) (n : ℕ) → IsProgram b
-        → Fits (source_of b) (go_times n (source_of b) (opening (source_of b) input)) }
+        → FitsSince (source_of b) (opening_world (all_names (source_of b)) input)
+        (go_times n (source_of b) (opening (source_of b) input)) }
 {}
 
 /// Where a configuration fits, its store is sound, and a value that is given is one of it.
 #[tactic(auto, using(crate::proofs::Reading::store_sound, crate::proofs::Reading::value_good))]
 pub fn the_store_is_sound()
-    ensures sound { (s : Source) (c : Config) → Fits s c → SoundStore c }
-    ensures value { (s : Source) (v : Value) (ks : List Item) (m : Memory) → Fits s (Run (give v) ks m)
+    ensures sound { (s : Source) (early : World) (c : Config) → Fits s early c → SoundStore c }
+    ensures value { (s : Source) (early : World) (v : Value) (ks : List Item) (m : Memory) → Fits s early (Run (give v) ks m)
         → IsValue (census m.world.store) v }
 {}
 
@@ -46,24 +54,24 @@ pub fn the_store_is_sound()
 /// parameter of the method around a text, the exception of a clause, as many values as an action wants, the body of a
 /// block at its number.
 pub fn what_is_sought_is_there()
-    ensures local { (s : Source) (n : ℕ) (ks : List Item) (m : Memory) (x : Local)
-        → Fits s (Run (perform n (local x)) ks m) → IsFound m x }
-    ensures set { (s : Source) (n : ℕ) (ks : List Item) (m : Memory) (x : Local) (e : CoreForm)
-        → Fits s (Run (perform n (set_local x e)) ks m) → IsFound m x }
-    ensures own { (s : Source) (n : ℕ) (ks : List Item) (m : Memory) (x : Local)
-        → Fits s (Run (perform n (own x)) ks m) → IsOwn m x }
-    ensures exception { (s : Source) (n : ℕ) (ks : List Item) (m : Memory)
-        → Fits s (Run (perform n exception) ks m) → has_exception ks ≡ true }
-    ensures operands { (s : Source) (n : ℕ) (action : Action) (vs : List Value) (v : Value) (ks : List Item) (m : Memory)
-        → Fits s (Run (give v) (part (operands n action vs none) ∷ ks) m) → wanted action ≤ length (vs ++ v ∷ []) }
-    ensures block { (s : Source) (n : ℕ) (ks : List Item) (m : Memory) (f : Body)
-        → Fits s (Run (perform n (function f)) ks m) → body_at s n ≡ f }
+    ensures local { (s : Source) (early : World) (n : ℕ) (ks : List Item) (m : Memory) (x : Local)
+        → Fits s early (Run (perform n (local x)) ks m) → IsFound m x }
+    ensures set { (s : Source) (early : World) (n : ℕ) (ks : List Item) (m : Memory) (x : Local) (e : CoreForm)
+        → Fits s early (Run (perform n (set_local x e)) ks m) → IsFound m x }
+    ensures own { (s : Source) (early : World) (n : ℕ) (ks : List Item) (m : Memory) (x : Local)
+        → Fits s early (Run (perform n (own x)) ks m) → IsOwn m x }
+    ensures exception { (s : Source) (early : World) (n : ℕ) (ks : List Item) (m : Memory)
+        → Fits s early (Run (perform n exception) ks m) → has_exception ks ≡ true }
+    ensures operands { (s : Source) (early : World) (n : ℕ) (action : Action) (vs : List Value) (v : Value) (ks : List Item) (m : Memory)
+        → Fits s early (Run (give v) (part (operands n action vs none) ∷ ks) m) → wanted action ≤ length (vs ++ v ∷ []) }
+    ensures block { (s : Source) (early : World) (n : ℕ) (ks : List Item) (m : Memory) (f : Body)
+        → Fits s early (Run (perform n (function f)) ks m) → body_at s n ≡ f }
 {}
 
 /// Where a configuration fits, nothing but an exception gets past the last item that waits.
 #[tactic(auto, using(crate::proofs::Reading::leaves_last))]
 pub fn exits_lead_somewhere()
-    ensures last { (s : Source) (x : Exit) (m : Memory) → Fits s (Run (travel x) [] m)
+    ensures last { (s : Source) (early : World) (x : Exit) (m : Memory) → Fits s early (Run (travel x) [] m)
         → (e : ObjId) × (x ≡ raise e) }
 {}
 
@@ -73,5 +81,5 @@ pub fn exits_lead_somewhere()
 pub fn a_program_fits()
     ensures program { is_program example.main ≡ true }
     ensures stray { is_program example.stray ≡ false }
-    ensures lost { (s : Source) (m : Memory) → Fits s (example.lost m) → ⊥ }
+    ensures lost { (s : Source) (early : World) (m : Memory) → Fits s early (example.lost m) → ⊥ }
 {}
