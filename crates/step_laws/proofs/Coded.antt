@@ -35,7 +35,7 @@ use Rattle.def_machine.specs.State.{body_at, no_body, all_symbols}
 use Rattle.step_laws.specs.Site.{Site, LineAt, Lines, IsThere, opening_store}
 use Rattle.step_laws.specs.Simple.{IsSimple}
 use Rattle.step_laws.specs.Covers.{Covers}
-use Rattle.step_laws.specs.Calm.{StaysCalm}
+use Rattle.step_laws.specs.Peaceful.{StaysPeaceful}
 use Rattle.step_laws.specs.Methods.{MethodCode}
 use Rattle.step_laws.specs.Tops.{AreTops, IsPlainProgram, no_tops, form_before}
 use Rattle.step_laws.specs.Implements.{main_site, IsCodeOf, Implements}
@@ -44,6 +44,7 @@ use Rattle.step_laws.proofs.Apart.{apart}
 use Rattle.step_laws.proofs.Simply.{simply}
 use Rattle.step_laws.proofs.Plainly.{simple_plain}
 use Rattle.step_laws.proofs.Whole.{implements}
+use Rattle.step_laws.proofs.Steady.{peace_is_calm}
 use Rattle.step_laws.proofs.Found.{both_true}
 use Rattle.step_laws.proofs.Naming.{one_more, names_written, all_known}
 use Rattle.step_laws.proofs.Written.{Written, AllWritten, nth_written, tops_written, tops_catchless}
@@ -217,10 +218,11 @@ pub program_is_code : (b : Body) → IsProgram b → first_excess (need b) ≡ N
 program_is_code (form.body p ls f) h limits plain = code_of_it p ls f h limits plain
 
 pub program_implements : (b : Body) (input : List ℕ) → IsProgram b → first_excess (need b) ≡ None
-    → IsPlainProgram b → StaysCalm (source_of b) (program 2 (coded_program b)) (opening (source_of b) input)
+    → IsPlainProgram b → StaysPeaceful (source_of b) (program 2 (coded_program b)) (opening (source_of b) input)
     → Implements (source_of b) (program 2 (coded_program b)) input
-program_implements b input h limits plain calm =
-    implements (source_of b) (program 2 (coded_program b)) input (program_is_code b h limits plain) calm
+program_implements b input h limits plain peace =
+    implements (source_of b) (program 2 (coded_program b)) input (program_is_code b h limits plain)
+    (peace_is_calm b (program 2 (coded_program b)) input h peace)
 
 -- Simple forms are plain ones, and their evaluation stays calm.
 

@@ -62,5 +62,6 @@ pub mod Written
 pub mod Topped
 pub mod Naming
 pub mod Coding
+pub mod Steady
 pub mod Coded
 pub mod Methods

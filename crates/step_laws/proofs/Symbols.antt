@@ -25,7 +25,7 @@ place_more f (x ∷ xs) ys h = at (place_more f xs ys) (f x) h
     at further false h = ap (λ (n : ℕ). 1 + n) (further (omega (arith, h)))
 
 -- what is found stays where more comes behind
-position_more : (f : List ℕ → Bool) (xs ys : List (List ℕ)) (i : ℕ) → position f xs ≡ Some i
+pub position_more : (f : List ℕ → Bool) (xs ys : List (List ℕ)) (i : ℕ) → position f xs ≡ Some i
     → position f (xs ++ ys) ≡ Some i
 position_more f xs ys i e = at (nat_lt (position_or_len f xs) (length xs)) refl e
   where

@@ -10,6 +10,7 @@ pub mod Standing
 pub mod Behind
 pub mod Methods
 pub mod Tops
+pub mod Peaceful
 pub mod Relation
 pub mod Implements
 pub mod Example

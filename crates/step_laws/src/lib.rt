@@ -12,6 +12,7 @@
 //! - `specs::Covers`: what defines a method besides, at the top of a body or in a sequence there
 //! - `specs::Methods`: code of the body of a method with required parameters, and a store whose methods have such code
 //! - `specs::Calm`: what is asked of an evaluation otherwise: it calls no bodies of the source but those of such methods
+//! - `specs::Peaceful`: what of this isn't so of every program
 //! - `specs::Implements`: code of a source, and what it means that code implements a source
 //! - `specs::Behind`: the code behind each part of a form that waits for its value
 //! - `specs::Relation`: when a configuration and a state are alike (`Alike`): one world on both sides; the focus goes with
@@ -39,6 +40,7 @@ ghost use Rattle.def_eval.specs.Transition.{go};
 ghost use Rattle.def_machine.specs.State.{shown, start};
 ghost use Rattle.def_machine.specs.Turn.{turn};
 ghost use Rattle.step_laws.specs.Calm.{StaysCalm};
+ghost use Rattle.step_laws.specs.Peaceful.{StaysPeaceful};
 ghost use Rattle.step_laws.specs.Measure.{measure};
 ghost use Rattle.step_laws.specs.Relation.{Alike, Shared};
 ghost use Rattle.step_laws.specs.Simple.{IsSimple};
@@ -62,6 +64,15 @@ pub fn code_implements()
         → StaysCalm s p (opening s input) → Implements s p input }
 {}
 
+/// All that is asked of an evaluation but that it calls no other bodies is so of that of every program: names keep their
+/// numbers, the class around a text is one, the object that a literal gathers into is one of its kind, an exit leaves an
+/// iteration as it leaves a core method, a transition only adds activations, and it doesn't write where an exit goes on.
+pub fn peace_is_calm()
+    ensures { (b : Body) (p : Program) (input : List ℕ) → IsProgram b
+        → StaysPeaceful (source_of b) p (opening (source_of b) input)
+        → StaysCalm (source_of b) p (opening (source_of b) input) }
+{}
+
 /// The evaluation of simple forms calls none, so code of a main program of them implements it, for every input.
 #[tactic(auto, using(crate::proofs::Calms::stays_calm, crate::proofs::Simply::simply))]
 pub fn simple_code_implements()
@@ -73,14 +84,14 @@ pub fn simple_code_implements()
 
 /// The code that gen_forms gives for a program of plain forms, and of methods of such forms whose parameters are all
 /// required, within the limits is code of it and of its methods, so it implements it for each input with which the
-/// evaluation keeps to that.
+/// evaluation calls no other bodies.
 #[tactic(auto, using(crate::proofs::Coded::program_is_code, crate::proofs::Coded::program_implements))]
 pub fn plain_programs_are_coded()
     ensures coded { (b : Body) → IsProgram b → first_excess (need b) ≡ None → IsPlainProgram b
         → IsCodeOf (source_of b) (program 2 (coded_program b)) }
     ensures implemented { (b : Body) (input : List ℕ) → IsProgram b → first_excess (need b) ≡ None
         → IsPlainProgram b
-        → StaysCalm (source_of b) (program 2 (coded_program b)) (opening (source_of b) input)
+        → StaysPeaceful (source_of b) (program 2 (coded_program b)) (opening (source_of b) input)
         → Implements (source_of b) (program 2 (coded_program b)) input }
 {}
 
