@@ -1,8 +1,7 @@
 -- What iterations do fits, and so does what moves between fibers.
-use Rattle.std.proofs.Common.{refl, ◌≡◌, ℕ, List, [], ◌∷◌, ◌++◌}
+use Rattle.std.proofs.Common.{refl, ◌≡◌, ℕ, List, [], ◌∷◌}
 use Rattle.std.specs.Prelude.{Option, Some, None}
 use Rattle.rb_value.specs.declared.value.Value.{Value}
-use Rattle.rb_value.specs.declared.value.Value.TheVariants.{Nil}
 use Rattle.def_core.specs.declared.cause.Cause.TheVariants as cause
 use Rattle.def_core.specs.Sound.{census, Proc, IsValue, OptionIs, AllAre}
 use Rattle.def_calls.specs.World.{World, Answer, Result, gives, raises, fail, write, with_store}

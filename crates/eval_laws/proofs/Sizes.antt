@@ -1,5 +1,5 @@
 -- As many bodies stand in a form as its span says.
-use Rattle.std.proofs.Common.{◌≡◌, ℕ, ◌+◌, List, [], ◌++◌, length, refl, arith, length-append}
+use Rattle.std.proofs.Common.{◌≡◌, ℕ, ◌+◌, List, ◌++◌, length, refl, arith, length-append}
 use Rattle.ir_core.specs.CoreForm as form
 use Rattle.ir_core.specs.CoreForm.{CoreForm, Body, body, Maybe, absent, there, Forms, none, more, Items, no_items, plain, splat, Pairs, no_pairs, pair, Branches, no_branches, branch, Clauses, no_clauses, clause, Receiver, to, on_self, bare}
 use Rattle.rb_syntax.specs.declared.core_form.DefinedKind.{DefinedKind}

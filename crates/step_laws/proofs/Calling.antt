@@ -1,13 +1,11 @@
 -- What a call enters, on both sides, and how its answer goes back.
 use Rattle.std.proofs.Common.{◌≡◌, ℕ, ◌+◌, ◌<◌, List, [], ◌∷◌, refl, sym, ap, ◌∙◌, subst, arith, length}
-use Rattle.std.specs.Prelude.{if◌then◌else◌, Option}
+use Rattle.std.specs.Prelude.{Option}
 use Rattle.rb_value.specs.declared.value.Value.{Value}
 use Rattle.rb_value.specs.declared.exit.Slot.TheVariants.{V}
 use Rattle.rite_code.specs.Code.{Program}
-use Rattle.ir_core.specs.CoreForm.{none}
 use Rattle.gen_forms.specs.declared.context.Loop.{Loop}
 use Rattle.def_calls.specs.World.{World, Result, gives, raises}
-use Rattle.def_calls.specs.Calls.{enters}
 use Rattle.def_calls.specs.Fibers as fibers
 use Rattle.def_eval.specs.Source.{Source}
 use Rattle.def_eval.specs.Configuration as source

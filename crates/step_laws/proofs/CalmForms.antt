@@ -16,7 +16,7 @@ use Rattle.def_calls.specs.World.{Activation, main_program, activation_at, fail,
 use Rattle.def_calls.specs.Calls.{Sending, by_name, break_target}
 use Rattle.def_calls.specs.Calls as calls
 use Rattle.def_eval.specs.Source.{Source, span}
-use Rattle.def_eval.specs.Configuration.{arguments_of, break, Action, assign, leave_call, leave_round, Part, operands, receiver, items, block, elements, hash_key, hash_value, pieces, rest, test, chosen, and_then, or_else, loop_test, loop_body, rescued, clause_class, clause_target, clause_body, ensured, Item, part, activation, perform, give, Memory, with_world, Run}
+use Rattle.def_eval.specs.Configuration.{arguments_of, break, Action, assign, leave_call, leave_round, Part, operands, receiver, items, block, elements, hash_key, hash_value, pieces, rest, test, chosen, and_then, or_else, loop_test, loop_body, rescued, clause_class, clause_target, clause_body, ensured, Item, part, perform, give, Memory, with_world, Run}
 use Rattle.def_eval.specs.Scopes.{scope_at, scope_of, variable, with_variable, running}
 use Rattle.def_eval.specs.Entering.{symbol, do_all}
 use Rattle.def_eval.specs.Forms.{has_splat, in_loop, leave_to, leave_from, gather, self_of, perform_call, own_block, with_arguments, next_item, do_call, next_branch, do_loop, next_operand, finish as finish_action, do_form}

@@ -5,7 +5,7 @@ use Rattle.rb_value.specs.Object.{Object}
 use Rattle.rb_value.specs.declared.value.ObjId.{ObjId}
 use Rattle.rb_value.specs.declared.value.Value.{Value}
 use Rattle.rb_value.specs.declared.value.Value.TheVariants.{Nil, True, False, Int, Sym, Obj}
-use Rattle.def_core.specs.Store.{Store, core}
+use Rattle.def_core.specs.Store.{Store}
 use Rattle.def_core.specs.Changes.{Interned}
 use Rattle.def_calls.specs.World.{World, with_store, write}
 use Rattle.def_calls.specs.Calls.{is_asked, send_by_core}
@@ -13,14 +13,14 @@ use Rattle.def_calls.specs.Plans.{Iteration, begun, handing, putting, putting_te
 use Rattle.def_calls.specs.Plans as plans
 use Rattle.def_calls.specs.Rows
 use Rattle.def_eval.specs.Source.{Source}
-use Rattle.def_eval.specs.Configuration.{Place, raise, next, items, Item, iteration, give, Memory, with_world, Run}
+use Rattle.def_eval.specs.Configuration.{Place, raise, Item, iteration, give, Memory, with_world, Run}
 use Rattle.def_eval.specs.Giving.{returned, carry_out, do_give}
 use Rattle.def_eval.specs.Exits.{travel_caught, do_travel}
 use Rattle.step_laws.specs.Site.{opening_store}
 use Rattle.step_laws.proofs.Symbols.{the_symbol, interned_core}
 use Rattle.step_laws.proofs.Found.{texts_all, is_writer}
 use Rattle.step_laws.proofs.Outcomes.{IsImmediate, AreImmediate, IsOfPuts, Kept, text_sent}
-use Rattle.step_laws.proofs.Tame.{ScopesAre, IsCoreAt, ItemsAre, Fine, quiet_given, given_to, same_grows, core_grows, items_grow, core_closed, entry_fine, puts, raised}
+use Rattle.step_laws.proofs.Tame.{ScopesAre, IsCoreAt, ItemsAre, Fine, quiet_given, given_to, same_grows, core_grows, items_grow, core_closed, entry_fine, raised}
 
 data PlanIs (p : Plan) : Type 0 where
   finishing : (v : Value) → p ≡ finishes v → IsImmediate v → PlanIs p

@@ -25,8 +25,8 @@ use Rattle.def_eval.specs.Transition.{go}
 use Rattle.def_machine.specs.State as machine
 use Rattle.def_machine.specs.State.{Level, frame, State, body_at, value_at}
 use Rattle.def_machine.specs.Unwind.{after as after_machine}
-use Rattle.def_machine.specs.Turn.{child, symbol as symbol_machine}
-use Rattle.step_laws.specs.Site.{Site, within, at_line, LineAt}
+use Rattle.def_machine.specs.Turn.{symbol as symbol_machine}
+use Rattle.step_laws.specs.Site.{Site, at_line, LineAt}
 use Rattle.step_laws.specs.Calm.{IsSteady, IsWithin, Quiet}
 use Rattle.step_laws.proofs.Placed.{high, high-both, high-puts, Stands, moved, left, right, the_line, frame_at, turned}
 use Rattle.step_laws.specs.Behind.{Static}

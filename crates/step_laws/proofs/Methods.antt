@@ -5,7 +5,6 @@ use Rattle.std.proofs.lemmas.Bool.{eqb-true}
 use Rattle.ir_core.specs.CoreForm.{CoreForm, form_of}
 use Rattle.gen_parts.specs.Pieces.{past, behind, nothing, both, puts, makes}
 use Rattle.gen_parts.specs.Assembly.{assembled, instruction_before}
-use Rattle.gen_forms.specs.Gen.{opening}
 use Rattle.gen_forms.specs.Open.{coded}
 use Rattle.def_eval.specs.Source.{source_of, parameters_of}
 use Rattle.def_eval.specs.Configuration as source

@@ -5,7 +5,7 @@ use Rattle.rb_value.specs.declared.value.Value.{Value}
 use Rattle.rb_value.specs.declared.value.Value.TheVariants.{Nil}
 use Rattle.rb_value.specs.declared.exit.Slot.{Slot}
 use Rattle.rb_value.specs.declared.exit.Slot.TheVariants.{V}
-use Rattle.ir_core.specs.CoreForm.{Local, named, hidden, pattern, rest, Parameters}
+use Rattle.ir_core.specs.CoreForm.{Local, named, hidden, pattern, rest}
 use Rattle.ir_core.specs.Program.{are_same}
 use Rattle.scope_resolver.specs.Layout.{Slots, named_slots, block_slot, seek}
 use Rattle.scope_resolver.specs.declared.seek.Search.{Search}

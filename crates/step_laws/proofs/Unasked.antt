@@ -1,6 +1,6 @@
 -- An exception that the language raises itself isn't asked for its message while no class of the program is there.
 use Rattle.std.proofs.Common.{◌≡◌, List, [], ◌∷◌, ◌++◌, length, Bool, true, false, true≢false, refl, sym, ap, ◌∙◌, arith, length-append, append_assoc}
-use Rattle.std.specs.Prelude.{codes, ◌&&◌, ◌||◌, not, is_some, Option, Some, None}
+use Rattle.std.specs.Prelude.{codes, ◌&&◌, ◌||◌, not, is_some, None}
 use Rattle.std.proofs.lemmas.List.{get_or_append_left, get_or_push}
 use Rattle.rb_value.specs.Object.{Object}
 use Rattle.rb_value.specs.Sort.{sort_of}

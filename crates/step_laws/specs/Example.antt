@@ -1,5 +1,5 @@
 -- Programs of simple and of plain forms and one with methods, and what is shown of them.
-use Rattle.std.specs.Prelude.{◌≡◌, ℕ, ◌+◌, pos, false, List, [], ◌∷◌, codes, None}
+use Rattle.std.specs.Prelude.{◌≡◌, ℕ, pos, false, List, [], ◌∷◌, codes, None}
 use Rattle.rb_value.specs.Object.{Object}
 use Rattle.rite_code.specs.Code.{Program, program}
 use Rattle.ir_core.specs.CoreForm.{named, hidden, Local, CoreForm, nil, truth, int, str, sym, local, set_local, gvar, set_gvar, array, hash, text, seq, cond, while_form, call, return_form, break_form, define, item, Body, body, plain_body, form_of, absent, Forms, more, two, no_items, plain, splat, no_pairs, pair, no_branches, branch, to, on_self}
