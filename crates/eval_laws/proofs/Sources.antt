@@ -1,5 +1,5 @@
 -- Every body of a program's source stands where its number says.
-use Rattle.std.proofs.Common.{◌≡◌, ℕ, zero, suc, ◌+◌, ◌-◌, ◌<◌, List, [], ◌∷◌, ◌++◌, length, get_or, true, false, refl, sym, ap, ◌∙◌, subst, arith, length-append, append_assoc, true≢false}
+use Rattle.std.proofs.Common.{◌≡◌, ℕ, zero, suc, ◌+◌, ◌-◌, ◌<◌, List, [], ◌∷◌, ◌++◌, length, get_or, true, false, refl, sym, ap, ◌∙◌, subst, arith, length-append, append_assoc}
 use Rattle.std.specs.Prelude.{Some, slice_get, bytes_eq}
 use Rattle.std.specs.List.{list_any}
 use Rattle.std.proofs.lemmas.Option.{slice_get_within, slice_get-get_or, get_or_from_slice_get}
@@ -69,6 +69,7 @@ NamesIn s xs = (x : Name) → list_any (bytes_eq x) xs ≡ true → IsNamed s x
 record Here (s : Source) (n : ℕ) (p : Piece) : Type 0 where
   slice : SliceAt s n p.bodies
   names : NamesIn s p.names
+  some : 0 < n
 
 slice_left : (s : Source) (n : ℕ) (bs cs : List Body) → SliceAt s n (bs ++ cs) → SliceAt s n bs
 slice_left s n [] cs h = tt
@@ -107,12 +108,14 @@ module _ (s : Source) where
   left n p q h = record {
     slice = slice_left s n p.bodies q.bodies h.slice;
     names = names_left s p.names q.names h.names;
+    some = h.some;
   }
 
   right : (n k : ℕ) (p q : Piece) → k ≡ n + length p.bodies → Here s n (joined p q) → Here s k q
   right n k p q e h = record {
     slice = slice_right s n k p.bodies q.bodies e h.slice;
     names = names_right s p.names q.names h.names;
+    some = omega (arith, h.some, e);
   }
 
   behind : (n : ℕ) (e : CoreForm) (q : Piece) → Here s n (joined (piece e) q) → Here s (n + span e) q
@@ -195,7 +198,11 @@ module _ (s : Source) where
 
   -- the form of a body that stands there
   inside : (n : ℕ) (p : _) (ls : _) (e : CoreForm) → Here s n (piece_body (body p ls e)) → Here s (n + 1) (piece e)
-  inside n p ls e h = record { slice = h.slice.1; names = names_at s n (body p ls e) h.slice.0 }
+  inside n p ls e h = record {
+    slice = h.slice.1;
+    names = names_at s n (body p ls e) h.slice.0;
+    some = omega arith;
+  }
 
   mutual
     stands : (a : Around) (n : ℕ) (e : CoreForm) → is_form a e ≡ true → Here s n (piece e) → FormStands s a n e
@@ -410,12 +417,12 @@ module _ (s : Source) where
     block_stands : (a : Around) (n : ℕ) (f : Body) → is_block a f ≡ true → Here s n (piece_body f) → BlockStands s a n f
     block_stands a n (body p ls e) h k =
         let b = and_true h in
-        (k.slice.0, b.0, stands (within_block a p ls) (n + 1) e b.1 (inside n p ls e k))
+        (k.slice.0, b.0, stands (within_block a p ls) (n + 1) e b.1 (inside n p ls e k), k.some)
 
     method_stands : (n : ℕ) (f : Body) → is_method f ≡ true → Here s n (piece_body f) → MethodStands s n f
     method_stands n (body p ls e) h k =
         let b = and_true h in
-        (k.slice.0, b.0, stands (within_method p ls) (n + 1) e b.1 (inside n p ls e k))
+        (k.slice.0, b.0, stands (within_method p ls) (n + 1) e b.1 (inside n p ls e k), k.some)
 
     class_stands : (n : ℕ) (f : Body) → is_class f ≡ true → Here s n (piece_body f) → ClassStands s n f
     class_stands n (body p ls e) h k =
@@ -450,5 +457,6 @@ pub program_stands : (b : Body) → IsProgram b
     → FormStands (source_of b) (within_program (locals_of b)) 1 (form_of b)
 program_stands (body p ls e) is =
     let s = source_of (body p ls e) in
+    let all = whole [] s in
     stands s (within_program ls) 1 e (and_true is).1
-    (inside s 0 p ls e (record { slice = whole [] s; names = λ x h. absurd (true≢false (sym h)) }))
+    (record { slice = all.1; names = names_at s 0 (body p ls e) all.0; some = omega arith })

@@ -1,5 +1,5 @@
 -- What of a source stands where: each form with the number of the first body in it, under what stands around it.
-use Rattle.std.specs.Prelude.{◌≡◌, ℕ, ◌+◌, true, bytes_eq, slice_get, Some}
+use Rattle.std.specs.Prelude.{◌≡◌, ◌<◌, ℕ, ◌+◌, true, bytes_eq, slice_get, Some}
 use Rattle.std.specs.List.{list_any}
 use Rattle.rb_syntax.specs.declared.core_form.DefinedKind.{DefinedKind}
 use Rattle.rb_syntax.specs.declared.core_form.DefinedKind.TheVariants as asks
@@ -136,14 +136,14 @@ abbrev mutual
   ReceiverStands s a n on_self = Unit {0}
   ReceiverStands s a n bare = Unit {0}
 
-  -- a block or lambda, a method, and a class or module
+  -- a block or lambda, a method, and a class or module; the first two are never the main program
   pub BlockStands : Source → Around → ℕ → Body → Type 0
   BlockStands s a n (body p ls e) = (slice_get s n ≡ Some (body p ls e)) × (has_defaults p.optional e ≡ true)
-      × FormStands s (within_block a p ls) (n + 1) e
+      × FormStands s (within_block a p ls) (n + 1) e × (0 < n)
 
   pub MethodStands : Source → ℕ → Body → Type 0
   MethodStands s n (body p ls e) = (slice_get s n ≡ Some (body p ls e)) × (has_defaults p.optional e ≡ true)
-      × FormStands s (within_method p ls) (n + 1) e
+      × FormStands s (within_method p ls) (n + 1) e × (0 < n)
 
   pub ClassStands : Source → ℕ → Body → Type 0
   ClassStands s n (body p ls e) = (slice_get s n ≡ Some (body p ls e)) × FormStands s (within_class ls) (n + 1) e

@@ -63,5 +63,6 @@ pub mod Topped
 pub mod Naming
 pub mod Coding
 pub mod Steady
+pub mod Alone
 pub mod Coded
 pub mod Methods

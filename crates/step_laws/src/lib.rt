@@ -44,6 +44,7 @@ ghost use Rattle.step_laws.specs.Peaceful.{StaysPeaceful};
 ghost use Rattle.step_laws.specs.Measure.{measure};
 ghost use Rattle.step_laws.specs.Relation.{Alike, Shared};
 ghost use Rattle.step_laws.specs.Simple.{IsSimple};
+ghost use Rattle.step_laws.specs.Plain.{IsPlain};
 ghost use Rattle.step_laws.specs.Tops.{IsPlainProgram};
 ghost use Rattle.step_laws.specs.Implements.{IsCodeOf, Implements};
 ghost use Rattle.step_laws.specs.Example.{countdown, gatherer, chooser, IsWitness, IsPlainWitness, IsMethodWitness};
@@ -92,6 +93,14 @@ pub fn plain_programs_are_coded()
     ensures implemented { (b : Body) (input : List ℕ) → IsProgram b → first_excess (need b) ≡ None
         → IsPlainProgram b
         → StaysPeaceful (source_of b) (program 2 (coded_program b)) (opening (source_of b) input)
+        → Implements (source_of b) (program 2 (coded_program b)) input }
+{}
+
+/// The evaluation of a program of plain forms alone calls no bodies at all, so its code within the limits implements it for
+/// every input.
+#[tactic(auto, using(crate::proofs::Coded::plain_implements))]
+pub fn plain_programs_are_implemented()
+    ensures { (b : Body) (input : List ℕ) → IsProgram b → first_excess (need b) ≡ None → IsPlain (form.form_of b)
         → Implements (source_of b) (program 2 (coded_program b)) input }
 {}
 
