@@ -125,7 +125,8 @@ module _ (s : Source) (early : World) where
       }) h.2
 
   pub elements_done : (n : ℕ) (g : Gathering) (id : ObjId) (is : Items) (ks : List Item) (m : Memory) (a : Around)
-      → Text s early ks m a → GatheringFits s a (census m.world.store) (past_items n is) g → Is (census m.world.store) Array id
+      → Text s early ks m a → GatheringFits s a (census m.world.store) (past_items n is) g
+      → Is (census m.world.store) Array id
       → ItemsStand s a n is → Fits s early (next_element s n g id is ks m)
   elements_done n g id no_items ks m a t h array stands = gathered_done n g id ks m a t h array
   elements_done n g id (plain e is) ks m a t h array stands =
@@ -133,7 +134,8 @@ module _ (s : Source) (early : World) where
   elements_done n g id (splat e is) ks m a t h array stands =
       does_part s early (eval.elements (n + span e) g id true is) n e ks m a t (h, array, stands.1) stands.0
 
-  pub gather_done : (n : ℕ) (g : Gathering) (is : Items) (ks : List Item) (m : Memory) (a : Around) → Text s early ks m a
+  pub gather_done : (n : ℕ) (g : Gathering) (is : Items) (ks : List Item) (m : Memory) (a : Around)
+      → Text s early ks m a
       → GatheringFits s a (census m.world.store) (past_items n is) g → ItemsStand s a n is
       → Fits s early (gather s n g is ks m)
   gather_done n g is ks m a t h stands =
@@ -163,7 +165,8 @@ module _ (s : Source) (early : World) where
       call_done n (by_bare_name (symbol m x)) (self_of m) is b ks m a t (symbol_is s early m t.under.memory x named)
       (running_is s early m t.under.memory).self items block
 
-  pub yield_done : (n : ℕ) (o : Option ObjId) (is : Items) (ks : List Item) (m : Memory) (a : Around) → Text s early ks m a
+  pub yield_done : (n : ℕ) (o : Option ObjId) (is : Items) (ks : List Item) (m : Memory) (a : Around)
+      → Text s early ks m a
       → OptionIs (Is (census m.world.store) Proc) o → ItemsStand s a n is → Fits s early (do_yield s n o is ks m)
   yield_done n None is ks m a t h stands =
       after_fits s early (fail m.world cause.NoBlockToYield) ks m t.under

@@ -89,12 +89,14 @@ last_is (y ∷ xs) x d (suc n) e = last_is xs x d n (omega (arith, e))
 module _ (s : Source) (early : World) where
   -- The forms of a body.
 
-  pub all_done : (n : ℕ) (es : Forms) (ks : List Item) (m : Memory) (a : Around) → Text s early ks m a → FormsStand s a n es
+  pub all_done : (n : ℕ) (es : Forms) (ks : List Item) (m : Memory) (a : Around) → Text s early ks m a
+      → FormsStand s a n es
       → Fits s early (do_all n es ks m)
   all_done n none ks m a t h = goes s early (eval.give Nil) ks m t.under tt
   all_done n (more e es) ks m a t h = does_part s early (eval.rest (n + span e) es) n e ks m a t h.1 h.0
 
-  from_done : (k n : ℕ) (es : Forms) (ks : List Item) (m : Memory) (a : Around) → Text s early ks m a → FormsStand s a n es
+  from_done : (k n : ℕ) (es : Forms) (ks : List Item) (m : Memory) (a : Around) → Text s early ks m a
+      → FormsStand s a n es
       → Fits s early (do_from k n es ks m)
   from_done zero n es ks m a t h = all_done n es ks m a t h
   from_done (suc k) n none ks m a t h = all_done n none ks m a t h
@@ -284,7 +286,8 @@ module _ (s : Source) (early : World) where
   opens_settled w a (Some p) t e h = opens_stays w _ a e h
 
   -- an iteration begins in a later world
-  pub iteration_opens : (it : Iteration) (a : Activation) (ks : List Item) (m : Memory) → Under s early ks m → (w : World)
+  pub iteration_opens : (it : Iteration) (a : Activation) (ks : List Item) (m : Memory) → Under s early ks m
+      → (w : World)
       → Keeps (bodies s m.scopes) m.world w → StateIs (census w.store) it → OpensIn w a → a.runs ≡ core_method
       → Fits s early (open_iteration it a ks m w)
   iteration_opens it a ks m u w keeps state opens core =

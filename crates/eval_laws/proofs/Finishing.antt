@@ -83,7 +83,8 @@ space_there k (Int z) h = absurd h
 space_there k (Sym x) h = absurd h
 space_there k (Obj id) h = h
 
-opened_space : (s : Source) (early : World) (n : ℕ) (o : Option ObjId) (ks : List Item) (m : Memory) → Under s early ks m
+opened_space : (s : Source) (early : World) (n : ℕ) (o : Option ObjId) (ks : List Item) (m : Memory)
+    → Under s early ks m
     → OptionIs (Is (census m.world.store) ClassOrModule) o → ClassStands s n (body_at s n)
     → Fits s early (run_class s n o ks m)
 opened_space s early n None ks m u h stands =
@@ -109,7 +110,8 @@ module _ (s : Source) (early : World) (ks : List Item) (m : Memory) (u : Under s
   opened n a h space stands = by a.result space
     where
       by : (r : Result) → GivesSpace (census a.world.store) r → Fits s early (run_opened s n r a.world ks m)
-      by (gives v) is = opened_space s early n (object_in v) ks (with_world m a.world) (under_then s early ks m a.world u h.keeps)
+      by (gives v) is =
+          opened_space s early n (object_in v) ks (with_world m a.world) (under_then s early ks m a.world u h.keeps)
           (space_there (census a.world.store) v is) stands
       by (raises e) is =
           goes s early (eval.travel (eval.raise e)) ks (with_world m a.world) (under_then s early ks m a.world u h.keeps) is
@@ -232,7 +234,8 @@ module _ (s : Source) (early : World) (ks : List Item) (m : Memory) (a : Around)
 
   -- the operands of an action, left to right
   pub operands_done : (n : ℕ) (action : Action) (vs : List Value) (es : Forms) → wanted action ≤ length vs + count es
-      → ActionFits s action → AllAre (IsValue (census m.world.store)) vs → FormsStand s a n es → Fits s early (next_operand s n action vs es ks m)
+      → ActionFits s action → AllAre (IsValue (census m.world.store)) vs → FormsStand s a n es
+      → Fits s early (next_operand s n action vs es ks m)
   operands_done n action vs none enough h all stands = finished action (get_or vs 0 Nil) (get_or vs 1 Nil) h
       (value_at (census m.world.store) vs 0 all) (value_at (census m.world.store) vs 1 all)
   operands_done n action vs (more e es) enough h all stands =

@@ -117,7 +117,8 @@ module _ (s : Source) (early : World) where
 
   -- Conditions and loops.
 
-  pub branches_done : (n : ℕ) (bs : Branches) (o : CoreForm) (ks : List Item) (m : Memory) (a : Around) → Text s early ks m a
+  pub branches_done : (n : ℕ) (bs : Branches) (o : CoreForm) (ks : List Item) (m : Memory) (a : Around)
+      → Text s early ks m a
       → BranchesStand s a n bs → FormStands s a (past_branches n bs) o → Fits s early (next_branch n bs o ks m)
   branches_done n no_branches o ks m a t stands last = does s early n o ks m a t last
   branches_done n (branch e b bs) o ks m a t stands last =
@@ -135,7 +136,8 @@ module _ (s : Source) (early : World) where
     };
   }
 
-  pub loop_done : (n : ℕ) (first : Bool) (e b : CoreForm) (ks : List Item) (m : Memory) (a : Around) → Text s early ks m a
+  pub loop_done : (n : ℕ) (first : Bool) (e b : CoreForm) (ks : List Item) (m : Memory) (a : Around)
+      → Text s early ks m a
       → FormStands s (within_loop a) n e → FormStands s (within_loop a) (n + span e) b
       → Fits s early (do_loop n first e b ks m)
   loop_done n false e b ks m a t stands inside =
@@ -188,7 +190,8 @@ module _ (s : Source) (early : World) where
         classes = own.classes;
       })
 
-  scoped : (n : ℕ) (action : Action) (c : Maybe) (es : Forms) (ks : List Item) (m : Memory) (a : Around) → Text s early ks m a
+  scoped : (n : ℕ) (action : Action) (c : Maybe) (es : Forms) (ks : List Item) (m : Memory) (a : Around)
+      → Text s early ks m a
       → wanted action ≤ 1 → ActionFits s action → MaybeStands s a n c → FormsStand s a (n + span_maybe c) es
       → Fits s early (in_scope s n action c es ks m)
   scoped n action absent es ks m a t enough h stands others =
@@ -209,10 +212,12 @@ module _ (s : Source) (early : World) where
       → Text s early ks m a → IsAsked s k x → MaybeStands s a n e → Fits s early (do_defined s n k x e ks m)
   defined_done n k x absent ks m a t h stands =
       after_fits s early (tell_alone k x m) ks m t.under (told_alone s early ks m t.under k x)
-  defined_done n k x (there e) ks m a t h stands = operands_done s early ks m a t n (eval.tell k x) [] (one e) (omega arith) h tt (stands, tt)
+  defined_done n k x (there e) ks m a t h stands =
+      operands_done s early ks m a t n (eval.tell k x) [] (one e) (omega arith) h tt (stands, tt)
 
   -- a new Hash and a new String
-  new_hash_done : (n : ℕ) (ps : Pairs) (ks : List Item) (m : Memory) (a : Around) → Text s early ks m a → PairsStand s a n ps
+  new_hash_done : (n : ℕ) (ps : Pairs) (ks : List Item) (m : Memory) (a : Around) → Text s early ks m a
+      → PairsStand s a n ps
       → Fits s early (next_pair n (next_number m.world.store) ps ks (with_world m (with_store m.world
       (with_object m.world.store (fresh (core class.Hash) (kind.Hash parts.no_pairs))))))
   new_hash_done n ps ks m a t h =
@@ -227,7 +232,8 @@ module _ (s : Source) (early : World) where
       pairs_done n (next_number m.world.store) ps ks (with_world m w) a (text_then s early ks m a w t keeps)
       (new_sort m.world.store o) h
 
-  new_text_done : (n : ℕ) (es : Forms) (ks : List Item) (m : Memory) (a : Around) → Text s early ks m a → FormsStand s a n es
+  new_text_done : (n : ℕ) (es : Forms) (ks : List Item) (m : Memory) (a : Around) → Text s early ks m a
+      → FormsStand s a n es
       → Fits s early (next_piece n (next_number m.world.store) es ks (with_world m (with_store m.world
       (with_object m.world.store (text_object [])))))
   new_text_done n es ks m a t h =
@@ -261,7 +267,8 @@ module _ (s : Source) (early : World) where
   form_done n form.exception ks m a t h =
       goes s early (eval.give (exception_in ks)) ks m t.under
       (exception_is s m.world m.scopes m.place ks t.under.items)
-  form_done n (form.set_local x e) ks m a t h = operands_done s early ks m a t n (eval.assign x) [] (one e) (omega arith) tt tt (h.1, tt)
+  form_done n (form.set_local x e) ks m a t h =
+      operands_done s early ks m a t n (eval.assign x) [] (one e) (omega arith) tt tt (h.1, tt)
   form_done n (form.ivar x) ks m a t h =
       goes s early (eval.give _) ks m t.under
       (instance_variable_is (bodies s m.scopes) m.world t.under.memory.world (self_of m) (symbol m x)
@@ -290,7 +297,8 @@ module _ (s : Source) (early : World) where
   form_done n (form.range e f x) ks m a t h =
       operands_done s early ks m a t n (eval.make_range x) [] (two e f) (omega arith) tt tt (h.0, (h.1, tt))
   form_done n (form.text es) ks m a t h = new_text_done n es ks m a t h
-  form_done n (form.intern e) ks m a t h = operands_done s early ks m a t n eval.make_symbol [] (one e) (omega arith) tt tt (h, tt)
+  form_done n (form.intern e) ks m a t h =
+      operands_done s early ks m a t n eval.make_symbol [] (one e) (omega arith) tt tt (h, tt)
   form_done n (form.seq es) ks m a t h = all_done s early n es ks m a t h
   form_done n (form.cond bs o) ks m a t h = branches_done n bs o ks m a t h.0 h.1
   form_done n (form.and_form e f) ks m a t h = does_part s early (eval.and_then (n + span e) f) n e ks m a t h.1 h.0
@@ -306,9 +314,12 @@ module _ (s : Source) (early : World) where
   form_done n (form.lambda f) ks m a t h =
       after_fits s early (make_proc m n f true) ks m t.under (proc_made n f true ks m a t h)
   form_done n (form.begin_form b cs o e) ks m a t h = begin_done n b cs o e ks m a t (h.0, h.1, h.2) h.3
-  form_done n (form.return_form e) ks m a t h = operands_done s early ks m a t n eval.leave_method [] (one e) (omega arith) tt tt (h, tt)
-  form_done n (form.break_form e) ks m a t h = operands_done s early ks m a t n eval.leave_call [] (one e) (omega arith) tt tt (h, tt)
-  form_done n (form.next_form e) ks m a t h = operands_done s early ks m a t n eval.leave_round [] (one e) (omega arith) tt tt (h, tt)
+  form_done n (form.return_form e) ks m a t h =
+      operands_done s early ks m a t n eval.leave_method [] (one e) (omega arith) tt tt (h, tt)
+  form_done n (form.break_form e) ks m a t h =
+      operands_done s early ks m a t n eval.leave_call [] (one e) (omega arith) tt tt (h, tt)
+  form_done n (form.next_form e) ks m a t h =
+      operands_done s early ks m a t n eval.leave_round [] (one e) (omega arith) tt tt (h, tt)
   form_done n form.retry ks m a t h = goes s early (eval.travel eval.begin_anew) ks m t.under (t.around.clause h)
   form_done n (form.define x f) ks m a t h =
       let own = running_is s early m t.under.memory in
@@ -341,7 +352,8 @@ module _ (s : Source) (early : World) where
       (symbol m x) (class_around_is (bodies s m.scopes) m.world t.under.memory.world (running m).classes)
       (symbol_is s early m t.under.memory x h))
   form_done n (form.defined k x e) ks m a t h = defined_done n k x e ks m a t h.0 h.1
-  form_done n (form.item e k) ks m a t h = operands_done s early ks m a t n (eval.element k) [] (one e) (omega arith) tt tt (h, tt)
+  form_done n (form.item e k) ks m a t h =
+      operands_done s early ks m a t n (eval.element k) [] (one e) (omega arith) tt tt (h, tt)
   form_done n (form.rest_of e from post) ks m a t h =
       operands_done s early ks m a t n (eval.elements_between from post) [] (one e) (omega arith) tt tt (h, tt)
   form_done n (form.tail_of e from count) ks m a t h =

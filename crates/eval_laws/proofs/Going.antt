@@ -199,10 +199,12 @@ module _ (s : Source) (early : World) where
 
   -- Configurations.
 
-  pub goes : (f : Focus) (ks : List Item) (m : Memory) → Under s early ks m → FocusFits s ks m f → Fits s early (Run f ks m)
+  pub goes : (f : Focus) (ks : List Item) (m : Memory) → Under s early ks m → FocusFits s ks m f
+      → Fits s early (Run f ks m)
   goes f ks m u focus = record { memory = u.memory; focus = focus; items = u.items }
 
-  pub after_fits : (a : Answer) (ks : List Item) (m : Memory) → Under s early ks m → AnswerIs (bodies s m.scopes) m.world a
+  pub after_fits : (a : Answer) (ks : List Item) (m : Memory) → Under s early ks m
+      → AnswerIs (bodies s m.scopes) m.world a
       → Fits s early (after a ks m)
   after_fits a ks m u h = by a.result h.result
     where
@@ -211,7 +213,8 @@ module _ (s : Source) (early : World) where
       by (raises e) is = goes (travel (eval.raise e)) ks (with_world m a.world) (under_then ks m a.world u h.keeps) is
 
   -- a form that is done where it stands
-  pub does : (n : ℕ) (e : CoreForm) (ks : List Item) (m : Memory) (a : Around) → Text s early ks m a → FormStands s a n e
+  pub does : (n : ℕ) (e : CoreForm) (ks : List Item) (m : Memory) (a : Around) → Text s early ks m a
+      → FormStands s a n e
       → Fits s early (Run (perform n e) ks m)
   does n e ks m a t h = goes (perform n e) ks m t.under (t.there, (a, t.around, h))
 
@@ -229,7 +232,8 @@ module _ (s : Source) (early : World) where
   }
 
   pub does_part : (p : Part) (n : ℕ) (e : CoreForm) (ks : List Item) (m : Memory) (a : Around) → Text s early ks m a
-      → PartStands s (census m.world.store) a p → FormStands s a n e → Fits s early (Run (perform n e) (eval.part p ∷ ks) m)
+      → PartStands s (census m.world.store) a p → FormStands s a n e
+      → Fits s early (Run (perform n e) (eval.part p ∷ ks) m)
   does_part p n e ks m a t h f = does n e (eval.part p ∷ ks) m a (over_part p ks m a t h) f
 
 -- Nothing was written.

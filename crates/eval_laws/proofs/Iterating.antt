@@ -57,7 +57,10 @@ module _ (s : Source) (early : World) where
   pub back_under : (ks : List Item) (m : Memory) (a : ℕ) (back : Place) → MemoryFits s early m
       → PlaceFits m.world m.scopes back → ItemsFit s m.world m.scopes back ks → Under s early ks (returned m a back)
   back_under ks m a back h place items =
-      under_then s early ks (record m { place = back }) (close m.world a) (placed ks m back h place items) (closed m a h)
+      under_then s early ks (record m {
+        place =
+            back;
+      }) (close m.world a) (placed ks m back h place items) (closed m a h)
 
   -- an answer of the world before the end of the activation
   back_after : (c : Answer) (ks : List Item) (m : Memory) (a : ℕ) (back : Place) → MemoryFits s early m
@@ -65,7 +68,8 @@ module _ (s : Source) (early : World) where
       → AnswerIs (bodies s m.scopes) m.world c → Fits s early (after c ks (returned m a back))
   back_after c ks m a back h place items is = by c.result is.result
     where
-      by : (r : Result) → ResultIs (census c.world.store) r → Fits s early (after_result r c.world ks (returned m a back))
+      by : (r : Result) → ResultIs (census c.world.store) r
+          → Fits s early (after_result r c.world ks (returned m a back))
       by (gives v) g = goes s early (eval.give v) ks (with_world (record m { place = back }) c.world)
           (under_then s early ks (record m { place = back }) c.world (placed ks m back h place items) is.keeps) g
       by (raises e) g = goes s early (eval.travel (eval.raise e)) ks (with_world (record m { place = back }) c.world)

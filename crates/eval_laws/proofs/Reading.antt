@@ -23,7 +23,8 @@ pub store_sound : (s : Source) (early : World) (c : Config) → Fits s early c �
 store_sound s early (Halt e) h = tt
 store_sound s early (Run f ks m) h = h.memory.world.store
 
-pub value_good : (s : Source) (early : World) (v : Value) (ks : List Item) (m : Memory) → Fits s early (Run (eval.give v) ks m)
+pub value_good : (s : Source) (early : World) (v : Value) (ks : List Item) (m : Memory)
+    → Fits s early (Run (eval.give v) ks m)
     → IsValue (census m.world.store) v
 value_good s early v ks m h = h.focus
 
@@ -62,7 +63,8 @@ module _ (s : Source) (early : World) (n : ℕ) (ks : List Item) (m : Memory) wh
         variable = λ out. variable_there x f.0 f.2 f.1.scene.sees out;
       }
 
-  pub set_found : (x : Local) (e : CoreForm) → Fits s early (Run (eval.perform n (form.set_local x e)) ks m) → IsFound m x
+  pub set_found : (x : Local) (e : CoreForm) → Fits s early (Run (eval.perform n (form.set_local x e)) ks m)
+      → IsFound m x
   set_found x e h =
       let f = h.focus.1 in
       record {

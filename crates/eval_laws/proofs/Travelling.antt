@@ -141,7 +141,8 @@ module _ (s : Source) (early : World) (ks : List Item) (m : Memory) (a : Around)
   assigned e r (eval.next v) l = l
   assigned e r eval.begin_anew l = l
 
-  part_left : (x : Exit) (stop : Stop) → StopStands s a stop → Leads k ks stop x → Fits s early (travel_part x stop ks m)
+  part_left : (x : Exit) (stop : Stop) → StopStands s a stop → Leads k ks stop x
+      → Fits s early (travel_part x stop ks m)
   part_left x eval.passes h l = goes_out x (leads_on k ks eval.passes x refl refl t.there l)
   part_left x (eval.loops n e b) h l = loop_left x n e b h l
   part_left x (eval.rescues n r) h l = rescue_met x n r h l
@@ -227,7 +228,11 @@ module _ (s : Source) (early : World) (m : Memory) (h : MemoryFits s early m) wh
       asked : (c : Bool) → Fits s early (end_or_ask c e m)
       asked true =
           let r = report_begins (bodies s m.scopes) m.world h.world e is in
-          iteration_opens s early (reporting e) (core_activation m.world (Obj e)) [] m (record { memory = h; items = tt })
+          iteration_opens s early (reporting e) (core_activation m.world (Obj e)) [] m (record {
+            memory =
+                h;
+            items = tt;
+          })
           (asking m.world) r.keeps r.state r.activation r.core
       asked false = ends (unrescued m.world.store e)
   exception_leaves e (Some o) is out =

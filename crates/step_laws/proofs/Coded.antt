@@ -146,7 +146,8 @@ module _ (p : Parameters) (ls : List Local) (f : CoreForm) (program_is : IsProgr
       subst (λ (bs : List Body). AllWritten 1 bs (q.bodies ++ [])) (append-nil (over in_order f))
       (tops_written tops t (within_program ls) around (first_spot 0) start (fits.1, tt) all_formed)
 
-  nth_there : (n : ℕ) (x : Name) → n < length (source_of b) → is_among x (tally (source_body (source_of b) n)).symbols ≡ true
+  nth_there : (n : ℕ) (x : Name) → n < length (source_of b)
+      → is_among x (tally (source_body (source_of b) n)).symbols ≡ true
       → IsThere (source_of b) x
   unfolding IsThere opening_store source_body
   nth_there n x lt e = all_known (source_of b) n (form.body no_parameters [] form.nil) Rows.opening x lt e
