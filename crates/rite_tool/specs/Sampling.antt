@@ -127,7 +127,10 @@ TriesFirst size text before after end =
     (ran : Result (Result Ran RunFault) Stop) × (output : List ℕ) × GoesFirst text × RunsFirst text output ran
     × ShowsRan size text output ran before after end
 
+-- a text was tried so, on the path that it goes
+abbrev pub Tries : ℕ → List ℕ → Streams → Streams → End → Type 0
+Tries size text before after end = TriesSecond size text before after end ⊎ TriesFirst size text before after end
+
 -- the sample of that size was tried so
 abbrev pub Samples : ℕ → Streams → Streams → End → Type 0
-Samples size before after end =
-    TriesSecond size (source size) before after end ⊎ TriesFirst size (source size) before after end
+Samples size before after end = Tries size (source size) before after end

@@ -4,12 +4,12 @@
 #![tactic(auto)]
 
 mod building;
+mod commands;
 mod end;
 mod exec;
 mod general;
 mod played;
 mod report;
-mod rite;
 mod sampling;
 mod sending;
 mod showing;
@@ -19,9 +19,9 @@ mod told;
 mod words;
 
 pub use building::check;
+pub use commands::rite;
 pub use end::End;
 pub use general::play;
 pub use report::Report;
-pub use rite::rite;
 pub use stop::Stop;
 pub use told::{OfSink, OfSource};

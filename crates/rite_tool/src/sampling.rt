@@ -1,8 +1,9 @@
 //! The command sample: a source of a given size is compiled and run in memory, and a line says how it came out.
 ghost use Rattle.std.specs.Prelude.{◌≡◌, ◌≤◌, []};
 ghost use Rattle.rb_refusal.specs.Writing.{Says};
-ghost use Rattle.rite_tool.specs.Sampling.{without_newline, last_line, sample_text, RunsFirst, ShowsPlayed, ShowsRan, Samples};
+ghost use Rattle.rite_tool.specs.Sampling.{without_newline, last_line, sample_text, RunsFirst, ShowsPlayed, ShowsRan, TriesFirst, Tries, Samples};
 ghost use Rattle.rite_tool.specs.Writing.{IsAnswer};
+ghost use Rattle.rb_exec.specs.InMemory.{GoesFirst};
 
 use crate::end::End;
 use crate::played::{end_of, tell};
@@ -147,6 +148,43 @@ fn show_ran<O: Sink + Drop, E: Sink + Drop>(
     Report::of_exec(u64::MAX, ran).answer(err)
 }
 
+/// Runs a text of the first path in memory, and tells how it came out.
+fn try_first<O: Sink + Drop, E: Sink + Drop>(
+    alloc: Global,
+    size: u64,
+    text: &[u8],
+    out: &mut Buffered<O>,
+    err: &mut Buffered<E>,
+) -> End
+    ensures { GoesFirst text.now → TriesFirst size text.now
+        (record { out = ⟦<Buffered<O> as OfSink>⟧.told out.old; err = ⟦<Buffered<E> as OfSink>⟧.told err.old })
+        (record { out = ⟦<Buffered<O> as OfSink>⟧.told out.new; err = ⟦<Buffered<E> as OfSink>⟧.told err.new })
+        result }
+{
+    let mut output = MemorySink::new(alloc, usize::MAX, Vec::new(alloc));
+    let ran = run_first(alloc, text, &mut output);
+    show_ran(size, text, ran, output.bytes(), out, err)
+}
+
+/// Runs a text in memory on the path that it goes, and tells how it came out.
+fn try_text<O: Sink + Drop, E: Sink + Drop>(
+    alloc: Global,
+    size: u64,
+    text: &[u8],
+    out: &mut Buffered<O>,
+    err: &mut Buffered<E>,
+) -> End
+    ensures { Tries size text.now
+        (record { out = ⟦<Buffered<O> as OfSink>⟧.told out.old; err = ⟦<Buffered<E> as OfSink>⟧.told err.old })
+        (record { out = ⟦<Buffered<O> as OfSink>⟧.told out.new; err = ⟦<Buffered<E> as OfSink>⟧.told err.new })
+        result }
+{
+    match run_text(alloc, text) {
+        Some((played, output)) => show_played(size, text, &played, output.bytes(), out, err),
+        None => try_first(alloc, size, text, out, err),
+    }
+}
+
 /// Compiles and runs the sample of that size in memory. Its line goes out where it ends with a status; else it is told
 /// how it came out, as of a source that is executed.
 pub fn sample<O: Sink + Drop, E: Sink + Drop>(
@@ -165,12 +203,5 @@ pub fn sample<O: Sink + Drop, E: Sink + Drop>(
         Ok(text) => text,
         Err(AllocError) => return send_answer(tell_no_memory(err), End::NoMemory, err),
     };
-    match run_text(alloc, &text) {
-        Some((played, output)) => show_played(size, &text, &played, output.bytes(), out, err),
-        None => {
-            let mut output = MemorySink::new(alloc, usize::MAX, Vec::new(alloc));
-            let ran = run_first(alloc, &text, &mut output);
-            show_ran(size, &text, ran, output.bytes(), out, err)
-        }
-    }
+    try_text(alloc, size, &text, out, err)
 }
