@@ -261,8 +261,9 @@ pub fn is_within(alloc: Global, tree: &Tree) -> Result<bool, AllocError>
     if !has_short_sums(tree) {
         return Ok(false);
     }
-    if !has_few_names(alloc, tree)? {
+    // (the names of a form of few parts are soon told apart)
+    if !has_few_parts(tree) {
         return Ok(false);
     }
-    Ok(has_few_parts(tree))
+    has_few_names(alloc, tree)
 }

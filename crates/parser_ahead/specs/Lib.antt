@@ -2,3 +2,4 @@ pub mod Names
 pub mod Sections
 pub mod Groups
 pub mod Primary
+pub mod Kept

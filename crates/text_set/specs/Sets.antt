@@ -1,6 +1,7 @@
 -- Lists of different texts, in the order in which they were added.
 use Rattle.std.specs.Prelude.{ℕ, List, [], ◌∷◌, ◌++◌, map, Bool, true, false, bytes_eq, if◌then◌else◌}
 use Rattle.std.specs.Borrow.{Bor}
+use Rattle.std.specs.Global.{Vec}
 
 -- the text that a slice shows
 abbrev pub text : Bor (List ℕ) → List ℕ
@@ -8,6 +9,10 @@ text t = t.now
 
 abbrev pub texts : List (Bor (List ℕ)) → List (List ℕ)
 texts ts = map text ts
+
+-- the texts that vectors hold
+abbrev pub owned : List (Vec ℕ) → List (List ℕ)
+owned vs = map (λ (v : Vec ℕ). v.items) vs
 
 -- whether a text is one of a list
 abbrev pub is_among : List ℕ → List (List ℕ) → Bool

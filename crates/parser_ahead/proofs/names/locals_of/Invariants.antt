@@ -1,6 +1,7 @@
 use Rattle.std.proofs.Common.{◌≡◌, ◌++◌, drop}
 use Rattle.parser_ahead.specs.Names.{locals_of}
+use Rattle.parser_ahead.specs.Kept.{variables}
 use Rattle.parser_ahead.proofs.names.locals_of.Given as goal
 
-abbrev pub invariant-loop-variable : goal.invariant-loop-variable
-invariant-loop-variable l = locals_of l.fn.variables ≡ l.locals ++ locals_of (drop l.variable-index l.variables)
+abbrev pub invariant-loop-one : goal.invariant-loop-one
+invariant-loop-one l = locals_of (variables l.fn.kept) ≡ l.locals ++ locals_of (variables (drop l.one-index l.kept))
