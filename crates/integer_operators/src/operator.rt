@@ -1,5 +1,5 @@
 //! Operators.
-ghost use Rattle.std.specs.Prelude.{◌≡◌};
+ghost use Rattle.std.specs.Prelude.{◌≡◌, IfSome};
 ghost use Rattle.integer_operators.specs.Operators as operators;
 
 /// The number of the first row of Integer.
@@ -51,5 +51,24 @@ impl Operator {
             Operator::AtLeast => 22,
         };
         INTEGER_ROWS + place
+    }
+
+    /// The operator whose method a row of Integer is; nothing for the row of any other method.
+    #[inline(always)]
+    pub fn of_row(row: u16) -> Option<Operator>
+        ensures { IfSome result (λ operator. operators.row_of operator ≡ row) }
+    {
+        match row.checked_sub(INTEGER_ROWS)? {
+            0 => Some(Operator::Add),
+            1 => Some(Operator::Subtract),
+            2 => Some(Operator::Multiply),
+            3 => Some(Operator::Divide),
+            17 => Some(Operator::Equal),
+            19 => Some(Operator::Less),
+            20 => Some(Operator::AtMost),
+            21 => Some(Operator::Greater),
+            22 => Some(Operator::AtLeast),
+            _ => None,
+        }
     }
 }

@@ -5,3 +5,4 @@ pub mod Comes
 pub mod Dropped
 pub mod Sifted
 pub mod Joined
+pub mod Numbers

@@ -1,6 +1,9 @@
 //! Works that ask values again and again.
-ghost use Rattle.std.specs.Prelude.{◌≡◌, IfOk, OnOk};
+ghost use Rattle.std.specs.Prelude.{◌≡◌, ◌∷◌, [], Some, None, IfOk, IfSome, OnOk};
+ghost use Rattle.def_core.specs.Store.{Store};
 ghost use Rattle.def_plans.specs.Plan.{Plans, Meets};
+ghost use Rattle.heap.specs.Rows.{called};
+ghost use Rattle.run_values.specs.declared.given.Given.TheVariants.{Gives};
 ghost use Rattle.iter_comparing.specs.Outright as outright;
 ghost use Rattle.iter_comparing.specs.Asking as asking;
 ghost use Rattle.iter_comparing.specs.Asking.{Comes};
@@ -13,6 +16,7 @@ use crate::state::{Asking, ComparingState, Work};
 use core_calls::Plan;
 use core_calls::heap::{Given, Heap, Site};
 use def_core::{Cause, Found};
+use integer_operators::{Operator, operated};
 use rb_value::{Boxed, Method, ObjId, SymId, Value};
 use row_table::line_at;
 use std::alloc::AllocError;
@@ -106,6 +110,29 @@ pub(crate) fn row_of(found: Option<Found>) -> Option<u16>
     }
 }
 
+/// What an operator of Integer gives two numbers straight on; nothing for any other row, where one of them is no number, and
+/// where it fails.
+#[inline(always)]
+#[tactic(auto, using(crate::proofs::Numbers::given_at_once))]
+fn straight(row: u16, receiver: Value, argument: Value) -> Option<Value>
+    ensures { IfSome result (λ v. (st : Store) →
+        outright.given_of (called st row receiver (argument ∷ []) None) ≡ (Some (Gives v), st)) }
+{
+    operated(Operator::of_row(row)?, receiver, argument)
+}
+
+/// The same for some arguments.
+#[inline(always)]
+fn straight_of(row: u16, receiver: Value, args: &[Value]) -> Option<Value>
+    ensures { IfSome result (λ v. (st : Store) →
+        outright.given_of (called st row receiver args.now None) ≡ (Some (Gives v), st)) }
+{
+    match args {
+        [argument] => straight(row, receiver, *argument),
+        _ => None,
+    }
+}
+
 /// What a core method of the table of rows gives at once; nothing where a receiver finds another method.
 pub fn outright(
     heap: &mut Heap,
@@ -119,7 +146,10 @@ pub fn outright(
     ensures stays { IfOk result (outright.Stays heap.old heap.new) }
 {
     match row_of(heap.find_at(site, receiver, name)?) {
-        Some(row) => Ok(Some(heap.call_row(row, receiver, args, None)?)),
+        Some(row) => match straight_of(row, receiver, args) {
+            Some(value) => Ok(Some(Given::Gives(value))),
+            None => Ok(Some(heap.call_row(row, receiver, args, None)?)),
+        },
         None => Ok(None),
     }
 }

@@ -110,7 +110,9 @@ pub(crate) fn plus(heap: &mut Heap, id: ObjId, other: Value) -> Result<Value, Ro
     ensures { Gives heap.old heap.new result (read.plus heap.old id other) }
 {
     let other = an_array(heap, other)?;
-    let mut values = Vec::from_slice(heap.alloc(), heap.elements(id))?;
-    values.extend_from_slice(heap.elements(other))?;
+    let (left, right) = (heap.elements(id), heap.elements(other));
+    let mut values = Vec::with_capacity(heap.alloc(), left.len().saturating_add(right.len()))?;
+    values.extend_from_slice(left)?;
+    values.extend_from_slice(right)?;
     Ok(heap.make_array(values)?)
 }

@@ -34,3 +34,4 @@ pub use rows_array;
 pub use rows_class;
 pub use rows_hash;
 pub use rows_object;
+pub use straight_rows;
