@@ -7,7 +7,7 @@ ghost use Rattle.class_model.specs.AncestorsLeft.{ancestors_left, IsAncestry};
 
 use crate::chain::Chain;
 use rb_store::Store;
-use rb_value::{ClassForm, Kind, ObjId};
+use rb_value::{ClassForm, KindRef, ObjId};
 
 /// The members of the chain of a class that are no singleton classes, in their order.
 #[derive(Clone, Copy)]
@@ -23,7 +23,7 @@ fn is_singleton(st: &Store, class: ObjId) -> bool
     ensures { result ≡ classes.is_singleton (classes.class_at st.now.store.objects class).form }
 {
     match st.get(class).kind() {
-        Kind::Class(contents) => contents.get().form == ClassForm::Singleton,
+        KindRef::Class(contents) => contents.get().form == ClassForm::Singleton,
         _ => false,
     }
 }

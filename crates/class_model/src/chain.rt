@@ -7,7 +7,7 @@ ghost use Rattle.class_model.specs.Chain.{left, IsWalk, IsMember, Steps};
 
 use crate::ancestry::Ancestors;
 use rb_store::Store;
-use rb_value::{Kind, ObjId};
+use rb_value::{KindRef, ObjId};
 
 /// A walk along the chain of a class: the modules of the last class that are left, and the superclass that follows.
 #[derive(Clone, Copy)]
@@ -25,7 +25,7 @@ pub fn included_in(st: &Store, class: ObjId) -> &[ObjId]
     ensures { result.now ≡ (classes.class_at st.now.store.objects class).included }
 {
     match st.get(class).kind() {
-        Kind::Class(contents) => contents.get().included.as_slice(),
+        KindRef::Class(contents) => contents.get().included.as_slice(),
         _ => &[],
     }
 }
@@ -36,10 +36,7 @@ pub(crate) fn above(st: &Store, id: ObjId) -> Option<ObjId>
     requires { Is (census st.now.store) Any id }
     ensures { result ≡ (classes.class_at st.now.store.objects id).superclass }
 {
-    match st.get(id).kind() {
-        Kind::Class(contents) => contents.get().superclass,
-        _ => None,
-    }
+    st.get(id).superclass()
 }
 
 /// The superclass of a class. It takes no memory.

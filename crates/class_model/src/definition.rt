@@ -20,7 +20,7 @@ use def_core::Cause;
 use pair_table::PairTable;
 use rb_raise::class_name;
 use rb_store::Store;
-use rb_value::{ClassForm, CoreClass, Kind, ObjId, Object, Outcome, Sort, SymId, Value};
+use rb_value::{ClassForm, CoreClass, KindRef, ObjId, Object, Outcome, Sort, SymId, Value};
 use std::alloc::AllocError;
 
 /// The value of the constant of that name.
@@ -39,7 +39,7 @@ pub fn own_constant(st: &Store, class: ObjId, name: SymId) -> Option<Value>
     ensures there { OptionIs (IsValue (census st.now.store)) result }
 {
     match st.get(class).kind() {
-        Kind::Class(contents) => constant_in(&contents.get().constants, name),
+        KindRef::Class(contents) => constant_in(&contents.get().constants, name),
         _ => None,
     }
 }
@@ -158,7 +158,7 @@ fn class_in(st: &Store, v: Value) -> Option<ObjId>
 {
     match v {
         Value::Obj(id) => {
-            if st.get(id).kind().sort() == Sort::Class {
+            if st.get(id).sort() == Sort::Class {
                 Some(id)
             } else {
                 None

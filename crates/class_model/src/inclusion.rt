@@ -91,7 +91,7 @@ pub(crate) fn module_in(st: &Store, v: Value) -> Option<ObjId>
     ensures mixin { OptionIs (Is (census st.now.store) Module) result }
 {
     match v {
-        Value::Obj(id) => if st.get(id).kind().sort() == Sort::Module {
+        Value::Obj(id) => if st.get(id).sort() == Sort::Module {
             Some(id)
         } else {
             None

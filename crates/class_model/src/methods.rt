@@ -13,7 +13,7 @@ use crate::finding::find;
 use def_core::Cause;
 use rb_base::Steps;
 use rb_store::Store;
-use rb_value::{Kind, Method, MethodEntry, ObjId, Outcome, SymId, Value, Visibility};
+use rb_value::{KindRef, Method, MethodEntry, ObjId, Outcome, SymId, Value, Visibility};
 use std::alloc::AllocError;
 
 /// Puts a method into the own list of a class or module (ISO/IEC 30170:2012, 13.3). `initialize` is private whatever
@@ -57,7 +57,7 @@ pub fn default_visibility(st: &Store, class: ObjId) -> Visibility
     ensures { result ≡ (class_at st.now.store.objects class).visibility }
 {
     match st.get(class).kind() {
-        Kind::Class(contents) => contents.get().visibility,
+        KindRef::Class(contents) => contents.get().visibility,
         _ => Visibility::Public,
     }
 }
@@ -69,7 +69,7 @@ pub fn own_entry(st: &Store, class: ObjId, name: SymId) -> Option<MethodEntry>
     ensures { result ≡ entry_of st.now.store.objects class name }
 {
     match st.get(class).kind() {
-        Kind::Class(contents) => contents.get().methods.get(name),
+        KindRef::Class(contents) => contents.get().methods.get(name),
         _ => None,
     }
 }

@@ -80,7 +80,7 @@ fn superclass_for(st: &Store, id: ObjId) -> ObjId
     ensures class { Is (census st.now.store) Superclass result }
 {
     let object = st.get(id);
-    match object.kind().sort() {
+    match object.sort() {
         Sort::Class => above_class(st, above(st, id)),
         Sort::Singleton => above_class(st, above(st, id)),
         _ => object.class(),

@@ -5,7 +5,7 @@ ghost use Rattle.def_rows.specs.RangeRows as rows;
 use core_integer::core_rows::operands::{place_of, text};
 use rb_integer::{Bounds, Ends, Item};
 use rb_store::Store;
-use rb_value::{Kind, RangeEnds, Sort, Value};
+use rb_value::{KindRef, RangeEnds, Sort, Value};
 
 fn bounds_of(ends: RangeEnds) -> Bounds
     ensures { result ≡ rows.bounds_of ends }
@@ -21,7 +21,7 @@ pub fn range_of(st: &Store, value: Value) -> Option<Ends>
     ensures { result ≡ rows.range_of st.now.store.objects value }
 {
     match st.get(place_of(st, Sort::Range, value)?).kind() {
-        Kind::Range(contents) => Some(Ends {
+        KindRef::Range(contents) => Some(Ends {
             bounds: bounds_of(contents.ends),
             is_exclusive: contents.exclusive,
         }),

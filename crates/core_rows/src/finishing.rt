@@ -12,11 +12,10 @@ use crate::making::{make, make_items, make_numbers, make_text, make_texts};
 use crate::operands::place_of;
 use def_core::Cause;
 use def_rows::Answer;
-use list_queue::Queue;
 use rb_base::{Bytes, List};
 use rb_raise::raise;
 use rb_store::Store;
-use rb_value::{Kind, Object, Outcome, Sort, Value};
+use rb_value::{Items, Kind, Object, Outcome, SmallBytes, Sort, Value};
 use row_answer::{Fault, Plain};
 use std::alloc::AllocError;
 
@@ -57,7 +56,7 @@ fn rewrite(st: &mut Store, recv: Value, bytes: Bytes) -> Outcome
     ensures store { st.new ≡ record st.old { store = answers.rewritten st.old.store bytes (place st.old.store.objects sorts.String recv) } }
 {
     if let Some(id) = place_of(st, Sort::String, recv) {
-        st.replace_text(id, bytes);
+        st.replace_text(id, SmallBytes::from_vec(bytes.into_vec()));
     }
     Outcome::Value(recv)
 }
@@ -115,7 +114,7 @@ fn replace(st: &mut Store, recv: Value, items: List<Value>) -> Outcome
     ensures store { st.new ≡ record st.old { store = answers.replaced st.old.store items (place st.old.store.objects sorts.Array recv) } }
 {
     if let Some(id) = place_of(st, Sort::Array, recv) {
-        st.replace_elements(id, Queue::from_vec(items.into_vec()));
+        st.replace_elements(id, Items::from_vec(items.into_vec()));
     }
     Outcome::Value(recv)
 }
@@ -131,7 +130,10 @@ fn give(st: &mut Store, recv: Value, answer: Answer) -> Result<Outcome, AllocErr
         Answer::Value(value) => Ok(Outcome::Value(value)),
         Answer::Items(items) => make_items(st, items.into_vec()),
         Answer::Range { class, contents } => make(st, Object::new(class, Kind::Range(contents))),
-        Answer::String { class, bytes } => make(st, Object::new(class, Kind::String(bytes))),
+        Answer::String { class, bytes } => {
+            let kind = Kind::String(SmallBytes::from_vec(bytes.into_vec()));
+            make(st, Object::new(class, kind))
+        }
         Answer::Put { bytes, given } => Ok(put(st, recv, bytes, given)),
         Answer::Push(more) => push(st, recv, more.as_slice()),
         Answer::Replace(items) => Ok(replace(st, recv, items)),

@@ -6,10 +6,9 @@ ghost use Rattle.def_core.specs.Sound.{Sound};
 ghost use Rattle.def_rows.specs.Answers as answers;
 ghost use Rattle.core_rows.specs.Completes.{Does};
 
-use list_queue::Queue;
 use rb_base::{Bytes, List};
 use rb_store::Store;
-use rb_value::{CoreClass, Kind, ObjId, Object, Outcome, Value};
+use rb_value::{CoreClass, Items, Kind, ObjId, Object, Outcome, SmallBytes, Value};
 use std::alloc::{AllocError, Global};
 
 /// A new object of a core class, which isn't in the store yet.
@@ -17,6 +16,14 @@ fn object_of(st: &Store, class: CoreClass, kind: Kind) -> Object
     ensures { result ≡ fresh (core class) kind }
 {
     Object::new(st.class_object(class), kind)
+}
+
+/// A new String of those bytes, which isn't in the store yet.
+fn text_of(st: &Store, bytes: Bytes) -> Object
+    ensures { result ≡ answers.text_object bytes }
+{
+    let text = SmallBytes::from_vec(bytes.into_vec());
+    object_of(st, CoreClass::String, Kind::String(text))
 }
 
 /// Gives a new object.
@@ -31,7 +38,7 @@ pub(crate) fn make(st: &mut Store, object: Object) -> Result<Outcome, AllocError
 pub(crate) fn make_text(st: &mut Store, bytes: Bytes) -> Result<Outcome, AllocError>
     ensures { Does st.old st.new result (answers.makes st.old.store (answers.text_object bytes)) }
 {
-    let object = object_of(st, CoreClass::String, Kind::String(bytes));
+    let object = text_of(st, bytes);
     make(st, object)
 }
 
@@ -39,7 +46,7 @@ pub(crate) fn make_text(st: &mut Store, bytes: Bytes) -> Result<Outcome, AllocEr
 pub(crate) fn make_items(st: &mut Store, items: Vec<Value>) -> Result<Outcome, AllocError>
     ensures { Does st.old st.new result (answers.makes st.old.store (answers.items_object items.items)) }
 {
-    let object = object_of(st, CoreClass::Array, Kind::Array(Queue::from_vec(items)));
+    let object = object_of(st, CoreClass::Array, Kind::Array(Items::from_vec(items)));
     make(st, object)
 }
 
@@ -68,7 +75,7 @@ fn text_objects(st: &Store, texts: List<Bytes>) -> Result<Vec<Object>, AllocErro
 {
     let mut objects = Vec::with_capacity(st.alloc(), texts.len())?;
     'texts: for text in texts.into_vec() {
-        objects.push(object_of(st, CoreClass::String, Kind::String(text)))?;
+        objects.push(text_of(st, text))?;
     }
     Ok(objects)
 }
@@ -95,7 +102,7 @@ pub(crate) fn make_texts(st: &mut Store, texts: List<Bytes>) -> Result<Outcome, 
     let first = st.len();
     let count = objects.len() as u64;
     let values = numbered(st.alloc(), first, count)?;
-    objects.push(object_of(st, CoreClass::Array, Kind::Array(Queue::from_vec(values))))?;
+    objects.push(object_of(st, CoreClass::Array, Kind::Array(Items::from_vec(values))))?;
     st.add_all(List::from_vec(objects))?;
     Ok(Outcome::Value(Value::Obj(ObjId(first + count))))
 }

@@ -36,7 +36,7 @@ pub fn place_of(st: &Store, sort: Sort, value: Value) -> Option<ObjId>
     let Value::Obj(id) = value else {
         return None;
     };
-    if st.has(id) && st.get(id).kind().sort() == sort {
+    if st.has(id) && st.get(id).sort() == sort {
         Some(id)
     } else {
         None

@@ -7,7 +7,7 @@ use Rattle.rb_value.specs.declared.kind.Kind.{Kind}
 use Rattle.rb_value.specs.declared.kind.Kind.TheVariants as kind
 use Rattle.rb_value.specs.declared.kind.Sort.{Sort}
 use Rattle.rb_value.specs.declared.kind.Sort.TheVariants as sort
-use Rattle.rb_value.specs.Sort.{sort_of}
+use Rattle.rb_value.specs.Sort.{sort_of, is_class}
 use Rattle.def_core.specs.Store.{Store, object_at, sort_at}
 use Rattle.def_core.specs.Classes.{contents_of, class_at}
 use Rattle.def_core.specs.Sound.{sorts_of, census, Role, Class, SingletonClass, Superclass, Module, ClassOrModule, plays, plays_at, Is, SoundClass, SoundKind, Sound}
@@ -32,6 +32,22 @@ is_plays st r id is =
     let f = found (sorts_of st.objects) id.0 r is.holds in
     ap (plays r) (sym (sort_at-sorts st.objects id)
     ∙ get_or_from_slice_get (sorts_of st.objects) id.0 f.0 sort.Plain f.1) ∙ f.2
+
+-- what plays a class or module is of such a sort
+pub plays_class : (s : Sort) → plays ClassOrModule s ≡ true → is_class s ≡ true
+plays_class sort.Plain h = cc
+plays_class sort.Class h = refl
+plays_class sort.Singleton h = refl
+plays_class sort.Module h = refl
+plays_class sort.String h = cc
+plays_class sort.Array h = cc
+plays_class sort.Hash h = cc
+plays_class sort.Range h = cc
+plays_class sort.Proc h = cc
+plays_class sort.Fiber h = cc
+plays_class sort.Exception h = cc
+plays_class sort.Enumerator h = cc
+plays_class sort.Yielder h = cc
 
 -- a superclass is a class
 superclass_sort : (s : Sort) → plays Superclass s ≡ true → plays ClassOrModule s ≡ true

@@ -4,44 +4,16 @@ use Rattle.std.specs.List.{list_any}
 use Rattle.rb_value.specs.declared.value.Value.{Value}
 use Rattle.rb_value.specs.declared.value.Value.TheVariants.{Nil, True, False, Int, Sym, Obj}
 use Rattle.rb_value.specs.declared.value.ObjId.{ObjId}
-use Rattle.rb_value.specs.declared.method.Visibility.TheVariants.{Public}
 use Rattle.rb_value.specs.Object.{Object}
 use Rattle.rb_value.specs.declared.kind.ClassContents.{ClassContents}
 use Rattle.rb_value.specs.declared.kind.ClassForm.{ClassForm}
 use Rattle.rb_value.specs.declared.kind.ClassForm.TheVariants as form
-use Rattle.rb_value.specs.declared.kind.Kind.{Kind}
 use Rattle.rb_value.specs.declared.kind.Kind.TheVariants as kind
 use Rattle.rb_value.specs.declared.kind.Sort.{Sort}
 use Rattle.rb_value.specs.declared.kind.Sort.TheVariants as sort
 use Rattle.rb_value.specs.declared.core_class.CoreClass.TheVariants as class
+pub use Rattle.rb_value.specs.Contents.{empty_class, contents_of}
 use Rattle.def_core.specs.Store.{core, object_at, set_object, sort_at, object_number, fresh, same_object}
-
--- a class without a name, modules, constants and methods
-abbrev pub empty_class : ClassForm → Option ObjId → ClassContents
-empty_class f superclass = record {
-  form = f;
-  name = None;
-  superclass = superclass;
-  included = [];
-  constants = [];
-  visibility = Public;
-  methods = [];
-}
-
--- the contents of a class or module; those of a module without anything for any other object
-abbrev pub contents_of : Kind → ClassContents
-contents_of kind.Plain = empty_class form.Module None
-contents_of (kind.Class c) = c
-contents_of (kind.String s) = empty_class form.Module None
-contents_of (kind.Array a) = empty_class form.Module None
-contents_of (kind.Hash h) = empty_class form.Module None
-contents_of (kind.Range r) = empty_class form.Module None
-contents_of (kind.Proc p) = empty_class form.Module None
-contents_of (kind.CoreProc r k) = empty_class form.Module None
-contents_of (kind.Fiber b e) = empty_class form.Module None
-contents_of (kind.Exception m d) = empty_class form.Module None
-contents_of (kind.Enumerator e) = empty_class form.Module None
-contents_of (kind.Yielder b) = empty_class form.Module None
 
 abbrev pub class_at : List Object → ObjId → ClassContents
 class_at objects c = contents_of (object_at objects c).kind

@@ -9,7 +9,7 @@ use Rattle.rb_value.specs.declared.kind.EnumeratorContents.{EnumeratorContents}
 use Rattle.rb_value.specs.declared.kind.Kind.{Kind}
 use Rattle.rb_value.specs.declared.kind.Kind.TheVariants as kind
 use Rattle.rb_value.specs.declared.kind.Sort.{Sort}
-use Rattle.rb_value.specs.declared.procs.ProcContents.{ProcContents}
+pub use Rattle.rb_value.specs.Contents.{proc_in}
 use Rattle.def_core.specs.Store.{Store, object_at, sort_at}
 use Rattle.def_core.specs.Sound.{has_object}
 use Rattle.heap.specs.declared.enumerators.Cursor.{Cursor}
@@ -67,21 +67,6 @@ range_in (kind.Fiber b e) = None
 range_in (kind.Exception m d) = None
 range_in (kind.Enumerator e) = None
 range_in (kind.Yielder b) = None
-
--- a Proc with a body
-abbrev pub proc_in : Kind → Option ProcContents
-proc_in kind.Plain = None
-proc_in (kind.Class c) = None
-proc_in (kind.String s) = None
-proc_in (kind.Array a) = None
-proc_in (kind.Hash h) = None
-proc_in (kind.Range r) = None
-proc_in (kind.Proc p) = Some p
-proc_in (kind.CoreProc r k) = None
-proc_in (kind.Fiber b e) = None
-proc_in (kind.Exception m d) = None
-proc_in (kind.Enumerator e) = None
-proc_in (kind.Yielder b) = None
 
 -- the row that a call of a Proc without a body enters, and the value that it keeps
 abbrev pub core_proc_in : Store → Kind → Option (ℕ × Value)

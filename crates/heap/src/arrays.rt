@@ -7,9 +7,8 @@ ghost use Rattle.heap.specs.Changes as changes;
 
 use crate::heap::Heap;
 use crate::testing::{are_own, array, own};
-use list_queue::Queue;
 use rb_store::Store;
-use rb_value::{ObjId, Value};
+use rb_value::{Items, ObjId, Value};
 use std::alloc::AllocError;
 
 /// Puts a value after the elements of an Array. Where memory runs out the Array is as before.
@@ -114,7 +113,7 @@ pub(crate) fn replace_elements(st: &mut Store, id: ObjId, elements: Vec<Value>)
         return;
     }
     if let Some(id) = array(st, id) {
-        let _before = st.replace_elements(id, Queue::from_vec(elements));
+        st.replace_elements(id, Items::from_vec(elements));
     }
 }
 

@@ -9,7 +9,7 @@ ghost use Rattle.heap.specs.Made as made;
 use crate::heap::Heap;
 use crate::testing::space;
 use rb_base::List;
-use rb_value::{Kind, ObjId, ProcContents, SymId, Value};
+use rb_value::{KindRef, ObjId, ProcContents, SymId, Value};
 use std::alloc::{AllocError, Global};
 
 /// The same contents, as those of a lambda or not.
@@ -122,7 +122,7 @@ impl Heap {
         ensures { result ≡ length (class_at self.now.store.objects id).constants }
     {
         match self.kind(id) {
-            Some(Kind::Class(contents)) => contents.get().constants.len(),
+            Some(KindRef::Class(contents)) => contents.get().constants.len(),
             _ => 0,
         }
     }
@@ -132,7 +132,7 @@ impl Heap {
         ensures { result ≡ copies.constant_at self.now.store id place }
     {
         match self.kind(id)? {
-            Kind::Class(contents) => {
+            KindRef::Class(contents) => {
                 let (name, value) = contents.get().constants.pair_at(place)?;
                 Some((SymId(*name), *value))
             }

@@ -13,10 +13,11 @@ use crate::making::add;
 use crate::testing::{
     are_own, array, class_or_object, enumerator, fiber, object, own, proc, symbol,
 };
-use list_queue::Queue;
 use rb_base::List;
 use rb_store::Store;
-use rb_value::{Boxed, CoreClass, EnumeratorContents, EnumeratorSource, Kind, ObjId, Value};
+use rb_value::{
+    Boxed, CoreClass, EnumeratorContents, EnumeratorSource, Items, Kind, KindRef, ObjId, Value,
+};
 use std::alloc::{AllocError, Global};
 
 /// How far an Enumerator has come: the fiber that gives its items, where one has begun; the Array of the items that
@@ -40,7 +41,7 @@ fn add_array(st: &mut Store) -> Result<ObjId, AllocError>
     ensures keeps { Keeps st.old st.new }
 {
     let of = st.class_object(CoreClass::Array);
-    add(st, of, Kind::Array(Queue::new(st.alloc())))
+    add(st, of, Kind::Array(Items::new()))
 }
 
 /// The source, where all that it names is of the store.
@@ -147,7 +148,7 @@ pub(crate) fn set_cursor(st: &mut Store, id: ObjId, cursor: Cursor) -> Result<()
     };
     let kind = Kind::Enumerator(Boxed::new(st.alloc(), contents)?);
     if let Some(id) = enumerator(st, id) {
-        let _before = st.put_kind(id, kind);
+        st.put_kind(id, kind);
     }
     Ok(())
 }
@@ -159,7 +160,7 @@ fn copied_source(st: &Store, id: ObjId) -> Result<Option<EnumeratorSource>, Allo
 {
     match object(st, id) {
         Some(id) => match st.get(id).kind() {
-            Kind::Enumerator(contents) => Ok(Some(copy_source(
+            KindRef::Enumerator(contents) => Ok(Some(copy_source(
                 st.alloc(),
                 &contents.get().source,
             )?)),

@@ -11,7 +11,7 @@ use crate::heap::Heap;
 use crate::testing::{block, hash, object, own};
 use pair_table::PairTable;
 use rb_store::Store;
-use rb_value::{Boxed, HashContents, HashItem, Key, Kind, ObjId, Value};
+use rb_value::{Boxed, HashContents, HashItem, Key, Kind, KindRef, ObjId, Value};
 use std::alloc::AllocError;
 
 /// Gives a key of a Hash a value, and tells whether it could: false where the key is nested too deep. A key that is
@@ -87,7 +87,7 @@ pub(crate) fn clear_pairs(st: &mut Store, id: ObjId) -> Result<(), AllocError>
     };
     let kind = Kind::Hash(Boxed::new(st.alloc(), contents)?);
     if let Some(id) = hash(st, id) {
-        let _before = st.put_kind(id, kind);
+        st.put_kind(id, kind);
     }
     Ok(())
 }
@@ -100,7 +100,7 @@ pub(crate) fn absent_of(st: &Store, id: ObjId) -> (Value, Option<ObjId>)
 {
     match object(st, id) {
         Some(id) => match st.get(id).kind() {
-            Kind::Hash(contents) => (contents.get().default, contents.get().block),
+            KindRef::Hash(contents) => (contents.get().default, contents.get().block),
             _ => (Value::Nil, None),
         },
         None => (Value::Nil, None),

@@ -8,7 +8,7 @@ use crate::heap::Heap;
 use crate::testing::{hash, object, own};
 use key_list::KeyList;
 use rb_store::Store;
-use rb_value::{HashItem, Key, KeyPart, Kind, ObjId, Value};
+use rb_value::{HashItem, Key, KeyPart, KindRef, ObjId, Value};
 use std::alloc::AllocError;
 
 /// A copy of a part of a key.
@@ -64,7 +64,7 @@ pub(crate) fn key_at(st: &Store, id: ObjId, place: usize) -> Result<Option<Key>,
         return Ok(None);
     };
     match st.get(id).kind() {
-        Kind::Hash(contents) => match contents.get().pairs.pair_at(place) {
+        KindRef::Hash(contents) => match contents.get().pairs.pair_at(place) {
             Some((key, _)) => Ok(Some(key_copy(st, key)?)),
             None => Ok(None),
         },

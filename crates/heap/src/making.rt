@@ -13,12 +13,11 @@ ghost use Rattle.heap.specs.Made as made;
 
 use crate::heap::Heap;
 use crate::testing::{are_own, class_or_object, own, own_proc, proc};
-use list_queue::Queue;
 use pair_table::PairTable;
-use rb_base::Bytes;
 use rb_store::Store;
 use rb_value::{
-    Boxed, CoreClass, HashContents, Kind, ObjId, Object, ProcContents, RangeContents, Value,
+    Boxed, CoreClass, HashContents, Items, Kind, ObjId, Object, ProcContents, RangeContents,
+    SmallBytes, Value,
 };
 use run_values::Given;
 use std::alloc::{AllocError, Global};
@@ -67,8 +66,8 @@ fn blank_kind(st: &Store, blank: Blank) -> Result<Kind, AllocError>
     let alloc = st.alloc();
     match blank {
         Blank::Plain => Ok(Kind::Plain),
-        Blank::String => Ok(Kind::String(Bytes::new(alloc))),
-        Blank::Array => Ok(Kind::Array(Queue::new(alloc))),
+        Blank::String => Ok(Kind::String(SmallBytes::new())),
+        Blank::Array => Ok(Kind::Array(Items::new())),
         Blank::Hash => Ok(Kind::Hash(Boxed::new(alloc, no_pairs(alloc))?)),
         Blank::Exception => Ok(Kind::Exception {
             message: Value::Nil,
@@ -79,32 +78,32 @@ fn blank_kind(st: &Store, blank: Blank) -> Result<Kind, AllocError>
 
 /// A new Array of these elements; nil where one of them is of no heap. Where memory runs out all is as before.
 #[tactic(auto, using(rb_store::proofs::Keeping::keeps_itself, crate::proofs::Fresh::array_class))]
-pub(crate) fn make_array(st: &mut Store, elements: Vec<Value>) -> Result<Value, AllocError>
+pub(crate) fn make_array(st: &mut Store, elements: Items) -> Result<Value, AllocError>
     requires sound { Sound st.old.store }
-    ensures value { IfOk result (λ v. v ≡ made.array_given st.old.store elements.items) }
-    ensures made { OnOk result (st.new ≡ made.with_array st.old elements.items) }
+    ensures value { IfOk result (λ v. v ≡ made.array_given st.old.store elements) }
+    ensures made { OnOk result (st.new ≡ made.with_array st.old elements) }
     ensures err { OnErr result (st.new ≡ st.old) }
     ensures keeps { Keeps st.old st.new }
 {
-    if !are_own(st, &elements) {
+    if !are_own(st, elements.as_slice()) {
         return Ok(Value::Nil);
     }
     let class = st.class_object(CoreClass::Array);
-    let id = add(st, class, Kind::Array(Queue::from_vec(elements)))?;
+    let id = add(st, class, Kind::Array(elements))?;
     Ok(Value::Obj(id))
 }
 
 /// A new String of these bytes.
 #[tactic(auto, using(crate::proofs::Fresh::string_class))]
-pub(crate) fn make_string(st: &mut Store, bytes: Vec<u8>) -> Result<Value, AllocError>
+pub(crate) fn make_string(st: &mut Store, bytes: SmallBytes) -> Result<Value, AllocError>
     requires sound { Sound st.old.store }
     ensures value { IfOk result (λ v. v ≡ Obj (next_number st.old.store)) }
-    ensures made { OnOk result (st.new ≡ made.with_new st.old (core classes.String) (kinds.String bytes.items)) }
+    ensures made { OnOk result (st.new ≡ made.with_new st.old (core classes.String) (kinds.String bytes)) }
     ensures err { OnErr result (st.new ≡ st.old) }
     ensures keeps { Keeps st.old st.new }
 {
     let class = st.class_object(CoreClass::String);
-    let id = add(st, class, Kind::String(Bytes::from_vec(bytes)))?;
+    let id = add(st, class, Kind::String(bytes))?;
     Ok(Value::Obj(id))
 }
 
@@ -253,6 +252,17 @@ impl Heap {
         ensures made { OnOk result (self.new ≡ made.with_array self.old elements.items) }
         ensures err { OnErr result (self.new ≡ self.old) }
     {
+        make_array(&mut self.st, Items::from_vec(elements))
+    }
+
+    /// A new Array of a copy of these elements; nil where one of them is of no heap. Where memory runs out all is as
+    /// before.
+    pub fn make_list(&mut self, elements: &[Value]) -> Result<Value, AllocError>
+        ensures value { IfOk result (λ v. v ≡ made.array_given self.old.store elements.now) }
+        ensures made { OnOk result (self.new ≡ made.with_array self.old elements.now) }
+        ensures err { OnErr result (self.new ≡ self.old) }
+    {
+        let elements = Items::from_slice(self.alloc(), elements)?;
         make_array(&mut self.st, elements)
     }
 
@@ -262,7 +272,7 @@ impl Heap {
         ensures made { OnOk result (self.new ≡ made.with_new self.old (core classes.String) (kinds.String bytes.items)) }
         ensures err { OnErr result (self.new ≡ self.old) }
     {
-        make_string(&mut self.st, bytes)
+        make_string(&mut self.st, SmallBytes::from_vec(bytes))
     }
 
     /// A new String of these bytes.
@@ -271,8 +281,8 @@ impl Heap {
         ensures made { OnOk result (self.new ≡ made.with_new self.old (core classes.String) (kinds.String bytes.now)) }
         ensures err { OnErr result (self.new ≡ self.old) }
     {
-        let bytes = Vec::from_slice(self.alloc(), bytes)?;
-        self.make_string(bytes)
+        let bytes = SmallBytes::from_slice(self.alloc(), bytes)?;
+        make_string(&mut self.st, bytes)
     }
 
     /// A new Range, or the failure of ends that are none of a Range.

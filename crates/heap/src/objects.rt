@@ -13,7 +13,7 @@ ghost use Rattle.heap.specs.Operands as operands;
 use crate::heap::Heap;
 use crate::testing::{exception, fiber, object, own, symbol};
 use rb_store::Store;
-use rb_value::{Kind, ObjId, SymId, Value};
+use rb_value::{Kind, KindRef, ObjId, SymId, Value};
 use run_values::Given;
 use std::alloc::AllocError;
 
@@ -25,7 +25,7 @@ fn held(st: &Store, id: ObjId) -> (Value, Value)
 {
     match object(st, id) {
         Some(id) => match st.get(id).kind() {
-            Kind::Exception { message, detail } => (*message, *detail),
+            KindRef::Exception { message, detail } => (message, detail),
             _ => (Value::Nil, Value::Nil),
         },
         None => (Value::Nil, Value::Nil),
@@ -63,7 +63,7 @@ pub(crate) fn set_message(st: &mut Store, id: ObjId, message: Value)
     let message = own(st, message);
     let detail = own(st, held(st, id).1);
     if let Some(id) = exception(st, id) {
-        let _before = st.put_kind(id, Kind::Exception { message, detail });
+        st.put_kind(id, Kind::Exception { message, detail });
     }
 }
 
@@ -78,7 +78,7 @@ pub(crate) fn set_detail(st: &mut Store, id: ObjId, detail: Value)
     let message = own(st, held(st, id).0);
     let detail = own(st, detail);
     if let Some(id) = exception(st, id) {
-        let _before = st.put_kind(id, Kind::Exception { message, detail });
+        st.put_kind(id, Kind::Exception { message, detail });
     }
 }
 

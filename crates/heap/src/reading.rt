@@ -1,6 +1,7 @@
 //! What objects hold.
 ghost use Rattle.std.specs.Prelude.{◌≡◌, ◌≢◌, [], length, true, false, None, slice_get, option_map, IfSome, MatchOption, if◌then◌else◌};
 ghost use Rattle.rb_value.specs.declared.value.Value.TheVariants.{Obj};
+ghost use Rattle.rb_value.specs.KindRef as refs;
 ghost use Rattle.def_core.specs.Store.{absent, object_at, name_at, sort_at};
 ghost use Rattle.def_core.specs.Sound.{has_object};
 ghost use Rattle.def_core.specs.Parts as parts;
@@ -13,7 +14,7 @@ use crate::hashes::absent_of;
 use crate::heap::Heap;
 use crate::testing::{object, own, symbol};
 use rb_value::{
-    EnumeratorContents, HashItem, Key, Kind, ObjId, ProcContents, RangeContents, Sort, SymId,
+    EnumeratorContents, HashItem, Key, KindRef, ObjId, ProcContents, RangeContents, Sort, SymId,
     Value, Variable,
 };
 
@@ -21,14 +22,26 @@ impl Heap {
     /// What an object holds.
     #[inline(always)]
     #[tactic(auto, using(def_core::proofs::Good::is_good, def_core::proofs::Good::absent_where_none))]
-    pub fn kind(&self, id: ObjId) -> Option<&Kind>
+    pub fn kind(&self, id: ObjId) -> Option<KindRef<'_>>
         ensures found { MatchOption result (has_object self.now.store.objects id ≡ false)
-            (λ kind. kind.now ≡ (object_at self.now.store.objects id).kind) }
+            (λ kind. refs.seen kind ≡ (object_at self.now.store.objects id).kind) }
         ensures there { IfSome result (λ kind. has_object self.now.store.objects id ≡ true) }
         ensures none { result ≡ None → object_at self.now.store.objects id ≡ absent }
     {
         let id = object(&self.st, id)?;
         Some(self.st.get(id).kind())
+    }
+
+    /// What sort an object is of.
+    #[inline(always)]
+    #[tactic(auto, using(def_core::proofs::Good::is_good))]
+    fn object_sort(&self, id: ObjId) -> Option<Sort>
+        ensures found { MatchOption result (has_object self.now.store.objects id ≡ false)
+            (λ sort. sort_at self.now.store.objects id ≡ sort) }
+        ensures there { IfSome result (λ sort. has_object self.now.store.objects id ≡ true) }
+    {
+        let id = object(&self.st, id)?;
+        Some(self.st.get(id).sort())
     }
 
     /// What sort of object a value is.
@@ -37,7 +50,7 @@ impl Heap {
         ensures { result ≡ reading.sort_of_value self.now.store value }
     {
         match value {
-            Value::Obj(id) => Some(self.kind(id)?.sort()),
+            Value::Obj(id) => self.object_sort(id),
             _ => None,
         }
     }
@@ -50,7 +63,7 @@ impl Heap {
             sort_at self.now.store.objects id ≢ sort }
     {
         match value {
-            Value::Obj(id) => if self.kind(id)?.sort() == sort {
+            Value::Obj(id) => if self.object_sort(id)? == sort {
                 Some(id)
             } else {
                 None
@@ -172,20 +185,19 @@ impl Heap {
             return None;
         };
         match self.kind(id)? {
-            Kind::Range(contents) => Some(*contents),
+            KindRef::Range(contents) => Some(contents),
             _ => None,
         }
     }
 
     /// What a Proc with a body holds.
     #[inline(always)]
+    #[tactic(auto, using(def_core::proofs::Good::is_good, def_core::proofs::Good::absent_where_none))]
     pub fn proc_of(&self, id: ObjId) -> Option<&ProcContents>
         ensures { option_map (λ p. p.now) result ≡ reading.proc_in (object_at self.now.store.objects id).kind }
     {
-        match self.kind(id)? {
-            Kind::Proc(contents) => Some(contents.get()),
-            _ => None,
-        }
+        let id = object(&self.st, id)?;
+        self.st.get(id).proc()
     }
 
     /// The row that a call of a Proc without a body enters, and the value that it keeps.
@@ -193,7 +205,7 @@ impl Heap {
         ensures { result ≡ reading.core_proc_in self.now.store (object_at self.now.store.objects id).kind }
     {
         match self.kind(id)? {
-            Kind::CoreProc { row, kept } => Some((*row, own(&self.st, *kept))),
+            KindRef::CoreProc { row, kept } => Some((row, own(&self.st, kept))),
             _ => None,
         }
     }
@@ -203,7 +215,7 @@ impl Heap {
         ensures { result ≡ views.fiber_of (object_at self.now.store.objects id).kind }
     {
         match self.kind(id)? {
-            Kind::Fiber { block, ended } => Some((*block, *ended)),
+            KindRef::Fiber { block, ended } => Some((block, ended)),
             _ => None,
         }
     }
@@ -213,7 +225,7 @@ impl Heap {
         ensures { result ≡ views.message_of (object_at self.now.store.objects id).kind }
     {
         match self.kind(id) {
-            Some(Kind::Exception { message, detail: _ }) => *message,
+            Some(KindRef::Exception { message, detail: _ }) => message,
             _ => Value::Nil,
         }
     }
@@ -223,7 +235,7 @@ impl Heap {
         ensures { result ≡ views.detail_of (object_at self.now.store.objects id).kind }
     {
         match self.kind(id) {
-            Some(Kind::Exception { message: _, detail }) => *detail,
+            Some(KindRef::Exception { message: _, detail }) => detail,
             _ => Value::Nil,
         }
     }
@@ -233,7 +245,7 @@ impl Heap {
         ensures { option_map (λ e. e.now) result ≡ reading.contents_in (object_at self.now.store.objects id).kind }
     {
         match self.kind(id)? {
-            Kind::Enumerator(contents) => Some(contents.get()),
+            KindRef::Enumerator(contents) => Some(contents.get()),
             _ => None,
         }
     }
@@ -243,7 +255,7 @@ impl Heap {
         ensures { result ≡ reading.yielder_in (object_at self.now.store.objects id).kind }
     {
         match self.kind(id)? {
-            Kind::Yielder { block } => Some(*block),
+            KindRef::Yielder { block } => Some(block),
             _ => None,
         }
     }

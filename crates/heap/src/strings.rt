@@ -6,9 +6,8 @@ ghost use Rattle.heap.specs.Changes as changes;
 
 use crate::heap::Heap;
 use crate::testing::string;
-use rb_base::Bytes;
 use rb_store::Store;
-use rb_value::{ObjId, Value};
+use rb_value::{ObjId, SmallBytes, Value};
 use std::alloc::AllocError;
 
 /// Puts bytes after those of a String. Where memory runs out the String is as before.
@@ -27,37 +26,43 @@ pub(crate) fn append_bytes(st: &mut Store, id: ObjId, more: &[u8]) -> Result<(),
 
 /// Puts other bytes in the place of all bytes of a String.
 #[tactic(auto, using(rb_store::proofs::Keeping::keeps_itself, def_core::proofs::Good::is_good))]
-pub(crate) fn replace_text(st: &mut Store, id: ObjId, bytes: Vec<u8>)
+pub(crate) fn replace_text(st: &mut Store, id: ObjId, bytes: SmallBytes)
     requires sound { Sound st.old.store }
     ensures keeps { Keeps st.old st.new }
-    ensures replaced { st.new ≡ changes.with_bytes st.old id bytes.items }
+    ensures replaced { st.new ≡ changes.with_bytes st.old id bytes }
 {
     if let Some(id) = string(st, id) {
-        let _before = st.replace_text(id, Bytes::from_vec(bytes));
+        let _before = st.replace_text(id, bytes);
     }
 }
 
 /// Takes all bytes out of a String. It takes no memory.
 #[tactic(auto, using(rb_store::proofs::Keeping::keeps_itself, def_core::proofs::Good::is_good))]
-pub(crate) fn take_text(st: &mut Store, id: ObjId) -> Vec<u8>
+pub(crate) fn take_text(st: &mut Store, id: ObjId) -> SmallBytes
     requires sound { Sound st.old.store }
     ensures keeps { Keeps st.old st.new }
     ensures taken { st.new ≡ changes.with_bytes st.old id [] }
 {
-    let none = Bytes::new(st.alloc());
     match string(st, id) {
-        Some(id) => st.replace_text(id, none).into_vec(),
-        None => none.into_vec(),
+        Some(id) => st.replace_text(id, SmallBytes::new()),
+        None => SmallBytes::new(),
     }
 }
 
 impl Heap {
+    /// Puts a text in the place of all bytes of a String.
+    fn put_text(&mut self, id: ObjId, text: SmallBytes)
+        ensures replaced { self.new ≡ changes.with_bytes self.old id text }
+    {
+        replace_text(&mut self.st, id, text);
+    }
+
     /// Puts the bytes of a String after those of another, which lends them for that. Where memory runs out both are as
     /// before.
     fn append_lent(&mut self, id: ObjId, from: ObjId) -> Result<(), AllocError> {
         let lent = take_text(&mut self.st, from);
-        let answer = self.append_bytes(id, &lent);
-        self.replace_text(from, lent);
+        let answer = self.append_bytes(id, lent.as_slice());
+        self.put_text(from, lent);
         answer
     }
 
@@ -84,6 +89,6 @@ impl Heap {
     pub fn replace_text(&mut self, id: ObjId, bytes: Vec<u8>)
         ensures replaced { self.new ≡ changes.with_bytes self.old id bytes.items }
     {
-        replace_text(&mut self.st, id, bytes);
+        self.put_text(id, SmallBytes::from_vec(bytes));
     }
 }

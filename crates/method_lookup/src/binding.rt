@@ -11,10 +11,9 @@ ghost use Rattle.method_lookup.specs.Given.{all_of, rest_of, PadsToLeast, IsWron
 
 use crate::given::{Given, least, most};
 use def_core::{BindKind, Bound};
-use list_queue::Queue;
 use rb_base::List;
 use rb_store::Store;
-use rb_value::{Args, CoreClass, Kind, ObjId, Object, Shape, Value};
+use rb_value::{Args, CoreClass, Items, Kind, ObjId, Object, Shape, Value};
 use std::alloc::{AllocError, Global};
 
 /// Whether so many arguments fit.
@@ -121,7 +120,7 @@ fn add_array(st: &mut Store, values: List<Value>) -> Result<ObjId, AllocError>
     ensures err { OnErr result (st.new.store ≡ st.old.store) }
     ensures changes { st.new.changes ≡ st.old.changes }
 {
-    let kind = Kind::Array(Queue::from_vec(values.into_vec()));
+    let kind = Kind::Array(Items::from_vec(values.into_vec()));
     st.add(Object::new(st.class_object(CoreClass::Array), kind))
 }
 

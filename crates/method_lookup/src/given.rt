@@ -7,7 +7,7 @@ ghost use Rattle.method_lookup.specs.Given.{all_of, PadsToLeast};
 
 use def_core::BindKind;
 use rb_store::Store;
-use rb_value::{Kind, Shape, Value};
+use rb_value::{KindRef, Shape, Value};
 
 /// Arguments: those of a slice, and after them nil for so many that are missing.
 #[derive(Clone, Copy)]
@@ -45,7 +45,7 @@ fn elements_or<'a>(st: &'a Store, value: Value, others: &'a [Value]) -> &'a [Val
 {
     match value {
         Value::Obj(id) => match st.get(id).kind() {
-            Kind::Array(elements) => elements.as_slice(),
+            KindRef::Array(elements) => elements,
             _ => others,
         },
         _ => others,

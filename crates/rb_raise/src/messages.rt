@@ -8,7 +8,7 @@ ghost use Rattle.rb_raise.specs.Causes.{SoundCause};
 use crate::text::Text;
 use def_core::Cause;
 use rb_store::Store;
-use rb_value::{ClassForm, Kind, ObjId, SymId};
+use rb_value::{ClassForm, KindRef, ObjId, SymId};
 use std::alloc::AllocError;
 
 /// What is shown of a class or module without a name.
@@ -29,7 +29,7 @@ pub fn class_name(st: &Store, class: ObjId) -> &[u8]
     ensures { result.now ≡ texts.class_name st.now.store class }
 {
     match st.get(class).kind() {
-        Kind::Class(contents) => match contents.get().name {
+        KindRef::Class(contents) => match contents.get().name {
             Some(name) => st.symbol_name(name),
             None => anonymous(contents.get().form),
         },
@@ -52,7 +52,7 @@ fn bytes_of(st: &Store, string: ObjId) -> &[u8]
     ensures { result.now ≡ texts.bytes_at st.now.store.objects string }
 {
     match st.get(string).kind() {
-        Kind::String(bytes) => bytes.as_slice(),
+        KindRef::String(bytes) => bytes,
         _ => unreachable!(),
     }
 }

@@ -12,7 +12,7 @@ use crate::messages::text_of;
 use def_core::Cause;
 use rb_base::Bytes;
 use rb_store::Store;
-use rb_value::{CoreClass, Failure, Kind, ObjId, Object, Outcome};
+use rb_value::{CoreClass, Failure, Kind, ObjId, Object, Outcome, SmallBytes};
 use std::alloc::AllocError;
 
 /// Puts a String with those bytes after the other objects, and gives its number. Where memory runs out the store is
@@ -28,7 +28,8 @@ pub fn new_string(st: &mut Store, bytes: Bytes) -> Result<ObjId, AllocError>
     ensures keeps { Keeps st.old st.new }
     ensures string { IfOk result (Is (census st.new.store) String) }
 {
-    let string = Object::new(st.class_object(CoreClass::String), Kind::String(bytes));
+    let kind = Kind::String(SmallBytes::from_vec(bytes.into_vec()));
+    let string = Object::new(st.class_object(CoreClass::String), kind);
     let id = st.add(string)?;
     Ok(id)
 }

@@ -7,10 +7,8 @@ ghost use Rattle.def_core.specs.Sound.{Sound, census, IsValue, AllAre, IsGood};
 ghost use Rattle.rb_store.specs.Keeps.{Keeps};
 
 use crate::store::Store;
-use list_queue::Queue;
-use rb_value::{Kind, ObjId, Value};
+use rb_value::{Items, ObjId, Value};
 use std::alloc::AllocError;
-use std::mem;
 
 impl Store {
     /// The elements of an Array; none of any other object. It takes no memory.
@@ -18,10 +16,7 @@ impl Store {
         requires { IsGood self.now.store id }
         ensures { result.now ≡ parts.elements_at self.now.store.objects id }
     {
-        match self.get(id).kind() {
-            Kind::Array(elements) => elements.as_slice(),
-            _ => &[],
-        }
+        self.get(id).items()
     }
 
     /// Puts a value in the place of an element. It takes no memory.
@@ -34,10 +29,7 @@ impl Store {
         } }
         ensures keeps { Sound self.old.store → IsValue (census self.old.store) value → Keeps self.old self.new }
     {
-        match self.objects.get_mut(id.0 as usize).kind_mut() {
-            Kind::Array(elements) => elements.set(place, value),
-            _ => unreachable!(),
-        }
+        self.objects.get_mut(id.0 as usize).set_item(place, value);
     }
 
     /// Puts a value after the elements. Where memory runs out all is as before.
@@ -50,10 +42,8 @@ impl Store {
         ensures err { OnErr result (self.new ≡ self.old) }
         ensures keeps { Sound self.old.store → IsValue (census self.old.store) value → Keeps self.old self.new }
     {
-        match self.objects.get_mut(id.0 as usize).kind_mut() {
-            Kind::Array(elements) => elements.push(value),
-            _ => unreachable!(),
-        }
+        let alloc = self.alloc;
+        self.objects.get_mut(id.0 as usize).push_item(alloc, value)
     }
 
     /// Puts values after the elements, in their order. Where memory runs out all is as before.
@@ -67,10 +57,10 @@ impl Store {
         ensures keeps { Sound self.old.store → AllAre (IsValue (census self.old.store)) values.now
             → Keeps self.old self.new }
     {
-        match self.objects.get_mut(id.0 as usize).kind_mut() {
-            Kind::Array(elements) => elements.append(values),
-            _ => unreachable!(),
-        }
+        let alloc = self.alloc;
+        self.objects
+            .get_mut(id.0 as usize)
+            .append_items(alloc, values)
     }
 
     /// Takes the last element off. It takes no memory.
@@ -84,10 +74,7 @@ impl Store {
         } }
         ensures keeps { Sound self.old.store → Keeps self.old self.new }
     {
-        match self.objects.get_mut(id.0 as usize).kind_mut() {
-            Kind::Array(elements) => elements.pop(),
-            _ => unreachable!(),
-        }
+        self.objects.get_mut(id.0 as usize).pop_item()
     }
 
     /// Takes the first element off. It moves none of the others and takes no memory.
@@ -100,10 +87,7 @@ impl Store {
         } }
         ensures keeps { Sound self.old.store → Keeps self.old self.new }
     {
-        match self.objects.get_mut(id.0 as usize).kind_mut() {
-            Kind::Array(elements) => elements.shift(),
-            _ => unreachable!(),
-        }
+        self.objects.get_mut(id.0 as usize).shift_item()
     }
 
     /// Puts a value before the elements. Where memory runs out all is as before.
@@ -118,26 +102,21 @@ impl Store {
         ensures keeps { Sound self.old.store → IsValue (census self.old.store) value → Keeps self.old self.new }
     {
         let alloc = self.alloc;
-        match self.objects.get_mut(id.0 as usize).kind_mut() {
-            Kind::Array(elements) => elements.unshift(alloc, value),
-            _ => unreachable!(),
-        }
+        self.objects
+            .get_mut(id.0 as usize)
+            .unshift_item(alloc, value)
     }
 
-    /// Puts other elements into an Array, and hands the ones before back. It takes no memory.
-    pub fn replace_elements(&mut self, id: ObjId, elements: Queue<Value>) -> Queue<Value>
+    /// Puts other elements into an Array. It takes no memory.
+    pub fn replace_elements(&mut self, id: ObjId, elements: Items)
         requires there { IsGood self.old.store id }
         requires array { sort_at self.old.store.objects id ≡ sorts.Array }
-        ensures before { result ≡ parts.elements_at self.old.store.objects id }
         ensures after { self.new ≡ record self.old {
           store = parts.with_objects self.old.store (parts.with_elements self.old.store.objects id elements);
         } }
         ensures keeps { Sound self.old.store → AllAre (IsValue (census self.old.store)) elements
             → Keeps self.old self.new }
     {
-        match self.objects.get_mut(id.0 as usize).kind_mut() {
-            Kind::Array(own) => mem::replace(own, elements),
-            _ => unreachable!(),
-        }
+        self.objects.get_mut(id.0 as usize).replace_items(elements);
     }
 }

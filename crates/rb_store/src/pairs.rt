@@ -7,7 +7,7 @@ ghost use Rattle.def_core.specs.Sound.{Sound, census, Proc, Is, IsValue, OptionI
 ghost use Rattle.rb_store.specs.Keeps.{Keeps};
 
 use crate::store::Store;
-use rb_value::{HashItem, Key, Kind, ObjId, Value, put_pair};
+use rb_value::{HashItem, Key, ObjId, Value};
 use std::alloc::AllocError;
 
 impl Store {
@@ -16,10 +16,7 @@ impl Store {
         requires { IsGood self.now.store id }
         ensures { result ≡ parts.pair_of self.now.store.objects id key.now }
     {
-        match self.get(id).kind() {
-            Kind::Hash(contents) => contents.get().pairs.get(key).copied(),
-            _ => None,
-        }
+        self.get(id).pair(key)
     }
 
     /// What stands at a place among the pairs of a Hash. It takes no memory.
@@ -27,13 +24,7 @@ impl Store {
         requires { IsGood self.now.store id }
         ensures { result ≡ option_map (λ p. p.1) (slice_get (parts.hash_at self.now.store.objects id).pairs place) }
     {
-        match self.get(id).kind() {
-            Kind::Hash(contents) => match contents.get().pairs.pair_at(place) {
-                Some((_, item)) => Some(*item),
-                None => None,
-            },
-            _ => None,
-        }
+        self.get(id).pair_at(place)
     }
 
     /// How many pairs a Hash has; none has any other object. It takes no memory.
@@ -41,10 +32,7 @@ impl Store {
         requires { IsGood self.now.store id }
         ensures { result ≡ length (parts.hash_at self.now.store.objects id).pairs }
     {
-        match self.get(id).kind() {
-            Kind::Hash(contents) => contents.get().pairs.len(),
-            _ => 0,
-        }
+        self.get(id).pair_count()
     }
 
     /// Gives a key of a Hash a value. A key that is there keeps its place and what is shown as the key, and a new one
@@ -66,10 +54,9 @@ impl Store {
             → IsValue (census self.old.store) shown → IsValue (census self.old.store) value
             → Keeps self.old self.new }
     {
-        match self.objects.get_mut(id.0 as usize).kind_mut() {
-            Kind::Hash(contents) => put_pair(&mut contents.get_mut().pairs, key, shown, value),
-            _ => unreachable!(),
-        }
+        self.objects
+            .get_mut(id.0 as usize)
+            .put_pair(key, shown, value)
     }
 
     /// Takes the pair of a key out of a Hash, and hands it back. The others keep their order. It takes no memory.
@@ -82,10 +69,7 @@ impl Store {
         } }
         ensures keeps { Sound self.old.store → Keeps self.old self.new }
     {
-        match self.objects.get_mut(id.0 as usize).kind_mut() {
-            Kind::Hash(contents) => contents.get_mut().pairs.remove(key),
-            _ => unreachable!(),
-        }
+        self.objects.get_mut(id.0 as usize).remove_pair(key)
     }
 
     /// Sets what an absent key of a Hash gives: a value, or what the block gives where there is one. It takes no memory.
@@ -98,13 +82,8 @@ impl Store {
         ensures keeps { Sound self.old.store → IsValue (census self.old.store) default
             → OptionIs (Is (census self.old.store) Proc) block → Keeps self.old self.new }
     {
-        match self.objects.get_mut(id.0 as usize).kind_mut() {
-            Kind::Hash(contents) => {
-                let contents = contents.get_mut();
-                contents.default = default;
-                contents.block = block;
-            }
-            _ => unreachable!(),
-        }
+        self.objects
+            .get_mut(id.0 as usize)
+            .set_absent(default, block);
     }
 }

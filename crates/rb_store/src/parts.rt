@@ -13,7 +13,7 @@ ghost use Rattle.rb_store.specs.Counted.{IsCounted};
 
 use crate::store::Store;
 use rb_base::List;
-use rb_value::{Kind, Method, MethodEntry, ObjId, Object, SymId, Value, Visibility};
+use rb_value::{Method, MethodEntry, ObjId, Object, SymId, Value, Visibility};
 use std::alloc::AllocError;
 
 impl Store {
@@ -30,7 +30,7 @@ impl Store {
     }
 
     /// Puts a method into the own list of a class or module. Where memory runs out all is as before.
-    #[tactic(auto, using(def_core::proofs::Good::good_within, crate::proofs::Counted::counted_more), unfolding(def_core::specs::Changes::with_method))]
+    #[tactic(auto, using(def_core::proofs::Good::good_within, def_core::proofs::Roles::plays_class, crate::proofs::Counted::counted_more), unfolding(def_core::specs::Changes::with_method))]
     pub fn put_method(
         &mut self,
         class: ObjId,
@@ -48,19 +48,15 @@ impl Store {
         ensures keeps { Sound self.old.store → SoundMethod (census self.old.store) method → Keeps self.old self.new }
     {
         let visibility = self.visibility_for(name, visibility);
-        match self.objects.get_mut(class.0 as usize).kind_mut() {
-            Kind::Class(contents) => contents
-                .get_mut()
-                .methods
-                .set(name, MethodEntry { method, visibility })?,
-            _ => unreachable!(),
-        }
+        self.objects
+            .get_mut(class.0 as usize)
+            .put_method(name, MethodEntry { method, visibility })?;
         self.changes = self.changes.saturating_add(1);
         Ok(())
     }
 
     /// Sets the visibility of the next methods of a class or module. It takes no memory.
-    #[tactic(auto, using(def_core::proofs::Good::good_within), unfolding(def_core::specs::Changes::with_default))]
+    #[tactic(auto, using(def_core::proofs::Good::good_within, def_core::proofs::Roles::plays_class), unfolding(def_core::specs::Changes::with_default))]
     pub fn put_default(&mut self, class: ObjId, visibility: Visibility)
         requires there { IsGood self.old.store class }
         requires is_class { plays ClassOrModule (sort_at self.old.store.objects class) ≡ true }
@@ -70,14 +66,14 @@ impl Store {
         ensures counted { IsCounted self.old self.new }
         ensures keeps { Sound self.old.store → Keeps self.old self.new }
     {
-        match self.objects.get_mut(class.0 as usize).kind_mut() {
-            Kind::Class(contents) => contents.get_mut().visibility = visibility,
-            _ => unreachable!(),
-        }
+        self.objects
+            .get_mut(class.0 as usize)
+            .set_visibility(visibility);
     }
 
     /// Puts a constant into a class or module: one that is there keeps its place, and a new one goes last. Where memory
     /// runs out all is as before.
+    #[tactic(auto, using(def_core::proofs::Roles::plays_class))]
     pub fn put_constant(
         &mut self,
         class: ObjId,
@@ -95,17 +91,14 @@ impl Store {
         ensures keeps { Sound self.old.store → IsSymbol (census self.old.store) name
             → IsValue (census self.old.store) value → Keeps self.old self.new }
     {
-        match self.objects.get_mut(class.0 as usize).kind_mut() {
-            Kind::Class(contents) => {
-                contents.get_mut().constants.insert(name.0, value)?;
-                Ok(())
-            }
-            _ => unreachable!(),
-        }
+        self.objects
+            .get_mut(class.0 as usize)
+            .put_constant(name, value)?;
+        Ok(())
     }
 
     /// Puts another list of included modules into a class or module. It takes no memory.
-    #[tactic(auto, using(def_core::proofs::Good::good_within, crate::proofs::Counted::counted_more))]
+    #[tactic(auto, using(def_core::proofs::Good::good_within, def_core::proofs::Roles::plays_class, crate::proofs::Counted::counted_more))]
     pub fn put_included(&mut self, class: ObjId, included: List<ObjId>)
         requires there { IsGood self.old.store class }
         requires is_class { plays ClassOrModule (sort_at self.old.store.objects class) ≡ true }
@@ -118,10 +111,9 @@ impl Store {
         ensures keeps { Sound self.old.store → AllAre (Is (census self.old.store) Module) included
             → Keeps self.old self.new }
     {
-        match self.objects.get_mut(class.0 as usize).kind_mut() {
-            Kind::Class(contents) => contents.get_mut().included = included,
-            _ => unreachable!(),
-        }
+        self.objects
+            .get_mut(class.0 as usize)
+            .set_included(included);
         self.changes = self.changes.saturating_add(1);
     }
 

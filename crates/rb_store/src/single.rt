@@ -3,7 +3,7 @@
 ghost use Rattle.std.specs.Prelude.{◌≡◌, ◌<◌, false, length, OnOk, OnErr};
 ghost use Rattle.rb_value.specs.Sort.{sort_of};
 ghost use Rattle.rb_value.specs.declared.kind.Sort.TheVariants as sorts;
-ghost use Rattle.def_core.specs.Store.{object_at, sort_at};
+ghost use Rattle.def_core.specs.Store.{sort_at};
 ghost use Rattle.def_core.specs.Parts as parts;
 ghost use Rattle.def_core.specs.Sound.{plays, ClassOrModule, Sound, SoundKind, census, IsSymbol, IsValue, IsGood};
 ghost use Rattle.rb_store.specs.Keeps.{Keeps};
@@ -11,7 +11,6 @@ ghost use Rattle.rb_store.specs.Keeps.{Keeps};
 use crate::store::Store;
 use rb_value::{Kind, ObjId, SymId, Value};
 use std::alloc::AllocError;
-use std::mem;
 
 impl Store {
     /// The value of an instance variable, where it was set. It takes no memory.
@@ -47,10 +46,7 @@ impl Store {
         } }
         ensures keeps { Sound self.old.store → Keeps self.old self.new }
     {
-        if let Kind::Proc(contents) = self.objects.get_mut(id.0 as usize).kind_mut() {
-            let contents = contents.get_mut();
-            contents.sending = contents.sending.sent_to(activation);
-        }
+        self.objects.get_mut(id.0 as usize).send(activation);
     }
 
     /// Notes that a fiber has ended. It takes no memory.
@@ -62,24 +58,19 @@ impl Store {
         } }
         ensures keeps { Sound self.old.store → Keeps self.old self.new }
     {
-        match self.objects.get_mut(id.0 as usize).kind_mut() {
-            Kind::Fiber { block: _, ended } => *ended = true,
-            _ => unreachable!(),
-        }
+        self.objects.get_mut(id.0 as usize).end();
     }
 
-    /// Puts other contents of the same sort into an object that is no class or module, and gives those that were there.
-    /// It takes no memory.
-    pub fn put_kind(&mut self, id: ObjId, kind: Kind) -> Kind
+    /// Puts other contents of the same sort into an object that is no class or module. It takes no memory.
+    pub fn put_kind(&mut self, id: ObjId, kind: Kind)
         requires there { IsGood self.old.store id }
         requires sort { sort_of kind ≡ sort_at self.old.store.objects id }
         requires other { plays ClassOrModule (sort_of kind) ≡ false }
-        ensures before { result ≡ (object_at self.old.store.objects id).kind }
         ensures after { self.new ≡ record self.old {
           store = parts.with_objects self.old.store (parts.with_kind self.old.store.objects id kind);
         } }
         ensures keeps { Sound self.old.store → SoundKind (census self.old.store) id.0 kind → Keeps self.old self.new }
     {
-        mem::replace(self.objects.get_mut(id.0 as usize).kind_mut(), kind)
+        self.objects.get_mut(id.0 as usize).set_kind(kind);
     }
 }

@@ -80,7 +80,7 @@ impl Store {
             (λ sort. sort_at self.now.store.objects id ≡ sort) }
     {
         if id.0 < self.len() {
-            Some(self.get(id).kind().sort())
+            Some(self.get(id).sort())
         } else {
             None
         }
@@ -149,7 +149,7 @@ impl Store {
         ensures keeps { Sound self.old.store → SoundObject (census self.old.store) id.0 object
             → Keeps self.old self.new }
     {
-        self.changes = raised(self.changes, object.kind().sort());
+        self.changes = raised(self.changes, object.sort());
         mem::replace(self.objects.get_mut(id.0 as usize), object)
     }
 

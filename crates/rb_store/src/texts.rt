@@ -7,21 +7,8 @@ ghost use Rattle.def_core.specs.Sound.{Sound, IsGood};
 ghost use Rattle.rb_store.specs.Keeps.{Keeps};
 
 use crate::store::Store;
-use rb_base::Bytes;
-use rb_value::{Kind, ObjId};
-use std::alloc::{AllocError, Global};
-use std::mem;
-
-/// Puts bytes at the end of others. Where memory runs out these are as before.
-fn extend(alloc: Global, bytes: &mut Bytes, more: &[u8]) -> Result<(), AllocError>
-    ensures ok { OnOk result (bytes.new ≡ bytes.old ++ more.now) }
-    ensures err { OnErr result (bytes.new ≡ bytes.old) }
-{
-    let mut items = mem::replace(bytes, Bytes::new(alloc)).into_vec();
-    let answer = items.extend_from_slice(more);
-    *bytes = Bytes::from_vec(items);
-    answer
-}
+use rb_value::{ObjId, SmallBytes};
+use std::alloc::AllocError;
 
 impl Store {
     /// The bytes of a String; none of any other object. It takes no memory.
@@ -29,10 +16,7 @@ impl Store {
         requires { IsGood self.now.store id }
         ensures { result.now ≡ parts.text_at self.now.store.objects id }
     {
-        match self.get(id).kind() {
-            Kind::String(bytes) => bytes.as_slice(),
-            _ => &[],
-        }
+        self.get(id).text()
     }
 
     /// Puts bytes at the end of a String. Where memory runs out all is as before.
@@ -47,14 +31,11 @@ impl Store {
         ensures keeps { Sound self.old.store → Keeps self.old self.new }
     {
         let alloc = self.alloc;
-        match self.objects.get_mut(id.0 as usize).kind_mut() {
-            Kind::String(bytes) => extend(alloc, bytes, more),
-            _ => unreachable!(),
-        }
+        self.objects.get_mut(id.0 as usize).append_text(alloc, more)
     }
 
     /// Puts other bytes into a String, and hands the ones before back. It takes no memory.
-    pub fn replace_text(&mut self, id: ObjId, bytes: Bytes) -> Bytes
+    pub fn replace_text(&mut self, id: ObjId, bytes: SmallBytes) -> SmallBytes
         requires there { IsGood self.old.store id }
         requires string { sort_at self.old.store.objects id ≡ sorts.String }
         ensures before { result ≡ parts.text_at self.old.store.objects id }
@@ -63,9 +44,6 @@ impl Store {
         } }
         ensures keeps { Sound self.old.store → Keeps self.old self.new }
     {
-        match self.objects.get_mut(id.0 as usize).kind_mut() {
-            Kind::String(own) => mem::replace(own, bytes),
-            _ => unreachable!(),
-        }
+        self.objects.get_mut(id.0 as usize).replace_text(bytes)
     }
 }

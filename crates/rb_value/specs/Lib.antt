@@ -9,6 +9,8 @@ pub mod Hash
 pub mod Sending
 pub mod Variables
 pub mod Object
-pub mod RareParts
+pub mod KindRef
+pub mod Contents
+pub mod Items
+pub mod Held
 pub mod BoxLending
-pub mod ObjectLending

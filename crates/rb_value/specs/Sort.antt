@@ -1,4 +1,5 @@
 -- What an object is, without what it holds.
+use Rattle.std.specs.Prelude.{Bool, true, false}
 use Rattle.rb_value.specs.declared.kind.ClassForm.{ClassForm}
 use Rattle.rb_value.specs.declared.kind.ClassForm.TheVariants as form
 use Rattle.rb_value.specs.declared.kind.Kind.{Kind}
@@ -24,3 +25,18 @@ sort_of (kind.Fiber b e) = sort.Fiber
 sort_of (kind.Exception m d) = sort.Exception
 sort_of (kind.Enumerator e) = sort.Enumerator
 sort_of (kind.Yielder b) = sort.Yielder
+
+abbrev pub is_class : Sort → Bool
+is_class sort.Plain = false
+is_class sort.Class = true
+is_class sort.Singleton = true
+is_class sort.Module = true
+is_class sort.String = false
+is_class sort.Array = false
+is_class sort.Hash = false
+is_class sort.Range = false
+is_class sort.Proc = false
+is_class sort.Fiber = false
+is_class sort.Exception = false
+is_class sort.Enumerator = false
+is_class sort.Yielder = false

@@ -1,16 +1,18 @@
 //! What objects hold.
 ghost use Rattle.std.specs.Prelude.{◌≡◌};
+ghost use Rattle.rb_value.specs.KindRef.{seen};
 ghost use Rattle.rb_value.specs.Sort.{sort_of, sort_of_form};
 
 use crate::boxed::Boxed;
 use crate::hash::HashContents;
+use crate::items::Items;
 use crate::method::Visibility;
 use crate::method_table::MethodTable;
 use crate::procs::ProcContents;
 use crate::value::{ObjId, SymId, Value};
-use list_queue::Queue;
 use pair_table::PairTable;
-use rb_base::{Bytes, List};
+use rb_base::List;
+use small_bytes::SmallBytes;
 
 /// What a class object is: a class, the singleton class of an object, or a module.
 #[derive(Clone, Copy, Debug, PartialEq, Eq)]
@@ -74,14 +76,14 @@ pub struct EnumeratorContents {
     pub result: Option<Value>,
 }
 
-/// What an object holds, by what it is. Contents that are long stand apart.
+/// What an object is made to hold, by what it is. Contents that are long stand apart.
 #[derive(Drop)]
 pub enum Kind {
     /// Nothing but its instance variables.
     Plain,
     Class(Boxed<ClassContents>),
-    String(Bytes),
-    Array(Queue<Value>),
+    String(SmallBytes),
+    Array(Items),
     Hash(Boxed<HashContents>),
     Range(RangeContents),
     Proc(Boxed<ProcContents>),
@@ -92,6 +94,23 @@ pub enum Kind {
     Exception { message: Value, detail: Value },
     Enumerator(Boxed<EnumeratorContents>),
     /// What the Proc of an Enumerator is called with: the Proc that takes each item.
+    Yielder { block: ObjId },
+}
+
+/// What an object holds, to be read, by what it is.
+#[derive(Clone, Copy)]
+pub enum KindRef<'a> {
+    Plain,
+    Class(&'a Boxed<ClassContents>),
+    String(&'a [u8]),
+    Array(&'a [Value]),
+    Hash(&'a Boxed<HashContents>),
+    Range(RangeContents),
+    Proc(&'a Boxed<ProcContents>),
+    CoreProc { row: u16, kept: Value },
+    Fiber { block: ObjId, ended: bool },
+    Exception { message: Value, detail: Value },
+    Enumerator(&'a Boxed<EnumeratorContents>),
     Yielder { block: ObjId },
 }
 
@@ -147,6 +166,35 @@ impl Kind {
             } => Sort::Exception,
             Kind::Enumerator(_) => Sort::Enumerator,
             Kind::Yielder { block: _ } => Sort::Yielder,
+        }
+    }
+
+    /// The same, to be read.
+    pub fn as_ref(&self) -> KindRef<'_>
+        ensures { seen result ≡ self.now }
+    {
+        match self {
+            Kind::Plain => KindRef::Plain,
+            Kind::Class(contents) => KindRef::Class(contents),
+            Kind::String(bytes) => KindRef::String(bytes.as_slice()),
+            Kind::Array(items) => KindRef::Array(items.as_slice()),
+            Kind::Hash(contents) => KindRef::Hash(contents),
+            Kind::Range(contents) => KindRef::Range(*contents),
+            Kind::Proc(contents) => KindRef::Proc(contents),
+            Kind::CoreProc { row, kept } => KindRef::CoreProc {
+                row: *row,
+                kept: *kept,
+            },
+            Kind::Fiber { block, ended } => KindRef::Fiber {
+                block: *block,
+                ended: *ended,
+            },
+            Kind::Exception { message, detail } => KindRef::Exception {
+                message: *message,
+                detail: *detail,
+            },
+            Kind::Enumerator(contents) => KindRef::Enumerator(contents),
+            Kind::Yielder { block } => KindRef::Yielder { block: *block },
         }
     }
 }

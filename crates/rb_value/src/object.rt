@@ -1,38 +1,34 @@
 //! Objects.
 ghost use Rattle.std.specs.Prelude.{◌≡◌, None, Some, [], OnOk, OnErr};
-ghost use Rattle.std.specs.Borrow.{sem};
-ghost use Rattle.rb_value.specs.ObjectLending.{LendsKind};
+ghost use Rattle.rb_value.specs.Contents.{elements_in, bytes_in};
+ghost use Rattle.rb_value.specs.KindRef as refs;
+ghost use Rattle.rb_value.specs.Sort.{sort_of};
 ghost use Rattle.rb_value.specs.Variables.{variable_of, with_variable};
 
-use crate::kind::Kind;
+use crate::held::Held;
+use crate::kind::{Kind, KindRef, Sort};
 use crate::value::{ObjId, SymId, Value};
-use crate::variables::{Variable, Variables};
+use crate::variables::{Variable, value_in};
 use std::alloc::{AllocError, Global};
 use std::marker::Model;
-
-/// What few objects have.
-#[derive(Drop)]
-pub(crate) struct RareParts {
-    singleton: Option<ObjId>,
-    variables: Variables,
-}
+use std::mem::size_of;
 
 /// An object: its class, its singleton class where one was made, its instance variables in the order in which they
-/// were first set, and what it holds. It takes at most 64 bytes without its contents.
+/// were first set, and what it holds. It takes 48 bytes without what stands apart.
 #[derive(Drop)]
 pub struct Object {
     class: ObjId,
-    rare: Option<Box<RareParts>>,
-    kind: Kind,
+    pub(crate) held: Held,
 }
 
 impl Model for Object {
     ghost use Rattle.rb_value.specs.Object as objects;
-    ghost use Rattle.rb_value.specs.RareParts as seldom;
 
     ghost Value = { objects.Object };
 
-    ghost view = { λ o. seldom.seen o.class (seldom.parts_of o.rare) o.kind };
+    ghost use Rattle.rb_value.specs.Held as helds;
+
+    ghost view = { λ o. helds.seen o.class o.held };
 }
 
 impl Object {
@@ -42,12 +38,12 @@ impl Object {
     {
         Object {
             class,
-            rare: None,
-            kind,
+            held: Held::of(kind),
         }
     }
 
     /// The class.
+    #[inline(always)]
     pub fn class(&self) -> ObjId
         ensures { result ≡ self.now.class }
     {
@@ -58,9 +54,9 @@ impl Object {
     pub fn singleton(&self) -> Option<ObjId>
         ensures { result ≡ self.now.singleton }
     {
-        match &self.rare {
-            Some(parts) => parts.singleton,
-            None => None,
+        match &self.held {
+            Held::Rich(rich) => rich.get().singleton,
+            _ => None,
         }
     }
 
@@ -68,35 +64,51 @@ impl Object {
     pub fn variables(&self) -> &[Variable]
         ensures { result.now ≡ self.now.variables }
     {
-        match &self.rare {
-            Some(parts) => parts.variables.as_slice(),
-            None => &[],
+        match &self.held {
+            Held::Varied(variables) => variables.as_slice(),
+            Held::Rich(rich) => rich.get().variables.as_slice(),
+            _ => &[],
         }
     }
 
     /// The value of an instance variable, where it was set.
+    #[inline(always)]
     pub fn variable(&self, name: SymId) -> Option<Value>
         ensures { result ≡ variable_of self.now.variables name }
     {
-        match &self.rare {
-            Some(parts) => parts.variables.get(name),
-            None => None,
-        }
+        value_in(self.variables(), name)
+    }
+
+    /// What it is.
+    #[inline(always)]
+    pub fn sort(&self) -> Sort
+        ensures { result ≡ sort_of self.now.kind }
+    {
+        self.held.sort()
     }
 
     /// What it holds.
-    pub fn kind(&self) -> &Kind
-        ensures { result.now ≡ self.now.kind }
+    #[inline(always)]
+    pub fn kind(&self) -> KindRef<'_>
+        ensures { refs.seen result ≡ self.now.kind }
     {
-        &self.kind
+        self.held.as_ref()
     }
 
-    /// What it holds, to be changed.
-    pub fn kind_mut(&mut self) -> &mut Kind
-        ensures* writes_back { sem 𝓛 (LendsKind self.entry result) }
-        ensures value { result.now ≡ self.old.kind }
+    /// The elements of an Array; none of any other object.
+    #[inline(always)]
+    pub fn items(&self) -> &[Value]
+        ensures { result.now ≡ elements_in self.now.kind }
     {
-        &mut self.kind
+        self.held.items()
+    }
+
+    /// The bytes of a String; none of any other object.
+    #[inline(always)]
+    pub fn text(&self) -> &[u8]
+        ensures { result.now ≡ bytes_in self.now.kind }
+    {
+        self.held.text()
     }
 
     /// Sets an instance variable: one that was set before keeps its place. Where memory runs out the object is as
@@ -111,19 +123,7 @@ impl Object {
             { variables = with_variable self.old.variables name value }) }
         ensures err { OnErr result (self.new ≡ self.old) }
     {
-        match &mut self.rare {
-            Some(parts) => parts.variables.set(name, value),
-            None => {
-                let mut variables = Variables::new(alloc);
-                variables.set(name, value)?;
-                let parts = RareParts {
-                    singleton: None,
-                    variables,
-                };
-                self.rare = Some(Box::new(alloc, parts)?);
-                Ok(())
-            }
-        }
+        self.held.set_variable(alloc, name, value)
     }
 
     /// Gives the object a singleton class. Where memory runs out it is as before.
@@ -131,19 +131,8 @@ impl Object {
         ensures ok { OnOk result (self.new ≡ record self.old { singleton = Some singleton }) }
         ensures err { OnErr result (self.new ≡ self.old) }
     {
-        match &mut self.rare {
-            Some(parts) => {
-                parts.singleton = Some(singleton);
-                Ok(())
-            }
-            None => {
-                let parts = RareParts {
-                    singleton: Some(singleton),
-                    variables: Variables::new(alloc),
-                };
-                self.rare = Some(Box::new(alloc, parts)?);
-                Ok(())
-            }
-        }
+        self.held.set_singleton(alloc, singleton)
     }
 }
+
+const _: () = prove!(size_of::<Object>() <= 48);

@@ -42,6 +42,16 @@ fn place_of(variables: &[Variable], name: SymId) -> Option<usize>
     )
 }
 
+/// The value of the variable of that name, where it was set.
+pub(crate) fn value_in(variables: &[Variable], name: SymId) -> Option<Value>
+    ensures { result ≡ variable_of variables.now name }
+{
+    match place_of(variables, name) {
+        Some(place) => Some(variables[place].value),
+        None => None,
+    }
+}
+
 impl Variables {
     /// No variables. It takes no memory.
     pub fn new(alloc: Global) -> Variables
@@ -63,10 +73,7 @@ impl Variables {
     pub fn get(&self, name: SymId) -> Option<Value>
         ensures { result ≡ variable_of self.now name }
     {
-        match place_of(self.list.as_slice(), name) {
-            Some(place) => Some(self.list[place].value),
-            None => None,
-        }
+        value_in(self.list.as_slice(), name)
     }
 
     /// Sets the variable of that name: one that was set before keeps its place, and a new one goes last. Where memory

@@ -8,7 +8,7 @@ ghost use Rattle.rows_object.specs.Follows.{Follows};
 ghost use Rattle.rows_class.specs.Spaces as defined;
 
 use core_calls::heap::{Given, Heap};
-use rb_value::{CoreClass, Kind, ObjId, Sort, SymId, Value};
+use rb_value::{CoreClass, KindRef, ObjId, Sort, SymId, Value};
 use rows_object::giving::give_array;
 use std::alloc::{AllocError, Global};
 
@@ -27,7 +27,7 @@ fn own_name(heap: &Heap, space: ObjId) -> Option<SymId>
     ensures { result ≡ (class_at heap.now.store.objects space).name }
 {
     match heap.kind(space)? {
-        Kind::Class(contents) => contents.get().name,
+        KindRef::Class(contents) => contents.get().name,
         _ => None,
     }
 }

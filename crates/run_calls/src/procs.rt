@@ -8,7 +8,7 @@ use crate::rows::enter_row;
 use core_iter::core_calls::Call;
 use core_iter::heap::Heap;
 use def_core::BindKind;
-use rb_value::{Kind, ObjId, ProcContents, Value};
+use rb_value::{KindRef, ObjId, ProcContents, Value};
 use std::alloc::AllocError;
 
 /// What a Proc is to its call: a body, or a row with the value that it keeps.
@@ -100,10 +100,7 @@ fn proc_callee(heap: &Heap, id: ObjId, block: Option<ObjId>, next: u64) -> Optio
 /// What a Proc without a body is to a call.
 fn row_callee(heap: &Heap, id: ObjId) -> Option<Callee> {
     match heap.kind(id)? {
-        Kind::CoreProc { row, kept } => Some(Callee::Row {
-            row: *row,
-            kept: *kept,
-        }),
+        KindRef::CoreProc { row, kept } => Some(Callee::Row { row, kept }),
         _ => None,
     }
 }

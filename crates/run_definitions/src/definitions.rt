@@ -23,7 +23,7 @@ pub fn space_in(st: &Store, value: Value) -> Option<ObjId>
     ensures class { OptionIs (Is (census st.now.store) ClassOrModule) result }
 {
     match value {
-        Value::Obj(id) => match st.get(id).kind().sort() {
+        Value::Obj(id) => match st.get(id).sort() {
             Sort::Class | Sort::Singleton | Sort::Module => Some(id),
             _ => None,
         },

@@ -9,7 +9,7 @@ ghost use Rattle.rb_store.specs.Keeps.{Keeps};
 
 use crate::renaming::stand_in;
 use rb_store::Store;
-use rb_value::{ClassForm, Kind, ObjId, Object, SymId};
+use rb_value::{ClassForm, KindRef, ObjId, Object, SymId};
 use std::alloc::AllocError;
 
 /// The form of a class or module.
@@ -19,12 +19,13 @@ fn form_of(st: &Store, class: ObjId) -> ClassForm
     ensures { result ≡ (classes.class_at st.now.store.objects class).form }
 {
     match st.get(class).kind() {
-        Kind::Class(contents) => contents.get().form,
+        KindRef::Class(contents) => contents.get().form,
         _ => ClassForm::Module,
     }
 }
 
 /// Takes a method out of the own list of a class or module that is out of the store. It takes no memory.
+#[tactic(auto, using(def_core::proofs::Roles::plays_class))]
 fn lose(object: &mut Object, name: SymId)
     requires { plays ClassOrModule (sort_of object.old.kind) ≡ true }
     ensures { object.new ≡ record object.old {
@@ -32,12 +33,7 @@ fn lose(object: &mut Object, name: SymId)
           { methods = without_entry (classes.contents_of object.old.kind).methods name });
     } }
 {
-    match object.kind_mut() {
-        Kind::Class(contents) => {
-            let _entry = contents.get_mut().methods.remove(name);
-        }
-        _ => unreachable!(),
-    }
+    object.remove_method(name);
 }
 
 /// Takes a method out of the own list of a class or module, so that what stands above is found. Where memory runs out

@@ -15,7 +15,8 @@ use rb_base::List;
 use rb_raise::class_name;
 use rb_store::Store;
 use rb_value::{
-    Boxed, ClassContents, ClassForm, CoreClass, Kind, MethodTable, ObjId, Object, SymId, Visibility,
+    Boxed, ClassContents, ClassForm, CoreClass, Kind, KindRef, MethodTable, ObjId, Object, SymId,
+    Visibility,
 };
 use std::alloc::{AllocError, Global};
 
@@ -27,7 +28,7 @@ fn nameless_form(st: &Store, class: ObjId) -> Option<ClassForm>
     ensures name { is_some result ≡ not (is_some (classes.class_at st.now.store.objects class).name) }
 {
     match st.get(class).kind() {
-        Kind::Class(contents) => match contents.get().name {
+        KindRef::Class(contents) => match contents.get().name {
             Some(_) => None,
             None => Some(contents.get().form),
         },
@@ -52,15 +53,13 @@ pub(crate) fn stand_in(alloc: Global, class: ObjId, form: ClassForm) -> Result<O
 }
 
 /// Gives a class or module that is out of the store a name. It takes no memory.
+#[tactic(auto, using(def_core::proofs::Roles::plays_class))]
 fn rename(object: &mut Object, name: SymId)
     requires { plays ClassOrModule (sort_of object.old.kind) ≡ true }
     ensures { object.new ≡ record object.old
         { kind = kinds.Class (record (classes.contents_of object.old.kind) { name = Some name }) } }
 {
-    match object.kind_mut() {
-        Kind::Class(contents) => contents.get_mut().name = Some(name),
-        _ => unreachable!(),
-    }
+    object.set_name(name);
 }
 
 /// Gives a class or module of that form a name. Where memory runs out all is as before.

@@ -7,7 +7,7 @@ ghost use Rattle.def_core.specs.Sound.{Sound, census, Is, Any, Array, String, Pr
 ghost use Rattle.def_calls.specs.Views as views;
 
 use rb_store::Store;
-use rb_value::{Kind, ObjId, SymId, Value};
+use rb_value::{KindRef, ObjId, SymId, Value};
 
 /// The number of an object.
 pub fn object_in(value: Value) -> Option<ObjId>
@@ -59,7 +59,7 @@ pub fn an_array(st: &Store, value: Value) -> Option<ObjId>
 {
     let id = object_in(value)?;
     match st.get(id).kind() {
-        Kind::Array(_) => Some(id),
+        KindRef::Array(_) => Some(id),
         _ => None,
     }
 }
@@ -74,7 +74,7 @@ pub fn a_string(st: &Store, value: Value) -> Option<ObjId>
 {
     let id = object_in(value)?;
     match st.get(id).kind() {
-        Kind::String(_) => Some(id),
+        KindRef::String(_) => Some(id),
         _ => None,
     }
 }
@@ -89,7 +89,7 @@ pub fn a_hash(st: &Store, value: Value) -> Option<ObjId>
 {
     let id = object_in(value)?;
     match st.get(id).kind() {
-        Kind::Hash(_) => Some(id),
+        KindRef::Hash(_) => Some(id),
         _ => None,
     }
 }
@@ -104,8 +104,8 @@ pub fn a_proc(st: &Store, value: Value) -> Option<ObjId>
 {
     let id = object_in(value)?;
     match st.get(id).kind() {
-        Kind::Proc(_) => Some(id),
-        Kind::CoreProc { row: _, kept: _ } => Some(id),
+        KindRef::Proc(_) => Some(id),
+        KindRef::CoreProc { row: _, kept: _ } => Some(id),
         _ => None,
     }
 }
@@ -120,7 +120,7 @@ pub fn a_fiber(st: &Store, value: Value) -> Option<ObjId>
 {
     let id = object_in(value)?;
     match st.get(id).kind() {
-        Kind::Fiber { block: _, ended: _ } => Some(id),
+        KindRef::Fiber { block: _, ended: _ } => Some(id),
         _ => None,
     }
 }
@@ -135,7 +135,7 @@ pub fn an_exception(st: &Store, value: Value) -> Option<ObjId>
 {
     let id = object_in(value)?;
     match st.get(id).kind() {
-        Kind::Exception {
+        KindRef::Exception {
             message: _,
             detail: _,
         } => Some(id),
@@ -152,7 +152,7 @@ pub fn message_of(st: &Store, id: ObjId) -> Value
     ensures belongs { IsValue (census st.now.store) result }
 {
     match st.get(id).kind() {
-        Kind::Exception { message, detail: _ } => *message,
+        KindRef::Exception { message, detail: _ } => message,
         _ => Value::Nil,
     }
 }
@@ -166,7 +166,7 @@ pub fn detail_of(st: &Store, id: ObjId) -> Value
     ensures belongs { IsValue (census st.now.store) result }
 {
     match st.get(id).kind() {
-        Kind::Exception { message: _, detail } => *detail,
+        KindRef::Exception { message: _, detail } => detail,
         _ => Value::Nil,
     }
 }
@@ -180,7 +180,7 @@ pub fn fiber_of(st: &Store, id: ObjId) -> Option<(ObjId, bool)>
     ensures block { IfSome result (λ f. Is (census st.now.store) Proc f.0) }
 {
     match st.get(id).kind() {
-        Kind::Fiber { block, ended } => Some((*block, *ended)),
+        KindRef::Fiber { block, ended } => Some((block, ended)),
         _ => None,
     }
 }
@@ -194,7 +194,7 @@ pub fn elements_of(st: &Store, value: Value) -> Option<&[Value]>
 {
     let id = object_in(value)?;
     match st.get(id).kind() {
-        Kind::Array(elements) => Some(elements.as_slice()),
+        KindRef::Array(elements) => Some(elements),
         _ => None,
     }
 }

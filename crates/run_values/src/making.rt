@@ -6,10 +6,9 @@ ghost use Rattle.def_calls.specs.World as world;
 ghost use Rattle.run_values.specs.Answers.{Answers};
 
 use crate::given::Given;
-use list_queue::Queue;
 use rb_base::Bytes;
 use rb_store::Store;
-use rb_value::{CoreClass, Kind, Object, Value};
+use rb_value::{CoreClass, Items, Kind, Object, SmallBytes, Value};
 use std::alloc::AllocError;
 
 /// Gives a new object. Where memory runs out the store is as before.
@@ -33,7 +32,7 @@ pub fn make_items(st: &mut Store, items: Vec<Value>) -> Result<Given, AllocError
     ensures err { OnErr result (st.new.store ≡ st.old.store) }
 {
     let class = st.class_object(CoreClass::Array);
-    make(st, Object::new(class, Kind::Array(Queue::from_vec(items))))
+    make(st, Object::new(class, Kind::Array(Items::from_vec(items))))
 }
 
 /// Gives a new String. Where memory runs out the store is as before.
@@ -44,5 +43,8 @@ pub fn make_text(st: &mut Store, bytes: Bytes) -> Result<Given, AllocError>
     ensures err { OnErr result (st.new.store ≡ st.old.store) }
 {
     let class = st.class_object(CoreClass::String);
-    make(st, Object::new(class, Kind::String(bytes)))
+    make(
+        st,
+        Object::new(class, Kind::String(SmallBytes::from_vec(bytes.into_vec()))),
+    )
 }

@@ -14,11 +14,10 @@ ghost use Rattle.run_values.specs.Splats as splats;
 use crate::kinds::{a_hash, elements_of, present};
 use core_range::range_of;
 use core_rows::making::numbered;
-use list_queue::Queue;
-use rb_base::{Bytes, List};
+use rb_base::List;
 use rb_integer::{Bounds, Ends, Item};
 use rb_store::Store;
-use rb_value::{CoreClass, HashItem, Kind, ObjId, Object, Value};
+use rb_value::{CoreClass, HashItem, Items, Kind, ObjId, Object, SmallBytes, Value};
 use std::alloc::{AllocError, Global};
 
 /// How many items a Range has; more than fit a memory are refused.
@@ -60,7 +59,7 @@ fn integers(alloc: Global, ends: Ends, count: u64) -> Result<Vec<Value>, AllocEr
 fn byte_object(st: &Store, byte: u8) -> Result<Object, AllocError>
     ensures { IfOk result (λ o. o ≡ answers.text_object (byte ∷ [])) }
 {
-    let bytes = Bytes::from_slice(st.alloc(), &[byte])?;
+    let bytes = SmallBytes::from_slice(st.alloc(), &[byte])?;
     Ok(Object::new(st.class_object(CoreClass::String), Kind::String(bytes)))
 }
 
@@ -137,11 +136,8 @@ fn splat_range(st: &mut Store, ends: Ends) -> Result<Vec<Value>, AllocError>
 fn pair_object(st: &Store, item: HashItem) -> Result<Object, AllocError>
     ensures { IfOk result (λ o. o ≡ splats.item_object item) }
 {
-    let elements = Vec::from_slice(st.alloc(), &[item.shown, item.value])?;
-    Ok(Object::new(
-        st.class_object(CoreClass::Array),
-        Kind::Array(Queue::from_vec(elements)),
-    ))
+    let elements = Items::from_slice(st.alloc(), &[item.shown, item.value])?;
+    Ok(Object::new(st.class_object(CoreClass::Array), Kind::Array(elements)))
 }
 
 /// Puts the pair at a place of a Hash, if there is one, after the others, as an Array.

@@ -4,7 +4,8 @@ use rb_base::List;
 use rb_store::Store;
 use rb_value::Value::{Int, Nil};
 use rb_value::{
-    Boxed, CoreClass, Kind, ObjId, Object, ProcContents, Sending, Shape, Sort, SymId, Value,
+    Boxed, CoreClass, Kind, KindRef, ObjId, Object, ProcContents, Sending, Shape, Sort, SymId,
+    Value,
 };
 use std::alloc::{AllocError, Global};
 
@@ -93,7 +94,7 @@ fn break_target(
         return Ok(None);
     }
     match st.get(id).kind() {
-        Kind::Proc(contents) => Ok(contents.get().sending.break_target()),
+        KindRef::Proc(contents) => Ok(contents.get().sending.break_target()),
         _ => Ok(None),
     }
 }
@@ -112,7 +113,7 @@ fn has_ended(st: &Store, id: ObjId) -> Option<bool> {
         return None;
     }
     match st.get(id).kind() {
-        Kind::Fiber { block: _, ended } => Some(*ended),
+        KindRef::Fiber { block: _, ended } => Some(ended),
         _ => None,
     }
 }

@@ -10,7 +10,9 @@ use key_list::KeyList;
 use pair_table::PairTable;
 use rb_store::Store;
 use rb_value::Value::{Int, Nil, True};
-use rb_value::{Boxed, CoreClass, HashContents, HashItem, Key, Kind, ObjId, Object, Sort, Value};
+use rb_value::{
+    Boxed, CoreClass, HashContents, HashItem, Key, Kind, KindRef, ObjId, Object, Sort, Value,
+};
 use std::alloc::{AllocError, Global};
 
 /// What is shown as a key, and its value.
@@ -142,7 +144,7 @@ fn absent_value(st: &Store, id: ObjId) -> Option<Value> {
         return None;
     }
     match st.get(id).kind() {
-        Kind::Hash(contents) => Some(contents.get().default),
+        KindRef::Hash(contents) => Some(contents.get().default),
         _ => None,
     }
 }

@@ -18,5 +18,5 @@ pub(crate) fn is_a(st: &Store, id: ObjId, sort: Sort) -> bool
     ensures good { result ≡ true → IsGood st.now.store id }
     ensures sort { result ≡ true → sort_at st.now.store.objects id ≡ sort }
 {
-    is_there(st, id) && st.get(id).kind().sort() == sort
+    is_there(st, id) && st.get(id).sort() == sort
 }

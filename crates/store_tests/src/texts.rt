@@ -6,9 +6,8 @@ ghost use Rattle.def_core.specs.Sound.{IsGood};
 
 use crate::sorts::{is_a, is_there};
 use Change::{Append, PutKind, Replace};
-use rb_base::Bytes;
 use rb_store::Store;
-use rb_value::{CoreClass, Kind, ObjId, Object, Sort};
+use rb_value::{CoreClass, Kind, ObjId, Object, SmallBytes, Sort};
 use std::alloc::AllocError;
 
 /// A change of a String.
@@ -22,7 +21,7 @@ enum Change {
 /// A change, the bytes that it hands back, and the bytes of the String afterwards.
 type Step = (Change, &'static [u8], &'static [u8]);
 
-static STEPS: [Step; 9] = [
+static STEPS: [Step; 13] = [
     (Append(b""), b"", b""),
     (Append(b"ab"), b"", b"ab"),
     (Append(b"\x00c"), b"", b"ab\x00c"),
@@ -30,8 +29,20 @@ static STEPS: [Step; 9] = [
     (Append(b"yz"), b"", b"xyz"),
     (Replace(b""), b"xyz", b""),
     (Append(b"end"), b"", b"end"),
-    (PutKind(b"kind"), b"end", b"kind"),
+    (PutKind(b"kind"), b"", b"kind"),
     (Append(b"s"), b"", b"kinds"),
+    (
+        Append(b" of thirty bytes and no more"),
+        b"",
+        b"kinds of thirty bytes and no more",
+    ),
+    (
+        Replace(b"thirty bytes stand within, not"),
+        b"kinds of thirty bytes and no more",
+        b"thirty bytes stand within, not",
+    ),
+    (Append(b""), b"", b"thirty bytes stand within, not"),
+    (Append(b"!"), b"", b"thirty bytes stand within, not!"),
 ];
 
 /// Changes a String, and tells whether the call hands these bytes back.
@@ -45,15 +56,13 @@ fn hands_back(st: &mut Store, id: ObjId, change: Change, wanted: &[u8]) -> Resul
             Ok(wanted.is_empty())
         }
         Replace(bytes) => {
-            let bytes = Bytes::from_slice(st.alloc(), bytes)?;
+            let bytes = SmallBytes::from_slice(st.alloc(), bytes)?;
             Ok(st.replace_text(id, bytes).as_slice() == wanted)
         }
         PutKind(bytes) => {
-            let bytes = Bytes::from_slice(st.alloc(), bytes)?;
-            match st.put_kind(id, Kind::String(bytes)) {
-                Kind::String(before) => Ok(before.as_slice() == wanted),
-                _ => Ok(false),
-            }
+            let bytes = SmallBytes::from_slice(st.alloc(), bytes)?;
+            st.put_kind(id, Kind::String(bytes));
+            Ok(wanted.is_empty())
         }
     }
 }
@@ -74,8 +83,8 @@ fn is_right(st: &mut Store, id: ObjId, step: Step) -> Result<bool, AllocError> {
 fn bytes_as_in_a_list(rt: HostRuntime) -> Result<(), AllocError> {
     let mut st = Store::new(rt.alloc())?;
     let class = st.class_object(CoreClass::String);
-    let other = st.add(Object::new(class, Kind::String(Bytes::new(rt.alloc()))))?;
-    let id = st.add(Object::new(class, Kind::String(Bytes::new(rt.alloc()))))?;
+    let other = st.add(Object::new(class, Kind::String(SmallBytes::new())))?;
+    let id = st.add(Object::new(class, Kind::String(SmallBytes::new())))?;
     'steps: for step in &STEPS {
         assert!(rt; is_right(&mut st, id, *step)?);
     }

@@ -12,7 +12,7 @@ use core_methods::call;
 use rb_base::Bytes;
 use rb_store::Store;
 use rb_value::Value::{False, Int, Nil, Obj, Sym, True};
-use rb_value::{CoreClass, Kind, Method, ObjId, Outcome, SymId, Value};
+use rb_value::{CoreClass, KindRef, Method, ObjId, Outcome, SymId, Value};
 use row_table::line_at;
 use std::alloc::{AllocError, Global};
 
@@ -119,7 +119,7 @@ fn row_of(st: &Store, class: CoreClass, name: SymId) -> Option<u16> {
         return None;
     }
     match st.get(id).kind() {
-        Kind::Class(contents) => match contents.get().methods.get(name) {
+        KindRef::Class(contents) => match contents.get().methods.get(name) {
             Some(entry) => match entry.method {
                 Method::Core(row) => Some(row),
                 _ => None,
@@ -139,7 +139,7 @@ fn is_text(st: &Store, value: Value, text: &[u8]) -> bool {
         return false;
     }
     match st.get(id).kind() {
-        Kind::String(bytes) => bytes.as_slice() == text,
+        KindRef::String(bytes) => bytes == text,
         _ => false,
     }
 }
@@ -184,7 +184,7 @@ fn items_of(st: &Store, value: Value) -> Option<&[Value]> {
         return None;
     }
     match st.get(id).kind() {
-        Kind::Array(items) => Some(items.as_slice()),
+        KindRef::Array(items) => Some(items),
         _ => None,
     }
 }

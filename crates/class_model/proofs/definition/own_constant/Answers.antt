@@ -3,6 +3,7 @@ use Rattle.rb_value.specs.Object.{Object}
 use Rattle.rb_value.specs.declared.value.Value.{Value}
 use Rattle.rb_value.specs.declared.kind.ClassContents.{ClassContents}
 use Rattle.rb_value.specs.declared.kind.Kind.{Kind}
+use Rattle.rb_value.specs.KindRef.{seen}
 use Rattle.def_core.specs.Classes.{contents_of}
 use Rattle.def_core.specs.Changes.{constant_in}
 use Rattle.def_core.specs.Sound.{census, IsValue, OptionIs}
@@ -13,7 +14,7 @@ pub returns-in-Class-clause-there : goal.returns-in-Class-clause-there
 returns-in-Class-clause-there c =
     let st = c.args.st.now.store in
     let class = ap (λ (k : Kind). (contents_of k).constants)
-    (sym (ap (λ (o : Object). o.kind) c.get.ensures) ∙ sym c.kind.ensures ∙ c.in-Class.is) in
+    (sym (ap (λ (o : Object). o.kind) c.get.ensures) ∙ sym c.kind.ensures ∙ ap seen c.in-Class.is) in
     let own = ap (λ (k : ClassContents). constant_in k.constants c.args.name) c.get-in-Class.ensures in
     let value = c.constant_in.ensures ∙ own
     ∙ ap (λ (ks : List (ℕ × Value)). constant_in ks c.args.name) (sym class) in

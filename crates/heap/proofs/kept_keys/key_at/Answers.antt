@@ -5,6 +5,7 @@ use Rattle.rb_value.specs.declared.hash.HashContents.{HashContents}
 use Rattle.rb_value.specs.declared.hash.HashItem.{HashItem}
 use Rattle.rb_value.specs.declared.key.Key.{Key}
 use Rattle.rb_value.specs.declared.kind.Kind.{Kind}
+use Rattle.rb_value.specs.KindRef.{seen}
 use Rattle.rb_value.specs.declared.kind.Kind.TheVariants as kind
 use Rattle.rb_value.specs.declared.value.ObjId.{ObjId}
 use Rattle.def_core.specs.Parts.{hash_at, hash_in}
@@ -17,8 +18,8 @@ pub returns-in_ok-key_copy-in-Some-pair_at-clause-key :
 returns-in_ok-key_copy-in-Some-pair_at-clause-key c =
     let st = c.args.st.now.store in
     let pair = c.in-Some-pair_at in
-    let holds : (object_at st.objects c.in-Some.id).kind ≡ kind.Hash c.in-Hash.contents =
-    sym (ap (λ (o : Object). o.kind) c.get.ensures) ∙ sym c.kind.ensures ∙ c.in-Hash.is in
+    let holds : (object_at st.objects c.in-Some.id).kind ≡ kind.Hash c.in-Hash.contents.now =
+    sym (ap (λ (o : Object). o.kind) c.get.ensures) ∙ sym c.kind.ensures ∙ ap seen c.in-Hash.is in
     let there : slice_get (hash_at st.objects c.args.id).pairs c.args.place ≡ Some (pair.key.now, pair.field-0-1.now) =
     ap (λ (i : ObjId). slice_get (hash_at st.objects i).pairs c.args.place) (sym c.in-Some.ensures.found.0)
     ∙ ap (λ (k : Kind). slice_get (hash_in k).pairs c.args.place) holds

@@ -5,7 +5,7 @@ use Rattle.rb_store.proofs.Kept.{keeps_if, keeps_more}
 use Rattle.rb_store.proofs.store.Store.append.Goals as goal
 
 pub returns-clause-keeps : goal.returns-clause-keeps
-returns-clause-keeps c = λ sound all. keeps_if c.append.result c.args.self.now _
+returns-clause-keeps c = λ sound all. keeps_if c.append_items.result c.args.self.now _
     (parts.with_more c.args.self.now.store.objects c.args.id c.args.values.now) sound (grind (arith, common_steps))
     (grind (arith, common_steps))
     (keeps_more c.args.self.now _ sound c.args.id c.requires.there c.args.values.now c.requires.array all)

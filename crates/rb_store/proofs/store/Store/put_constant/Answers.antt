@@ -13,10 +13,10 @@ pub returns-clause-keeps : goal.returns-clause-keeps
 returns-clause-keeps c = λ sound name value. keeps_constant c.args.self.now _ sound c.args.class c.requires.there
     c.requires.is_class c.args.name c.args.value name value (returns-clause-counted c) (grind (arith, common_steps))
 
-pub returns-in_err-insert-in-Class-clause-counted : goal.returns-in_err-insert-in-Class-clause-counted
-returns-in_err-insert-in-Class-clause-counted c = unchanged c.args.self.now _ (grind (arith, common_steps))
+pub returns-in_err-put_constant-clause-counted : goal.returns-in_err-put_constant-clause-counted
+returns-in_err-put_constant-clause-counted c = unchanged c.args.self.now _ (grind (arith, common_steps))
     (grind (arith, common_steps))
 
-pub returns-in_err-insert-in-Class-clause-keeps : goal.returns-in_err-insert-in-Class-clause-keeps
-returns-in_err-insert-in-Class-clause-keeps c =
+pub returns-in_err-put_constant-clause-keeps : goal.returns-in_err-put_constant-clause-keeps
+returns-in_err-put_constant-clause-keeps c =
     λ sound name value. keeps_itself c.args.self.now _ sound (grind (arith, common_steps))

@@ -13,10 +13,10 @@ returns-clause-keeps c = λ sound right. keeps_method c.args.self.now _ sound c.
     (counted_more c.args.self.now _ (grind (arith, common_steps)) (grind (arith, common_steps)))
     (grind (arith, common_steps))
 
-pub returns-in_err-set-in-Class-clause-counted : goal.returns-in_err-set-in-Class-clause-counted
-returns-in_err-set-in-Class-clause-counted c = unchanged c.args.self.now _ (grind (arith, common_steps))
+pub returns-in_err-put_method-clause-counted : goal.returns-in_err-put_method-clause-counted
+returns-in_err-put_method-clause-counted c = unchanged c.args.self.now _ (grind (arith, common_steps))
     (grind (arith, common_steps))
 
-pub returns-in_err-set-in-Class-clause-keeps : goal.returns-in_err-set-in-Class-clause-keeps
-returns-in_err-set-in-Class-clause-keeps c = λ sound right. keeps_itself c.args.self.now _ sound
+pub returns-in_err-put_method-clause-keeps : goal.returns-in_err-put_method-clause-keeps
+returns-in_err-put_method-clause-keeps c = λ sound right. keeps_itself c.args.self.now _ sound
     (grind (arith, common_steps))

@@ -5,7 +5,7 @@ use Rattle.rb_store.proofs.Kept.{keeps_if, keeps_before}
 use Rattle.rb_store.proofs.store.Store.unshift.Goals as goal
 
 pub returns-clause-keeps : goal.returns-clause-keeps
-returns-clause-keeps c = λ sound right. keeps_if c.unshift.result c.args.self.now _
+returns-clause-keeps c = λ sound right. keeps_if c.unshift_item.result c.args.self.now _
     (parts.with_elements c.args.self.now.store.objects c.args.id
     (c.args.value ∷ parts.elements_at c.args.self.now.store.objects c.args.id)) sound (grind (arith, common_steps))
     (grind (arith, common_steps))
