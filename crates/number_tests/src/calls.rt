@@ -1,17 +1,16 @@
 //! Calls over the store at the start, with results and messages from outside.
-ghost use Rattle.std.specs.Prelude.{◌≡◌, true, IfOk};
-ghost use Rattle.def_core.specs.Sound.{Sound, census, IsValue};
+ghost use Rattle.std.specs.Prelude.{IfOk};
+ghost use Rattle.def_core.specs.Sound.{Sound};
 
 mod integers;
 mod ranges;
 
 use Wanted::{Gives, Integers, Raises, Text, Texts};
-use core_methods::call;
 use rb_base::Bytes;
 use rb_store::Store;
-use rb_value::Value::{False, Int, Nil, Obj, Sym, True};
-use rb_value::{CoreClass, KindRef, Method, ObjId, Outcome, SymId, Value};
-use row_table::line_at;
+use rb_value::Value::{False, Int, Nil, Obj, True};
+use rb_value::{CoreClass, ObjId, Outcome, Value};
+use row_calls::{are_integers, are_texts, called, is_text, items_of, row_of};
 use std::alloc::{AllocError, Global};
 
 /// What a call gives or raises.
@@ -104,150 +103,20 @@ const KERNEL: Value = Obj(ObjId(1));
 /// The row of `Range.new`.
 const NEW_RANGE: u16 = 31 * 256;
 
-/// Whether the value is one of the store; not told of a Symbol.
-#[tactic(auto, using(def_core::proofs::Good::has_role))]
-fn is_value(st: &Store, value: Value) -> bool
-    ensures { result ≡ true → IsValue (census st.now.store) value }
-{
-    match value {
-        Nil | True | False | Int(_) => true,
-        Sym(_) => false,
-        Obj(id) => st.has(id),
-    }
-}
-
-/// Calls a row with up to three arguments.
-fn called(
-    st: &mut Store,
-    row: u16,
-    receiver: Value,
-    args: &[Value],
-) -> Result<Option<Outcome>, AllocError>
-    requires { Sound st.old.store }
-    ensures { Sound st.new.store }
-{
-    if line_at(row).is_none() || !is_value(st, receiver) {
-        return Ok(None);
-    }
-    if args.is_empty() {
-        return Ok(Some(call(st, row, receiver, &[], None)?));
-    }
-    let first = args[0];
-    if !is_value(st, first) {
-        return Ok(None);
-    }
-    if args.len() == 1 {
-        return Ok(Some(call(st, row, receiver, &[first], None)?));
-    }
-    let second = args[1];
-    if !is_value(st, second) {
-        return Ok(None);
-    }
-    if args.len() == 2 {
-        return Ok(Some(call(st, row, receiver, &[first, second], None)?));
-    }
-    let third = args[2];
-    if !is_value(st, third) {
-        return Ok(None);
-    }
-    Ok(Some(call(st, row, receiver, &[first, second, third], None)?))
-}
-
-/// The row that a class has under a name.
-fn row_of(st: &Store, class: CoreClass, name: SymId) -> Option<u16> {
-    let id = st.class_object(class);
-    if id.0 >= st.len() {
-        return None;
-    }
-    match st.get(id).kind() {
-        KindRef::Class(contents) => match contents.get().methods.get(name) {
-            Some(entry) => match entry.method {
-                Method::Core(row) => Some(row),
-                _ => None,
-            },
-            None => None,
-        },
-        _ => None,
-    }
-}
-
-/// Whether the object is a String of those bytes.
-fn is_text(st: &Store, id: ObjId, text: &[u8]) -> bool {
-    if id.0 >= st.len() {
-        return false;
-    }
-    match st.get(id).kind() {
-        KindRef::String(bytes) => bytes == text,
-        _ => false,
-    }
-}
-
-/// Whether the items are those Integers.
-fn are_integers(items: &[Value], numbers: &[i64]) -> bool {
-    if items.len() != numbers.len() {
-        return false;
-    }
-    for (item, number) in items.iter().zip(numbers) {
-        match item {
-            Int(found) => {
-                if found != number {
-                    return false;
-                }
-            }
-            _ => return false,
-        }
-    }
-    true
-}
-
-/// Whether the items are those Strings.
-fn are_texts(st: &Store, items: &[Value], texts: &[&[u8]]) -> bool {
-    if items.len() != texts.len() {
-        return false;
-    }
-    for (item, text) in items.iter().zip(texts) {
-        match item {
-            Obj(id) => {
-                if !is_text(st, *id, text) {
-                    return false;
-                }
-            }
-            _ => return false,
-        }
-    }
-    true
-}
-
-/// The items of an Array.
-fn items_of(st: &Store, id: ObjId) -> Option<&[Value]> {
-    if id.0 >= st.len() {
-        return None;
-    }
-    match st.get(id).kind() {
-        KindRef::Array(items) => Some(items),
-        _ => None,
-    }
-}
-
 /// Whether the value is what a call is to give.
 fn is_value_wanted(st: &Store, value: Value, wanted: Wanted) -> bool {
-    let Obj(id) = value else {
-        return match wanted {
-            Gives(plain) => value == plain,
-            _ => false,
-        };
-    };
     match wanted {
-        Text(text) => is_text(st, id, text),
-        Integers(numbers) => match items_of(st, id) {
+        Gives(plain) => value == plain,
+        Text(text) => is_text(st, value, text),
+        Integers(numbers) => match items_of(st, value) {
             Some(items) => are_integers(items, numbers),
             None => false,
         },
-        Texts(texts) => match items_of(st, id) {
+        Texts(texts) => match items_of(st, value) {
             Some(items) => are_texts(st, items, texts),
             None => false,
         },
-        _ => false,
+        Raises(_, _) => false,
     }
 }
 
@@ -259,7 +128,7 @@ fn is_wanted(st: &Store, outcome: Outcome, wanted: Wanted) -> bool {
             Raises(class, text) => {
                 failure.class == class
                     && failure.detail == Nil
-                    && is_text(st, failure.message, text)
+                    && is_text(st, Obj(failure.message), text)
             }
             _ => false,
         },

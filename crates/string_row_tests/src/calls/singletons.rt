@@ -3,6 +3,8 @@ ghost use Rattle.std.specs.Prelude.{◌≡◌};
 ghost use Rattle.def_core.specs.Sound.{Sound};
 
 use super::*;
+use core_methods::call;
+use row_table::line_at;
 
 /// The class String.
 const STRING: Value = Obj(ObjId(11));
