@@ -11,7 +11,7 @@ use std::alloc::AllocError;
 
 /// The pairs of a Hash that are compared from a place on with those of another with as many.
 #[derive(Drop)]
-pub(crate) struct Equating {
+pub struct Equating {
     pub(crate) pairs: List<HashItem>,
     pub(crate) place: usize,
     pub(crate) other: ObjId,
@@ -19,7 +19,7 @@ pub(crate) struct Equating {
 
 /// The pairs of a Hash that are searched from a place on for a value: for its key, or whether there is one.
 #[derive(Drop)]
-pub(crate) struct KeySearch {
+pub struct KeySearch {
     pub(crate) pairs: List<HashItem>,
     pub(crate) place: usize,
     pub(crate) wanted: Value,

@@ -26,7 +26,7 @@ fn text_of_piece(heap: &Heap, piece: Value) -> Option<&[u8]>
 /// Pieces that are put into a text, with a separator between them. A String is a text itself, an Array is none, and
 /// another value is asked for one.
 #[derive(Drop)]
-pub(crate) struct Joining {
+pub struct Joining {
     pub(crate) pieces: List<Value>,
     pub(crate) place: usize,
     pub(crate) text: List<u8>,

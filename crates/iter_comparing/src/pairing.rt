@@ -8,7 +8,7 @@ use rb_value::{ObjId, Value};
 
 /// Two Arrays that are compared from a place on: whether they are equal, or which comes first.
 #[derive(Drop)]
-pub(crate) struct Pairing {
+pub struct Pairing {
     pub(crate) left: ObjId,
     pub(crate) right: ObjId,
     pub(crate) place: usize,

@@ -7,7 +7,7 @@ use rb_value::Value;
 
 /// What a work wants next: it ends with a value, fails, or asks a value, with an argument or without.
 #[derive(Clone, Copy, Debug)]
-pub(crate) enum Question {
+pub enum Question {
     Ends(Value),
     Fails(Cause),
     Asks {

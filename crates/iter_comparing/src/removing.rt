@@ -12,7 +12,7 @@ use std::mem;
 /// An Array from which the elements that are `==` a value are taken: the place of the next, the one that was asked
 /// last, those that stay, and the last that was taken.
 #[derive(Drop)]
-pub(crate) struct Removing {
+pub struct Removing {
     pub(crate) array: ObjId,
     pub(crate) wanted: Value,
     pub(crate) place: usize,

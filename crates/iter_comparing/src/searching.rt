@@ -9,7 +9,7 @@ use rb_value::{ObjId, Value};
 /// An Array that is searched from a place on for an element that is `==` a value: for its place, or whether there is
 /// one.
 #[derive(Drop)]
-pub(crate) struct Search {
+pub struct Search {
     pub(crate) array: ObjId,
     pub(crate) place: usize,
     pub(crate) wanted: Value,

@@ -12,7 +12,7 @@ use std::mem;
 
 /// What is shown: the elements of an Array, whose length is read anew each time, or the pairs that a Hash had.
 #[derive(Drop)]
-pub(crate) enum Shown {
+pub enum Shown {
     Elements(ObjId),
     Pairs(List<HashItem>),
 }
@@ -20,7 +20,7 @@ pub(crate) enum Shown {
 /// Values that are shown from a place on, and the text of those before it. The key and the value of a pair have a place
 /// each.
 #[derive(Drop)]
-pub(crate) struct Showing {
+pub struct Showing {
     pub(crate) shown: Shown,
     pub(crate) place: usize,
     pub(crate) text: List<u8>,

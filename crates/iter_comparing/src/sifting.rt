@@ -11,7 +11,7 @@ use std::mem;
 
 /// Which elements stay: those that another Array hasn't; those that it has, and each once; or each once.
 #[derive(Clone, Copy, Debug, PartialEq, Eq)]
-pub(crate) enum Sieve {
+pub enum Sieve {
     Difference,
     Intersection,
     Union,
@@ -41,7 +41,7 @@ impl Sieve {
 
 /// Values of which some stay. The one at a place is looked for among the others or among those that stayed.
 #[derive(Drop)]
-pub(crate) struct Sifting {
+pub struct Sifting {
     pub(crate) sieve: Sieve,
     pub(crate) values: List<Value>,
     pub(crate) place: usize,

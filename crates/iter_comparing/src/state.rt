@@ -33,7 +33,7 @@ pub struct Asking {
 
 /// A work that asks values again and again.
 #[derive(Drop)]
-pub(crate) enum Work {
+pub enum Work {
     Pairs(Pairing),
     Searches(Search),
     Sifts(Sifting),
