@@ -3,13 +3,20 @@
 
 use crate::calls::{Named, call_named};
 use def_core::Found;
-use rb_value::{CoreClass, Method, Visibility};
+use rb_value::{CoreClass, Method, SymId, Visibility};
 use std::alloc::AllocError;
 use vm_parts::flow::Flow;
 use vm_parts::integer_operators::{Operator, operated};
 use vm_parts::loaded::Loaded;
 use vm_parts::parts::{Parts, behind, put};
+use vm_parts::quick_calls::CoreCalls;
 use vm_parts::run_calls::Naming;
+use vm_parts::run_rows::iter_items::ItemsRow;
+use vm_parts::run_rows::iter_items::iter_comparing::ComparingRow;
+use vm_parts::run_rows::row_table::{CoreRow, StringMethod};
+use vm_parts::run_rows::rows_array::ArrayRow;
+use vm_parts::run_rows::rows_hash::HashRow;
+use vm_parts::run_rows::{PlainRow, Row, StarRow, row_at};
 use vm_parts::vm_frames::Frame;
 
 const OPERATORS: [Operator; 9] = [
@@ -46,7 +53,64 @@ fn all_core(parts: &mut Parts) -> Result<bool, AllocError> {
     Ok(true)
 }
 
-/// Notes whether the operators of Integer are the core methods under the heap's count of changes.
+/// Whether what a class finds under a name is the core method of a row, which everyone may call.
+fn finds_row(
+    parts: &mut Parts,
+    class: CoreClass,
+    name: SymId,
+    row: Row,
+) -> Result<bool, AllocError> {
+    let class = parts.heap.class_object(class);
+    match parts.heap.find(class, name)? {
+        Some(found) => match found.method {
+            Method::Core(number) => {
+                Ok(found.visibility == Visibility::Public && row_at(number) == row)
+            }
+            _ => Ok(false),
+        },
+        None => Ok(false),
+    }
+}
+
+/// Whether all methods of core calls are the core methods. What is found is kept in the cache.
+fn all_calls_core(parts: &mut Parts) -> Result<bool, AllocError> {
+    let CoreCalls {
+        element,
+        store,
+        append,
+        are_core: _,
+    } = parts.operators.calls;
+    let element_of_hash = Row::Star(StarRow::Items(ItemsRow::Compares(ComparingRow::HashElement)));
+    let append_to_text = Row::OfTable(Some(CoreRow::String(StringMethod::Append)));
+    let of_array = finds_row(
+        parts,
+        CoreClass::Array,
+        element,
+        array_row(ArrayRow::Element),
+    )? && finds_row(
+        parts,
+        CoreClass::Array,
+        store,
+        array_row(ArrayRow::SetElement),
+    )? && finds_row(parts, CoreClass::Array, append, array_row(ArrayRow::Append))?;
+    let of_hash = finds_row(parts, CoreClass::Hash, element, element_of_hash)?
+        && finds_row(
+            parts,
+            CoreClass::Hash,
+            store,
+            Row::Plain(PlainRow::Hash(HashRow::Store)),
+        )?;
+    let of_string = finds_row(parts, CoreClass::String, append, append_to_text)?;
+    Ok(of_array && of_hash && of_string)
+}
+
+/// A row of Array.
+fn array_row(row: ArrayRow) -> Row {
+    Row::Plain(PlainRow::Array(row))
+}
+
+/// Notes whether the operators of Integer, and the methods of core calls, are the core methods under the heap's count of
+/// changes.
 #[cold]
 fn look(parts: &mut Parts) -> Result<bool, AllocError> {
     let changes = parts.heap.changes();
@@ -54,7 +118,9 @@ fn look(parts: &mut Parts) -> Result<bool, AllocError> {
         return Ok(false);
     }
     let are_core = all_core(parts)?;
+    let calls_are_core = all_calls_core(parts)?;
     parts.operators.are_core = are_core;
+    parts.operators.calls.are_core = calls_are_core;
     parts.operators.seen_under = Some(changes);
     Ok(are_core)
 }

@@ -3,8 +3,8 @@
 //!
 //! All calls are total: code that isn't there ends the program, a register that isn't there reads as nil.
 //!
-//! Types: [`Parts`], [`Loaded`], [`Superinstruction`], [`Operators`], [`Names`], [`KnownCalls`], [`KnownConstants`];
-//! [`Flow`], [`Step`], [`End`], [`Handed`]. Calls: modules [`exits`], [`entering`], [`arguments`].
+//! Types: [`Parts`], [`Loaded`], [`Superinstruction`], [`CoreCall`], [`Operators`], [`Names`], [`KnownCalls`],
+//! [`KnownConstants`]; [`Flow`], [`Step`], [`End`], [`Handed`]. Calls: modules [`exits`], [`entering`], [`arguments`].
 #![tactic(auto)]
 
 pub mod arguments;
@@ -18,6 +18,7 @@ pub mod loaded;
 pub mod names;
 pub mod operators;
 pub mod parts;
+pub mod quick_calls;
 pub mod superinstruction;
 
 pub use constants::KnownConstants;
@@ -30,4 +31,5 @@ pub use loaded::Loaded;
 pub use names::Names;
 pub use operators::Operators;
 pub use parts::{Parts, behind, put, step};
+pub use quick_calls::CoreCall;
 pub use superinstruction::Superinstruction;
