@@ -11,55 +11,57 @@ use Rattle.rb_syntax.specs.declared.core_form.DefinedKind.TheVariants as asks
 use Rattle.ir_core.specs.CoreForm as form
 use Rattle.ir_core.specs.CoreForm.{Name, CoreForm, Body, body, Maybe, absent, there, Forms, none, more, Items, no_items, plain, splat, Pairs, no_pairs, pair, Branches, no_branches, branch, Clauses, no_clauses, clause, Receiver, to, on_self, bare}
 use Rattle.ir_core.specs.Program.{Around, within_loop, within_clause, within_target, within_block, within_method, within_class, is_form, may_be, are_forms, are_items, are_pairs, are_branches, are_clauses, is_receiver, is_block, is_method, is_class, within_program, IsProgram}
-use Rattle.def_eval.specs.Source.{Source, over, over_body, over_maybe, over_forms, over_items, over_pairs, over_branches, over_clauses, over_receiver, over_asked, in_order, named_in, all_names, source_of, body_at, form_of, locals_of, span, span_maybe, span_forms, span_clauses}
+use Rattle.def_eval.specs.Source.{Source, over, over_body, over_maybe, over_forms, over_items, over_pairs, over_branches, over_clauses, over_receiver, over_asked, how_many, in_order, named_in, all_names, source_of, body_at, form_of, locals_of, span, span_maybe, span_forms, span_clauses}
+use Rattle.eval_laws.specs.Kinds.{Kind, of_block, of_method, of_class, kinds, kinds_body, kinds_maybe, kinds_forms, kinds_items, kinds_pairs, kinds_branches, kinds_clauses, kinds_receiver, all_kinds}
 use Rattle.eval_laws.specs.Standing.{IsNamed, IsAsked, FormStands, MaybeStands, FormsStand, ItemsStand, PairsStand, BranchesStand, ClausesStand, ReceiverStands, BlockStands, MethodStands, ClassStands, past_receiver, past_items, past_branches}
-use Rattle.eval_laws.proofs.Sizes.{size, size_maybe, size_forms, size_clauses}
+use Rattle.eval_laws.proofs.Sizes.{Sized, none_there, nothing_asked, size, size_maybe, size_forms, size_items, size_branches, size_clauses}
 use Rattle.eval_laws.proofs.Tests.{and_true, or_left, or_right}
 
--- Pieces of a source: bodies depth first, and names.
+-- Pieces of a source: bodies depth first with what they are the bodies of, and names.
 
 record Piece : Type 0 where
   bodies : List Body
+  kinds : List Kind
   names : List Name
 
 abbrev joined : Piece → Piece → Piece
-joined p q = record { bodies = p.bodies ++ q.bodies; names = p.names ++ q.names }
+joined p q = record { bodies = p.bodies ++ q.bodies; kinds = p.kinds ++ q.kinds; names = p.names ++ q.names }
 
 abbrev piece : CoreForm → Piece
-piece e = record { bodies = over in_order e; names = over named_in e }
+piece e = record { bodies = over in_order e; kinds = kinds e; names = over named_in e }
 
 abbrev piece_maybe : Maybe → Piece
-piece_maybe e = record { bodies = over_maybe in_order e; names = over_maybe named_in e }
+piece_maybe e = record { bodies = over_maybe in_order e; kinds = kinds_maybe e; names = over_maybe named_in e }
 
 abbrev piece_forms : Forms → Piece
-piece_forms es = record { bodies = over_forms in_order es; names = over_forms named_in es }
+piece_forms es = record { bodies = over_forms in_order es; kinds = kinds_forms es; names = over_forms named_in es }
 
 abbrev piece_items : Items → Piece
-piece_items is = record { bodies = over_items in_order is; names = over_items named_in is }
+piece_items is = record { bodies = over_items in_order is; kinds = kinds_items is; names = over_items named_in is }
 
 abbrev piece_pairs : Pairs → Piece
-piece_pairs ps = record { bodies = over_pairs in_order ps; names = over_pairs named_in ps }
+piece_pairs ps = record { bodies = over_pairs in_order ps; kinds = kinds_pairs ps; names = over_pairs named_in ps }
 
 abbrev piece_branches : Branches → Piece
-piece_branches bs = record { bodies = over_branches in_order bs; names = over_branches named_in bs }
+piece_branches bs = record { bodies = over_branches in_order bs; kinds = kinds_branches bs; names = over_branches named_in bs }
 
 abbrev piece_clauses : Clauses → Piece
-piece_clauses cs = record { bodies = over_clauses in_order cs; names = over_clauses named_in cs }
+piece_clauses cs = record { bodies = over_clauses in_order cs; kinds = kinds_clauses cs; names = over_clauses named_in cs }
 
 abbrev piece_receiver : Receiver → Piece
-piece_receiver r = record { bodies = over_receiver in_order r; names = over_receiver named_in r }
+piece_receiver r = record { bodies = over_receiver in_order r; kinds = kinds_receiver r; names = over_receiver named_in r }
 
-abbrev piece_body : Body → Piece
-piece_body f = record { bodies = over_body in_order f; names = over_body named_in f }
+abbrev piece_body : Kind → Body → Piece
+piece_body k f = record { bodies = over_body in_order f; kinds = kinds_body k f; names = over_body named_in f }
 
 abbrev name : Name → Piece
-name x = record { bodies = []; names = x ∷ [] }
+name x = record { bodies = []; kinds = []; names = x ∷ [] }
 
 abbrev asked_piece : DefinedKind → Name → Piece
-asked_piece k x = record { bodies = over_asked in_order k x; names = over_asked named_in k x }
+asked_piece k x = record { bodies = over_asked in_order k x; kinds = []; names = over_asked named_in k x }
 
--- these bodies stand in the source from n on
-abbrev SliceAt : Source → ℕ → List Body → Type 0
+-- these stand in the list from n on
+abbrev SliceAt : {A : Type 0} → List A → ℕ → List A → Type 0
 SliceAt s n [] = Unit {0}
 SliceAt s n (b ∷ bs) = (slice_get s n ≡ Some b) × SliceAt s (n + 1) bs
 
@@ -68,16 +70,18 @@ NamesIn s xs = (x : Name) → list_any (bytes_eq x) xs ≡ true → IsNamed s x
 
 record Here (s : Source) (n : ℕ) (p : Piece) : Type 0 where
   slice : SliceAt s n p.bodies
+  kinds : SliceAt (all_kinds s) n p.kinds
   names : NamesIn s p.names
   some : 0 < n
 
-slice_left : (s : Source) (n : ℕ) (bs cs : List Body) → SliceAt s n (bs ++ cs) → SliceAt s n bs
-slice_left s n [] cs h = tt
-slice_left s n (b ∷ bs) cs h = (h.0, slice_left s (n + 1) bs cs h.1)
+module _ {A : Type 0} (s : List A) where
+  slice_left : (n : ℕ) (bs cs : List A) → SliceAt s n (bs ++ cs) → SliceAt s n bs
+  slice_left n [] cs h = tt
+  slice_left n (b ∷ bs) cs h = (h.0, slice_left (n + 1) bs cs h.1)
 
-slice_right : (s : Source) (n k : ℕ) (bs cs : List Body) → k ≡ n + length bs → SliceAt s n (bs ++ cs) → SliceAt s k cs
-slice_right s n k [] cs e h = let d : n ≡ k = omega (arith, e) in subst (λ i. SliceAt s i cs) d h
-slice_right s n k (b ∷ bs) cs e h = slice_right s (n + 1) k bs cs (omega (arith, e)) h.1
+  slice_right : (n k : ℕ) (bs cs : List A) → k ≡ n + length bs → SliceAt s n (bs ++ cs) → SliceAt s k cs
+  slice_right n k [] cs e h = let d : n ≡ k = omega (arith, e) in subst (λ i. SliceAt s i cs) d h
+  slice_right n k (b ∷ bs) cs e h = slice_right (n + 1) k bs cs (omega (arith, e)) h.1
 
 names_left : (s : Source) (xs ys : List Name) → NamesIn s (xs ++ ys) → NamesIn s xs
 names_left s xs ys h x is = h x (list_any-append (bytes_eq x) xs ys
@@ -107,30 +111,32 @@ module _ (s : Source) where
   left : (n : ℕ) (p q : Piece) → Here s n (joined p q) → Here s n p
   left n p q h = record {
     slice = slice_left s n p.bodies q.bodies h.slice;
+    kinds = slice_left (all_kinds s) n p.kinds q.kinds h.kinds;
     names = names_left s p.names q.names h.names;
     some = h.some;
   }
 
-  right : (n k : ℕ) (p q : Piece) → k ≡ n + length p.bodies → Here s n (joined p q) → Here s k q
-  right n k p q e h = record {
-    slice = slice_right s n k p.bodies q.bodies e h.slice;
+  -- behind a piece with so many bodies
+  right : (n k l : ℕ) (p q : Piece) → Sized p.bodies p.kinds l → k ≡ n + l → Here s n (joined p q) → Here s k q
+  right n k l p q size e h = record {
+    slice = slice_right s n k p.bodies q.bodies (omega (arith, e, size.bodies)) h.slice;
+    kinds = slice_right (all_kinds s) n k p.kinds q.kinds (omega (arith, e, size.kinds)) h.kinds;
     names = names_right s p.names q.names h.names;
     some = omega (arith, h.some, e);
   }
 
   behind : (n : ℕ) (e : CoreForm) (q : Piece) → Here s n (joined (piece e) q) → Here s (n + span e) q
-  behind n e q h = right n (n + span e) (piece e) q (ap (λ k. n + k) (sym (size e))) h
+  behind n e q h = right n (n + span e) (span e) (piece e) q (size e) refl h
 
   behind_maybe : (n : ℕ) (e : Maybe) (q : Piece) → Here s n (joined (piece_maybe e) q) → Here s (n + span_maybe e) q
-  behind_maybe n e q h = right n (n + span_maybe e) (piece_maybe e) q (ap (λ k. n + k) (sym (size_maybe e))) h
+  behind_maybe n e q h = right n (n + span_maybe e) (span_maybe e) (piece_maybe e) q (size_maybe e) refl h
 
   behind_forms : (n : ℕ) (es : Forms) (q : Piece) → Here s n (joined (piece_forms es) q) → Here s (n + span_forms es) q
-  behind_forms n es q h = right n (n + span_forms es) (piece_forms es) q (ap (λ k. n + k) (sym (size_forms es))) h
+  behind_forms n es q h = right n (n + span_forms es) (span_forms es) (piece_forms es) q (size_forms es) refl h
 
   behind_clauses : (n : ℕ) (cs : Clauses) (q : Piece) → Here s n (joined (piece_clauses cs) q)
       → Here s (n + span_clauses cs) q
-  behind_clauses n cs q h =
-      right n (n + span_clauses cs) (piece_clauses cs) q (ap (λ k. n + k) (sym (size_clauses cs))) h
+  behind_clauses n cs q h = right n (n + span_clauses cs) (span_clauses cs) (piece_clauses cs) q (size_clauses cs) refl h
 
   behind_receiver : (n : ℕ) (r : Receiver) (q : Piece) → Here s n (joined (piece_receiver r) q)
       → Here s (past_receiver n r) q
@@ -138,26 +144,25 @@ module _ (s : Source) where
   behind_receiver n on_self q h = h
   behind_receiver n bare q h = h
 
-  past_more : (n : ℕ) (e : CoreForm) (bs : List Body) → n + span e + length bs ≡ n + length (over in_order e ++ bs)
-  past_more n e bs = let h = size e in rw length-append (omega (arith, h))
-
-  past_items_is : (n : ℕ) (is : Items) → past_items n is ≡ n + length (over_items in_order is)
+  past_items_is : (n : ℕ) (is : Items) → past_items n is ≡ n + over_items how_many is
   past_items_is n no_items = omega arith
-  past_items_is n (plain e is) = past_items_is (n + span e) is ∙ past_more n e (over_items in_order is)
-  past_items_is n (splat e is) = past_items_is (n + span e) is ∙ past_more n e (over_items in_order is)
+  past_items_is n (plain e is) = let h = past_items_is (n + span e) is in omega (arith, h)
+  past_items_is n (splat e is) = let h = past_items_is (n + span e) is in omega (arith, h)
 
-  past_branches_is : (n : ℕ) (bs : Branches) → past_branches n bs ≡ n + length (over_branches in_order bs)
+  past_branches_is : (n : ℕ) (bs : Branches) → past_branches n bs ≡ n + over_branches how_many bs
   past_branches_is n no_branches = omega arith
   past_branches_is n (branch t b bs) =
-      past_branches_is (n + span t + span b) bs ∙ past_more (n + span t) b (over_branches in_order bs)
-      ∙ past_more n t (over in_order b ++ over_branches in_order bs)
+      let h = past_branches_is (n + span t + span b) bs in omega (arith, h)
 
   behind_items : (n : ℕ) (is : Items) (q : Piece) → Here s n (joined (piece_items is) q) → Here s (past_items n is) q
-  behind_items n is q h = right n (past_items n is) (piece_items is) q (past_items_is n is) h
+  behind_items n is q h =
+      right n (past_items n is) (over_items how_many is) (piece_items is) q (size_items is) (past_items_is n is) h
 
   behind_branches : (n : ℕ) (bs : Branches) (q : Piece) → Here s n (joined (piece_branches bs) q)
       → Here s (past_branches n bs) q
-  behind_branches n bs q h = right n (past_branches n bs) (piece_branches bs) q (past_branches_is n bs) h
+  behind_branches n bs q h =
+      right n (past_branches n bs) (over_branches how_many bs) (piece_branches bs) q (size_branches bs)
+      (past_branches_is n bs) h
 
   the_name : (n : ℕ) (x : Name) → Here s n (name x) → IsNamed s x
   the_name n x h = h.names x (or_left (bytes_eq x x) false ((bytes_eq-Decides x x).1 refl))
@@ -167,22 +172,12 @@ module _ (s : Source) where
   named n x q h = the_name n x (left n (name x) q h)
 
   behind_name : (n : ℕ) (x : Name) (q : Piece) → Here s n (joined (name x) q) → Here s n q
-  behind_name n x q h = right n n (name x) q (omega arith) h
-
-  no_bodies : (k : DefinedKind) (x : Name) → length (over_asked in_order k x) ≡ 0
-  no_bodies asks.Expression x = refl
-  no_bodies asks.LocalVariable x = refl
-  no_bodies asks.InstanceVariable x = refl
-  no_bodies asks.GlobalVariable x = refl
-  no_bodies asks.Constant x = refl
-  no_bodies asks.Method x = refl
-  no_bodies asks.Yield x = refl
-  no_bodies asks.Super x = refl
-  no_bodies asks.SelfReference x = refl
-  no_bodies asks.Assignment x = refl
+  behind_name n x q h = right n n 0 (name x) q none_there (omega arith) h
 
   behind_asked : (n : ℕ) (k : DefinedKind) (x : Name) (q : Piece) → Here s n (joined (asked_piece k x) q) → Here s n q
-  behind_asked n k x q h = let e = no_bodies k x in right n n (asked_piece k x) q (omega (arith, e)) h
+  behind_asked n k x q h =
+      let none = (nothing_asked k x).kinds in
+      right n n (over_asked how_many k x) (asked_piece k x) q (nothing_asked k x) (omega (arith, none)) h
 
   asked : (n : ℕ) (k : DefinedKind) (x : Name) → Here s n (asked_piece k x) → IsAsked s k x
   asked n asks.Expression x h = tt
@@ -197,9 +192,11 @@ module _ (s : Source) where
   asked n asks.Assignment x h = tt
 
   -- the form of a body that stands there
-  inside : (n : ℕ) (p : _) (ls : _) (e : CoreForm) → Here s n (piece_body (body p ls e)) → Here s (n + 1) (piece e)
-  inside n p ls e h = record {
+  inside : (n : ℕ) (t : Kind) (p : _) (ls : _) (e : CoreForm) → Here s n (piece_body t (body p ls e))
+      → Here s (n + 1) (piece e)
+  inside n t p ls e h = record {
     slice = h.slice.1;
+    kinds = h.kinds.1;
     names = names_at s n (body p ls e) h.slice.0;
     some = omega arith;
   }
@@ -296,36 +293,36 @@ module _ (s : Source) where
     stands a n (form.next_form e) h k = stands a n e (and_true h).1 k
     stands a n form.retry h k = h
     stands a n (form.define x f) h k =
-        (named n x (piece_body f) k, method_stands n f h (behind_name n x (piece_body f) k))
+        (named n x (piece_body of_method f) k, method_stands n f h (behind_name n x (piece_body of_method f) k))
     stands a n (form.define_on e x f) h k =
         let b = and_true h in
-        let l = behind_name n x (joined (piece e) (piece_body f)) k in (
-          named n x (joined (piece e) (piece_body f)) k,
-          stands a n e b.0 (left n (piece e) (piece_body f) l),
-          method_stands (n + span e) f b.1 (behind n e (piece_body f) l),
+        let l = behind_name n x (joined (piece e) (piece_body of_method f)) k in (
+          named n x (joined (piece e) (piece_body of_method f)) k,
+          stands a n e b.0 (left n (piece e) (piece_body of_method f) l),
+          method_stands (n + span e) f b.1 (behind n e (piece_body of_method f) l),
         )
     stands a n (form.class_form c x p f) h k =
         let b = and_true h in
         let d = and_true b.1 in
-        let q = joined (piece_maybe p) (piece_body f) in
+        let q = joined (piece_maybe p) (piece_body of_class f) in
         let g = behind_name n x (joined (piece_maybe c) q) k in
         let l = behind_maybe n c q g in (
           named n x (joined (piece_maybe c) q) k,
           maybe_stands a n c b.0 (left n (piece_maybe c) q g),
-          maybe_stands a (n + span_maybe c) p d.0 (left (n + span_maybe c) (piece_maybe p) (piece_body f) l),
-          class_stands (n + span_maybe c + span_maybe p) f d.1 (behind_maybe (n + span_maybe c) p (piece_body f) l),
+          maybe_stands a (n + span_maybe c) p d.0 (left (n + span_maybe c) (piece_maybe p) (piece_body of_class f) l),
+          class_stands (n + span_maybe c + span_maybe p) f d.1 (behind_maybe (n + span_maybe c) p (piece_body of_class f) l),
         )
     stands a n (form.module_form c x f) h k =
         let b = and_true h in
-        let l = behind_name n x (joined (piece_maybe c) (piece_body f)) k in (
-          named n x (joined (piece_maybe c) (piece_body f)) k,
-          maybe_stands a n c b.0 (left n (piece_maybe c) (piece_body f) l),
-          class_stands (n + span_maybe c) f b.1 (behind_maybe n c (piece_body f) l),
+        let l = behind_name n x (joined (piece_maybe c) (piece_body of_class f)) k in (
+          named n x (joined (piece_maybe c) (piece_body of_class f)) k,
+          maybe_stands a n c b.0 (left n (piece_maybe c) (piece_body of_class f) l),
+          class_stands (n + span_maybe c) f b.1 (behind_maybe n c (piece_body of_class f) l),
         )
     stands a n (form.singleton_class e f) h k =
         let b = and_true h in (
-          stands a n e b.0 (left n (piece e) (piece_body f) k),
-          class_stands (n + span e) f b.1 (behind n e (piece_body f) k),
+          stands a n e b.0 (left n (piece e) (piece_body of_class f) k),
+          class_stands (n + span e) f b.1 (behind n e (piece_body of_class f) k),
         )
     stands a n (form.alias_form x y) h k =
         (named n x (name y) k, the_name n y (behind_name n x (name y) k))
@@ -414,40 +411,42 @@ module _ (s : Source) where
     receiver_stands a n on_self h k = tt
     receiver_stands a n bare h k = tt
 
-    block_stands : (a : Around) (n : ℕ) (f : Body) → is_block a f ≡ true → Here s n (piece_body f) → BlockStands s a n f
+    block_stands : (a : Around) (n : ℕ) (f : Body) → is_block a f ≡ true → Here s n (piece_body of_block f)
+        → BlockStands s a n f
     block_stands a n (body p ls e) h k =
         let b = and_true h in
-        (k.slice.0, b.0, stands (within_block a p ls) (n + 1) e b.1 (inside n p ls e k), k.some)
+        (k.slice.0, b.0, stands (within_block a p ls) (n + 1) e b.1 (inside n of_block p ls e k), k.some, k.kinds.0)
 
-    method_stands : (n : ℕ) (f : Body) → is_method f ≡ true → Here s n (piece_body f) → MethodStands s n f
+    method_stands : (n : ℕ) (f : Body) → is_method f ≡ true → Here s n (piece_body of_method f) → MethodStands s n f
     method_stands n (body p ls e) h k =
         let b = and_true h in
-        (k.slice.0, b.0, stands (within_method p ls) (n + 1) e b.1 (inside n p ls e k), k.some)
+        (k.slice.0, b.0, stands (within_method p ls) (n + 1) e b.1 (inside n of_method p ls e k), k.some, k.kinds.0)
 
-    class_stands : (n : ℕ) (f : Body) → is_class f ≡ true → Here s n (piece_body f) → ClassStands s n f
+    class_stands : (n : ℕ) (f : Body) → is_class f ≡ true → Here s n (piece_body of_class f) → ClassStands s n f
     class_stands n (body p ls e) h k =
-        (k.slice.0, stands (within_class ls) (n + 1) e (and_true h).1 (inside n p ls e k))
+        (k.slice.0, stands (within_class ls) (n + 1) e (and_true h).1 (inside n of_class p ls e k), k.kinds.0)
 
 -- A source that is whole.
 
-at_end : (before : List Body) (b : Body) (bs : List Body) → slice_get (before ++ b ∷ bs) (length before) ≡ Some b
-at_end before b bs =
-    let lt : length before < length (before ++ b ∷ bs) = rw length-append (omega arith) in
-    slice_get-get_or (before ++ b ∷ bs) (length before) b lt
-    ∙ ap Some (get_or-append_right before (b ∷ bs) (length before) (length before) b refl (omega arith)
-    ∙ first_at (length before - length before) (omega arith))
-  where
-    first_at : (i : ℕ) → i ≡ 0 → get_or (b ∷ bs) i b ≡ b
-    first_at i e = ap (λ j. get_or (b ∷ bs) j b) e
+module _ {A : Type 0} where
+  at_end : (before : List A) (b : A) (bs : List A) → slice_get (before ++ b ∷ bs) (length before) ≡ Some b
+  at_end before b bs =
+      let lt : length before < length (before ++ b ∷ bs) = rw length-append (omega arith) in
+      slice_get-get_or (before ++ b ∷ bs) (length before) b lt
+      ∙ ap Some (get_or-append_right before (b ∷ bs) (length before) (length before) b refl (omega arith)
+      ∙ first_at (length before - length before) (omega arith))
+    where
+      first_at : (i : ℕ) → i ≡ 0 → get_or (b ∷ bs) i b ≡ b
+      first_at i e = ap (λ j. get_or (b ∷ bs) j b) e
 
-whole : (before bs : List Body) → SliceAt (before ++ bs) (length before) bs
-whole before [] = tt
-whole before (b ∷ bs) = (
-  at_end before b bs,
-  subst (λ l. SliceAt l (length before + 1) bs) (append_assoc before (b ∷ []) bs)
-      (subst (λ i. SliceAt ((before ++ b ∷ []) ++ bs) i bs) (length-append before (b ∷ []))
-      (whole (before ++ b ∷ []) bs)),
-)
+  whole : (before bs : List A) → SliceAt (before ++ bs) (length before) bs
+  whole before [] = tt
+  whole before (b ∷ bs) = (
+    at_end before b bs,
+    subst (λ l. SliceAt l (length before + 1) bs) (append_assoc before (b ∷ []) bs)
+        (subst (λ i. SliceAt ((before ++ b ∷ []) ++ bs) i bs) (length-append before (b ∷ []))
+        (whole (before ++ b ∷ []) bs)),
+  )
 
 pub main_there : (b : Body) → body_at (source_of b) 0 ≡ b
 unfolding body_at
@@ -459,4 +458,9 @@ program_stands (body p ls e) is =
     let s = source_of (body p ls e) in
     let all = whole [] s in
     stands s (within_program ls) 1 e (and_true is).1
-    (record { slice = all.1; names = names_at s 0 (body p ls e) all.0; some = omega arith })
+    (record {
+      slice = all.1;
+      kinds = (whole [] (all_kinds s)).1;
+      names = names_at s 0 (body p ls e) all.0;
+      some = omega arith;
+    })

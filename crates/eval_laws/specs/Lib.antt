@@ -1,3 +1,4 @@
+pub mod Kinds
 pub mod Standing
 pub mod Fits
 pub mod Reached

@@ -7,6 +7,7 @@ use Rattle.ir_core.specs.CoreForm as form
 use Rattle.ir_core.specs.CoreForm.{Name, CoreForm, Body, body, Maybe, absent, there, Forms, none, more, Items, no_items, plain, splat, Pairs, no_pairs, pair, Branches, no_branches, branch, Clauses, no_clauses, clause, Receiver, to, on_self, bare}
 use Rattle.ir_core.specs.Program.{Around, within_loop, within_clause, within_target, within_block, within_method, within_class, is_known, is_own, has_defaults}
 use Rattle.def_eval.specs.Source.{Source, all_names, span, span_maybe, span_forms, span_clauses}
+use Rattle.eval_laws.specs.Kinds.{IsKind, of_block, of_method, of_class}
 
 -- the name stands in a body of the source
 abbrev pub IsNamed : Source → Name → Type 0
@@ -139,11 +140,12 @@ abbrev mutual
   -- a block or lambda, a method, and a class or module; the first two are never the main program
   pub BlockStands : Source → Around → ℕ → Body → Type 0
   BlockStands s a n (body p ls e) = (slice_get s n ≡ Some (body p ls e)) × (has_defaults p.optional e ≡ true)
-      × FormStands s (within_block a p ls) (n + 1) e × (0 < n)
+      × FormStands s (within_block a p ls) (n + 1) e × (0 < n) × IsKind s n of_block
 
   pub MethodStands : Source → ℕ → Body → Type 0
   MethodStands s n (body p ls e) = (slice_get s n ≡ Some (body p ls e)) × (has_defaults p.optional e ≡ true)
-      × FormStands s (within_method p ls) (n + 1) e × (0 < n)
+      × FormStands s (within_method p ls) (n + 1) e × (0 < n) × IsKind s n of_method
 
   pub ClassStands : Source → ℕ → Body → Type 0
-  ClassStands s n (body p ls e) = (slice_get s n ≡ Some (body p ls e)) × FormStands s (within_class ls) (n + 1) e
+  ClassStands s n (body p ls e) =
+      (slice_get s n ≡ Some (body p ls e)) × FormStands s (within_class ls) (n + 1) e × IsKind s n of_class

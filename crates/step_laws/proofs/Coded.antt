@@ -30,13 +30,10 @@ use Rattle.text_set.specs.Sets.{is_among}
 use Rattle.rb_store.specs.Opening.{with_names}
 use Rattle.def_calls.specs.Rows
 use Rattle.def_eval.specs.Source.{over, in_order, body_at as source_body, no_parameters, source_of, all_names}
-use Rattle.def_eval.specs.Configuration.{opening}
 use Rattle.def_machine.specs.State.{body_at, no_body, all_symbols}
 use Rattle.step_laws.specs.Site.{Site, LineAt, Lines, IsThere, opening_store}
 use Rattle.step_laws.specs.Simple.{IsSimple}
-use Rattle.step_laws.specs.Plain.{IsPlain}
 use Rattle.step_laws.specs.Covers.{Covers}
-use Rattle.step_laws.specs.Peaceful.{StaysPeaceful}
 use Rattle.step_laws.specs.Methods.{MethodCode}
 use Rattle.step_laws.specs.Tops.{AreTops, IsPlainProgram, no_tops, form_before}
 use Rattle.step_laws.specs.Implements.{main_site, IsCodeOf, Implements}
@@ -47,7 +44,7 @@ use Rattle.step_laws.proofs.Plainly.{simple_plain}
 use Rattle.step_laws.proofs.Whole.{implements}
 use Rattle.step_laws.proofs.Steady.{peace_is_calm}
 use Rattle.step_laws.proofs.Alone.{stays_peaceful}
-use Rattle.step_laws.proofs.Bodiless.{no_bodies}
+use Rattle.step_laws.proofs.Blockless.{no_blocks}
 use Rattle.step_laws.proofs.Found.{both_true}
 use Rattle.step_laws.proofs.Naming.{one_more, names_written, all_known}
 use Rattle.step_laws.proofs.Written.{Written, AllWritten, nth_written, tops_written, tops_catchless}
@@ -221,21 +218,14 @@ pub program_is_code : (b : Body) → IsProgram b → first_excess (need b) ≡ N
     → IsCodeOf (source_of b) (program 2 (coded_program b))
 program_is_code (form.body p ls f) h limits plain = code_of_it p ls f h limits plain
 
-pub program_implements : (b : Body) (input : List ℕ) → IsProgram b → first_excess (need b) ≡ None
-    → IsPlainProgram b → StaysPeaceful (source_of b) (program 2 (coded_program b)) (opening (source_of b) input)
+-- No block stands in it, so its evaluation enters no bodies but those of its methods.
+pub program_implements : (b : Body) (input : List ℕ) → IsProgram b → first_excess (need b) ≡ None → IsPlainProgram b
     → Implements (source_of b) (program 2 (coded_program b)) input
-program_implements b input h limits plain peace =
-    implements (source_of b) (program 2 (coded_program b)) input (program_is_code b h limits plain)
-    (peace_is_calm b (program 2 (coded_program b)) input h peace)
-
--- A program of plain forms alone has one body.
-pub plain_implements : (b : Body) (input : List ℕ) → IsProgram b → first_excess (need b) ≡ None → IsPlain (form_of b)
-    → Implements (source_of b) (program 2 (coded_program b)) input
-plain_implements (form.body p ls f) input h limits plain =
-    let b = form.body p ls f in
-    let one : length (source_of b) ≡ 1 = ap (λ (bs : List Body). length (b ∷ bs)) (no_bodies in_order (λ y. refl) refl f plain) in
-    program_implements b input h limits (form_before plain no_tops)
-    (stays_peaceful b (program 2 (coded_program b)) input h one)
+program_implements b input h limits plain =
+    let p = program 2 (coded_program b) in
+    let code = program_is_code b h limits plain in
+    implements (source_of b) p input code
+    (peace_is_calm b p input h (stays_peaceful b p input h code (no_blocks b plain)))
 
 -- Simple forms are plain ones, and their evaluation stays calm.
 

@@ -48,7 +48,6 @@ pub mod CalmPuts
 pub mod CalmExits
 pub mod Calms
 pub mod Simply
-pub mod Passing
 pub mod Example
 pub mod Listing
 pub mod Plainly
@@ -64,5 +63,6 @@ pub mod Naming
 pub mod Coding
 pub mod Steady
 pub mod Alone
+pub mod Blockless
 pub mod Coded
 pub mod Methods

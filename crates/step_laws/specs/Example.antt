@@ -1,6 +1,5 @@
 -- Programs of simple and of plain forms and one with methods, and what is shown of them.
 use Rattle.std.specs.Prelude.{◌≡◌, ℕ, pos, false, List, [], ◌∷◌, codes, None}
-use Rattle.rb_value.specs.Object.{Object}
 use Rattle.rite_code.specs.Code.{Program, program}
 use Rattle.ir_core.specs.CoreForm.{named, hidden, Local, CoreForm, nil, truth, int, str, sym, local, set_local, gvar, set_gvar, array, hash, text, seq, cond, while_form, call, return_form, break_form, define, item, Body, body, plain_body, form_of, absent, Forms, more, two, no_items, plain, splat, no_pairs, pair, no_branches, branch, to, on_self}
 use Rattle.ir_core.specs.Program.{IsProgram}
@@ -9,12 +8,10 @@ use Rattle.ir_counts.specs.Limits.{first_excess}
 use Rattle.gen_forms.specs.Making.{coded_program}
 use Rattle.def_calls.specs.Seen.{Ended, Uncaught, Over}
 use Rattle.def_eval.specs.Source.{source_of}
-use Rattle.def_eval.specs.Configuration.{Config, Run, Halt, opening}
-use Rattle.def_eval.specs.Transition.{go_times, evaluation}
+use Rattle.def_eval.specs.Transition.{evaluation}
 use Rattle.def_machine.specs.Turn.{machine}
 use Rattle.step_laws.specs.Simple.{IsSimple}
 use Rattle.step_laws.specs.Plain.{IsPlain}
-use Rattle.step_laws.specs.Methods.{CallsMethods}
 use Rattle.step_laws.specs.Tops.{IsPlainProgram}
 
 abbrev pub code_of : Body → Program
@@ -116,17 +113,10 @@ chooser = plain_body [] (seq (three (define (codes "least") least) (define (code
     (call on_self (codes "puts")
     (plain (call on_self (codes "after") (plain (int (pos 3)) (plain (int (pos 2)) no_items)) absent) no_items) absent)))
 
-abbrev pub objects_of : Config → List Object
-objects_of (Halt e) = []
-objects_of (Run f ks m) = m.world.store.objects
-
--- It is a program of plain forms and methods within the limits, every method that there is when the first is called has
--- a body with code, and both sides end with the line 3.
+-- it is a program of plain forms and methods within the limits, and both sides end with the line 3
 pub record IsMethodWitness (b : Body) : Type 0 where
   pub program : IsProgram b
   pub within : first_excess (need b) ≡ None
   pub plain : IsPlainProgram b
-  pub called : CallsMethods (source_of b) (code_of b)
-      (objects_of (go_times 8 (source_of b) (opening (source_of b) [])))
   pub evaluates : evaluation (source_of b) [] 100 ≡ Over (Ended (codes "3\n") 0)
   pub runs : machine (code_of b) [] 100 ≡ Over (Ended (codes "3\n") 0)

@@ -44,7 +44,6 @@ ghost use Rattle.step_laws.specs.Peaceful.{StaysPeaceful};
 ghost use Rattle.step_laws.specs.Measure.{measure};
 ghost use Rattle.step_laws.specs.Relation.{Alike, Shared};
 ghost use Rattle.step_laws.specs.Simple.{IsSimple};
-ghost use Rattle.step_laws.specs.Plain.{IsPlain};
 ghost use Rattle.step_laws.specs.Tops.{IsPlainProgram};
 ghost use Rattle.step_laws.specs.Implements.{IsCodeOf, Implements};
 ghost use Rattle.step_laws.specs.Example.{countdown, gatherer, chooser, IsWitness, IsPlainWitness, IsMethodWitness};
@@ -84,23 +83,13 @@ pub fn simple_code_implements()
 {}
 
 /// The code that gen_forms gives for a program of plain forms, and of methods of such forms whose parameters are all
-/// required, within the limits is code of it and of its methods, so it implements it for each input with which the
-/// evaluation calls no other bodies.
+/// required, within the limits is code of it and of its methods. No block stands in such a program, so its evaluation
+/// enters no bodies but those of its methods, and the code implements it for every input.
 #[tactic(auto, using(crate::proofs::Coded::program_is_code, crate::proofs::Coded::program_implements))]
-pub fn plain_programs_are_coded()
+pub fn plain_programs_are_implemented()
     ensures coded { (b : Body) → IsProgram b → first_excess (need b) ≡ None → IsPlainProgram b
         → IsCodeOf (source_of b) (program 2 (coded_program b)) }
-    ensures implemented { (b : Body) (input : List ℕ) → IsProgram b → first_excess (need b) ≡ None
-        → IsPlainProgram b
-        → StaysPeaceful (source_of b) (program 2 (coded_program b)) (opening (source_of b) input)
-        → Implements (source_of b) (program 2 (coded_program b)) input }
-{}
-
-/// The evaluation of a program of plain forms alone calls no bodies at all, so its code within the limits implements it for
-/// every input.
-#[tactic(auto, using(crate::proofs::Coded::plain_implements))]
-pub fn plain_programs_are_implemented()
-    ensures { (b : Body) (input : List ℕ) → IsProgram b → first_excess (need b) ≡ None → IsPlain (form.form_of b)
+    ensures implemented { (b : Body) (input : List ℕ) → IsProgram b → first_excess (need b) ≡ None → IsPlainProgram b
         → Implements (source_of b) (program 2 (coded_program b)) input }
 {}
 
@@ -127,8 +116,8 @@ pub fn a_program_gathers()
     ensures { IsPlainWitness gatherer }
 {}
 
-/// There is one that defines methods with parameters, one of which calls the other, with a return: there are no others
-/// with a body when the first is called, and both sides come to the same end.
+/// There is one that defines methods with parameters, one of which calls the other, with a return; both sides come to the
+/// same end.
 #[tactic(auto, using(crate::proofs::Methods::chooses))]
 pub fn a_program_calls_methods()
     ensures { IsMethodWitness chooser }
