@@ -1,4 +1,5 @@
 pub mod Blocks
+pub mod Calls
 pub mod Environments
 pub mod Exits
 pub mod Lending

@@ -1,3 +1,4 @@
+pub mod Frames
 pub mod Handlers
 pub mod Landings
 pub mod Levels
