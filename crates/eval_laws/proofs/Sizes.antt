@@ -70,7 +70,8 @@ mutual
   size (form.and_form e f) = two _ _ _ _ _ _ (size e) (size f)
   size (form.or_form e f) = two _ _ _ _ _ _ (size e) (size f)
   size (form.while_form first t b) = two _ _ _ _ _ _ (size t) (size b)
-  size (form.call r x is b) = named _ _ _ (two _ _ _ _ _ _ (size_receiver r) (two _ _ _ _ _ _ (size_items is) (size_maybe b)))
+  size (form.call r x is b) =
+      named _ _ _ (two _ _ _ _ _ _ (size_receiver r) (two _ _ _ _ _ _ (size_items is) (size_maybe b)))
   size (form.yield_form is) = size_items is
   size (form.super_form is b) = two _ _ _ _ _ _ (size_items is) (size_maybe b)
   size (form.function f) = size_body of_block f

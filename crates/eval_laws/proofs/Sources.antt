@@ -43,13 +43,16 @@ abbrev piece_pairs : Pairs → Piece
 piece_pairs ps = record { bodies = over_pairs in_order ps; kinds = kinds_pairs ps; names = over_pairs named_in ps }
 
 abbrev piece_branches : Branches → Piece
-piece_branches bs = record { bodies = over_branches in_order bs; kinds = kinds_branches bs; names = over_branches named_in bs }
+piece_branches bs =
+    record { bodies = over_branches in_order bs; kinds = kinds_branches bs; names = over_branches named_in bs }
 
 abbrev piece_clauses : Clauses → Piece
-piece_clauses cs = record { bodies = over_clauses in_order cs; kinds = kinds_clauses cs; names = over_clauses named_in cs }
+piece_clauses cs =
+    record { bodies = over_clauses in_order cs; kinds = kinds_clauses cs; names = over_clauses named_in cs }
 
 abbrev piece_receiver : Receiver → Piece
-piece_receiver r = record { bodies = over_receiver in_order r; kinds = kinds_receiver r; names = over_receiver named_in r }
+piece_receiver r =
+    record { bodies = over_receiver in_order r; kinds = kinds_receiver r; names = over_receiver named_in r }
 
 abbrev piece_body : Kind → Body → Piece
 piece_body k f = record { bodies = over_body in_order f; kinds = kinds_body k f; names = over_body named_in f }

@@ -1,8 +1,7 @@
--- The evaluation of a program without blocks, whose methods have code, enters no bodies but those of such methods.
-use Rattle.std.proofs.Common.{◌<◌, ℕ, List, [], ◌∷◌, length, nat_eq, cond, Bool, true, false, inr}
+-- The evaluation of a program whose methods and blocks have code enters no bodies but those.
+use Rattle.std.proofs.Common.{ℕ, List, [], ◌∷◌, nat_eq, cond, Bool, true, false, inr}
 use Rattle.std.specs.Prelude.{Some}
 use Rattle.std.specs.Map.{lookup}
-use Rattle.std.proofs.lemmas.Option.{slice_get_within}
 use Rattle.rb_value.specs.declared.method.Method.{Method}
 use Rattle.rb_value.specs.declared.method.Method.TheVariants as method
 use Rattle.rb_value.specs.declared.method.MethodEntry.{MethodEntry}
@@ -24,26 +23,22 @@ use Rattle.def_eval.specs.Transition.{go_times}
 use Rattle.world_laws.specs.Fine.{MethodIs, EntryHas, KindIs, Fine}
 use Rattle.world_laws.proofs.Holding.{kind_in_held, methods_held}
 use Rattle.world_laws.proofs.Plans.{next_is}
-use Rattle.eval_laws.specs.Kinds.{IsKind, of_block}
+use Rattle.eval_laws.specs.Kinds.{IsKind, of_block, of_method}
 use Rattle.eval_laws.specs.Standing.{BlockStands, MethodStands}
 use Rattle.eval_laws.specs.Fits.{ItemsFit, Fits, bodies}
 use Rattle.eval_laws.proofs.Start.{evaluation_fits}
 use Rattle.step_laws.specs.Implements.{IsCodeOf}
-use Rattle.step_laws.specs.Methods.{MethodCode, IsMethod, IsEntry, HasNoBody, CallsMethods}
+use Rattle.step_laws.specs.Bodies.{BodyCode, ProcCode, IsMethod, IsEntry, HasCode, CallsBodies}
 use Rattle.step_laws.specs.Calm.{objects_for}
 use Rattle.step_laws.specs.Peaceful.{IsPeaceful, StaysPeaceful}
 
--- no body is that of a block
-abbrev pub NoBlocks : Source → Type 0
-NoBlocks s = (n : ℕ) → IsKind s n of_block → ⊥
+module _ (s : Source) (p : Program) (methods : (n : ℕ) → IsKind s n of_method → BodyCode s p n)
+    (blocks : (n : ℕ) → IsKind s n of_block → ProcCode s p n) where
+  method_code : (n : ℕ) (f : Body) → MethodStands s n f → BodyCode s p n
+  method_code n (form.body q ls e) h = methods n h.4
 
-module _ (s : Source) (p : Program) (coded : (n : ℕ) → 0 < n → n < length s → MethodCode s p n)
-    (no_blocks : NoBlocks s) where
-  method_code : (n : ℕ) (f : Body) → MethodStands s n f → MethodCode s p n
-  method_code n (form.body q ls e) h = coded n h.3 (slice_get_within s n (form.body q ls e) h.0)
-
-  no_block : (a : Around) (n : ℕ) (f : Body) → BlockStands s a n f → ⊥
-  no_block a n (form.body q ls e) h = no_blocks n h.4
+  block_code : (a : Around) (n : ℕ) (f : Body) → BlockStands s a n f → ProcCode s p n
+  block_code a n (form.body q ls e) h = blocks n h.4
 
   module _ (w : World) (cs : List Scope) where
     method_is : (x : Method) → MethodIs (bodies s cs) w x → IsMethod s p x
@@ -64,50 +59,51 @@ module _ (s : Source) (p : Program) (coded : (n : ℕ) → 0 < n → n < length 
         by true further = method_is e.1.method all.0
         by false further = further
 
-    no_body : (x : Kind) → KindIs (bodies s cs) w x → HasNoBody (callable_of x)
+    proc_is : (x : Kind) → KindIs (bodies s cs) w x → HasCode s p (callable_of x)
     unfolding bodies
-    no_body kind.Plain h = tt
-    no_body (kind.Class c) h = tt
-    no_body (kind.String t) h = tt
-    no_body (kind.Array a) h = tt
-    no_body (kind.Hash x) h = tt
-    no_body (kind.Range r) h = tt
-    no_body (kind.Proc c) h = absurd (no_block h.around c.code (body_at s c.code) h.body)
-    no_body (kind.CoreProc r v) h = tt
-    no_body (kind.Fiber o e) h = tt
-    no_body (kind.Exception x d) h = tt
-    no_body (kind.Enumerator e) h = tt
-    no_body (kind.Yielder o) h = tt
+    proc_is kind.Plain h = tt
+    proc_is (kind.Class c) h = tt
+    proc_is (kind.String t) h = tt
+    proc_is (kind.Array a) h = tt
+    proc_is (kind.Hash x) h = tt
+    proc_is (kind.Range r) h = tt
+    proc_is (kind.Proc c) h = block_code h.around c.code (body_at s c.code) h.body
+    proc_is (kind.CoreProc r v) h = tt
+    proc_is (kind.Fiber o e) h = tt
+    proc_is (kind.Exception x d) h = tt
+    proc_is (kind.Enumerator e) h = tt
+    proc_is (kind.Yielder o) h = tt
 
-    methods_called : Fine (bodies s cs) w → CallsMethods s p w.store.objects
-    methods_called fine = record {
+    all_called : Fine (bodies s cs) w → CallsBodies s p w.store.objects
+    all_called fine = record {
       methods = λ c name. entry_is name.0 (class_at w.store.objects c).methods (methods_held (bodies s cs) w fine c);
-      no_procs = λ v. no_body (kind_in w.store.objects v) (kind_in_held (bodies s cs) w fine v);
+      procs = λ v. proc_is (kind_in w.store.objects v) (kind_in_held (bodies s cs) w fine v);
     }
 
-  calls_methods : (early : World) (f : Focus) (ks : List Item) (m : Memory) → Fits s early (Run f ks m)
-      → CallsMethods s p (objects_for f ks m)
-  calls_methods early (perform n e) ks m h = methods_called m.world m.scopes h.memory.world
-  calls_methods early (give v) ks m h = by ks h.items
+  calls_all : (early : World) (f : Focus) (ks : List Item) (m : Memory) → Fits s early (Run f ks m)
+      → CallsBodies s p (objects_for f ks m)
+  calls_all early (perform n e) ks m h = all_called m.world m.scopes h.memory.world
+  calls_all early (give v) ks m h = by ks h.items
     where
-      by : (is : List Item) → ItemsFit s m.world m.scopes m.place is → CallsMethods s p (objects_for (give v) is m)
-      by [] g = methods_called m.world m.scopes h.memory.world
-      by (part k ∷ is) g = methods_called m.world m.scopes h.memory.world
-      by (activation a q ∷ is) g = methods_called m.world m.scopes h.memory.world
+      by : (is : List Item) → ItemsFit s m.world m.scopes m.place is → CallsBodies s p (objects_for (give v) is m)
+      by [] g = all_called m.world m.scopes h.memory.world
+      by (part k ∷ is) g = all_called m.world m.scopes h.memory.world
+      by (activation a q ∷ is) g = all_called m.world m.scopes h.memory.world
       by (iteration a it q ∷ is) g =
           let x = plans.next it v m.world.store in
           let next = next_is (bodies s m.scopes) m.world h.memory.world it v g.1 h.focus in
-          methods_called (with_store m.world x.store) m.scopes next.keeps.fine
-      by (ensuring o ∷ is) g = methods_called m.world m.scopes h.memory.world
-  calls_methods early (travel x) ks m h = methods_called m.world m.scopes h.memory.world
+          all_called (with_store m.world x.store) m.scopes next.keeps.fine
+      by (ensuring o ∷ is) g = all_called m.world m.scopes h.memory.world
+  calls_all early (travel x) ks m h = all_called m.world m.scopes h.memory.world
 
   peaceful_at : (early : World) (c : Config) → Fits s early c → IsPeaceful s p c
   peaceful_at early (Halt e) h = tt
-  peaceful_at early (Run f ks m) h = inr (calls_methods early f ks m h)
+  peaceful_at early (Run f ks m) h = inr (calls_all early f ks m h)
 
 pub stays_peaceful : (b : Body) (p : Program) (input : List ℕ) → IsProgram b → IsCodeOf (source_of b) p
-    → NoBlocks (source_of b) → StaysPeaceful (source_of b) p (opening (source_of b) input)
-stays_peaceful b p input is code none n =
+    → StaysPeaceful (source_of b) p (opening (source_of b) input)
+stays_peaceful b p input is code n =
     let h = evaluation_fits b input n is in
-    peaceful_at (source_of b) p code.methods none (record (opening_world (all_names (source_of b)) input) { out = h.0 })
+    peaceful_at (source_of b) p code.methods code.blocks
+    (record (opening_world (all_names (source_of b)) input) { out = h.0 })
     (go_times n (source_of b) (opening (source_of b) input)) h.1

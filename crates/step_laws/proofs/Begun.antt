@@ -1,86 +1,96 @@
--- With which variables and registers the body of a method begins: they are alike.
-use Rattle.std.proofs.Common.{◌≡◌, ℕ, zero, suc, ◌+◌, ◌<◌, ◌≤◌, List, [], ◌∷◌, ◌++◌, refl, sym, ap, ◌∙◌, subst, arith, length, length-append, length-set, get_or, set, replicate, Bool, true, false, get_or-set_same, get_or-set_other}
-use Rattle.std.specs.Prelude.{if◌then◌else◌, Option, Some, None, unwrap_or}
-use Rattle.std.proofs.lemmas.List.{length-replicate, append-nil, append_assoc, get_or_append_left, get_or_push}
+-- With which variables and registers a body begins that is entered: they are alike.
+use Rattle.std.proofs.Common.{◌≡◌, ℕ, zero, suc, ◌+◌, ◌<◌, ◌≤◌, List, [], ◌∷◌, ◌++◌, refl, sym, ap, ◌∙◌, subst, arith, length, length-append, length-set, get_or, set, replicate, Bool, true, false, get_or-set_same, get_or-set_other, inr}
+use Rattle.std.specs.Prelude.{if◌then◌else◌, Option, Some, None, is_some, unwrap_or}
+use Rattle.std.proofs.lemmas.List.{length-replicate, length-map, map-append, append_assoc, get_or_append_left, get_or_push}
 use Rattle.rb_value.specs.declared.value.Value.{Value}
 use Rattle.rb_value.specs.declared.value.Value.TheVariants.{Nil}
 use Rattle.rb_value.specs.declared.value.ObjId.{ObjId}
 use Rattle.rb_value.specs.declared.exit.Slot.{Slot}
 use Rattle.rb_value.specs.declared.exit.Slot.TheVariants.{V}
 use Rattle.rb_value.specs.Slot.{read}
-use Rattle.ir_core.specs.CoreForm.{Local, named, hidden, pattern, rest, Body, body}
+use Rattle.ir_core.specs.CoreForm.{Name, Local, named, hidden, pattern, rest, Parameters, Body, body}
 use Rattle.scope_resolver.specs.declared.body_kind.BodyKind.TheVariants as kind
+use Rattle.scope_resolver.specs.declared.place.Place.{Place}
 use Rattle.scope_resolver.specs.declared.seek.Search.{Search}
 use Rattle.scope_resolver.specs.declared.seek.Search.TheVariants.{Found, Past}
-use Rattle.scope_resolver.specs.Layout.{Slots, Scopes, named_slots, block_slot, slots_of, seek, place_at, place_or_self, place_of}
+use Rattle.scope_resolver.specs.Layout.{Slots, Scopes, named_slots, block_slot, parameter_slots, slots_of, seek, place_at, place_from, place_or_self, place_of}
 use Rattle.def_eval.specs.Source.{parameters_of, locals_of}
 use Rattle.def_eval.specs.Configuration.{Scope, all_nil}
-use Rattle.def_eval.specs.Scopes.{same_local, no_scope, value_in, with_values, block_value, first_variables, scope_at}
+use Rattle.def_eval.specs.Scopes.{same_local, no_scope, value_in, all_of, with_values, block_value, first_variables, scope_at}
 use Rattle.def_machine.specs.State as machine
 use Rattle.def_machine.specs.State.{Registers, no_registers, list_at, slot_at}
 use Rattle.step_laws.specs.Site.{Site, register, Known}
-use Rattle.step_laws.specs.Methods.{body_of, AreRequired, MethodAt}
-use Rattle.step_laws.specs.Relation.{Same}
+use Rattle.step_laws.specs.Bodies.{body_of, BodyAt}
+use Rattle.step_laws.specs.Relation.{IsOwn, Owned, Same}
 use Rattle.step_laws.proofs.Parameters.{Lined, Sought, at, nowhere, sought, lined_values, lined_nils, lined_block, set_row, length_row, row_below, row_at, row_past}
 
-three : {A : Type 0} (xs : List A) → ((xs ++ []) ++ []) ++ [] ≡ xs
-three xs = append-nil ((xs ++ []) ++ []) ∙ append-nil (xs ++ []) ∙ append-nil xs
+named_all : (p : Parameters)
+    → named_slots (all_of p)
+    ≡ ((named_slots p.required ++ named_slots p.optional) ++ named_slots p.rest) ++ named_slots p.post
+named_all p =
+    map-append Some ((p.required ++ p.optional) ++ p.rest) p.post
+    ∙ ap (λ (ss : Slots). ss ++ named_slots p.post) (map-append Some (p.required ++ p.optional) p.rest
+    ∙ ap (λ (ss : Slots). ss ++ named_slots p.rest) (map-append Some p.required p.optional))
+
+-- the slots of the parameters, that of the block, and those of the locals
+all_slots : (p : Parameters) (ls : List Local)
+    → parameter_slots p ++ named_slots ls ≡ named_slots (all_of p) ++ (block_slot p.block ++ named_slots ls)
+all_slots p ls =
+    append_assoc (((named_slots p.required ++ named_slots p.optional) ++ named_slots p.rest) ++ named_slots p.post)
+    (block_slot p.block) (named_slots ls)
+    ∙ ap (λ (ss : Slots). ss ++ (block_slot p.block ++ named_slots ls)) (sym (named_all p))
 
 -- the variables are in the order of the slots
-lined_variables : (bd : Body) (args : List Value) (blk : Option ObjId) (f : ℕ → Value) → AreRequired (parameters_of bd)
-    → length args ≡ length (parameters_of bd).required → ((i : ℕ) → i < length args → f (1 + i) ≡ get_or args i Nil)
-    → f (1 + length args) ≡ block_value blk → ((i : ℕ) → 2 + length args ≤ i → f i ≡ Nil)
+lined_variables : (bd : Body) (args : List Value) (blk : Option ObjId) (f : ℕ → Value)
+    → length (parameters_of bd).block ≤ 1 → length args ≡ length (all_of (parameters_of bd))
+    → ((i : ℕ) → i < length args → f (1 + i) ≡ get_or args i Nil) → f (1 + length args) ≡ block_value blk
+    → ((i : ℕ) → 2 + length args ≤ i → f i ≡ Nil)
     → Lined (slots_of kind.Method bd) 1 f (first_variables (parameters_of bd) (locals_of bd) args blk)
 unfolding first_variables
-lined_variables (body p ls fm) args blk f a e arg block past =
-    subst (λ (os : List Local). G os p.rest p.post) (sym a.no_optional)
-    (subst (λ (rs : List Local). G [] rs p.post) (sym a.no_rest)
-    (subst (λ (qs : List Local). G [] [] qs) (sym a.no_post)
-    (subst (λ (ss : Slots). Lined ss 1 f
-    ((with_values (((p.required ++ []) ++ []) ++ []) args ++ with_values p.block (block_value blk ∷ [])) ++ all_nil ls))
-    (sym (ap (λ (zs : Slots). (zs ++ block_slot p.block) ++ named_slots ls) (three (named_slots p.required))
-    ∙ append_assoc (named_slots p.required) (block_slot p.block) (named_slots ls)))
-    (subst (λ (vs : List (Local × Value)). Lined (named_slots p.required ++ (block_slot p.block ++ named_slots ls)) 1 f vs)
-    (sym (ap (λ (xs : List Local). (with_values xs args ++ with_values p.block (block_value blk ∷ [])) ++ all_nil ls)
-    (three p.required)
-    ∙ append_assoc (with_values p.required args) (with_values p.block (block_value blk ∷ [])) (all_nil ls)))
-    (lined_values p.required args (block_slot p.block ++ named_slots ls)
-    (with_values p.block (block_value blk ∷ []) ++ all_nil ls) 1 f e arg
-    (lined_block p.block (block_value blk) (named_slots ls) (all_nil ls) (1 + length p.required) f a.one_block
+lined_variables (body p ls fm) args blk f one_block e arg block past =
+    let own : List (Local × Value) = with_values p.block (block_value blk ∷ []) in
+    subst (λ (ss : Slots). Lined ss 1 f ((with_values (all_of p) args ++ own) ++ all_nil ls)) (sym (all_slots p ls))
+    (subst (λ (vs : List (Local × Value)). Lined (named_slots (all_of p) ++ (block_slot p.block ++ named_slots ls)) 1 f vs)
+    (sym (append_assoc (with_values (all_of p) args) own (all_nil ls)))
+    (lined_values (all_of p) args (block_slot p.block ++ named_slots ls) (own ++ all_nil ls) 1 f e arg
+    (lined_block p.block (block_value blk) (named_slots ls) (all_nil ls) (1 + length (all_of p)) f one_block
     (subst (λ (n : ℕ). f (1 + n) ≡ block_value blk) e block)
-    (lined_nils ls (1 + length p.required + 1) f (λ i le. past i (omega (arith, le, e))))))))))
-  where
-    G : List Local → List Local → List Local → Type 0
-    G os rs qs = Lined (((((named_slots p.required ++ named_slots os) ++ named_slots rs) ++ named_slots qs)
-        ++ block_slot p.block) ++ named_slots ls) 1 f ((with_values (((p.required ++ os) ++ rs) ++ qs) args
-        ++ with_values p.block (block_value blk ∷ [])) ++ all_nil ls)
+    (lined_nils ls (1 + length (all_of p) + 1) f (λ i le. past i (omega (arith, le, e)))))))
+
+-- and so they are where nothing is given
+lined_missing : (xs : List Local) (ss : Slots) (vs : List (Local × Value)) (k : ℕ)
+    → Lined ss (k + length xs) (λ i. Nil) vs → Lined (named_slots xs ++ ss) k (λ i. Nil) (with_values xs [] ++ vs)
+lined_missing [] ss vs k l = subst (λ (i : ℕ). Lined ss i (λ j. Nil) vs) (omega arith) l
+lined_missing (x ∷ xs) ss vs k l =
+    (refl, refl, lined_missing xs ss vs (k + 1) (subst (λ (i : ℕ). Lined ss i (λ j. Nil) vs) (omega arith) l))
+
+lined_nothing : (bd : Body) → length (parameters_of bd).block ≤ 1
+    → Lined (slots_of kind.Method bd) 1 (λ i. Nil) (first_variables (parameters_of bd) (locals_of bd) [] None)
+unfolding first_variables
+lined_nothing (body p ls fm) one_block =
+    let own : List (Local × Value) = with_values p.block (Nil ∷ []) in
+    subst (λ (ss : Slots). Lined ss 1 (λ i. Nil) ((with_values (all_of p) [] ++ own) ++ all_nil ls)) (sym (all_slots p ls))
+    (subst (λ (vs : List (Local × Value)).
+    Lined (named_slots (all_of p) ++ (block_slot p.block ++ named_slots ls)) 1 (λ i. Nil) vs)
+    (sym (append_assoc (with_values (all_of p) []) own (all_nil ls)))
+    (lined_missing (all_of p) (block_slot p.block ++ named_slots ls) (own ++ all_nil ls) 1
+    (lined_block p.block Nil (named_slots ls) (all_nil ls) (1 + length (all_of p)) (λ i. Nil) one_block refl
+    (lined_nils ls (1 + length (all_of p) + 1) (λ i. Nil) (λ i le. refl)))))
 
 nil_at : (n i : ℕ) → get_or (replicate n (V Nil)) i (V Nil) ≡ V Nil
 nil_at zero i = refl
 nil_at (suc n) zero = refl
 nil_at (suc n) (suc i) = nil_at n i
 
-slots_long : (xs : List Local) → length (named_slots xs) ≡ length xs
-slots_long [] = refl
-slots_long (x ∷ xs) = let e = slots_long xs in omega (arith, e)
-
 -- the slots of a body: a parameter each and one of the block
-slots_enough : (bd : Body) → AreRequired (parameters_of bd)
-    → length (parameters_of bd).required + 1 ≤ length (slots_of kind.Method bd)
-slots_enough (body p ls fm) a =
-    let q = named_slots p.required in
-    let q2 = q ++ named_slots p.optional in
-    let q3 = q2 ++ named_slots p.rest in
-    let q4 = q3 ++ named_slots p.post in
-    let q5 = q4 ++ block_slot p.block in
+slots_enough : (bd : Body) → length (all_of (parameters_of bd)) + 1 ≤ length (slots_of kind.Method bd)
+slots_enough (body p ls fm) =
     omega (
       arith,
-      length-append q5 (named_slots ls),
-      length-append q4 (block_slot p.block),
-      length-append q3 (named_slots p.post),
-      length-append q2 (named_slots p.rest),
-      length-append q (named_slots p.optional),
-      slots_long p.required,
+      ap length (all_slots p ls),
+      length-append (named_slots (all_of p)) (block_slot p.block ++ named_slots ls),
+      length-append (block_slot p.block) (named_slots ls),
+      length-map (all_of p) Some,
       one p.block,
     )
   where
@@ -88,8 +98,48 @@ slots_enough (body p ls fm) a =
     one [] = omega arith
     one (x ∷ xs) = omega arith
 
-module _ (d : Site) (m : MethodAt d) (args : List Value) (blk : Option ObjId)
-    (right : length args ≡ length (parameters_of (body_of d)).required) where
+-- what isn't found in the first body is in none, or further out
+further_out : (x : Local) (scopes : Scopes) (n : ℕ) → 1 ≤ n → (place_or_self (place_from x scopes n)).levels ≡ 0
+    → (place_or_self (place_from x scopes n)).register ≡ 0
+further_out x [] n le e = refl
+further_out x (ss ∷ scopes) n le e =
+    by (further_out x scopes (n + 1) (omega (arith, le))) (seek x ss (Past 1)) e
+  where
+    by : ((place_or_self (place_from x scopes (n + 1))).levels ≡ 0
+        → (place_or_self (place_from x scopes (n + 1))).register ≡ 0) → (r : Search)
+        → (place_or_self (place_at r n (place_from x scopes (n + 1)))).levels ≡ 0
+        → (place_or_self (place_at r n (place_from x scopes (n + 1)))).register ≡ 0
+    by out (Found i) e = absurd (omega (arith, le, e))
+    by out (Past i) e = out e
+
+-- A local of the body has the value of its register, where variables are lined up with the slots.
+
+abbrev own_slots : Site → Slots
+own_slots d = slots_of kind.Method (body_of d)
+
+found_slot : (d : Site) (m : BodyAt d) (f : ℕ → Value) (vs : List (Local × Value))
+    → Lined (own_slots d) 1 f vs → (x : Name) → Known d (named x)
+    → value_in vs (named x) ≡ Some (f (register d (named x)))
+found_slot d m f vs l x k = by (sought (named x) (own_slots d) 1 f vs l)
+  where
+    placed : (r : Search) → seek (named x) (own_slots d) (Past 1) ≡ r
+        → place_of d.context.scopes (named x) ≡ place_or_self (place_at r 0 (place_from (named x) m.around 1))
+    placed r e =
+        ap (λ (cs : Scopes). place_of cs (named x)) m.scopes
+        ∙ ap (λ (q : Search). place_or_self (place_at q 0 (place_from (named x) m.around 1))) e
+
+    by : Sought (named x) 1 f vs (seek (named x) (own_slots d) (Past 1))
+        → value_in vs (named x) ≡ Some (f (register d (named x)))
+    by (at i le e v) =
+        v ∙ ap (λ (j : ℕ). Some (f j)) (sym (ap (λ (q : Place). q.register) (placed (Found i) e)))
+    by (nowhere i le e v) =
+        let level = sym (ap (λ (q : Place). q.levels) (placed (Past i) e)) ∙ k.level in
+        let none = ap (λ (q : Place). q.register) (placed (Past i) e)
+        ∙ further_out (named x) m.around 1 (omega arith) level in
+        absurd (omega (arith, k.behind_self, none))
+
+module _ (d : Site) (m : BodyAt d) (args : List Value) (blk : Option ObjId)
+    (right : length args ≡ length (all_of (parameters_of (body_of d)))) where
   abbrev count : ℕ
   count = (machine.body_at d.program d.body).registers
 
@@ -109,7 +159,7 @@ module _ (d : Site) (m : MethodAt d) (args : List Value) (blk : Option ObjId)
   row_long = length-append args (block_value blk ∷ []) ∙ omega arith
 
   enough : 1 + length (args ++ block_value blk ∷ []) ≤ length first_slots
-  enough = omega (arith, row_long, right, slots_enough (body_of d) m.required, m.low, m.static.room, first_long)
+  enough = omega (arith, row_long, right, slots_enough (body_of d), m.low, m.static.room, first_long)
 
   argument : (i : ℕ) → i < length args → value (1 + i) ≡ get_or args i Nil
   argument i lt =
@@ -128,27 +178,14 @@ module _ (d : Site) (m : MethodAt d) (args : List Value) (blk : Option ObjId)
 
   lined : Lined (slots_of kind.Method (body_of d)) 1 value
       (first_variables (parameters_of (body_of d)) (locals_of (body_of d)) args blk)
-  lined = lined_variables (body_of d) args blk value m.required right argument the_block others
+  lined = lined_variables (body_of d) args blk value m.straight.one_block right argument the_block others
 
   -- what a local reads as, and its register
   alike : (x : Local) → Known d x
       → unwrap_or (value_in (first_variables (parameters_of (body_of d)) (locals_of (body_of d)) args blk) x) Nil
       ≡ value (register d x)
-  alike (named x) k = by (sought (named x) (slots_of kind.Method (body_of d)) 1 value
-      (first_variables (parameters_of (body_of d)) (locals_of (body_of d)) args blk) lined)
-    where
-      placed : (r : Search) → seek (named x) (slots_of kind.Method (body_of d)) (Past 1) ≡ r
-          → register d (named x) ≡ (place_or_self (place_at r 0 None)).register
-      placed r e =
-          ap (λ (cs : Scopes). (place_of cs (named x)).register) m.scopes
-          ∙ ap (λ (q : Search). (place_or_self (place_at q 0 None)).register) e
-
-      by : Sought (named x) 1 value (first_variables (parameters_of (body_of d)) (locals_of (body_of d)) args blk)
-          (seek (named x) (slots_of kind.Method (body_of d)) (Past 1))
-          → unwrap_or (value_in (first_variables (parameters_of (body_of d)) (locals_of (body_of d)) args blk) (named x)) Nil
-          ≡ value (register d (named x))
-      by (at i le e v) = ap (λ (o : Option Value). unwrap_or o Nil) v ∙ ap value (sym (placed (Found i) e))
-      by (nowhere i le e v) = absurd (omega (arith, k.behind_self, placed (Past i) e))
+  alike (named x) k = ap (λ (o : Option Value). unwrap_or o Nil) (found_slot d m value
+      (first_variables (parameters_of (body_of d)) (locals_of (body_of d)) args blk) lined x k)
   alike (hidden h) k = by (sought (hidden h) (slots_of kind.Method (body_of d)) 1 value
       (first_variables (parameters_of (body_of d)) (locals_of (body_of d)) args blk) lined)
     where
@@ -162,20 +199,32 @@ module _ (d : Site) (m : MethodAt d) (args : List Value) (blk : Option ObjId)
       by (at i le e v) = absurd (cc (sym e ∙ m.none_hidden h))
       by (nowhere i le e v) =
           ap (λ (o : Option Value). unwrap_or o Nil) v
-          ∙ sym (others (register d (hidden h)) (omega (arith, placed, right, slots_enough (body_of d) m.required)))
+          ∙ sym (others (register d (hidden h)) (omega (arith, placed, right, slots_enough (body_of d))))
   alike (pattern q) k = absurd k.scoped
   alike rest k = absurd k.scoped
 
+  own : (c : Scope)
+      → c.variables ≡ first_variables (parameters_of (body_of d)) (locals_of (body_of d)) args blk → Owned d c
+  own c e = inr (λ x k. its x k)
+    where
+      its : (x : Local) → Known d x → IsOwn c x
+      its (named x) k = ap (λ (vs : List (Local × Value)). is_some (value_in vs (named x))) e
+          ∙ ap is_some (found_slot d m value
+          (first_variables (parameters_of (body_of d)) (locals_of (body_of d)) args blk) lined x k)
+      its (hidden h) k = tt
+      its (pattern q) k = tt
+      its rest k = tt
+
   -- The scope and the list with which the body begins.
-  pub begun_same : (cs : List Scope) (l : List Registers) (outer : Option ℕ) → d.list ≡ length l → length cs ≡ length l
-      → Same d (cs ++ (record {
-        parent = None;
+  pub begun_same : (cs : List Scope) (l : List Registers) (around outer : Option ℕ) → d.list ≡ length l
+      → length cs ≡ length l → Same d (cs ++ (record {
+        parent = around;
         variables = first_variables (parameters_of (body_of d)) (locals_of (body_of d)) args blk;
       }) ∷ []) (l ++ (record { outer = outer; slots = slots }) ∷ [])
   unfolding slot_at
-  begun_same cs l outer e f =
+  begun_same cs l around outer e f =
       let c : Scope = record {
-        parent = None;
+        parent = around;
         variables = first_variables (parameters_of (body_of d)) (locals_of (body_of d)) args blk;
       } in
       let r : Registers = record { outer = outer; slots = slots } in
@@ -183,7 +232,7 @@ module _ (d : Site) (m : MethodAt d) (args : List Value) (blk : Option ObjId)
       let list : list_at (l ++ r ∷ []) d.list ≡ r = get_or_push l r no_registers d.list (sym e) in
       record {
         scope = omega (arith, e, f, length-append cs (c ∷ []));
-        parent = ap (λ (q : Scope). q.parent) scope;
+        owned = subst (Owned d) (sym scope) (own c refl);
         present = omega (arith, e, length-append l (r ∷ []));
         long = ap (λ (q : Registers). length q.slots) list
             ∙ length_row first_slots 1 (args ++ block_value blk ∷ []) ∙ first_long;
@@ -236,19 +285,32 @@ first_nil (body p ls fm) x =
     (nil_values (((p.required ++ p.optional) ++ p.rest) ++ p.post) x (with_values p.block (Nil ∷ []) ++ all_nil ls)
     (block_nil p.block x (all_nil ls) (all_nils ls x)))
 
-pub nil_same : (d : Site) (m : MethodAt d) (cs : List Scope) (l : List Registers) (outer : Option ℕ)
+nil_own : (d : Site) (m : BodyAt d) (c : Scope)
+    → c.variables ≡ first_variables (parameters_of (body_of d)) (locals_of (body_of d)) [] None → Owned d c
+nil_own d m c e = inr (λ x k. its x k)
+  where
+    its : (x : Local) → Known d x → IsOwn c x
+    its (named x) k = ap (λ (vs : List (Local × Value)). is_some (value_in vs (named x))) e
+        ∙ ap is_some (found_slot d m (λ i. Nil)
+        (first_variables (parameters_of (body_of d)) (locals_of (body_of d)) [] None)
+        (lined_nothing (body_of d) m.straight.one_block) x k)
+    its (hidden h) k = tt
+    its (pattern q) k = tt
+    its rest k = tt
+
+pub nil_same : (d : Site) (m : BodyAt d) (cs : List Scope) (l : List Registers) (around outer : Option ℕ)
     → d.list ≡ length l → length cs ≡ length l → Same d (cs ++ (record {
-      parent = None;
+      parent = around;
       variables = first_variables (parameters_of (body_of d)) (locals_of (body_of d)) [] None;
     }) ∷ []) (l ++ (record {
       outer = outer;
       slots = set (replicate (machine.body_at d.program d.body).registers (V Nil)) 0 (V d.self);
     }) ∷ [])
 unfolding slot_at
-nil_same d m cs l outer e f =
+nil_same d m cs l around outer e f =
     let count = (machine.body_at d.program d.body).registers in
     let c : Scope = record {
-      parent = None;
+      parent = around;
       variables = first_variables (parameters_of (body_of d)) (locals_of (body_of d)) [] None;
     } in
     let r : Registers = record { outer = outer; slots = set (replicate count (V Nil)) 0 (V d.self) } in
@@ -256,7 +318,7 @@ nil_same d m cs l outer e f =
     let list : list_at (l ++ r ∷ []) d.list ≡ r = get_or_push l r no_registers d.list (sym e) in
     record {
       scope = omega (arith, e, f, length-append cs (c ∷ []));
-      parent = ap (λ (q : Scope). q.parent) scope;
+      owned = subst (Owned d) (sym scope) (nil_own d m c refl);
       present = omega (arith, e, length-append l (r ∷ []));
       long = ap (λ (q : Registers). length q.slots) list
           ∙ length-set (replicate count (V Nil)) 0 (V d.self) ∙ length-replicate count (V Nil);

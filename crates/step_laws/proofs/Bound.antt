@@ -1,85 +1,138 @@
--- What ENTER does in the code of a method whose parameters are all required, and with which variables its body begins.
-use Rattle.std.proofs.Common.{◌≡◌, ℕ, ◌+◌, ◌-◌, List, [], ◌∷◌, ◌++◌, refl, ap, ◌∙◌, arith, length, set, replicate, Bool, true, false}
+-- What ENTER binds in the code of a body none of whose parameters is optional, and the registers that it writes.
+use Rattle.std.proofs.Common.{◌≡◌, ℕ, ◌+◌, ◌-◌, ◌≤◌, List, [], ◌∷◌, ◌++◌, refl, ap, ◌∙◌, arith, length, length-append, set, replicate, Bool, true, false}
 use Rattle.std.specs.Prelude.{if◌then◌else◌, take, drop}
-use Rattle.std.proofs.lemmas.List.{append-nil, take-append-drop, get_or_push}
+use Rattle.std.proofs.lemmas.List.{length-take, length-drop, length-replicate, get_or_push}
 use Rattle.std.proofs.lemmas.Bool.Decides.{nat_tests}
 use Rattle.rb_value.specs.declared.value.Value.{Value}
-use Rattle.rb_value.specs.declared.value.Value.TheVariants.{Nil}
+use Rattle.rb_value.specs.declared.value.Value.TheVariants.{Nil, Obj}
+use Rattle.rb_value.specs.declared.kind.Kind.TheVariants as kind
+use Rattle.rb_value.specs.declared.core_class.CoreClass.TheVariants as class
 use Rattle.rb_value.specs.declared.method.Shape.{Shape}
 use Rattle.rb_value.specs.declared.exit.Slot.{Slot}
 use Rattle.rb_value.specs.declared.exit.Slot.TheVariants.{V}
 use Rattle.def_core.specs.declared.bound.Bound.TheVariants.{Values, Wrong}
-use Rattle.def_core.specs.declared.bound.BindKind.TheVariants as kinds
-use Rattle.def_core.specs.Store.{Store}
-use Rattle.def_core.specs.Bind.{fits, filled, values, bind_fitting, bind}
+use Rattle.def_core.specs.declared.bound.BindKind.{BindKind}
+use Rattle.def_core.specs.Store.{Store, core, fresh, next_number, with_object}
+use Rattle.def_core.specs.Bind.{arguments, fits, filled, remaining, values, bind_fitting, bind}
 use Rattle.ir_core.specs.CoreForm.{Local, Parameters}
-use Rattle.gen_forms.specs.Gen.{parameters}
-use Rattle.def_eval.specs.Scopes.{shape_of}
+use Rattle.gen_forms.specs.Gen.{parameters, is_there as is_there_in_code}
+use Rattle.def_eval.specs.Scopes.{is_there, shape_of, all_of}
 use Rattle.def_machine.specs.State as machine
 use Rattle.def_machine.specs.State.{Registers, no_registers, Frame, list_at, put}
 use Rattle.def_machine.specs.Turn.{write_row, shape_of as shape_of_machine}
-use Rattle.step_laws.specs.Methods.{AreRequired}
+use Rattle.step_laws.specs.Bodies.{AreStraight}
 use Rattle.step_laws.proofs.Parameters.{set_row}
 
--- the shape of so many required parameters
-abbrev pub required_shape : ℕ → Shape
-required_shape n = record { required = n; optional = 0; rest = false; post = 0 }
+-- the shape of parameters none of which is optional
+abbrev straight : ℕ → Bool → ℕ → Shape
+straight n t k = record { required = n; optional = 0; rest = t; post = k }
 
-pub shape_is : (p : Parameters) → AreRequired p → shape_of p ≡ required_shape (length p.required)
-shape_is p a =
-    ap (λ (xs : List Local). shape_of (record p { optional = xs })) a.no_optional
-    ∙ ap (λ (xs : List Local). shape_of (record p { optional = []; rest = xs })) a.no_rest
-    ∙ ap (λ (xs : List Local). shape_of (record p { optional = []; rest = []; post = xs })) a.no_post
+abbrev pub shape_without : Parameters → Shape
+shape_without p = straight (length p.required) (is_there p.rest) (length p.post)
 
-pub shape_is_too : (p : Parameters) → AreRequired p
-    → shape_of_machine (parameters p) ≡ required_shape (length p.required)
+pub shape_is : (p : Parameters) → AreStraight p → shape_of p ≡ shape_without p
+shape_is p a = ap (λ (xs : List Local). shape_of (record p { optional = xs })) a.no_optional
+
+there_too : (xs : List Local) → is_there_in_code xs ≡ is_there xs
+there_too [] = refl
+there_too (x ∷ xs) = refl
+
+pub shape_is_too : (p : Parameters) → AreStraight p → shape_of_machine (parameters p) ≡ shape_without p
 shape_is_too p a =
     ap (λ (xs : List Local). shape_of_machine (parameters (record p { optional = xs }))) a.no_optional
-    ∙ ap (λ (xs : List Local). shape_of_machine (parameters (record p { optional = []; rest = xs }))) a.no_rest
-    ∙ ap (λ (xs : List Local). shape_of_machine (parameters (record p { optional = []; rest = []; post = xs }))) a.no_post
+    ∙ ap (λ (t : Bool). straight (length p.required) t (length p.post)) (there_too p.rest)
 
--- Arguments are bound one by one, or there are too many or too few.
-pub data Binds (n : ℕ) (st : Store) (args : List Value) : Type 0 where
-  fit : length args ≡ n → bind st (required_shape n) args kinds.Method ≡ record { bound = Values args 0; store = st }
-      → Binds n st args
-  wrong : bind st (required_shape n) args kinds.Method ≡ record { bound = Wrong (length args); store = st }
-      → Binds n st args
+-- As many values are bound as there are parameters, the rest in a new Array; or there are too many or too few.
+pub data Binds (p : Parameters) (st : Store) (args : List Value) (k : BindKind) : Type 0 where
+  fit : (list : List Value) (after : Store) → length list ≡ length (all_of p)
+      → bind st (shape_without p) args k ≡ record { bound = Values list 0; store = after } → Binds p st args k
+  wrong : (n : ℕ) → bind st (shape_without p) args k ≡ record { bound = Wrong n; store = st } → Binds p st args k
 
-fits_is : (n l : ℕ) → fits (required_shape n) l ≡ true → l ≡ n
-fits_is n l e = grind (arith, nat_tests)
+enough_without : (n k l : ℕ) → fits (straight n false k) l ≡ true → n + k ≤ l
+enough_without n k l e = grind (arith, nat_tests)
 
-none_filled : (n l : ℕ) → filled (required_shape n) l ≡ 0
-none_filled n l = omega arith
+enough_with : (n k l : ℕ) → fits (straight n true k) l ≡ true → n + k ≤ l
+enough_with n k l e = grind (arith, nat_tests)
 
-all_taken : (i j : ℕ) (args : List Value) → i ≡ length args → j ≡ length args → take i args ++ drop j args ≡ args
-all_taken i j args e f =
-    ap (λ (k : ℕ). take k args ++ drop j args) e ∙ ap (λ (k : ℕ). take (length args) args ++ drop k args) f
-    ∙ take-append-drop (length args) args
+none_filled : (n k l : ℕ) (t : Bool) → filled (straight n t k) l ≡ 0
+none_filled n k l t = omega arith
 
-all_values : (n : ℕ) (args : List Value) → length args ≡ n → values (required_shape n) [] args ≡ args
-all_values n args e =
-    let last : List Value = drop (length args - 0) args in
-    ap (λ (k : ℕ). ((take (n + k) args ++ replicate (0 - k) Nil) ++ []) ++ last) (none_filled n (length args))
-    ∙ ap (λ (vs : List Value). vs ++ last) (append-nil (take (n + 0) args ++ []) ∙ append-nil (take (n + 0) args))
-    ∙ all_taken (n + 0) (length args - 0) args (omega (arith, e)) (omega arith)
+values_long : (n k : ℕ) (t : Bool) (us args : List Value) → n + k ≤ length args
+    → length (values (straight n t k) us args) ≡ n + length us + k
+values_long n k t us args le =
+    let none = none_filled n k (length args) t in
+    let i : ℕ = filled (straight n t k) (length args) in
+    let first : List Value = take (n + i) args in
+    let missing : List Value = replicate (0 - i) Nil in
+    let last : List Value = drop (length args - k) args in
+    omega (
+      arith,
+      none,
+      le,
+      length-append ((first ++ missing) ++ us) last,
+      length-append (first ++ missing) us,
+      length-append first missing,
+      length-take (n + i) args,
+      length-replicate (0 - i) Nil,
+      length-drop (length args - k) args,
+    )
 
-pub binds : (n : ℕ) (st : Store) (args : List Value) → Binds n st args
+record Fit (n : ℕ) (rs : List Local) (k : ℕ) (st : Store) (args : List Value) : Type 0 where
+  list : List Value
+  after : Store
+  long : length list ≡ n + length rs + k
+  is : bind_fitting st (straight n (is_there rs) k) args (is_there rs) ≡ record { bound = Values list 0; store = after }
+
+fit_by : (n : ℕ) (rs : List Local) (k : ℕ) (st : Store) (args : List Value) → length rs ≤ 1
+    → fits (straight n (is_there rs) k) (length args) ≡ true → Fit n rs k st args
+fit_by n [] k st args few e = record {
+  list = values (straight n false k) [] args;
+  after = st;
+  long = values_long n k false [] args (enough_without n k (length args) e);
+  is = ap (λ (i : ℕ). record { bound = Values (values (straight n false k) [] args) i; store = st })
+      (none_filled n k (length args) false);
+}
+fit_by n (x ∷ []) k st args few e =
+    let all : List Value = values (straight n true k) (Obj (next_number st) ∷ []) args in
+    let new : Store =
+    with_object st (fresh (core class.Array) (kind.Array (remaining (straight n true k) args))) in
+    record {
+      list = all;
+      after = new;
+      long = values_long n k true (Obj (next_number st) ∷ []) args (enough_with n k (length args) e);
+      is = ap (λ (i : ℕ). record { bound = Values all i; store = new }) (none_filled n k (length args) true);
+    }
+fit_by n (x ∷ y ∷ rs) k st args few e = absurd (omega (arith, few))
+
+all_long : (p : Parameters) → AreStraight p → length (all_of p) ≡ length p.required + length p.rest + length p.post
+all_long p a =
+    let none = ap length a.no_optional in
+    omega (
+      arith,
+      none,
+      length-append ((p.required ++ p.optional) ++ p.rest) p.post,
+      length-append (p.required ++ p.optional) p.rest,
+      length-append p.required p.optional,
+    )
+
+-- what is bound: a Proc takes as many as it wants
+abbrev given : Parameters → Store → List Value → BindKind → List Value
+given p st args k = arguments st.objects (shape_without p) k args
+
+pub binds : (p : Parameters) → AreStraight p → (st : Store) (args : List Value) (k : BindKind) → Binds p st args k
 unfolding bind
-binds n st args = at (fits (required_shape n) (length args)) refl
+binds p a st args k = at (fits (shape_without p) (length (given p st args k))) refl
   where
-    at : (b : Bool) → fits (required_shape n) (length args) ≡ b → Binds n st args
+    at : (b : Bool) → fits (shape_without p) (length (given p st args k)) ≡ b → Binds p st args k
     at true e =
-        let same = fits_is n (length args) e in
-        fit same (ap (λ (b : Bool). if b then bind_fitting st (required_shape n) args false
-        else record { bound = Wrong (length args); store = st }) e
-        ∙ ap (λ (vs : List Value). record {
-          bound = Values vs (filled (required_shape n) (length args));
-          store = st;
-        }) (all_values n args same)
-        ∙ ap (λ (k : ℕ). record { bound = Values args k; store = st }) (none_filled n (length args)))
+        let f = fit_by (length p.required) p.rest (length p.post) st (given p st args k) a.one_rest e in
+        fit f.list f.after (omega (arith, f.long, all_long p a))
+        (ap (λ (b : Bool). if b then bind_fitting st (shape_without p) (given p st args k) (is_there p.rest)
+        else record { bound = Wrong (length (given p st args k)); store = st }) e ∙ f.is)
     at false e =
-        wrong (ap (λ (b : Bool). if b then bind_fitting st (required_shape n) args false
-        else record { bound = Wrong (length args); store = st }) e)
+        wrong (length (given p st args k))
+        (ap (λ (b : Bool). if b then bind_fitting st (shape_without p) (given p st args k) (is_there p.rest)
+        else record { bound = Wrong (length (given p st args k)); store = st }) e)
 
 -- A row of values is written to the last list of registers.
 

@@ -34,7 +34,7 @@ use Rattle.def_machine.specs.State.{body_at, no_body, all_symbols}
 use Rattle.step_laws.specs.Site.{Site, LineAt, Lines, IsThere, opening_store}
 use Rattle.step_laws.specs.Simple.{IsSimple}
 use Rattle.step_laws.specs.Covers.{Covers}
-use Rattle.step_laws.specs.Methods.{MethodCode}
+use Rattle.step_laws.specs.Bodies.{BodyCode}
 use Rattle.step_laws.specs.Tops.{AreTops, IsPlainProgram, no_tops, form_before}
 use Rattle.step_laws.specs.Implements.{main_site, IsCodeOf, Implements}
 use Rattle.step_laws.proofs.Placed.{high, Stands, left, right, the_line}
@@ -44,7 +44,8 @@ use Rattle.step_laws.proofs.Plainly.{simple_plain}
 use Rattle.step_laws.proofs.Whole.{implements}
 use Rattle.step_laws.proofs.Steady.{peace_is_calm}
 use Rattle.step_laws.proofs.Alone.{stays_peaceful}
-use Rattle.step_laws.proofs.Blockless.{no_blocks}
+use Rattle.eval_laws.specs.Kinds.{of_method}
+use Rattle.step_laws.proofs.Blockless.{no_blocks, kind_within, method_behind}
 use Rattle.step_laws.proofs.Found.{both_true}
 use Rattle.step_laws.proofs.Naming.{one_more, names_written, all_known}
 use Rattle.step_laws.proofs.Written.{Written, AllWritten, nth_written, tops_written, tops_catchless}
@@ -64,7 +65,7 @@ fits_main p ls f c = (
 
 -- a method of the source by its number in the code
 method_of : (s : List Body) (c : Program) (n : ℕ) (b : Body) → c.version ≡ 2 → source_body s n ≡ b
-    → Written n b (body_at c n) → ((x : Name) → is_among x (tally b).symbols ≡ true → IsThere s x) → MethodCode s c n
+    → Written n b (body_at c n) → ((x : Name) → is_among x (tally b).symbols ≡ true → IsThere s x) → BodyCode s c n
 method_of s c n (form.body p ls f) version mine w there =
     coding.method_coded s c n (record {
       parameters = p;
@@ -149,10 +150,10 @@ module _ (p : Parameters) (ls : List Local) (f : CoreForm) (program_is : IsProgr
   unfolding IsThere opening_store source_body
   nth_there n x lt e = all_known (source_of b) n (form.body no_parameters [] form.nil) Rows.opening x lt e
 
-  methods : (n : ℕ) → 0 < n → n < length (source_of b) → MethodCode (source_of b) code n
+  others : (n : ℕ) → 0 < n → n < length (source_of b) → BodyCode (source_of b) code n
   unfolding coded assembled both puts source_body
-  methods zero some lt = absurd (omega (arith, some))
-  methods (suc k) some lt =
+  others zero some lt = absurd (omega (arith, some))
+  others (suc k) some lt =
       let w = nth_written 1 k (over in_order f) (q.bodies ++ []) (form.body no_parameters [] form.nil) no_body written
       (omega (arith, lt)) in
       let same : 1 + k ≡ suc k = omega arith in
@@ -210,7 +211,8 @@ module _ (p : Parameters) (ls : List Local) (f : CoreForm) (program_is : IsProgr
     code = left site 0 q (does op.Stop) both_stand;
     stop = subst (λ (n : ℕ). LineAt site n (line.Does op.Stop)) (omega arith)
         (the_line site (0 + high q) (line.Does op.Stop) (right site 0 q (does op.Stop) both_stand));
-    methods = methods;
+    methods = λ n e. others n (method_behind b n e) (kind_within b n of_method e);
+    blocks = λ n e. absurd (no_blocks b tops n e);
     names = names_are;
   }
 
@@ -218,14 +220,16 @@ pub program_is_code : (b : Body) → IsProgram b → first_excess (need b) ≡ N
     → IsCodeOf (source_of b) (program 2 (coded_program b))
 program_is_code (form.body p ls f) h limits plain = code_of_it p ls f h limits plain
 
--- No block stands in it, so its evaluation enters no bodies but those of its methods.
+-- The evaluation of a program enters no bodies but those that have code.
+pub code_implements : (b : Body) (p : Program) (input : List ℕ) → IsProgram b → IsCodeOf (source_of b) p
+    → Implements (source_of b) p input
+code_implements b p input h code =
+    implements (source_of b) p input code (peace_is_calm b p input h (stays_peaceful b p input h code))
+
 pub program_implements : (b : Body) (input : List ℕ) → IsProgram b → first_excess (need b) ≡ None → IsPlainProgram b
     → Implements (source_of b) (program 2 (coded_program b)) input
 program_implements b input h limits plain =
-    let p = program 2 (coded_program b) in
-    let code = program_is_code b h limits plain in
-    implements (source_of b) p input code
-    (peace_is_calm b p input h (stays_peaceful b p input h code (no_blocks b plain)))
+    code_implements b (program 2 (coded_program b)) input h (program_is_code b h limits plain)
 
 -- Simple forms are plain ones, and their evaluation stays calm.
 

@@ -28,7 +28,7 @@ use Rattle.rb_value.specs.declared.value.Value.{Value}
 use Rattle.step_laws.specs.Site.{Site, LineAt, Lines, IsThere}
 use Rattle.step_laws.specs.Simple.{IsNamedLocal}
 use Rattle.step_laws.specs.Covered.{Covered}
-use Rattle.step_laws.specs.Methods.{AreRequired, MethodAt, MethodCode}
+use Rattle.step_laws.specs.Bodies.{AreStraight, BodyAt, BodyCode}
 use Rattle.step_laws.specs.Tops.{AreNamed}
 use Rattle.step_laws.proofs.Placed.{high, Stands, high-both, high-puts, moved, left, right, the_line}
 use Rattle.step_laws.proofs.Found.{both_true}
@@ -128,7 +128,7 @@ module _ (s : Source) (c : Program) (n : ℕ) (g : Coded s c n) where
   formed = (both_true (has_defaults p.optional f) (is_form (within_method p ls) f) g.written.formed).1
 
   abbrev straight : p.optional ≡ []
-  straight = g.written.plain.required.no_optional
+  straight = g.written.plain.straight.no_optional
 
   abbrev first : ℕ
   first = fitting.start kind.Method p ls f fits
@@ -196,7 +196,7 @@ module _ (s : Source) (c : Program) (n : ℕ) (g : Coded s c n) (activation list
   has : Has h (ss s c n g) (all_parameters (p s c n g) ++ ls s c n g) (t s c n g) (first s c n g + width (f s c n g))
   has = record {
     scopes = refl;
-    held = (method_knows (p s c n g) (ls s c n g) (f s c n g) [] g.written.plain.required.one_block).0;
+    held = (method_knows (p s c n g) (ls s c n g) (f s c n g) [] g.written.plain.straight.one_block).0;
     symbols = refl;
     integers = refl;
     texts = refl;
@@ -234,7 +234,7 @@ module _ (s : Source) (c : Program) (n : ℕ) (g : Coded s c n) (activation list
       (the_line h (0 + high (lines s c n g)) (line.Does (op.Return (first s c n g)))
       (right h 0 (lines s c n g) (does (op.Return (first s c n g))) all_stand))
 
-  at_run : MethodAt h
+  at_run : BodyAt h
   at_run =
       let registers = ap (λ (i : Irep). i.registers) g.written.is in
       record {
@@ -245,7 +245,8 @@ module _ (s : Source) (c : Program) (n : ℕ) (g : Coded s c n) (activation list
           no_catches = no_catches;
         };
         begins = first_place (wide s c n g) 0 ((lines s c n g).lines ++ line.Does (op.Return (first s c n g)) ∷ []);
-        required = of_body s c n g (λ (d : Body). AreRequired (parameters_of d)) g.written.plain.required;
+        straight = of_body s c n g (λ (d : Body). AreStraight (parameters_of d)) g.written.plain.straight;
+        around = [];
         scopes = of_body s c n g (λ (d : Body). h.context.scopes ≡ slots_of kind.Method d ∷ []) refl;
         low = of_body s c n g (λ (d : Body). 1 + length (slots_of kind.Method d) ≤ h.first) (omega arith);
         none_hidden = of_body s c n g (λ (d : Body). (i : ℕ) → seek (hidden i) (slots_of kind.Method d) (Past 1)
@@ -263,7 +264,7 @@ module _ (s : Source) (c : Program) (n : ℕ) (g : Coded s c n) (activation list
             (line.Does (op.Return h.first))) returns_there;
       }
 
-pub method_coded : (s : Source) (c : Program) (n : ℕ) → Coded s c n → MethodCode s c n
+pub method_coded : (s : Source) (c : Program) (n : ℕ) → Coded s c n → BodyCode s c n
 method_coded s c n g = record {
   wide = wide s c n g;
   at = at s c n g;

@@ -1,4 +1,4 @@
--- What a call enters, on both sides: an answer, the body of a method, or an iteration.
+-- What a call enters, on both sides: an answer, the body of a method or a block, or an iteration.
 use Rattle.std.proofs.Common.{◌≡◌, ◌⊎◌, inl, inr, ℕ, zero, suc, ◌+◌, ◌<◌, List, [], ◌∷◌, refl, sym, ap, ◌∙◌, subst, arith, length, length-append, Bool, true, false}
 use Rattle.std.specs.Prelude.{if◌then◌else◌, None}
 use Rattle.rb_value.specs.declared.value.Value.TheVariants.{Nil}
@@ -22,16 +22,16 @@ use Rattle.def_machine.specs.State.{Level, On}
 use Rattle.def_machine.specs.Entering.{answer_result, open_frame, enter as enter_machine}
 use Rattle.def_machine.specs.Turn.{turn}
 use Rattle.step_laws.specs.Calm.{Quiet, Still}
-use Rattle.step_laws.specs.Methods.{OpensMethod, EntersMethod, CallsMethods}
+use Rattle.step_laws.specs.Bodies.{OpensBody, EntersBody, CallsBodies}
 use Rattle.step_laws.specs.Relation.{Waits, Ground, over_levels, Alike, Advances}
 use Rattle.step_laws.proofs.Untouched.{same_activations}
 use Rattle.step_laws.proofs.Matching.{one_turn}
 use Rattle.step_laws.proofs.Calling.{depth_is, Origin, Worlds, Falls, answered}
-use Rattle.step_laws.proofs.Entering.{enters_method}
+use Rattle.step_laws.proofs.Entering.{enters_body}
 
 -- what is told of the objects of a world tells what an entry is
 pub then_enters : {A : Type 0} (s : Source) (p : Program) (objects : List Object) (e : Entry)
-    → (CallsMethods s p objects → EntersMethod s p e) → A ⊎ CallsMethods s p objects → A ⊎ EntersMethod s p e
+    → (CallsBodies s p objects → EntersBody s p e) → A ⊎ CallsBodies s p objects → A ⊎ EntersBody s p e
 then_enters s p objects e to (inl still) = inl still
 then_enters s p objects e to (inr calls) = inr (to calls)
 
@@ -85,12 +85,12 @@ opens m s o ks l w q =
     let bound = bind w.store (shape_of (parameters_of b)) o.arguments o.binds in
     opens_scope m o b bound.bound ks l (with_store w bound.store) q
 
--- What a call enters: no body where no scope is opened, and else that of a method.
+-- What a call enters: no body where no scope is opened, and else one with code.
 pub entered : (s : Source) (p : Program) (c : Config) (ls : List Level) (k : machine.Memory) (m : source.Memory)
     → Origin s c ls k m → (e : Entry) (ks : List Item) (m' : source.Memory) (g : Ground) (gs : List Level)
     (k' : machine.Memory) → go s c ≡ enter s e None ks m' → turn p (On ls k) ≡ enter_machine p e None gs k'
     → Falls gs ks m' c → length m'.scopes ≡ length m.scopes → Worlds s p (over_levels g gs) m m' k'
-    → Waits g.sites g.fiber k'.lists ks m'.place gs → (Still m (go s c) ⊎ EntersMethod s p e)
+    → Waits g.sites g.fiber k'.lists ks m'.place gs → (Still m (go s c) ⊎ EntersBody s p e)
     → Advances s p c (On ls k)
 unfolding enter enter_machine settle
 entered s p c ls k m from (answers a) ks m' g gs k' goes turns less scopes both waits calls =
@@ -120,13 +120,13 @@ entered s p c ls k m from (enters o w) ks m' g gs k' goes turns less scopes both
         by goes' turns' calls
       where
         by : go s c ≡ open_body s o ks m' w → turn p (On ls k) ≡ open_frame p o w gs k'
-            → (Still m (go s c) ⊎ OpensMethod s p w o) → Advances s p c (On ls k)
+            → (Still m (go s c) ⊎ OpensBody s p w o) → Advances s p c (On ls k)
         by goes' turns' (inl still) =
             let more = opens m s o ks m' w (subst (Still m) goes' still) in
             absurd (omega (arith, more, scopes))
         by goes' turns' (inr is) =
             let sites = (both m.world (same_activations m.world m.world refl)).sites in
-            enters_method s p c ls k m from o w ks m' g gs k' goes' turns' is both waits
+            enters_body s p c ls k m from o w ks m' g gs k' goes' turns' is both waits
             (omega (arith, sites.scopes, sites.lists))
 entered s p c ls k m from (begins it a w) ks m' g gs k' goes turns less scopes both waits calls =
     at (is_full (depth ks)) refl

@@ -1,11 +1,10 @@
--- The body of a method is entered: its frame is opened and ENTER binds its arguments, in one transition and two turns.
+-- The body of a method or a block is entered: its frame is opened and ENTER binds its arguments, in one transition and
+-- two turns.
 use Rattle.std.proofs.Common.{◌≡◌, ◌⊎◌, inl, inr, ℕ, zero, suc, ◌+◌, ◌-◌, ◌<◌, List, [], ◌∷◌, ◌++◌, refl, sym, ap, ◌∙◌, subst, arith, length, length-append, get_or, Bool}
 use Rattle.std.specs.Prelude.{if◌then◌else◌, is_some, Option, Some, None}
 use Rattle.std.proofs.lemmas.List.{get_or_push}
 use Rattle.rb_value.specs.declared.value.Value.{Value}
 use Rattle.def_core.specs.declared.bound.Bound.TheVariants.{Values, Wrong}
-use Rattle.def_core.specs.declared.bound.BindKind.{BindKind}
-use Rattle.def_core.specs.declared.bound.BindKind.TheVariants as kinds
 use Rattle.def_core.specs.Bind.{Binding, least, most, bind as bind_arguments}
 use Rattle.rb_value.specs.declared.method.Shape.{Shape}
 use Rattle.rite_code.specs.Code.{Program}
@@ -17,7 +16,7 @@ use Rattle.path_eval.specs.Steps.{times}
 use Rattle.def_core.specs.declared.cause.Cause.{Cause}
 use Rattle.def_core.specs.declared.cause.Cause.TheVariants as cause
 use Rattle.def_core.specs.Changes.{fails as failures}
-use Rattle.def_core.specs.Store.{next_number}
+use Rattle.def_core.specs.Store.{Store, next_number}
 use Rattle.rb_value.specs.declared.value.ObjId.{ObjId}
 use Rattle.rb_value.specs.declared.exit.Exit.TheVariants.{Raise}
 use Rattle.def_calls.specs.World.{World, Answer, Result, raises, fail, Activation, no_activation, activation_at, next_activation, with_activation, with_store}
@@ -25,7 +24,7 @@ use Rattle.def_calls.specs.Calls.{Opening}
 use Rattle.def_eval.specs.Source.{Source, body_at, form_of, parameters_of, locals_of}
 use Rattle.def_eval.specs.Configuration as source
 use Rattle.def_eval.specs.Configuration.{Scope, raise, Item, activation, perform, travel, Config, Run, seen}
-use Rattle.def_eval.specs.Scopes.{first_variables, block_value}
+use Rattle.def_eval.specs.Scopes.{all_of, first_variables, block_value}
 use Rattle.def_eval.specs.Entering.{after, after_result, first_of, next_place, open_bound, open_body}
 use Rattle.def_eval.specs.Transition.{go}
 use Rattle.def_machine.specs.State as machine
@@ -37,7 +36,7 @@ use Rattle.step_laws.specs.Site.{Site, at_line}
 use Rattle.step_laws.specs.Covered.{Covered}
 use Rattle.step_laws.specs.Calm.{Quiet}
 use Rattle.step_laws.specs.Standing.{Rest, frame_at}
-use Rattle.step_laws.specs.Methods.{MethodAt, OpensMethod}
+use Rattle.step_laws.specs.Bodies.{BodyAt, OpensBody}
 use Rattle.step_laws.specs.Relation.{returns, Ground, over_levels, Waits, Same, SiteIs, Both, Running, raised, Alike, Advances}
 use Rattle.step_laws.proofs.Covers.{at_top}
 use Rattle.step_laws.proofs.Placed.{line-behind, turned}
@@ -45,7 +44,7 @@ use Rattle.step_laws.proofs.Untouched.{same_activations, below_running}
 use Rattle.step_laws.proofs.Opened.{waits_more, opened}
 use Rattle.step_laws.proofs.Parameters.{set_row}
 use Rattle.step_laws.proofs.Begun.{begun_same, nil_same}
-use Rattle.step_laws.proofs.Bound.{required_shape, shape_is, shape_is_too, Binds, fit, wrong, binds, written_row}
+use Rattle.step_laws.proofs.Bound.{shape_without, shape_is, shape_is_too, Binds, fit, wrong, binds, written_row}
 use Rattle.step_laws.proofs.Matching.{one_turn}
 use Rattle.step_laws.proofs.Calling.{Origin, Worlds}
 
@@ -68,7 +67,7 @@ two_turns s p c t u v e one e' two r = record {
 module _ (s : Source) (p : Program) (c : Config) (ls : List Level) (k : machine.Memory) (m : source.Memory)
     (from : Origin s c ls k m) (o : Opening) (w : World) (ks : List Item) (m' : source.Memory) (g : Ground)
     (gs : List Level) (k' : machine.Memory) (goes : go s c ≡ open_body s o ks m' w)
-    (turns : turn p (On ls k) ≡ open_frame p o w gs k') (is : OpensMethod s p w o)
+    (turns : turn p (On ls k) ≡ open_frame p o w gs k') (is : OpensBody s p w o)
     (both : Worlds s p (over_levels g gs) m m' k') (waits : Waits g.sites g.fiber k'.lists ks m'.place gs) where
   abbrev b : Body
   b = body_at s o.body
@@ -92,7 +91,7 @@ module _ (s : Source) (p : Program) (c : Config) (ls : List Level) (k : machine.
     first = is.code.first;
   }
 
-  at : MethodAt d
+  at : BodyAt d
   at = is.code.everywhere (next_activation w) (length k'.lists) o.activation.self o.activation.runs
 
   abbrev x : Rest
@@ -102,31 +101,20 @@ module _ (s : Source) (p : Program) (c : Config) (ls : List Level) (k : machine.
   abbrev y : Rest
   y = record { after = 0; waits = 0; arguments = []; block = o.block; binds = o.binds }
 
-  abbrev scope : Scope
-  scope = record {
-    parent = first_of o.scopes;
-    variables = first_variables ps (locals_of b) o.arguments o.block;
-  }
+  -- with these values for the parameters: its scope, and its registers when ENTER has bound the arguments
+  abbrev scope : List Value → Scope
+  scope list = record { parent = first_of o.scopes; variables = first_variables ps (locals_of b) list o.block }
 
   abbrev fresh : Registers
   fresh = fresh_registers (machine.body_at p o.body) (first_of_machine o.scopes) o.activation.self
 
-  -- its registers, when ENTER has bound the arguments
-  abbrev registers : Registers
-  registers = record fresh { slots = set_row fresh.slots 1 (o.arguments ++ block_value_machine o.block ∷ []) }
+  abbrev registers : List Value → Registers
+  registers list =
+      record fresh { slots = set_row fresh.slots 1 (list ++ block_value_machine o.block ∷ []) }
 
-  -- both sides come to that world
-  abbrev u : World
-  u = with_activation (with_store w w.store) o.activation
-
-  abbrev memory : source.Memory
-  memory = record m' { place = next_place m' w; scopes = m'.scopes ++ scope ∷ []; world = u }
-
-  abbrev memory_too : machine.Memory
-  memory_too = record k' { lists = k'.lists ++ registers ∷ []; world = u }
-
-  abbrev conf : Config
-  conf = Run (perform (o.body + 1) (form_of b)) (activation (next_activation w) m'.place ∷ ks) memory
+  -- both sides come to that world, with the store after the binding
+  abbrev u : Store → World
+  u st = with_activation (with_store w st) o.activation
 
   opened_frame : open_frame p o w gs k' ≡ On (frame (frame_at d x 0) ∷ gs)
       (record k' { lists = k'.lists ++ fresh ∷ []; world = with_activation w o.activation })
@@ -152,19 +140,26 @@ module _ (s : Source) (p : Program) (c : Config) (ls : List Level) (k : machine.
         opened = omega (arith, ap length e, length-append acts (o.activation ∷ []));
         self = ap (λ (q : Activation). q.self) last;
         runs = ap (λ (q : Activation). q.runs) last;
-        home = ap (λ (q : Activation). q.home) last ∙ is.home;
+        home = λ r e. ap (λ (q : Activation). q.home) last ∙ is.home r e;
       }
 
   -- the arguments fit
-  module _ (right : length o.arguments ≡ length ps.required)
-      (fits : bind_arguments w.store (required_shape (length ps.required)) o.arguments kinds.Method
-      ≡ record { bound = Values o.arguments 0; store = w.store }) where
+  module _ (list : List Value) (st : Store) (right : length list ≡ length (all_of ps))
+      (fits : bind_arguments w.store (shape_without ps) o.arguments o.binds
+      ≡ record { bound = Values list 0; store = st }) where
+    abbrev memory : source.Memory
+    memory = record m' { place = next_place m' w; scopes = m'.scopes ++ scope list ∷ []; world = u st }
+
+    abbrev memory_too : machine.Memory
+    memory_too = record k' { lists = k'.lists ++ registers list ∷ []; world = u st }
+
+    abbrev conf : Config
+    conf = Run (perform (o.body + 1) (form_of b)) (activation (next_activation w) m'.place ∷ ks) memory
+
     went : go s c ≡ conf
     went =
         goes
-        ∙ ap (λ (q : Shape). open_bound o b (bind_arguments w.store q o.arguments o.binds) ks m' w) (shape_is ps at.required)
-        ∙ ap (λ (q : BindKind). open_bound o b (bind_arguments w.store (required_shape (length ps.required)) o.arguments q) ks m' w)
-        is.binds
+        ∙ ap (λ (q : Shape). open_bound o b (bind_arguments w.store q o.arguments o.binds) ks m' w) (shape_is ps at.straight)
         ∙ ap (λ (q : Binding). open_bound o b q ks m' w) fits
 
     entered_frame : turn p (On (frame (frame_at d x 0) ∷ gs)
@@ -177,25 +172,24 @@ module _ (s : Source) (p : Program) (c : Config) (ls : List Level) (k : machine.
         let f = frame_at d x 0 in
         let by : Binding → State = λ q. enter_by p (parameters ps) q (at_line d (0 + 1)) f gs k1 in
         turned d x 0 e gs k1 at.enters
-        ∙ ap (λ (q : Shape). by (bind_arguments w.store q o.arguments o.binds)) (shape_is_too ps at.required)
-        ∙ ap (λ (q : BindKind). by (bind_arguments w.store (required_shape (length ps.required)) o.arguments q)) is.binds
+        ∙ ap (λ (q : Shape). by (bind_arguments w.store q o.arguments o.binds)) (shape_is_too ps at.straight)
         ∙ ap by fits
         ∙ ap (λ (q : machine.Memory). On (frame (frame_at d y 1) ∷ gs) q)
-        (written_row (machine.with_world k' u) k'.lists fresh f 1 (o.arguments ++ block_value_machine o.block ∷ []) refl)
+        (written_row (machine.with_world k' (u st)) k'.lists fresh f 1 (list ++ block_value_machine o.block ∷ []) refl)
 
     quiet : Quiet m conf
     quiet = subst (Quiet m) went from.quiet
 
-    base : Both s p (over_levels g gs) (source.with_world m' u) (machine.with_world k' u)
-    base = both u quiet.1
+    base : Both s p (over_levels g gs) (source.with_world m' (u st)) (machine.with_world k' (u st))
+    base = both (u st) quiet.1
 
-    runs : SiteIs s p d (m'.scopes ++ scope ∷ []) (k'.lists ++ registers ∷ []) u
+    runs : SiteIs s p d (m'.scopes ++ scope list ∷ []) (k'.lists ++ registers list ∷ []) (u st)
         → Alike s p conf (On (frame (frame_at d y 1) ∷ gs) memory_too)
     runs new = (
       record { sites = g.sites ++ d ∷ []; fiber = g.fiber; below = gs },
       d,
-      opened s p g gs (source.with_world m' u) (machine.with_world k' u) d scope registers (next_place m' w) u ks m'.place
-          base waits base.sites.lists new (same_activations u u refl),
+      opened s p g gs (source.with_world m' (u st)) (machine.with_world k' (u st)) d (scope list) (registers list)
+          (next_place m' w) (u st) ks m'.place base waits base.sites.lists new (same_activations (u st) (u st) refl),
       record {
         x = y;
         n = 1;
@@ -213,14 +207,16 @@ module _ (s : Source) (p : Program) (c : Config) (ls : List Level) (k : machine.
         next = (
           record {
             is = refl;
-            by = returns at.ends (waits_more g.sites d g.fiber k'.lists registers base.sites.lists ks m'.place gs waits);
+            by = returns at.ends
+                (waits_more g.sites d g.fiber k'.lists (registers list) base.sites.lists ks m'.place gs waits);
           },
           at.outside,
         );
       },
     )
 
-    begins : SiteIs s p d (m'.scopes ++ scope ∷ []) (k'.lists ++ registers ∷ []) u → Advances s p c (On ls k)
+    begins : SiteIs s p d (m'.scopes ++ scope list ∷ []) (k'.lists ++ registers list ∷ []) (u st)
+        → Advances s p c (On ls k)
     unfolding shown seen
     begins new =
         two_turns s p c (On ls k) (On (frame (frame_at d x 0) ∷ gs)
@@ -230,23 +226,23 @@ module _ (s : Source) (p : Program) (c : Config) (ls : List Level) (k : machine.
         (subst (λ (q : Config). Alike s p q (On (frame (frame_at d y 1) ∷ gs) memory_too)) (sym went) (runs new))
 
   -- The arguments are too many or too few: ENTER raises, in the body.
-  module _ (wrongly : bind_arguments w.store (required_shape (length ps.required)) o.arguments kinds.Method
-      ≡ record { bound = Wrong (length o.arguments); store = w.store }) where
+  module _ (given : ℕ) (wrongly : bind_arguments w.store (shape_without ps) o.arguments o.binds
+      ≡ record { bound = Wrong given; store = w.store }) where
     -- its scope, all of whose variables are nil
     abbrev empty : Scope
     empty = record { parent = first_of o.scopes; variables = first_variables ps (locals_of b) [] None }
 
     abbrev inside : source.Memory
-    inside = record m' { place = next_place m' w; scopes = m'.scopes ++ empty ∷ []; world = u }
+    inside = record m' { place = next_place m' w; scopes = m'.scopes ++ empty ∷ []; world = u w.store }
 
     abbrev cause_of : Shape → Cause
-    cause_of q = cause.WrongCount (length o.arguments) (least q) (if q.rest then None else Some (most q))
+    cause_of q = cause.WrongCount given (least q) (if q.rest then None else Some (most q))
 
     abbrev failure : Answer
-    failure = fail u (cause_of (required_shape (length ps.required)))
+    failure = fail (u w.store) (cause_of (shape_without ps))
 
     abbrev thrown : ObjId
-    thrown = next_number (failures u.store (cause_of (required_shape (length ps.required)))).store
+    thrown = next_number (failures (u w.store).store (cause_of (shape_without ps))).store
 
     fails : failure.result ≡ raises thrown
     unfolding fail failures
@@ -267,12 +263,10 @@ module _ (s : Source) (p : Program) (c : Config) (ls : List Level) (k : machine.
     went_wrong =
         goes
         ∙ ap (λ (q : Shape). open_bound o b (bind_arguments w.store q o.arguments o.binds) ks m' w)
-        (shape_is ps at.required)
-        ∙ ap (λ (q : BindKind). open_bound o b (bind_arguments w.store (required_shape (length ps.required)) o.arguments q) ks
-        m' w) is.binds
+        (shape_is ps at.straight)
         ∙ ap (λ (q : Binding). open_bound o b q ks m' w) wrongly
-        ∙ ap (λ (q : Shape). after (fail u (cause_of q)) (activation (next_activation w) m'.place ∷ ks) inside)
-        (shape_is ps at.required)
+        ∙ ap (λ (q : Shape). after (fail (u w.store) (cause_of q)) (activation (next_activation w) m'.place ∷ ks) inside)
+        (shape_is ps at.straight)
         ∙ ap (λ (q : Result). after_result q failure.world (activation (next_activation w) m'.place ∷ ks) inside) fails
 
     abbrev before : machine.Memory
@@ -285,11 +279,10 @@ module _ (s : Source) (p : Program) (c : Config) (ls : List Level) (k : machine.
         let f = frame_at d x 0 in
         let by : Binding → State = λ q. enter_by p (parameters ps) q (at_line d (0 + 1)) f gs before in
         turned d x 0 e gs before at.enters
-        ∙ ap (λ (q : Shape). by (bind_arguments w.store q o.arguments o.binds)) (shape_is_too ps at.required)
-        ∙ ap (λ (q : BindKind). by (bind_arguments w.store (required_shape (length ps.required)) o.arguments q)) is.binds
+        ∙ ap (λ (q : Shape). by (bind_arguments w.store q o.arguments o.binds)) (shape_is_too ps at.straight)
         ∙ ap by wrongly
-        ∙ ap (λ (q : Shape). after_machine p (fail u (cause_of q)) 0 (at_line d (0 + 1)) f gs (machine.with_world before u))
-        (shape_is_too ps at.required)
+        ∙ ap (λ (q : Shape). after_machine p (fail (u w.store) (cause_of q)) 0 (at_line d (0 + 1)) f gs (machine.with_world before (u w.store)))
+        (shape_is_too ps at.straight)
         ∙ ap (λ (q : Result). after_result_machine p q 0 (at_line d (0 + 1)) f gs (machine.with_world before failure.world))
         fails
 
@@ -338,26 +331,17 @@ module _ (s : Source) (p : Program) (c : Config) (ls : List Level) (k : machine.
   block_same None = refl
   block_same (Some i) = refl
 
-  -- A transition that opens the body of a method is matched.
-  pub enters_method : length m'.scopes ≡ length k'.lists → Advances s p c (On ls k)
-  enters_method long = by (binds (length ps.required) w.store o.arguments)
+  -- A transition that opens such a body is matched.
+  pub enters_body : length m'.scopes ≡ length k'.lists → Advances s p c (On ls k)
+  enters_body long = by (binds ps at.straight w.store o.arguments o.binds)
     where
-      by : Binds (length ps.required) w.store o.arguments → Advances s p c (On ls k)
-      by (fit right fits) =
-          begins right fits (site_of (m'.scopes ++ scope ∷ []) (k'.lists ++ registers ∷ []) u refl
-          (subst (λ (q : Value). Same d (m'.scopes ++ scope ∷ [])
-          (k'.lists ++ (record fresh { slots = set_row fresh.slots 1 (o.arguments ++ q ∷ []) }) ∷ [])) (sym (block_same o.block))
-          (subst (λ (q : Option ℕ). Same d (m'.scopes ++ (record {
-            parent = q;
-            variables = first_variables ps (locals_of b) o.arguments o.block;
-          }) ∷ []) (k'.lists ++ (record fresh { slots = set_row fresh.slots 1 (o.arguments ++ block_value o.block ∷ []) }) ∷ []))
-          (sym (ap first_of is.alone))
-          (begun_same d at o.arguments o.block right m'.scopes k'.lists (first_of_machine o.scopes) refl long))))
-      by (wrong wrongly) =
-          raises_inside wrongly (site_of (m'.scopes ++ empty wrongly ∷ []) (k'.lists ++ fresh ∷ []) (failure wrongly).world
-          (activations_same wrongly)
-          (subst (λ (q : Option ℕ). Same d (m'.scopes ++ (record {
-            parent = q;
-            variables = first_variables ps (locals_of b) [] None;
-          }) ∷ []) (k'.lists ++ fresh ∷ [])) (sym (ap first_of is.alone))
-          (nil_same d at m'.scopes k'.lists (first_of_machine o.scopes) refl long)))
+      by : Binds ps w.store o.arguments o.binds → Advances s p c (On ls k)
+      by (fit list st right fits) =
+          begins list st right fits (site_of (m'.scopes ++ scope list ∷ []) (k'.lists ++ registers list ∷ []) (u st) refl
+          (subst (λ (q : Value). Same d (m'.scopes ++ scope list ∷ [])
+          (k'.lists ++ (record fresh { slots = set_row fresh.slots 1 (list ++ q ∷ []) }) ∷ [])) (sym (block_same o.block))
+          (begun_same d at list o.block right m'.scopes k'.lists (first_of o.scopes) (first_of_machine o.scopes) refl long)))
+      by (wrong given wrongly) =
+          raises_inside given wrongly (site_of (m'.scopes ++ empty given wrongly ∷ []) (k'.lists ++ fresh ∷ [])
+          (failure given wrongly).world (activations_same given wrongly)
+          (nil_same d at m'.scopes k'.lists (first_of o.scopes) (first_of_machine o.scopes) refl long))

@@ -27,7 +27,7 @@ use Rattle.def_machine.specs.Unwind.{receive}
 use Rattle.def_machine.specs.Entering.{answer, in_fiber as in_fiber_machine, resume_by as resume_by_machine, yield_by as yield_by_machine, carry_out as carry_out_machine, iterate}
 use Rattle.def_machine.specs.Turn.{turn}
 use Rattle.step_laws.specs.Calm.{Grows, Quiet, Still, Peace}
-use Rattle.step_laws.specs.Methods.{CallsMethods}
+use Rattle.step_laws.specs.Bodies.{CallsBodies}
 use Rattle.step_laws.specs.Measure.{waiting, measure}
 use Rattle.step_laws.specs.Relation.{Waits, Ground, over_levels, WaitsBelow, uses, uses_in, Both, raised, Alike, Advances}
 use Rattle.step_laws.proofs.Untouched.{sites_grow, grown}
@@ -57,7 +57,7 @@ module _ (s : Source) (p : Program) (v : Value) (a : ℕ) (it : Iteration) (plac
 
     -- a body is entered, of what the plan calls
     abbrev MayCall : Store → Type 0
-    MayCall st = Still m (go s conf) ⊎ CallsMethods s p st.objects
+    MayCall st = Still m (go s conf) ⊎ CallsBodies s p st.objects
 
     -- back at the place of the caller
     back : (w : World) → Grows m.world w

@@ -1,5 +1,5 @@
 -- A write to one register, and what it leaves.
-use Rattle.std.proofs.Common.{◌≡◌, ◌≢◌, ℕ, zero, suc, ◌+◌, ◌<◌, ◌≤◌, List, [], ◌∷◌, refl, sym, ap, ◌∙◌, subst, arith, length, get_or, set, Bool, true, false, length-set, get_or-set_same, get_or-set_other, true≢false}
+use Rattle.std.proofs.Common.{◌≡◌, ◌≢◌, ℕ, zero, suc, ◌+◌, ◌<◌, ◌≤◌, List, [], ◌∷◌, refl, sym, ap, ◌∙◌, subst, arith, length, get_or, set, Bool, true, false, length-set, get_or-set_same, get_or-set_other, true≢false, ◌⊎◌, inl, inr, ⊎_elim}
 use Rattle.std.specs.Prelude.{Option, Some, None, unwrap_or, is_some, if◌then◌else◌}
 use Rattle.std.proofs.lemmas.Bool.{eq-eqb, eqb-true}
 use Rattle.std.proofs.lemmas.Slice.Eq.{bytes_eq-Decides}
@@ -15,7 +15,7 @@ use Rattle.def_eval.specs.Scopes.{same_local, value_in, put_value, no_scope, sco
 use Rattle.def_machine.specs.State.{Registers, no_registers, body_at, list_at, slot_at, value_at, put}
 use Rattle.step_laws.specs.Site.{Site, place_in, register, Known}
 use Rattle.step_laws.specs.Behind.{Static, Holds, HoldsCall, OperandBehind, Behind, to_local, to_global, strict, breaks, begins_round, leaves_body}
-use Rattle.step_laws.specs.Relation.{Inside, Same}
+use Rattle.step_laws.specs.Relation.{Inside, IsOwn, Owned, Same}
 
 pub list_same : (l : List Registers) (n i : ℕ) (v : Slot) → n < length l
     → list_at (put l n i v) n ≡ record (list_at l n) { slots = set (list_at l n).slots i v }
@@ -207,7 +207,7 @@ pub same_above : (h : Site) (cs : List Scope) (l : List Registers) (r : ℕ) (v 
     → Same h cs l → Same h cs (put l h.list r (V v))
 same_above h cs l r v static above s = record {
   scope = s.scope;
-  parent = s.parent;
+  owned = s.owned;
   present = omega (arith, s.present, length_put l h.list r (V v));
   long = ap (λ (g : Registers). length g.slots) (list_same l h.list r (V v) s.present)
       ∙ length-set (list_at l h.list).slots r (V v) ∙ s.long;
@@ -265,7 +265,8 @@ value_other (v ∷ vs) x y u ne = at (value_other vs x y u ne) (same_local x v.0
         ∙ sym (ap (λ (b : Bool). if b then Some v.1 else value_in vs y) (ap (same_local y) (is_same x v.0 e) ∙ ne))
     at further false e = ap (λ (o : Option Value). if same_local y v.0 then Some v.1 else o) further
 
--- the scope of a name is that of the body, which has none around
+-- The scope of a local of the body is its own: there is none around, or it has the local.
+
 none_out : (n : ℕ) (cs : List Scope) → outward n cs None ≡ []
 none_out zero cs = refl
 none_out (suc n) cs = refl
@@ -282,22 +283,54 @@ the_scope cs n x e =
     at true = refl
     at false = refl
 
-pub scope_is : (m : Memory) (x : Local) → (scope_at m.scopes m.place.scope).parent ≡ None → scope_of m x ≡ m.place.scope
-scope_is m (named x) e = the_scope m.scopes m.place.scope (named x) e
-scope_is m (hidden d) e = refl
-scope_is m (pattern k) e = the_scope m.scopes m.place.scope (pattern k) e
-scope_is m rest e = the_scope m.scopes m.place.scope rest e
+found_here : (cs : List Scope) (n : ℕ) (x : Local)
+    → ((scope_at cs n).parent ≡ None) ⊎ (is_some (value_in (scope_at cs n).variables x) ≡ true)
+    → unwrap_or (first_with cs (scopes_around cs n) x) n ≡ n
+unfolding scopes_around
+found_here cs n x (inl none) = the_scope cs n x none
+found_here cs n x (inr own) =
+    ap (λ (b : Bool). unwrap_or (if b then Some n else first_with cs (outward n cs (scope_at cs n).parent) x) n) own
+
+-- that of a local of the body
+scope_is : (h : Site) (m : Memory) (x : Local) → m.place.scope ≡ h.list → Known h x → Owned h (scope_at m.scopes h.list)
+    → scope_of m x ≡ h.list
+scope_is h m (named x) e k o =
+    ap (λ (n : ℕ). unwrap_or (first_with m.scopes (scopes_around m.scopes n) (named x)) n) e
+    ∙ found_here m.scopes h.list (named x) (⊎_elim (λ none. inl none) (λ own. inr (own (named x) k)) o)
+scope_is h m (hidden d) e k o = e
+scope_is h m (pattern q) e k o = absurd k.scoped
+scope_is h m rest e k o = absurd k.scoped
 
 -- what a local reads as
 pub named_is : (h : Site) (m : Memory) (l : List Registers) (x : Local) → m.place ≡ place_in h → Same h m.scopes l
     → Known h x → variable m x ≡ value_at l h.list (register h x)
 unfolding variable
 named_is h m l x there s k =
-    let e : m.place.scope ≡ h.list = ap (λ (p : Place). p.scope) there in
-    let none : (scope_at m.scopes m.place.scope).parent ≡ None =
-    subst (λ (n : ℕ). (scope_at m.scopes n).parent ≡ None) (sym e) s.parent in
-    ap (λ (n : ℕ). unwrap_or (value_in (scope_at m.scopes n).variables x) Nil) (scope_is m x none ∙ e)
+    ap (λ (n : ℕ). unwrap_or (value_in (scope_at m.scopes n).variables x) Nil)
+    (scope_is h m x (ap (λ (p : Place). p.scope) there) k s.owned)
     ∙ s.alike x k
+
+-- a variable that is there stays
+still_there : (vs : List (Local × Value)) (x y : Local) (u : Value) → is_some (value_in vs y) ≡ true
+    → is_some (value_in (put_value vs x u) y) ≡ true
+still_there vs x y u there = at (same_local y x) refl
+  where
+    at : (b : Bool) → same_local y x ≡ b → is_some (value_in (put_value vs x u) y) ≡ true
+    at true e =
+        ap (λ (z : Local). is_some (value_in (put_value vs x u) z)) (sym (is_same y x e))
+        ∙ ap is_some (value_same vs x u)
+    at false e = ap is_some (value_other vs x y u e) ∙ there
+
+own_put : (c : Scope) (x y : Local) (u : Value) → IsOwn c y → IsOwn (record c { variables = put_value c.variables x u }) y
+own_put c x (named y) u own = still_there c.variables x (named y) u own
+own_put c x (hidden d) u own = tt
+own_put c x (pattern k) u own = tt
+own_put c x rest u own = tt
+
+owned_put : (h : Site) (c : Scope) (x : Local) (u : Value) → Owned h c
+    → Owned h (record c { variables = put_value c.variables x u })
+owned_put h c x u (inl none) = inl none
+owned_put h c x u (inr own) = inr (λ y k. own_put c x y u (own y k))
 
 scope_put : (cs : List Scope) (n : ℕ) (x : Local) (v : Value) → n < length cs
     → scope_at (put_in cs n x v) n ≡ record (scope_at cs n) { variables = put_value (scope_at cs n).variables x v }
@@ -323,7 +356,7 @@ put_alike h cs l x v static s k within =
         length-set cs h.list
             (record (scope_at cs h.list) { variables = put_value old x v }),
       );
-      parent = ap (λ (c : Scope). c.parent) now ∙ s.parent;
+      owned = subst (Owned h) (sym now) (owned_put h (scope_at cs h.list) x v s.owned);
       present = omega (arith, s.present, length_put l h.list (register h x) (V v));
       long = ap (λ (g : Registers). length g.slots) (list_same l h.list (register h x) (V v) s.present)
           ∙ length-set (list_at l h.list).slots (register h x) (V v) ∙ s.long;
@@ -348,11 +381,8 @@ put_alike h cs l x v static s k within =
         ∙ sym (ap read (slot_other l h.list (register h x) (register h y) (V v) s.present (static.apart y x known k e)))
 
 -- the scope of the body is that in which a local is assigned
-pub assigned : (h : Site) (m : Memory) (x : Local) (v : Value) → m.place ≡ place_in h
-    → (scope_at m.scopes h.list).parent ≡ None → (with_variable m x v).scopes ≡ put_in m.scopes h.list x v
+pub assigned : (h : Site) (m : Memory) (x : Local) (v : Value) → m.place ≡ place_in h → Known h x
+    → Owned h (scope_at m.scopes h.list) → (with_variable m x v).scopes ≡ put_in m.scopes h.list x v
 unfolding with_variable
-assigned h m x v there none =
-    let e : m.place.scope ≡ h.list = ap (λ (p : Place). p.scope) there in
-    let none' : (scope_at m.scopes m.place.scope).parent ≡ None =
-    subst (λ (n : ℕ). (scope_at m.scopes n).parent ≡ None) (sym e) none in
-    ap (λ (n : ℕ). put_in m.scopes n x v) (scope_is m x none' ∙ e)
+assigned h m x v there k owned =
+    ap (λ (n : ℕ). put_in m.scopes n x v) (scope_is h m x (ap (λ (p : Place). p.scope) there) k owned)

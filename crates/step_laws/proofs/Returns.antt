@@ -106,6 +106,7 @@ module _ (g : Ground) (h : Site) (static : Static h) (ks : List Item) (m : sourc
               action = refl;
               first = refl;
               last = refl;
+              own = d.covered.0;
               returns = the_line h (d.n + high p) (line.Does (op.Return d.r)) (right h d.n p out code);
             });
             outer = d.loop;
@@ -129,7 +130,7 @@ module _ (g : Ground) (h : Site) (static : Static h) (ks : List Item) (m : sourc
       ∙ ap (λ (us : List Value). next_operand h.source j leave_method (us ++ v ∷ []) es ks m) b.first
       ∙ ap (λ (fs : Forms). next_operand h.source j leave_method (v ∷ []) fs ks m) b.last
       ∙ ap (λ (p : Place). leave_to return failure v ks m (Some (activation_at m.world p.activation).home)) d.there
-      ∙ ap (λ (i : ℕ). leave_to return failure v ks m (Some i)) (both.all.sites.each h both.site).home
+      ∙ ap (λ (i : ℕ). leave_to return failure v ks m (Some i)) ((both.all.sites.each h both.site).home d.next.low b.own)
       ∙ ap (λ (t : Bool). if t then Run (travel (return h.activation v)) ks m else after failure ks m)
       (under_way g h k.lists ks home) in
       by_none h c (state_at g h d.x d.n (aligned k m))

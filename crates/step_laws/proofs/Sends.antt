@@ -29,7 +29,7 @@ use Rattle.def_machine.specs.Turn.{call as call_machine, arguments}
 use Rattle.step_laws.specs.Site.{Site, within, place_in, at_line, LineAt, Room, number}
 use Rattle.step_laws.specs.Covered.{CoveredItems}
 use Rattle.step_laws.specs.Calm.{IsSteady, Still}
-use Rattle.step_laws.specs.Methods.{EntersMethod, CallsMethods}
+use Rattle.step_laws.specs.Bodies.{EntersBody, CallsBodies}
 use Rattle.step_laws.specs.Measure.{size_items, burden, measure}
 use Rattle.step_laws.proofs.Covers.{at_top}
 use Rattle.step_laws.proofs.Placed.{high, high-both, high-nothing, line-past, Stands, left, right, Rest, frame_at, turned}
@@ -136,10 +136,10 @@ module _ (g : Ground) (h : Site) (static : Static h) (ks : List Item) (m : sourc
 
   -- the transition enters no body, or what is called are methods with code
   abbrev MayCall : Config → Type 0
-  MayCall c = Still m (go h.source c) ⊎ CallsMethods h.source h.program m.world.store.objects
+  MayCall c = Still m (go h.source c) ⊎ CallsBodies h.source h.program m.world.store.objects
 
   enters_by : (c : Config) (name : Name) (recv : Value) (vs : List Value) → MayCall c
-      → Still m (go h.source c) ⊎ EntersMethod h.source h.program (the_entry name recv vs)
+      → Still m (go h.source c) ⊎ EntersBody h.source h.program (the_entry name recv vs)
   enters_by c name recv vs calls =
       then_enters h.source h.program m.world.store.objects (the_entry name recv vs)
       (λ is. call_entered h.source h.program m.world is (activation_at m.world h.activation)

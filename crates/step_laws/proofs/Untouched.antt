@@ -21,7 +21,7 @@ use Rattle.def_machine.specs.State as machine
 use Rattle.def_machine.specs.State.{Registers, Frame, Level, frame, body_at, list_at, slot_at, value_at, put}
 use Rattle.step_laws.specs.Site.{Site, place_in, register, Known}
 use Rattle.step_laws.specs.Calm.{Grows}
-use Rattle.step_laws.specs.Relation.{EndsBy, stops, returns, Ends, IsSite, Waits, Ground, over_levels, InFrame, Same, SiteIs, SitesAre, FibersAre, AllFibers, uses, uses_in, Both, Running}
+use Rattle.step_laws.specs.Relation.{EndsBy, stops, returns, Ends, IsSite, Waits, Ground, over_levels, InFrame, Same, Owned, SiteIs, SitesAre, FibersAre, AllFibers, uses, uses_in, Both, Running}
 use Rattle.step_laws.proofs.Registers.{Keeps, inside_kept, list_other, length_put, scope_other, same_above, put_alike, assigned}
 
 -- lists that differ in that of one number alone
@@ -134,7 +134,7 @@ same_elsewhere : (h : Site) (cs cs' : List Scope) (l l' : List Registers) → Sa
 unfolding slot_at
 same_elsewhere h cs cs' l l' s scope scopes list lists = record {
   scope = omega (arith, s.scope, scopes);
-  parent = ap (λ (c : Scope). c.parent) scope ∙ s.parent;
+  owned = subst (Owned h) (sym scope) s.owned;
   present = omega (arith, s.present, lists);
   long = ap (λ (g : Registers). length g.slots) list ∙ s.long;
   self = ap (λ (g : Registers). read (get_or g.slots 0 (V Nil))) list ∙ s.self;
@@ -195,7 +195,7 @@ sites_grow s p hs cs l w u g a = record { scopes = a.scopes; lists = a.lists; ea
           opened = omega (arith, i.opened, longer);
           self = ap (λ (x : Activation). x.self) e ∙ i.self;
           runs = ap (λ (x : Activation). x.runs) e ∙ i.runs;
-          home = ap (λ (x : Activation). x.home) e ∙ i.home;
+          home = λ r is. ap (λ (x : Activation). x.home) e ∙ i.home r is;
         }
 
 -- Both sides, after a change.
@@ -270,7 +270,7 @@ module _ {s : Source} {p : Program} where
       let cs' = put_in m.scopes h.list (x) v in
       let o = put_only k.lists h.list (register h x) v in
       changed g h m (with_variable m (x) v) k (record k { lists = l' }) b b.all.world refl refl refl
-      (subst (λ (cs : List Scope). SitesAre s p g.sites cs l' m.world) (sym (assigned h m x v there i.same.parent))
+      (subst (λ (cs : List Scope). SitesAre s p g.sites cs l' m.world) (sym (assigned h m x v there known i.same.owned))
       (sites_changed s p g.sites m.scopes cs' k.lists l' m.world h b.all.sites b.site
       (put_alike h m.scopes k.lists x v i.static i.same known (omega (arith, known.low, i.static.room)))
       (length-set m.scopes h.list _) (length_put k.lists h.list (register h x) (V v))

@@ -1,5 +1,5 @@
 -- The step law, by cases on the focus, and the theorem for a main program.
-use Rattle.std.proofs.Common.{◌≡◌, ℕ, zero, suc, List, [], ◌∷◌, refl, sym, ap, ◌∙◌, subst, arith, length, length-set, get_or, get_or-set_same, get_or-set_other, replicate, Bool, true, false, true≢false}
+use Rattle.std.proofs.Common.{◌≡◌, ℕ, zero, suc, List, [], ◌∷◌, refl, sym, ap, ◌∙◌, subst, arith, length, length-set, get_or, get_or-set_same, get_or-set_other, replicate, Bool, true, false, true≢false, inl}
 use Rattle.std.specs.Prelude.{Option, Some, None, unwrap_or, if◌then◌else◌, slice_get}
 use Rattle.std.proofs.lemmas.List.{length-replicate}
 use Rattle.rb_value.specs.declared.value.Value.{Value}
@@ -364,7 +364,7 @@ module _ (s : Source) (p : Program) (input : List ℕ) (c : IsCodeOf s p) where
       let long : length nils ≡ registers = length-replicate registers (V Nil) in
       record {
         scope = omega arith;
-        parent = refl;
+        owned = inl refl;
         present = omega arith;
         long = length-set nils 0 (V (Obj main_object)) ∙ long;
         self = ap read (get_or-set_same nils 0 (V (Obj main_object)) (V Nil) (omega (arith, long, c.some, c.room)));
@@ -395,7 +395,7 @@ module _ (s : Source) (p : Program) (input : List ℕ) (c : IsCodeOf s p) where
         opened = omega arith;
         self = refl;
         runs = refl;
-        home = refl;
+        home = λ r e. refl;
       }
 
       at : (d : Site) (n : ℕ) → slice_get (h ∷ []) n ≡ Some d

@@ -46,7 +46,7 @@ code_of_method around n (form.body p ls f) m =
     ap (λ (os : List Local). assembled (layout kind.Method (form.body p ls f) t).head (pool_of t) t.symbols
     ((does (op.Enter (parameters p))
     ⊕ by_defaults (length os) (λ d u k. gen d u k f) (λ d u k. with_jumps d u k (length p.optional + 1) f) c
-    (behind (first_spot n)) r) ⊕ does (op.Return r))) m.required.no_optional
+    (behind (first_spot n)) r) ⊕ does (op.Return r))) m.straight.no_optional
     ∙ ap (λ (bs : List Irep). method_irep n (form.body p ls f) ∷ (bs ++ []))
     (bare f m.plain c (behind (first_spot n)) r).2
 

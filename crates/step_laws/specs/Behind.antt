@@ -13,7 +13,7 @@ use Rattle.gen_parts.specs.declared.emitter.Spot.{Spot}
 use Rattle.gen_parts.specs.declared.emitter.Held.TheVariants as held
 use Rattle.gen_parts.specs.Pieces.{Piece, past, behind, nothing, ◌⊕◌, jump, jump_not}
 use Rattle.gen_forms.specs.declared.context.Loop.{Loop}
-use Rattle.gen_forms.specs.Gen.{Context, gen, gather, gather_pairs, gather_text, others_in_turn, pass_in_registers, choose, over, operator, symbol}
+use Rattle.gen_forms.specs.Gen.{Context, gen, gather, gather_pairs, gather_text, others_in_turn, pass_in_registers, choose, over, operator, return_by, symbol}
 use Rattle.def_calls.specs.Calls.{by_name}
 use Rattle.def_eval.specs.Configuration.{Action, assign, assign_gvar, leave_method, leave_call, leave_round, Gathering, an_array, Part, operands, receiver, items, block, elements, hash_key, hash_value, pieces, rest, test, chosen, and_then, or_else, loop_test, loop_body, rescued, clause_class, clause_target, clause_body, ensured, Stop, passes, loops, rescues, assigns, retries, ensures}
 use Rattle.def_eval.specs.Scopes.{same_local}
@@ -165,6 +165,7 @@ pub record ReturnBehind (h : Site) (a : Action) (vs : List Value) (es : Forms) (
   pub action : a ≡ leave_method
   pub first : vs ≡ []
   pub last : es ≡ none
+  pub own : return_by h.context.kind_of low ≡ op.Return low
   pub returns : LineAt h n (line.Does (op.Return low))
 
 pub data OperandBehind (h : Site) (l : List Registers) (a : Action) (vs : List Value) (es : Forms) (low n r end : ℕ)

@@ -14,7 +14,7 @@ use Rattle.def_eval.specs.Source.{Source}
 use Rattle.def_eval.specs.Configuration.{Part, operands, receiver, items, block, elements, hash_key, hash_value, pieces, rest, test, chosen, and_then, or_else, loop_test, loop_body, rescued, clause_class, clause_target, clause_body, ensured, Item, part, activation, iteration, ensuring, Focus, perform, give, travel, Memory, Config, Run, Halt}
 use Rattle.def_eval.specs.Transition.{go, go_times}
 use Rattle.step_laws.specs.Site.{IsThere, number}
-use Rattle.step_laws.specs.Methods.{CallsMethods}
+use Rattle.step_laws.specs.Bodies.{CallsBodies}
 
 -- the object that a literal gathers into is still one of its kind
 abbrev pub IsAbout : Part → List Object → Type 0
@@ -97,7 +97,7 @@ objects_for (travel x) ks m = m.world.store.objects
 -- A transition keeps the peace: it enters no body, or what it calls are methods whose bodies have code.
 pub record Peace (s : Source) (p : Program) (f : Focus) (ks : List Item) (m : Memory) : Type 0 where
   pub quiet : Quiet m (go s (Run f ks m))
-  pub calls : Still m (go s (Run f ks m)) ⊎ CallsMethods s p (objects_for f ks m)
+  pub calls : Still m (go s (Run f ks m)) ⊎ CallsBodies s p (objects_for f ks m)
 
 -- the numbers of the program's names stay
 pub record IsSteady (s : Source) (w : World) : Type 0 where

@@ -92,26 +92,26 @@ pub record IsWitness (b : Body) : Type 0 where
 --   return a if a < i
 --   i
 -- end
--- def after(a, i)
---   least(a, i) + 1
+-- def after(a, *h, i)
+--   least(a, i) + h[0]
 -- end
--- puts after(3, 2)
-abbrev pub of_two : CoreForm → Body
-of_two f =
-    body (record { required = a ∷ i ∷ []; optional = []; rest = []; post = []; block = [] }) [] f
-
+-- puts after(3, 1, 2)
 abbrev pub least : Body
-least = of_two (seq (two
-    (cond (branch (on (local a) (codes "<") (local i)) (return_form (local a)) no_branches) nil) (local i)))
+least =
+    body (record { required = a ∷ i ∷ []; optional = []; rest = []; post = []; block = [] }) []
+    (seq (two (cond (branch (on (local a) (codes "<") (local i)) (return_form (local a)) no_branches) nil) (local i)))
 
 abbrev pub after : Body
-after = of_two (on (call on_self (codes "least") (plain (local a) (plain (local i) no_items)) absent) (codes "+")
-    (int (pos 1)))
+after =
+    body (record { required = a ∷ []; optional = []; rest = h ∷ []; post = i ∷ []; block = [] }) []
+    (on (call on_self (codes "least") (plain (local a) (plain (local i) no_items)) absent) (codes "+")
+    (on (local h) (codes "[]") (int (pos 0))))
 
 abbrev pub chooser : Body
 chooser = plain_body [] (seq (three (define (codes "least") least) (define (codes "after") after)
     (call on_self (codes "puts")
-    (plain (call on_self (codes "after") (plain (int (pos 3)) (plain (int (pos 2)) no_items)) absent) no_items) absent)))
+    (plain (call on_self (codes "after") (plain (int (pos 3)) (plain (int (pos 1)) (plain (int (pos 2)) no_items))) absent)
+    no_items) absent)))
 
 -- it is a program of plain forms and methods within the limits, and both sides end with the line 3
 pub record IsMethodWitness (b : Body) : Type 0 where

@@ -8,7 +8,7 @@ pub mod Plain
 pub mod Measure
 pub mod Standing
 pub mod Behind
-pub mod Methods
+pub mod Bodies
 pub mod Tops
 pub mod Peaceful
 pub mod Relation

@@ -5,12 +5,12 @@ use Rattle.rite_code.specs.Code.{Program}
 use Rattle.def_eval.specs.Source.{Source}
 use Rattle.def_eval.specs.Configuration.{Config, Run, Halt}
 use Rattle.def_eval.specs.Transition.{go, go_times}
-use Rattle.step_laws.specs.Methods.{CallsMethods}
+use Rattle.step_laws.specs.Bodies.{CallsBodies}
 use Rattle.step_laws.specs.Calm.{Still, objects_for}
 
 abbrev pub IsPeaceful : Source → Program → Config → Type 0
 IsPeaceful s p (Halt e) = Unit {0}
-IsPeaceful s p (Run f ks m) = Still m (go s (Run f ks m)) ⊎ CallsMethods s p (objects_for f ks m)
+IsPeaceful s p (Run f ks m) = Still m (go s (Run f ks m)) ⊎ CallsBodies s p (objects_for f ks m)
 
 abbrev pub StaysPeaceful : Source → Program → Config → Type 0
 StaysPeaceful s p c = (n : ℕ) → IsPeaceful s p (go_times n s c)

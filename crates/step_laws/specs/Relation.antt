@@ -1,6 +1,6 @@
 -- When a configuration of the evaluation and a state of the machine are alike: the fiber that runs, whose focus goes
 -- with its frame or its iteration, all that waits below, each other fiber, and each scope with its list of registers.
-use Rattle.std.specs.Prelude.{◌≡◌, ◌<◌, ◌≤◌, ℕ, ◌+◌, List, [], ◌∷◌, length, Option, Some, None, unwrap_or, nat_eq, if◌then◌else◌, slice_get}
+use Rattle.std.specs.Prelude.{◌≡◌, ◌⊎◌, ◌<◌, ◌≤◌, ℕ, ◌+◌, List, [], ◌∷◌, length, true, Option, Some, None, is_some, unwrap_or, nat_eq, if◌then◌else◌, slice_get}
 use Rattle.rb_value.specs.declared.value.Value.{Value}
 use Rattle.rb_value.specs.declared.value.Value.TheVariants.{Nil}
 use Rattle.rb_value.specs.declared.value.ObjId.{ObjId}
@@ -8,11 +8,11 @@ use Rattle.rb_value.specs.declared.exit.Exit.TheVariants.{Raise}
 use Rattle.rb_value.specs.declared.exit.Slot.TheVariants.{V}
 use Rattle.rite_code.specs.Code.{Program}
 use Rattle.rite_code.specs.declared.operation.Operation.TheVariants as op
-use Rattle.ir_core.specs.CoreForm.{Local, CoreForm}
+use Rattle.ir_core.specs.CoreForm.{Local, named, hidden, pattern, rest, CoreForm}
 use Rattle.gen_parts.specs.declared.line.Line.TheVariants as line
 use Rattle.gen_parts.specs.declared.emitter.Spot.{Spot}
 use Rattle.gen_forms.specs.declared.context.Loop.{Loop}
-use Rattle.gen_forms.specs.Gen.{gen}
+use Rattle.gen_forms.specs.Gen.{gen, return_by}
 use Rattle.path_eval.specs.Steps.{Matched}
 use Rattle.def_calls.specs.World.{World, main_program, activation_at}
 use Rattle.def_calls.specs.Plans.{Iteration}
@@ -149,10 +149,21 @@ Leaving hs fiber l (iteration a it p ∷ ks) ls = record {
 }
 Leaving hs fiber l (ensuring o ∷ ks) ls = ⊥
 
+-- a local of the source is a variable of the scope
+abbrev pub IsOwn : Scope → Local → Type 0
+IsOwn c (named x) = is_some (value_in c.variables (named x)) ≡ true
+IsOwn c (hidden d) = Unit {0}
+IsOwn c (pattern k) = Unit {0}
+IsOwn c rest = Unit {0}
+
+-- the locals of a body are those of its scope, where there is one around it
+abbrev pub Owned : Site → Scope → Type 0
+Owned h c = (c.parent ≡ None) ⊎ ((x : Local) → Known h x → IsOwn c x)
+
 -- The scope and the list of registers of a body.
 pub record Same (h : Site) (cs : List Scope) (l : List Registers) : Type 0 where
   pub scope : h.list < length cs
-  pub parent : (scope_at cs h.list).parent ≡ None
+  pub owned : Owned h (scope_at cs h.list)
   pub present : h.list < length l
   pub long : length (list_at l h.list).slots ≡ (body_at h.program h.body).registers
   pub self : value_at l h.list 0 ≡ h.self
@@ -170,8 +181,8 @@ pub record SiteIs (s : Source) (p : Program) (h : Site) (cs : List Scope) (l : L
     pub opened : h.activation ≤ length w.activations
     pub self : (activation_at w h.activation).self ≡ h.self
     pub runs : (activation_at w h.activation).runs ≡ h.runs
-    -- a return in it ends itself
-    pub home : (activation_at w h.activation).home ≡ h.activation
+    -- a return in it ends itself, but for that of a block
+    pub home : (r : ℕ) → return_by h.context.kind_of r ≡ op.Return r → (activation_at w h.activation).home ≡ h.activation
 
 -- each scope and the list of registers of its number have a site
 pub record SitesAre (s : Source) (p : Program) (hs : List Site) (cs : List Scope) (l : List Registers) (w : World)

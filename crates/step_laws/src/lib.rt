@@ -10,7 +10,8 @@
 //! - `specs::Tops`: programs of such forms and of methods of such forms
 //! - `specs::Simple`: those over nil, true, false and integers, with operators and `puts`, whose evaluation calls no body
 //! - `specs::Covers`: what defines a method besides, at the top of a body or in a sequence there
-//! - `specs::Methods`: code of the body of a method with required parameters, and a store whose methods have such code
+//! - `specs::Bodies`: code of the body of a method or a block without optional parameters, and a store whose methods and
+//!   Procs have such code
 //! - `specs::Calm`: what is asked of an evaluation otherwise: it calls no bodies of the source but those of such methods
 //! - `specs::Peaceful`: what of this isn't so of every program
 //! - `specs::Implements`: code of a source, and what it means that code implements a source
@@ -57,11 +58,13 @@ pub fn each_transition_is_matched()
 {}
 
 /// Code of a source implements it, for each input with which the evaluation calls no bodies of the source but those of
-/// methods with code.
-#[tactic(auto, using(crate::proofs::Whole::implements))]
+/// methods and blocks with code; and code of a program implements it for every input.
+#[tactic(auto, using(crate::proofs::Whole::implements, crate::proofs::Coded::code_implements))]
 pub fn code_implements()
-    ensures { (s : Source) (p : Program) (input : List ℕ) → IsCodeOf s p
+    ensures calm { (s : Source) (p : Program) (input : List ℕ) → IsCodeOf s p
         → StaysCalm s p (opening s input) → Implements s p input }
+    ensures program { (b : Body) (p : Program) (input : List ℕ) → IsProgram b → IsCodeOf (source_of b) p
+        → Implements (source_of b) p input }
 {}
 
 /// All that is asked of an evaluation but that it calls no other bodies is so of that of every program: names keep their
@@ -82,9 +85,9 @@ pub fn simple_code_implements()
         → Implements s p input }
 {}
 
-/// The code that gen_forms gives for a program of plain forms, and of methods of such forms whose parameters are all
-/// required, within the limits is code of it and of its methods. No block stands in such a program, so its evaluation
-/// enters no bodies but those of its methods, and the code implements it for every input.
+/// The code that gen_forms gives for a program of plain forms, and of methods of such forms without optional parameters,
+/// within the limits is code of it and of its methods. No block stands in such a program, so its evaluation enters no
+/// bodies but those of its methods, and the code implements it for every input.
 #[tactic(auto, using(crate::proofs::Coded::program_is_code, crate::proofs::Coded::program_implements))]
 pub fn plain_programs_are_implemented()
     ensures coded { (b : Body) → IsProgram b → first_excess (need b) ≡ None → IsPlainProgram b
@@ -116,8 +119,8 @@ pub fn a_program_gathers()
     ensures { IsPlainWitness gatherer }
 {}
 
-/// There is one that defines methods with parameters, one of which calls the other, with a return; both sides come to the
-/// same end.
+/// There is one that defines methods, one of which calls the other, with a return and a parameter for the rest of the
+/// arguments; both sides come to the same end.
 #[tactic(auto, using(crate::proofs::Methods::chooses))]
 pub fn a_program_calls_methods()
     ensures { IsMethodWitness chooser }
