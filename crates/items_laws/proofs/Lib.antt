@@ -55,3 +55,13 @@ pub mod Replied
 pub mod CutCounts
 pub mod CutReplaced
 pub mod Uncombined
+pub mod Sent
+pub mod Working
+pub mod Readers
+pub mod Found
+pub mod Paired
+pub mod Removed
+pub mod Equated
+pub mod Unequal
+pub mod Sieved
+pub mod Included

@@ -1,6 +1,6 @@
 -- Small facts of options, lists and truth.
 use Rattle.std.proofs.Common.{◌≡◌, ℕ, suc, ◌<◌, ◌+◌, ◌^◌, List, [], ◌∷◌, refl, sym, ◌∙◌, arith}
-use Rattle.std.specs.Prelude.{Bool, true, false, not, Some, None}
+use Rattle.std.specs.Prelude.{Bool, true, false, not, ◌&&◌, Some, None}
 use Rattle.rb_value.specs.declared.value.Value.{Value}
 use Rattle.rb_store.specs.Held.{Held}
 use Rattle.items_laws.specs.Items.{IsValue}
@@ -30,6 +30,16 @@ untrue_is false e = refl
 pub true_is : (c : Bool) → not c ≡ false → c ≡ true
 true_is true e = refl
 true_is false e = absurd (cc)
+
+-- known beforehand, and not
+
+pub and_true : (c : Bool) → (c && true) ≡ c
+and_true true = refl
+and_true false = refl
+
+pub and_false : (c : Bool) → (c && false) ≡ false
+and_false true = refl
+and_false false = refl
 
 pub not_both : (c : Bool) → c ≡ true → c ≡ false → ⊥
 not_both true so otherwise = cc

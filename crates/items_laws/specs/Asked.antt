@@ -6,7 +6,7 @@ use Rattle.rb_value.specs.declared.value.SymId.{SymId}
 use Rattle.rb_value.specs.Value.{is_true, truth}
 use Rattle.def_core.specs.Changes.{intern}
 use Rattle.def_core.specs.Parts.{elements_at}
-use Rattle.rb_store.specs.Held.{Held}
+use Rattle.rb_store.specs.Held.{Held, one_more}
 use Rattle.run_values.specs.declared.given.Given.TheVariants.{Gives}
 use Rattle.core_calls.specs.Checks.{name_in}
 use Rattle.iter_comparing.specs.Ordering.{same_value}
@@ -56,6 +56,10 @@ pub data Asks {S : Type 0} (known : Value → Value → Bool) (name : SymId) (pa
       → Replies (known x (other held s)) name (pass held s).held x (other held s ∷ []) us a k → stops a ≡ false
       → Asks known name pass other stops k (pass held s).source ts xs replies after
       → Asks known name pass other stops held s (us ++ ts) (x ∷ xs) (a ∷ replies) after
+
+-- items at one place after another
+abbrev pub by_place : (Held → ℕ → Option Value) → Held → ℕ → Passed ℕ
+by_place item held n = record { item = item held n; source = one_more n; held = held }
 
 -- with the same value each
 abbrev pub always : {S : Type 0} → Value → Held → S → Value

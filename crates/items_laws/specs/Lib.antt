@@ -20,3 +20,5 @@ pub mod Neighbours
 pub mod Asked
 pub mod Decided
 pub mod Cut
+pub mod Compared
+pub mod Sieved

@@ -8,11 +8,13 @@
 //! - `specs::Settled`, `specs::Made`, `specs::Changed`, `specs::Dropping`: where each answer changes a new Hash, or the receiver
 //! - `specs::Slices`, `specs::Neighbours`, `specs::Sums`, `specs::Texts`, `specs::Looped`: items by so many at once, sums, parts
 //!   of a String, `loop`
-//! - `specs::Decided`, `specs::Asked`: items that decide without a call, and values that are asked for a method
+//! - `specs::Decided`, `specs::Asked`, `specs::Compared`, `specs::Sieved`: items that decide without a call, values that are asked
+//!   for a method, and what comes of it where many are compared
 //! - `specs::Cut`: runs that are left
 #![tactic(auto)]
 
 pub mod asked;
+pub mod compared;
 pub mod left;
 
 ghost use Rattle.std.specs.Prelude.{◌≡◌, ℕ, ◌<◌, ◌+◌, ◌^◌, ℤ, pos, negsuc, ◌-ℤ◌, int_lt, List, [], ◌∷◌, length, map, take, drop, slice_get, not, true, false, Option, Some, None, Ok};
