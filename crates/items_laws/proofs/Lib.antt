@@ -65,3 +65,4 @@ pub mod Equated
 pub mod Unequal
 pub mod Sieved
 pub mod Included
+pub mod Placed

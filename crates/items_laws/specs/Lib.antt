@@ -22,3 +22,4 @@ pub mod Decided
 pub mod Cut
 pub mod Compared
 pub mod Sieved
+pub mod Placed

@@ -1,8 +1,8 @@
 //! What comes of runs that ask values for a method, one after another.
 
-ghost use Rattle.std.specs.Prelude.{◌≡◌, ◌^◌, ◌-◌, pos, int_lt, int_le, min, not, List, [], ◌∷◌, codes, Option, Some, None, Ok};
+ghost use Rattle.std.specs.Prelude.{◌≡◌, ◌^◌, ◌-◌, pos, int_lt, int_le, min, not, true, false, List, [], ◌∷◌, codes, Option, Some, None, Ok};
 ghost use Rattle.rb_value.specs.declared.value.Value.{Value};
-ghost use Rattle.rb_value.specs.declared.value.Value.TheVariants.{Nil, Int};
+ghost use Rattle.rb_value.specs.declared.value.Value.TheVariants.{Nil, True, False, Int};
 ghost use Rattle.rb_value.specs.declared.value.ObjId.{ObjId};
 ghost use Rattle.rb_value.specs.declared.value.SymId.{SymId};
 ghost use Rattle.rb_value.specs.Value.{is_true, truth};
@@ -10,14 +10,16 @@ ghost use Rattle.rb_store.specs.Held.{Held};
 ghost use Rattle.core_calls.specs.Checks.{name_in};
 ghost use Rattle.iter_comparing.specs.declared.row.ComparingRow.TheVariants as comparing_row;
 ghost use Rattle.iter_comparing.specs.declared.row.OrderRow.TheVariants as order_row;
+ghost use Rattle.iter_comparing.specs.Ordering.{same_value};
 ghost use Rattle.iter_items.specs.declared.row.ItemsRow.TheVariants as items_row;
 ghost use Rattle.iter_items.specs.declared.row.Task.TheVariants as task;
 ghost use Rattle.iter_items.specs.declared.source.Source.{Source};
 ghost use Rattle.iter_items.specs.Sources.{next, left};
 ghost use Rattle.run_rows.specs.declared.row.StarRow.TheVariants as row;
 ghost use Rattle.items_laws.specs.Run.{Turn, Gives};
-ghost use Rattle.items_laws.specs.Items.{IsRunBy};
+ghost use Rattle.items_laws.specs.Items.{IsRunBy, IsValue};
 ghost use Rattle.items_laws.specs.Asked.{CountsEqual, Combines, CombinesFirst, IsEmpty, IsReply, IsSign, with_name_of, with_symbol};
+ghost use Rattle.items_laws.specs.Placed.{IsPlaced, IsZero};
 
 /// `count` of a value: how many items are equal to it, by what each replies to `==`; without a value and a block: how many
 /// items there are, and nothing is called.
@@ -79,4 +81,28 @@ pub fn a_reply_orders()
     ensures at_least { (held after : Held) (recv y v : Value) (block : Option ObjId) (ts : List Turn)
         → Gives (row.Items (items_row.Compares (comparing_row.Order order_row.AtLeast))) held recv (y ∷ []) block ts v after
         → IsReply (codes "<=>") held recv y ts (IsSign (λ z. int_le (pos 0) z) v) after }
+{}
+
+/// `between?` of Comparable: the receiver is asked how it stands to a value, and, where it isn't below that, to a second one;
+/// whether it is neither below the first nor above the second. `clamp`: the first value where it is below that, the second
+/// where it is above that, and else the receiver.
+pub fn a_value_is_placed()
+    ensures between { (held after : Held) (recv low high v : Value) (block : Option ObjId) (ts : List Turn)
+        → Gives (row.Items (items_row.Compares (comparing_row.Order order_row.Between))) held recv (low ∷ high ∷ []) block ts
+        v after → IsPlaced held recv low high False True False ts v after }
+    ensures clamp { (held after : Held) (recv low high v : Value) (block : Option ObjId) (ts : List Turn)
+        → Gives (row.Items (items_row.Compares (comparing_row.Order order_row.Clamp))) held recv (low ∷ high ∷ []) block ts
+        v after → IsPlaced held recv low high low recv high ts v after }
+{}
+
+/// `==` of Comparable: a value is equal to itself, and nothing is called; to another one where it replies 0 to `<=>`.
+pub fn comparables_are_equal()
+    ensures itself { (held after : Held) (recv y v : Value) (block : Option ObjId) (ts : List Turn)
+        → same_value recv y ≡ true
+        → Gives (row.Items (items_row.Compares (comparing_row.Order order_row.Equal))) held recv (y ∷ []) block ts v after
+        → (ts ≡ []) × IsValue held True v after }
+    ensures other { (held after : Held) (recv y v : Value) (block : Option ObjId) (ts : List Turn)
+        → same_value recv y ≡ false
+        → Gives (row.Items (items_row.Compares (comparing_row.Order order_row.Equal))) held recv (y ∷ []) block ts v after
+        → IsReply (codes "<=>") held recv y ts (IsZero v) after }
 {}

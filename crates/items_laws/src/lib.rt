@@ -8,8 +8,8 @@
 //! - `specs::Settled`, `specs::Made`, `specs::Changed`, `specs::Dropping`: where each answer changes a new Hash, or the receiver
 //! - `specs::Slices`, `specs::Neighbours`, `specs::Sums`, `specs::Texts`, `specs::Looped`: items by so many at once, sums, parts
 //!   of a String, `loop`
-//! - `specs::Decided`, `specs::Asked`, `specs::Compared`, `specs::Sieved`: items that decide without a call, values that are asked
-//!   for a method, and what comes of it where many are compared
+//! - `specs::Decided`, `specs::Asked`, `specs::Placed`, `specs::Compared`, `specs::Sieved`: items that decide without a call,
+//!   values that are asked for a method, how a value stands to others, and what comes of it where many are compared
 //! - `specs::Cut`: runs that are left
 #![tactic(auto)]
 
