@@ -66,3 +66,4 @@ pub mod Unequal
 pub mod Sieved
 pub mod Included
 pub mod Placed
+pub mod ByteRanges

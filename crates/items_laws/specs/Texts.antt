@@ -1,9 +1,11 @@
 -- Parts of a String that a block is called with.
-use Rattle.std.specs.Prelude.{◌≡◌, ℕ, ◌+◌, pos, List, [], ◌∷◌, length, map, slice_get, nat_eq, if◌then◌else◌, Option, Some, None}
+use Rattle.std.specs.Prelude.{◌≡◌, ℕ, suc, ◌+◌, ◌-◌, pos, List, [], ◌∷◌, length, map, slice_get, nat_eq, false, if◌then◌else◌, Option, Some, None}
 use Rattle.rb_value.specs.declared.value.Value.TheVariants.{Int, Obj}
 use Rattle.rb_value.specs.declared.value.Value.{Value}
 use Rattle.rb_value.specs.declared.value.ObjId.{ObjId}
 use Rattle.rb_value.specs.declared.kind.Kind.TheVariants as kind
+use Rattle.rb_value.specs.declared.kind.RangeContents.{RangeContents}
+use Rattle.rb_value.specs.declared.kind.RangeEnds.TheVariants as range
 use Rattle.rb_value.specs.declared.core_class.CoreClass.TheVariants as class
 use Rattle.def_core.specs.Parts.{text_at}
 use Rattle.def_core.specs.Store.{core, next_number}
@@ -12,6 +14,7 @@ use Rattle.heap.specs.Made.{with_new}
 use Rattle.core_iter.specs.Writing.{newline}
 use Rattle.items_laws.specs.Run.{Turn}
 use Rattle.items_laws.specs.Items.{IsValue, calls_of, last_heap}
+use Rattle.items_laws.specs.Numbers.{places_from}
 use Rattle.items_laws.specs.Read.{heaps_before}
 
 -- each byte of a text alone
@@ -41,6 +44,19 @@ pub record HandsTexts (held : Held) (s b : ObjId) (parts : List (List ℕ)) (ts 
   pub made : map (λ t. t.wanted.held) ts ≡ texts_made parts (heaps_before held ts)
   pub each : length ts ≡ length parts
   pub result : IsValue (last_heap held ts) (Obj s) v after
+
+-- The block is called with a new String of each byte from one to another, made when the answer before has come, and the Range
+-- is given.
+pub record HandsOnBytes (held : Held) (first last : ℕ) (b : ObjId) (ts : List Turn) (recv v : Value) (after : Held)
+    : Type 0 where
+  pub called : calls_of ts ≡ map (λ h. Some (b, Obj (next_number h.store) ∷ [])) (heaps_before held ts)
+  pub made : map (λ t. t.wanted.held) ts ≡ texts_made (characters (places_from first (length ts))) (heaps_before held ts)
+  pub each : length ts ≡ suc last - first
+  pub result : IsValue (last_heap held ts) recv v after
+
+-- a Range of bytes, with its last end
+abbrev pub bytes_to : ℕ → ℕ → RangeContents
+bytes_to a z = record { ends = range.Bytes a z; exclusive = false }
 
 -- the bytes of a String from a place on, each as it stands in the next of these heaps
 abbrev pub bytes_read : ObjId → ℕ → List Held → List (Option ℕ)

@@ -70,7 +70,7 @@ ghost use Rattle.items_laws.specs.Neighbours.{HandsNeighbours};
 ghost use Rattle.items_laws.specs.Run.{Turn, Runs, Gives};
 ghost use Rattle.items_laws.specs.Slices.{slices};
 ghost use Rattle.items_laws.specs.Sums.{AddsUp, AddsIntegers, plus, total, with_plus};
-ghost use Rattle.items_laws.specs.Texts.{HandsTexts, HandsBytes, characters, lines};
+ghost use Rattle.items_laws.specs.Texts.{HandsTexts, HandsBytes, HandsOnBytes, bytes_to, characters, lines};
 ghost use Rattle.items_laws.specs.Numbers.{Counts, Places, integers, integers_from, so_many};
 ghost use Rattle.items_laws.specs.Items.{Hands, Visits, Iterates, IsRunBy, IsRunOf, IsArrayOf, IsValue, Whole, Until, answers, calls_of, last_heap, left_of, with_arguments};
 ghost use Rattle.items_laws.specs.Read.{heaps_before, elements_read, pair_in, pairs_read};
@@ -353,6 +353,15 @@ pub fn ranges_are_stepped_through()
         → integer held.store size ≡ Ok by → int_lt (pos 0) by ≡ true
         → Gives (row.Visit visit.StepOfRange) held recv (size ∷ []) (Some b) ts v after
         → Counts a (z -ℤ pos 1) by b ts × IsValue (last_heap held ts) recv v after }
+{}
+
+/// `each` of a Range of bytes with its last end: the block is called with a new String of each from the first one to the last
+/// one, made when the answer before has come, and the Range is given.
+pub fn bytes_are_handed_on()
+    ensures { (held after : Held) (recv v : Value) (a z : ℕ) (b : ObjId) (ts : List Turn) → z < 256
+        → range_in (kind_in held.store.objects recv) ≡ Some (bytes_to a z)
+        → Gives (row.Visit visit.EachOfRange) held recv [] (Some b) ts v after
+        → HandsOnBytes held a z b ts recv v after }
 {}
 
 /// The items of an Array: its elements at one place after another, each as it stands when the answer before has come, so
