@@ -80,14 +80,34 @@ beginning t held recv s args value name size block p is source starts_so =
     }
 
 -- the run from the beginning of the visit on
-pub record Started (t : Task) (held : Held) (recv : Value) (s : Source) (value : Option Value)
-    (name : Option SymId) (size : ℕ) (block : Option ObjId)
-    (ts : List Turn) (v : Value) (after : Held) : Type 0 where
+pub record Opened (t : Task) (held : Held) (recv : Value) (s : Source) (value : Option Value)
+    (name : Option SymId) (size : ℕ) (block : Option ObjId) (ts : List Turn) (last : Planned Stage) : Type 0 where
   pub begun : Held
   pub same : begun.store ≡ held.store
   pub first : Planned over_items.Stage
   pub begins : BeginsWith begun t recv s (arguments value name size) block first
-  pub runs : Runs (as_moved items first) ts (gives after v)
+  pub runs : Runs (as_moved items first) ts last
+
+pub opened : (t : Task) (held : Held) (recv : Value) (s : Source) (args : List Value) (value : Option Value)
+    (name : Option SymId) (size : ℕ) (block : Option ObjId) (ts : List Turn) (first last : Planned Stage)
+    → (given t held args block).arguments ≡ Ok (arguments value name size)
+    → source_of (given t held args block).held.store recv (is_backwards t) ≡ Some s
+    → FirstOf (row.Items (items_row.Visits t)) held recv args block first → Runs first ts last
+    → Opened t (given t held args block).held recv s value name size block ts last
+opened t held recv s args value name size block ts first last is source starts_so runs =
+    let b = beginning t held recv s args value name size block first is source starts_so in
+    record {
+      begun = b.begun;
+      same = b.same;
+      first = b.first;
+      begins = b.begins;
+      runs = subst (λ (q : Planned Stage). Runs q ts last) b.moved runs;
+    }
+
+-- where it gives a value
+abbrev pub Started : Task → Held → Value → Source → Option Value → Option SymId → ℕ → Option ObjId → List Turn → Value
+    → Held → Type 0
+Started t held recv s value name size block ts v after = Opened t held recv s value name size block ts (gives after v)
 
 pub started : (t : Task) (held : Held) (recv : Value) (s : Source) (args : List Value)
     (value : Option Value) (name : Option SymId) (size : ℕ) (block : Option ObjId) (ts : List Turn) (v : Value) (after : Held)
@@ -96,14 +116,7 @@ pub started : (t : Task) (held : Held) (recv : Value) (s : Source) (args : List 
     → Gives (row.Items (items_row.Visits t)) held recv args block ts v after
     → Started t (given t held args block).held recv s value name size block ts v after
 started t held recv s args value name size block ts v after is source run =
-    let b = beginning t held recv s args value name size block run.first is source run.starts in
-    record {
-      begun = b.begun;
-      same = b.same;
-      first = b.first;
-      begins = b.begins;
-      runs = subst (λ (q : Planned Stage). Runs q ts (gives after v)) b.moved run.runs;
-    }
+    opened t held recv s args value name size block ts run.first (gives after v) is source run.starts run.runs
 
 -- the same of a method of Enumerable, once `each` has returned
 
@@ -118,20 +131,18 @@ gathering_by : (held : Held) (t : Task) (g : of_each.Gathering) (a : ObjId) (p :
     → Gathering held t g.receiver g.args g.block (Some (Elements a (place_for (is_backwards t)))) p
 gathering_by held t g a p (visited after q e by) = record { after = after; same = e; by_arguments = by }
 
-gathered : (t : Task) (before : Held) (recv : Value) (args : List Value) (block : Option ObjId) (each : Turn)
-    (collected a : ObjId) (value : Option Value) (name : Option SymId) (size : ℕ) (ts : List Turn) (v : Value)
-    (after : Held)
-    → Gives (row.Items (items_row.Gathers (gathering.Visits t))) before recv args block (each ∷ ts) v after
-    → waiting each.wanted.plan ≡ Some (gathers_in t recv args block collected)
+pub gathered : (t : Task) (recv : Value) (args : List Value) (block : Option ObjId) (each : Turn) (collected a : ObjId)
+    (value : Option Value) (name : Option SymId) (size : ℕ) (ts : List Turn) (first last : Planned Stage)
+    → Runs first (each ∷ ts) last → waiting each.wanted.plan ≡ Some (gathers_in t recv args block collected)
     → array_given each.held.store (collected_in each collected) ≡ Obj a
     → (given t (with_array each.held (collected_in each collected)) args block).arguments
     ≡ Ok (arguments value name size)
-    → Started t (given t (with_array each.held (collected_in each collected)) args block).held recv
-    (Elements a (place_for (is_backwards t))) value name size block ts v after
-gathered t before recv args block each collected a value name size ts v after run waits array is =
+    → Opened t (given t (with_array each.held (collected_in each collected)) args block).held recv
+    (Elements a (place_for (is_backwards t))) value name size block ts last
+gathered t recv args block each collected a value name size ts first last runs waits array is =
     let g = gathering_of (gathering.Visits t) recv args block collected in
     let held = with_array each.held (collected_in each collected) in
-    let leads = run.runs.1 in
+    let leads = runs.1 in
     let stage = some_same leads.stage (gathers_in t recv args block collected) (sym leads.waits ∙ waits) in
     let moved = unmoved items (over_rows.GoesOn each.held (over_items.gathers g) each.answer) leads.next
     (subst (λ (x : Stage). FollowsOf each.held x each.answer leads.next) stage leads.follows) in
@@ -143,7 +154,7 @@ gathered t before recv args block each collected a value name size ts v after ru
       first = moved.inner;
       begins = subst (λ x. ByArguments visit.after t recv (Some (Elements a (place_for (is_backwards t)))) x block
           moved.inner) is visit.by_arguments;
-      runs = subst (λ (q : Planned Stage). Runs q ts (gives after v)) moved.same leads.further;
+      runs = subst (λ (q : Planned Stage). Runs q ts last) moved.same leads.further;
     }
 
 -- with a block or without one
@@ -158,7 +169,7 @@ begun_by t held recv s args block value name size ts v after is (of_those_of_eac
     subst (λ (x : Source). Started t (with_arguments_by t held args block) recv x value name size block ts v after) (sym there)
     (subst (λ (h : Held). Started t (with_arguments_by t h args block) recv (Elements a (place_for (is_backwards t))) value
     name size block ts v after) (sym same)
-    (gathered t before recv args block each collected a value name size ts v after run waits array
+    (gathered t recv args block each collected a value name size ts run.first (gives after v) run.runs waits array
     (subst (λ (h : Held). (given t h args block).arguments ≡ Ok (arguments value name size)) same is)))
 
 pub begun_so : (t : Task) (held : Held) (recv : Value) (s : Source) (args : List Value) (b : ObjId)

@@ -8,27 +8,57 @@ use Rattle.heap.specs.declared.finding.Site.{Site}
 use Rattle.rb_store.specs.Held.{Held}
 use Rattle.core_calls.specs.Passing.{args_of}
 use Rattle.def_plans.specs.Plan.{Planned}
+use Rattle.iter_items.specs.declared.row.Task.{Task}
 use Rattle.iter_items.specs.declared.source.Source.{Source}
+use Rattle.iter_items.specs.declared.source.Source.TheVariants.{Elements}
 use Rattle.iter_items.specs.declared.visit.Visit.{Visit}
 use Rattle.iter_items.specs.declared.wish.Wish.{Wish}
 use Rattle.iter_items.specs.declared.wish.Wish.TheVariants as wish
 use Rattle.iter_items.specs.Sources as sources
-use Rattle.iter_items.specs.Asking.{Wished, wishes, with_item, with_source}
+use Rattle.iter_items.specs.Sources.{place_for}
+use Rattle.iter_items.specs.Asking.{Wished, wishes, with_item, with_source, is_backwards}
 use Rattle.iter_items.specs.Checks.{given, arguments}
-use Rattle.iter_items.specs.Hearing.{Heard, heard}
+use Rattle.iter_items.specs.Hearing.{Heard}
 use Rattle.iter_items.specs.Driving.{WantsOf, HearsOf, Comes, Begins, begins, GoesOn, makes_hash}
 use Rattle.iter_items.specs.Moved.{as_moved}
 use Rattle.iter_items.specs.Stage as over_items
 use Rattle.core_iter.specs.Stage.{Stage, items}
 use Rattle.items_laws.specs.Run.{Turn, Leads, Runs, waiting}
 use Rattle.items_laws.specs.Items.{call_of, calls_of, with_arguments}
-use Rattle.items_laws.specs.Cut.{IsLeft, Cut, IsCut}
-use Rattle.items_laws.proofs.Begun.{beginning, BeginsFor}
+use Rattle.items_laws.specs.Cut.{IsLeft, left_itself, left_by_each, Cut, IsCut}
+use Rattle.items_laws.proofs.Begun.{Opened, opened, gathered, BeginsFor}
 use Rattle.items_laws.proofs.Course.{Settled, at_item, called_with, no_turn, waits_for, heard_of}
 use Rattle.items_laws.proofs.Inversion.{begun, gone, Calling, arrives, comes_of}
 use Rattle.items_laws.proofs.Methods.{Shape, Method, fit, first_of_all, pass_of}
 use Rattle.items_laws.proofs.Small.{none_some, not_cons, tail_same}
 use Rattle.items_laws.proofs.Visits.{settled_by}
+
+-- how such a run begins
+pub record Leaving (t : Task) (held : Held) (recv : Value) (s : Source) (value : Option Value) (name : Option SymId)
+    (size : ℕ) (b : ObjId) (ts : List Turn) (last : Planned Stage) : Type 0 where
+  pub start : Opened t held recv s value name size (Some b) ts last
+  pub stage : Stage
+  pub waits : waiting last.plan ≡ Some stage
+
+pub leaving : (t : Task) (held : Held) (recv : Value) (s : Source) (args : List Value) (value : Option Value)
+    (name : Option SymId) (size : ℕ) (b : ObjId) (ts : List Turn) (last : Planned Stage)
+    → (given t held args (Some b)).arguments ≡ Ok (arguments value name size) → IsLeft t held recv s args b ts last
+    → Leaving t (with_arguments t held args b) recv s value name size b ts last
+leaving t held recv s args value name size b ts last read (left_itself first stage starts_so over runs waits) = record {
+  start = opened t held recv s args value name size (Some b) ts first last read over starts_so runs;
+  stage = stage;
+  waits = waits;
+}
+leaving t held recv s args value name size b ts last read (left_by_each before first stage each collected a starts_so by_each same array there runs waits) =
+    record {
+      start = subst (λ (x : Source). Opened t (with_arguments t held args b) recv x value name size (Some b) ts last)
+          (sym there) (subst (λ (h : Held). Opened t (with_arguments t h args b) recv
+          (Elements a (place_for (is_backwards t))) value name size (Some b) ts last) (sym same)
+          (gathered t recv args (Some b) each collected a value name size ts first last runs by_each array
+          (subst (λ (h : Held). (given t h args (Some b)).arguments ≡ Ok (arguments value name size)) same read)));
+      stage = stage;
+      waits = waits;
+    }
 
 -- the values of a call that is the last
 abbrev pub Single : Shape → Type 0
@@ -43,13 +73,13 @@ CutOf g ns held v s last = Cut (pass_of g.task) held s g.block (g.calls_with v n
 
 -- A plan that ends leads to none that waits.
 
-dead : (q last : Planned Stage) (ts : List Turn) (stage : Stage) → waiting q.plan ≡ None
+pub dead : (q last : Planned Stage) (ts : List Turn) (stage : Stage) → waiting q.plan ≡ None
     → waiting last.plan ≡ Some stage → Runs q ts last → ⊥
 dead q last [] stage none waits runs =
     none_some stage (sym none ∙ ap (λ (p : Planned Stage). waiting p.plan) runs ∙ waits)
 dead q last (t ∷ ts) stage none waits runs = no_turn t q (λ next. Runs next ts last) none runs.0 runs.1
 
-stands : (k : Held) (u : Visit) (w : Wish) (p : Planned over_items.Stage) → Settled w → Comes k u w p
+pub stands : (k : Held) (u : Visit) (w : Wish) (p : Planned over_items.Stage) → Settled w → Comes k u w p
     → waiting (lifted p).plan ≡ None
 stands k u (wish.Ends x) p settled comes =
     ap (λ (q : Planned over_items.Stage). waiting (lifted q).plan) (arrives k u (wish.Ends x) p comes)
@@ -189,12 +219,12 @@ pub cut_by : (g : Shape) (m : Method g) → Single g → (held : Held) (recv : V
     (g.calls_with (first_of_all g recv s value name size) ts) ts last
 cut_by g m single held recv s args value name size ts last fitting read no_hash is =
     let v = first_of_all g recv s value name size in
-    let b = beginning g.task held recv s args value name size (Some g.block) is.first read is.over is.starts in
-    let begins_so = subst (λ (c : Bool). BeginsFor c b.begun g.task recv s value name size g.block b.first) no_hash b.begins in
+    let l = leaving g.task held recv s args value name size g.block ts last read is in
+    let o = l.start in
+    let begins_so = subst (λ (c : Bool). BeginsFor c o.begun g.task recv s value name size g.block o.first) no_hash o.begins in
     record {
-      begun = b.begun;
-      same = b.same;
-      cut = cut_course g m single ts last is.stage is.waits b.begun v b.first
-          (subst (λ (u : Visit). Begins b.begun u b.first) fitting begins_so)
-          (subst (λ (q : Planned Stage). Runs q ts last) b.moved is.runs);
+      begun = o.begun;
+      same = o.same;
+      cut = cut_course g m single ts last l.stage l.waits o.begun v o.first
+          (subst (λ (u : Visit). Begins o.begun u o.first) fitting begins_so) o.runs;
     }

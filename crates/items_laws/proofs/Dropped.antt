@@ -28,7 +28,7 @@ use Rattle.items_laws.proofs.Visits.{one, visits_none, visits_more, visits_last,
 abbrev nothing_kept : ObjId → Visit → Visit
 nothing_kept b v = fitted task.DropWhile b as_it_is as_it_is (record v { kept = [] })
 
-abbrev heard_if : Held → Visit → Bool → Heard
+abbrev pub heard_if : Held → Visit → Bool → Heard
 heard_if held v c = if c then onward held v else take_rest held v
 
 keeps_if : (b : ObjId) (held : Held) (v : Visit) (c : Bool)
@@ -36,7 +36,7 @@ keeps_if : (b : ObjId) (held : Held) (v : Visit) (c : Bool)
 keeps_if b held v true = fits task.DropWhile b as_it_is as_it_is v
 keeps_if b held v false = tt
 
-drops : (b : ObjId) → Plain (Fits task.DropWhile b as_it_is as_it_is) b one
+pub drops : (b : ObjId) → Plain (Fits task.DropWhile b as_it_is as_it_is) b one
 drops b = plain_by task.DropWhile b as_it_is as_it_is one (λ held v. refl) (λ held v. refl)
     (λ held v a. keeps_if b held v (is_true a))
     (λ held v w u later e. settled_by (with_array held v.kept) later

@@ -47,7 +47,7 @@ beside_does held v h a None =
     let group = array_given held.store (v.item ∷ []) in
     put_does made h a group v (keyed.put made h a group) made refl
 
-under_does : (held : Held) (v : Visit) (h : ObjId) (a : Value) (o : Option Key)
+pub under_does : (held : Held) (v : Visit) (h : ObjId) (a : Value) (o : Option Key)
     → Does (λ after. JoinsUnder h v.item a held o after) v (group_under held v h a o)
 under_does held v h a None = tt
 under_does held v h a (Some k) = beside_does held v h a (pair_of held.store.objects h k)
@@ -69,7 +69,7 @@ under_keeps : (b h : ObjId) (held : Held) (v : Visit) (a : Value) (o : Option Ke
 under_keeps b h held v a None = tt
 under_keeps b h held v a (Some k) = beside_keeps b h held v a (pair_of held.store.objects h k)
 
-group_makes : (b h : ObjId) → Maker task.GroupBy b h
+pub group_makes : (b h : ObjId) → Maker task.GroupBy b h
 group_makes b h = record {
   asks = λ held v. refl;
   calls = λ held v. refl;

@@ -67,3 +67,8 @@ pub mod Sieved
 pub mod Included
 pub mod Placed
 pub mod ByteRanges
+pub mod CutPlain
+pub mod CutMade
+pub mod CutSlices
+pub mod CutSlid
+pub mod CutSums

@@ -176,6 +176,7 @@ fresh_done k others name place kept held (v ∷ vs) ts r after d = by_kind k d
           (subst (λ (i : Kind). Mid i others kept 0 name v held m.us m.stays m.left) (sym same) m.mid) m.more.sieves);
       result = m.more.result;
     }
+
     by_kind : (k : Kind)
         → MidDone (first k) others name (record { place = place; staying = kept; asked_at = 0 }) held v vs ts r after
         → Done (first k) others name kept held (v ∷ vs) ts r after

@@ -52,7 +52,7 @@ Sifting test t b h ts r after = (held : Held) (v : Visit) (ps : List HashItem) (
     → Sifted test t held v.source (drop n ps) b h ts r after
 
 -- the pair of the turn
-at_turn : (test : Value → Bool) (t : Task) (b h : ObjId) (m : Sifts test t b h) (held : Held) (s : Source)
+pub at_turn : (test : Value → Bool) (t : Task) (b h : ObjId) (m : Sifts test t b h) (held : Held) (s : Source)
     (ps : List HashItem) (n : ℕ) (x : Value) → s ≡ source.Pairs ps n → (pass_of t held s).item ≡ Some x
     → AtPair ps n (pass_of t held s).source
 at_turn test t b h m held s ps n x e there =
@@ -152,7 +152,7 @@ reject_makes b h = record {
   gives = λ held v r u after e. value_by held after (with_made task.Reject b h v) u (Obj h) r e;
 }
 
-selects : (b h : ObjId) → Sifts is_true task.Select b h
+pub selects : (b h : ObjId) → Sifts is_true task.Select b h
 selects b h = record {
   maker = select_makes b h;
   forwards = λ held s. refl;
@@ -161,7 +161,7 @@ selects b h = record {
       (kept_does task.Select b h held v (is_true a) p);
 }
 
-rejects : (b h : ObjId) → Sifts is_untrue task.Reject b h
+pub rejects : (b h : ObjId) → Sifts is_untrue task.Reject b h
 rejects b h = record {
   maker = reject_makes b h;
   forwards = λ held s. refl;

@@ -36,10 +36,10 @@ use Rattle.items_laws.proofs.Pairs.{behind_one, none_behind}
 use Rattle.items_laws.proofs.Small.{not_cons, tail_same}
 use Rattle.items_laws.proofs.Visits.{visits_none, visits_more, next_held}
 
-abbrev sized : ObjId → ℕ → Visit → Visit
+abbrev pub sized : ObjId → ℕ → Visit → Visit
 sized b n v = record v { task = task.EachSlice; block = Some b; size = n; wish = None }
 
-abbrev lifted : Planned over_items.Stage → Planned Stage
+abbrev pub lifted : Planned over_items.Stage → Planned Stage
 lifted p = as_moved items p
 
 -- where nothing was taken the heap stays
@@ -55,7 +55,7 @@ taken_none (suc n) held s none = by_item (next held s).item refl none
     by_item (Some x) e none = absurd (cc)
 
 -- the visit behind the items that were taken
-abbrev behind : ObjId → ℕ → Visit → Taken → Visit
+abbrev pub behind : ObjId → ℕ → Visit → Taken → Visit
 behind b n v t = sized b n (record v { source = t.source })
 
 abbrev SlicesOf : ObjId → ℕ → List Turn → Held → Visit → Value → Held → Type 0
@@ -84,7 +84,7 @@ none_taken b n ts r after held v w u later p none wants comes runs =
 
 -- a new Array of items is handed on
 
-abbrev called_with : ObjId → ℕ → Visit → Taken → Value → List Value → Site → Planned Stage
+abbrev pub called_with : ObjId → ℕ → Visit → Taken → Value → List Value → Site → Planned Stage
 called_with b n v t x xs site = record {
   plan = calls (items (over_items.visits (at_site (behind b n v t) site))) b
       (array_given t.held.store (x ∷ xs) ∷ []) None;

@@ -45,7 +45,7 @@ one_dropped [] ys some = absurd (omega (arith, some))
 one_dropped (x ∷ xs) ys some = refl
 
 -- the first of them, and the others
-neighbours_more : (n k : ℕ) (w later : List Value) → 0 < n → length w ≡ n
+pub neighbours_more : (n k : ℕ) (w later : List Value) → 0 < n → length w ≡ n
     → neighbours n (suc k) (w ++ later) ≡ w ∷ neighbours n k (drop 1 w ++ later)
 neighbours_more n k w later some long =
     ap (λ (m : ℕ). take m (w ++ later) ∷ neighbours n k (drop 1 (w ++ later))) (sym long)
@@ -53,7 +53,7 @@ neighbours_more n k w later some long =
     ∙ ap (λ (xs : List Value). w ∷ neighbours n k xs) (one_dropped w later (subst (λ (m : ℕ). 0 < m) (sym long) some))
 
 -- the others with one more item
-neighbours_behind : (n k : ℕ) (w later : List Value) (x : Value) → 0 < n → length (slid w x) ≡ n
+pub neighbours_behind : (n k : ℕ) (w later : List Value) (x : Value) → 0 < n → length (slid w x) ≡ n
     → neighbours n (suc k) (drop 1 w ++ x ∷ later) ≡ slid w x ∷ neighbours n k (drop 1 (slid w x) ++ later)
 neighbours_behind n k w later x some long =
     ap (λ (xs : List Value). neighbours n (suc k) xs) (sym (append_assoc (drop 1 w) (x ∷ []) later))
@@ -63,41 +63,41 @@ one_longer : (ys : List Value) (x : Value) → length (ys ++ x ∷ []) ≡ suc (
 one_longer [] x = refl
 one_longer (y ∷ ys) x = ap (λ (m : ℕ). suc m) (one_longer ys x)
 
-as_long : (n : ℕ) (w : List Value) (x : Value) → 0 < n → length w ≡ n → length (slid w x) ≡ n
+pub as_long : (n : ℕ) (w : List Value) (x : Value) → 0 < n → length w ≡ n → length (slid w x) ≡ n
 as_long n [] x some long = absurd (omega (arith, some, long))
 as_long n (y ∷ ys) x some long = one_longer ys x ∙ long
 
 -- A window is handed on.
 
 -- the visit with what its last window is
-abbrev windowed : ObjId → ℕ → List Value → Visit → Visit
+abbrev pub windowed : ObjId → ℕ → List Value → Visit → Visit
 windowed b n w v = record v { task = task.EachCons; block = Some b; size = n; kept = w; wish = None }
 
-abbrev lifted : Planned over_items.Stage → Planned Stage
+abbrev pub lifted : Planned over_items.Stage → Planned Stage
 lifted p = as_moved items p
 
-abbrev called_with : ObjId → ℕ → List Value → Held → Visit → Site → Planned Stage
+abbrev pub called_with : ObjId → ℕ → List Value → Held → Visit → Site → Planned Stage
 called_with b n w k v site = record {
   plan = calls (items (over_items.visits (at_site (windowed b n w v) site))) b (array_given k.store w ∷ []) None;
   held = with_array k w;
 }
 
-record Opened (b : ObjId) (n : ℕ) (w : List Value) (k : Held) (v : Visit) (ts : List Turn) (r : Value) (after : Held)
+pub record Opened (b : ObjId) (n : ℕ) (w : List Value) (k : Held) (v : Visit) (ts : List Turn) (last : Planned Stage)
     : Type 0 where
-  turn : Turn
-  further : List Turn
-  same : ts ≡ turn ∷ further
-  called : call_of turn.wanted.plan ≡ Some (b, array_given k.store w ∷ [])
-  asked : turn.wanted.held ≡ with_array k w
-  site : Site
-  next : Planned over_items.Stage
-  begins_so : Begins turn.held (windowed b n w (at_site v site)) next
-  runs : Runs (lifted next) further (gives after r)
+  pub turn : Turn
+  pub further : List Turn
+  pub same : ts ≡ turn ∷ further
+  pub called : call_of turn.wanted.plan ≡ Some (b, array_given k.store w ∷ [])
+  pub asked : turn.wanted.held ≡ with_array k w
+  pub site : Site
+  pub next : Planned over_items.Stage
+  pub begins_so : Begins turn.held (windowed b n w (at_site v site)) next
+  pub runs : Runs (lifted next) further last
 
-opened_by : (b : ObjId) (n : ℕ) (w : List Value) (k : Held) (v : Visit) (t : Turn) (ts : List Turn) (r : Value)
-    (after : Held) (site : Site) → t.wanted ≡ called_with b n w k v site
-    → Leads t (λ next. Runs next ts (gives after r)) → Opened b n w k v (t ∷ ts) r after
-opened_by b n w k v t ts r after site same leads =
+pub opened_by : (b : ObjId) (n : ℕ) (w : List Value) (k : Held) (v : Visit) (t : Turn) (ts : List Turn)
+    (last : Planned Stage) (site : Site) → t.wanted ≡ called_with b n w k v site
+    → Leads t (λ next. Runs next ts last) → Opened b n w k v (t ∷ ts) last
+opened_by b n w k v t ts last site same leads =
     let m = at_site (windowed b n w v) site in
     let stage = waits_for t (called_with b n w k v site) (items (over_items.visits m)) leads.stage same refl leads.waits in
     let next = heard_of t.held m t.answer leads.next leads.stage refl stage leads.follows in
@@ -111,27 +111,33 @@ opened_by b n w k v t ts r after site same leads =
       site = site;
       next = next.inner;
       begins_so = begins t.held g.later m g.visit g.wish next.inner g.hears g.comes;
-      runs = subst (λ (q : Planned Stage). Runs q ts (gives after r)) next.same leads.further;
+      runs = subst (λ (q : Planned Stage). Runs q ts last) next.same leads.further;
     }
 
 opened : (b : ObjId) (n : ℕ) (w : List Value) (k : Held) (v : Visit) (ts : List Turn) (r : Value) (after : Held)
     (p : Planned over_items.Stage)
     → Calling (with_array k w) (windowed b n w v) (record { callee = b; passed = One (array_given k.store w) }) p
-    → Runs (lifted p) ts (gives after r) → Opened b n w k v ts r after
+    → Runs (lifted p) ts (gives after r) → Opened b n w k v ts (gives after r)
 opened b n w k v [] r after p c runs =
     absurd (not_given (called_with b n w k v c.site) after r refl (ap lifted (sym c.same) ∙ runs))
 opened b n w k v (t ∷ ts) r after p c runs =
-    opened_by b n w k v t ts r after c.site (runs.0 ∙ ap lifted c.same) runs.1
+    opened_by b n w k v t ts (gives after r) c.site (runs.0 ∙ ap lifted c.same) runs.1
+
+-- the call that comes of a window
+pub group_calls : (b : ObjId) (n : ℕ) (w : List Value) (k : Held) (v : Visit) (wanted : Wish) (u : Visit) (later : Held)
+    (p : Planned over_items.Stage) → WantsOf (group_called k (windowed b n w v) w) wanted u later → Comes later u wanted p
+    → Calling (with_array k w) (windowed b n w v) (record { callee = b; passed = One (array_given k.store w) }) p
+group_calls b n w k v wanted u later p wants comes =
+    let m = windowed b n w v in
+    let call : Wish = wish.Calls (record { callee = b; passed = One (array_given k.store w) }) in
+    arrives (with_array k w) m call p (comes_of (wishes (with_array k w) m call) later u wanted p wants comes)
 
 group_opened : (b : ObjId) (n : ℕ) (w : List Value) (k : Held) (v : Visit) (ts : List Turn) (r : Value) (after : Held)
     (wanted : Wish) (u : Visit) (later : Held) (p : Planned over_items.Stage)
     → WantsOf (group_called k (windowed b n w v) w) wanted u later → Comes later u wanted p
-    → Runs (lifted p) ts (gives after r) → Opened b n w k v ts r after
+    → Runs (lifted p) ts (gives after r) → Opened b n w k v ts (gives after r)
 group_opened b n w k v ts r after wanted u later p wants comes runs =
-    let m = windowed b n w v in
-    let call : Wish = wish.Calls (record { callee = b; passed = One (array_given k.store w) }) in
-    opened b n w k v ts r after p (arrives (with_array k w) m call p
-    (comes_of (wishes (with_array k w) m call) later u wanted p wants comes)) runs
+    opened b n w k v ts r after p (group_calls b n w k v wanted u later p wants comes) runs
 
 -- no window is left
 closed : (b : ObjId) (n : ℕ) (w : List Value) (k : Held) (v : Visit) (ts : List Turn) (r : Value) (after : Held)
@@ -144,7 +150,7 @@ closed b n w k v ts r after wanted u later p wants comes runs =
 
 -- The windows behind one.
 
-abbrev calls_with : ObjId → List Value → List (Option (ObjId × List Value))
+abbrev pub calls_with : ObjId → List Value → List (Option (ObjId × List Value))
 calls_with b xs = map (λ x. Some (b, x ∷ [])) xs
 
 record Slid (n : ℕ) (w : List Value) (s : Source) (b : ObjId) (held : Held) (ts : List Turn) (recv v : Value)
@@ -198,7 +204,7 @@ Recursion b n ts r after = (held : Held) (w : List Value) (v : Visit) (p : Plann
 abbrev Behind : ObjId → ℕ → List Turn → Value → Held → Type 0
 Behind b n ts r after = (t : Turn) (us : List Turn) → ts ≡ t ∷ us → Recursion b n us r after
 
-abbrev with_rest : Visit → Source → Visit
+abbrev pub with_rest : Visit → Source → Visit
 with_rest v s = record v { source = s }
 
 slid_by_item : (b : ObjId) (n : ℕ) (ts : List Turn) (r : Value) (after : Held) → 0 < n → Behind b n ts r after
@@ -222,14 +228,14 @@ slid_by_item b n ts r after some rest held w v (Some x) wanted u later p long th
     (rest o.turn o.further o.same o.turn.held (slid w x) (at_site m o.site) o.next long2 o.begins_so o.runs))
 
 -- what is wanted next, whether there is a window or not
-abbrev wanted_by : Bool → Held → Visit → Window
+abbrev pub wanted_by : Bool → Held → Visit → Window
 wanted_by c held v = if c then first_window held v else slid_by v (next held v.source) (next held v.source).item
 
 not_zero : (m : ℕ) (c : Bool) → nat_eq m 0 ≡ c → 0 < m → nat_eq m 0 ≡ false
 not_zero m true is some = absurd (omega (arith, is_zero m is, some))
 not_zero m false is some = is
 
-not_empty : (n : ℕ) (w : List Value) → 0 < n → length w ≡ n → nat_eq (length w) 0 ≡ false
+pub not_empty : (n : ℕ) (w : List Value) → 0 < n → length w ≡ n → nat_eq (length w) 0 ≡ false
 not_empty n w some long =
     not_zero (length w) (nat_eq (length w) 0) refl (subst (λ (m : ℕ). 0 < m) (sym long) some)
 
@@ -286,7 +292,7 @@ slides_none b n first ts recv r after not_long end =
       result = record { value = end.1; left = end.2 };
     })
 
-abbrev first_by : Bool → Visit → Taken → Window
+abbrev pub first_by : Bool → Visit → Taken → Window
 first_by c v t = record { whole = c; visit = record v { kept = t.items; source = t.source }; held = t.held }
 
 slides_by : (b : ObjId) (n : ℕ) (ts : List Turn) (r : Value) (after : Held) → 0 < n → (held : Held) (v : Visit) (c : Bool)
@@ -332,7 +338,7 @@ size_above : (z : ℤ) (n : ℕ) → size_in z ≡ as_size n → 0 < n
 size_above (pos m) n e = above_if m n (nat_eq m 0) refl e
 size_above (negsuc m) n e = absurd (cc)
 
-size_some : (o : Result ℤ Cause) (n : ℕ) → and_then o size_in ≡ as_size n → 0 < n
+pub size_some : (o : Result ℤ Cause) (n : ℕ) → and_then o size_in ≡ as_size n → 0 < n
 size_some (Ok z) n e = size_above z n e
 size_some (Err c) n e = absurd (cc)
 

@@ -34,11 +34,11 @@ use Rattle.items_laws.proofs.Inversion.{begun, gone, Calling, arrives, comes_of,
 use Rattle.items_laws.proofs.Small.{not_cons, tail_same}
 use Rattle.items_laws.proofs.Visits.{next_held}
 
-abbrev lifted : Planned over_items.Stage → Planned Stage
+abbrev pub lifted : Planned over_items.Stage → Planned Stage
 lifted p = as_moved items p
 
 -- The visit between its items, with what came so far.
-abbrev summing : Option ObjId → SymId → Value → Visit → Visit
+abbrev pub summing : Option ObjId → SymId → Value → Visit → Visit
 summing b name x v = record v {
   task = task.Sum;
   block = b;
@@ -60,7 +60,7 @@ record Telling (name : SymId) (b : Option ObjId) (held : Held) (s : Source) (x y
   sums : Sums name b left s sum us r after
 
 -- it wants the sum of two values
-abbrev IsAsked : Option ObjId → SymId → Held → Visit → Value → Value → Held → Visit → Wish → Type 0
+abbrev pub IsAsked : Option ObjId → SymId → Held → Visit → Value → Value → Held → Visit → Wish → Type 0
 IsAsked b name held v x y h u w =
     wishes held (summing b name x v) (wish.Asks x y) ≡ record { wish = Some w; visit = u; held = h }
 
@@ -96,7 +96,7 @@ once_by held v (Some (wish.Calls c)) = (None, held.store)
 once_by held v (Some (wish.Asks x y)) = at_once held.store v x y
 
 -- the message
-abbrev message : Option ObjId → SymId → Held → Visit → Value → Value → Site → Planned Stage
+abbrev pub message : Option ObjId → SymId → Held → Visit → Value → Value → Site → Planned Stage
 message b name held v x y site = record {
   plan = sends (items (over_items.visits (at_site (summing b name x v) site))) x name (y ∷ []) None false;
   held = held;
@@ -166,15 +166,15 @@ added_on b name ts us r after held k s x i y there added t =
     subst (λ (ws : List Turn). Sums name b held s x (us ++ ws) r after) (sym t.parts)
     (one_item held k t.left after s x i y t.sum r us t.ws t.us there added t.told t.sums)
 
-abbrev at_next : Held → Visit → Value → Visit
+abbrev pub at_next : Held → Visit → Value → Visit
 at_next held v i = record (with_source v (next held v.source)) { item = i }
 
 -- the block is called with the item
 
-abbrev in_block : ObjId → SymId → Held → Visit → Value → Value → Visit
+abbrev pub in_block : ObjId → SymId → Held → Visit → Value → Value → Visit
 in_block c name held v x i = record (summing (Some c) name x (at_next held v i)) { called = true }
 
-abbrev called_with : ObjId → SymId → Held → Visit → Value → Value → Site → Planned Stage
+abbrev pub called_with : ObjId → SymId → Held → Visit → Value → Value → Site → Planned Stage
 called_with c name held v x i site = record {
   plan = calls (items (over_items.visits (at_site (in_block c name held v x i) site))) c (i ∷ []) None;
   held = (next held v.source).held;

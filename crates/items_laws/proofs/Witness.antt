@@ -25,7 +25,7 @@ use Rattle.iter_items.specs.Sources.{of_array}
 use Rattle.iter_items.specs.Stage as over_items
 use Rattle.core_iter.specs.Stage.{items}
 use Rattle.items_laws.specs.Items.{IsRunOf, of_its_own}
-use Rattle.items_laws.specs.Cut.{IsLeft}
+use Rattle.items_laws.specs.Cut.{IsLeft, left_itself}
 use Rattle.items_laws.specs.Example as example
 
 -- the visit at its beginning, at the element, and with the answer
@@ -103,11 +103,7 @@ a_run held recv x y a b array there = of_its_own (record {
 pub a_left_run : (held : Held) (recv x y : Value) (a b : ObjId) → an_array held.store.objects recv ≡ Some a
     → elements_at held.store.objects a ≡ x ∷ []
     → IsLeft task.Map held recv (source.Elements a 0) [] b [] (example.turn held recv a b x y).wanted
-a_left_run held recv x y a b array there = record {
-  first = as_moved items (example.asked held recv a b x);
-  starts = moves (example.asked held recv a b x) (starts_so held recv x a b array there);
-  over = ap (λ (o : Option ObjId). of_array held.store recv false o) array;
-  runs = refl;
-  stage = items (over_items.visits (at_element recv a b x));
-  waits = refl;
-}
+a_left_run held recv x y a b array there = left_itself (as_moved items (example.asked held recv a b x))
+    (items (over_items.visits (at_element recv a b x)))
+    (moves (example.asked held recv a b x) (starts_so held recv x a b array there))
+    (ap (λ (o : Option ObjId). of_array held.store recv false o) array) refl refl

@@ -1,8 +1,11 @@
 //! Runs that are left, since what they called raised, broke out or went elsewhere.
 
-ghost use Rattle.std.specs.Prelude.{◌≡◌, ◌<◌, ◌^◌, ℤ, true, false, List, [], ◌∷◌, length, Some};
+ghost use Rattle.std.specs.Prelude.{◌≡◌, ℕ, ◌<◌, ◌^◌, ℤ, pos, true, false, List, [], ◌∷◌, length, Some, Ok};
 ghost use Rattle.rb_value.specs.declared.value.Value.{Value};
+ghost use Rattle.rb_value.specs.declared.value.Value.TheVariants.{Int};
 ghost use Rattle.rb_value.specs.declared.value.ObjId.{ObjId};
+ghost use Rattle.rb_value.specs.declared.hash.HashItem.{HashItem};
+ghost use Rattle.rb_value.specs.Value.{is_true};
 ghost use Rattle.def_core.specs.Parts.{elements_at};
 ghost use Rattle.def_core.specs.Store.{Store};
 ghost use Rattle.def_calls.specs.Views.{an_array};
@@ -12,6 +15,7 @@ ghost use Rattle.iter_items.specs.declared.row.Task.{Task};
 ghost use Rattle.iter_items.specs.declared.row.Task.TheVariants as task;
 ghost use Rattle.iter_items.specs.declared.source.Source.{Source};
 ghost use Rattle.iter_items.specs.declared.source.Source.TheVariants as source;
+ghost use Rattle.iter_items.specs.Checks.{size_of};
 ghost use Rattle.iter_items.specs.Sources.{next, previous};
 ghost use Rattle.run_rows.specs.declared.row.StarRow.TheVariants as row;
 ghost use Rattle.run_rows.specs.declared.row.VisitRow.TheVariants as visit;
@@ -23,9 +27,10 @@ ghost use Rattle.core_iter.specs.Stage.{Stage};
 ghost use Rattle.items_laws.specs.Example.{turn};
 ghost use Rattle.items_laws.specs.Run.{Turn, Runs, waiting};
 ghost use Rattle.items_laws.specs.Items.{answers, with_arguments};
-ghost use Rattle.items_laws.specs.Lists.{alone, in_turn, with_object, with_places};
+ghost use Rattle.items_laws.specs.Lists.{alone, in_turn, is_untrue, with_object, with_places};
 ghost use Rattle.items_laws.specs.Changed.{replaced_from};
-ghost use Rattle.items_laws.specs.Cut.{Cut, CutsOff, IsLeft, IsCut, Stops, hands_alone};
+ghost use Rattle.items_laws.specs.Cut.{Cut, CutsGroups, CutsNeighbours, CutsOff, CutsPairs, CutsSums, IsLeft, IsCut, Stops, hands_alone};
+ghost use Rattle.items_laws.specs.Slices.{slices};
 
 /// Where the block never answers, by an exception or an exit, it was called with the items one after another until then, each
 /// in the heap as the answer before left it, and nothing else was handed on: in whatever a method does with the answers.
@@ -46,6 +51,32 @@ pub fn runs_are_left()
     ensures folding { (held : Held) (recv first : Value) (s : Source) (b : ObjId) (ts : List Turn) (last : Planned Stage)
         → IsLeft task.Inject held recv s (first ∷ []) b ts last
         → IsCut next held s b (in_turn (first ∷ answers ts)) ts last }
+{}
+
+/// So it is of `drop_while`; of `each_slice`, which hands on a new Array of each so many items; of `each_cons`, of each so many
+/// neighbours; of `sum` with a block, which is left while that is called or while the sum of two values is asked for; and of
+/// the methods that make a Hash, which the answers so far have changed.
+pub fn methods_are_left()
+    ensures dropping { (held : Held) (recv : Value) (s : Source) (b : ObjId) (ts : List Turn) (last : Planned Stage)
+        → IsLeft task.DropWhile held recv s [] b ts last → IsCut next held s b alone ts last }
+    ensures slices { (held : Held) (recv size : Value) (n : ℕ) (s : Source) (b : ObjId) (ts : List Turn)
+        (last : Planned Stage) → size_of held.store size ≡ Ok n → IsLeft task.EachSlice held recv s (size ∷ []) b ts last
+        → IsCut (slices n) held s b alone ts last }
+    ensures neighbours { (held : Held) (recv size : Value) (n : ℕ) (s : Source) (b : ObjId) (ts : List Turn)
+        (last : Planned Stage) → size_of held.store size ≡ Ok n → IsLeft task.EachCons held recv s (size ∷ []) b ts last
+        → CutsNeighbours n held s b ts last }
+    ensures sums { (held : Held) (recv : Value) (s : Source) (b : ObjId) (ts : List Turn) (last : Planned Stage)
+        → IsLeft task.Sum held recv s [] b ts last → CutsSums held s b (Int (pos 0)) ts last }
+    ensures sums_from { (held : Held) (recv first : Value) (s : Source) (b : ObjId) (ts : List Turn)
+        (last : Planned Stage) → IsLeft task.Sum held recv s (first ∷ []) b ts last → CutsSums held s b first ts last }
+    ensures groups { (held : Held) (recv : Value) (s : Source) (b : ObjId) (ts : List Turn) (last : Planned Stage)
+        → IsLeft task.GroupBy held recv s [] b ts last → CutsGroups held s b ts last }
+    ensures selecting { (held : Held) (recv : Value) (ps : List HashItem) (b : ObjId) (ts : List Turn)
+        (last : Planned Stage) → length ts < 2 ^ 64 → IsLeft task.Select held recv (source.Pairs ps 0) [] b ts last
+        → CutsPairs is_true held ps b ts last }
+    ensures rejecting { (held : Held) (recv : Value) (ps : List HashItem) (b : ObjId) (ts : List Turn)
+        (last : Planned Stage) → length ts < 2 ^ 64 → IsLeft task.Reject held recv (source.Pairs ps 0) [] b ts last
+        → CutsPairs is_untrue held ps b ts last }
 {}
 
 /// So it is of `each` of an Array, and of `map!`, in whose heaps each answer so far has taken the place of its element.
