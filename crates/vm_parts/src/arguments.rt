@@ -1,4 +1,8 @@
 //! The arguments of an instruction's call: so many registers after the receiver, or the elements of an Array.
+ghost use Rattle.std.specs.Prelude.{◌≡◌, IfOk, OnOk};
+ghost use Rattle.def_core.specs.Bind.{elements_in};
+ghost use Rattle.vm_parts.specs.Arguments as passing;
+ghost use Rattle.vm_parts.specs.Beside as beside;
 
 use crate::parts::{Parts, behind};
 use fiber_switch::vm_frames::{Arguments, Frame};
@@ -13,13 +17,17 @@ pub const BARE_NAME: u16 = 254;
 
 /// How many registers hold the arguments.
 #[inline(always)]
-pub fn registers_of(count: u16) -> u16 {
+pub fn registers_of(count: u16) -> u16
+    ensures { result ≡ passing.registers_of count }
+{
     if count == IN_ARRAY { 1 } else { count }
 }
 
 /// The value of the parameter for the block.
 #[inline(always)]
-pub fn block_value(block: Option<ObjId>) -> Value {
+pub fn block_value(block: Option<ObjId>) -> Value
+    ensures { result ≡ passing.block_value block }
+{
     match block {
         Some(block) => Value::Obj(block),
         None => Value::Nil,
@@ -28,7 +36,12 @@ pub fn block_value(block: Option<ObjId>) -> Value {
 
 /// The elements of an Array, or another value itself, as arguments.
 #[cold]
-fn keep_elements(parts: &mut Parts, value: Value) -> Result<Arguments, AllocError> {
+fn keep_elements(parts: &mut Parts, value: Value) -> Result<Arguments, AllocError>
+    ensures arguments { IfOk result (λ args. args ≡ passing.elements_given (beside.of parts.old).seen
+        (elements_in parts.old.heap.store.objects value)) }
+    ensures kept { OnOk result (beside.of parts.new ≡ beside.with_seen (beside.of parts.old)
+        (passing.elements_kept (beside.of parts.old).seen (elements_in parts.old.heap.store.objects value) value)) }
+{
     match parts.heap.elements_of(value) {
         Some(elements) => parts.frames.keep_all(elements),
         None => {
@@ -40,7 +53,9 @@ fn keep_elements(parts: &mut Parts, value: Value) -> Result<Arguments, AllocErro
 
 /// The arguments of a call on register `a` that are registers, so many.
 #[inline(always)]
-pub fn arguments_in_registers(hot: &Frame, parts: &Parts, a: u16, count: u16) -> Arguments {
+pub fn arguments_in_registers(hot: &Frame, parts: &Parts, a: u16, count: u16) -> Arguments
+    ensures { result ≡ passing.in_registers (beside.of parts.now).seen hot.now a count }
+{
     parts.frames.registers_as_arguments(hot, behind(a), count)
 }
 
@@ -50,7 +65,12 @@ pub fn arguments_of(
     parts: &mut Parts,
     a: u16,
     count: u16,
-) -> Result<Arguments, AllocError> {
+) -> Result<Arguments, AllocError>
+    ensures arguments { IfOk result (λ args. args ≡ passing.given parts.old.heap.store (beside.of parts.old).seen
+        hot.now a count) }
+    ensures kept { OnOk result (beside.of parts.new ≡ beside.with_seen (beside.of parts.old)
+        (passing.kept parts.old.heap.store (beside.of parts.old).seen hot.now a count)) }
+{
     if count == IN_ARRAY {
         let value = parts.get(hot, behind(a));
         keep_elements(parts, value)

@@ -1,4 +1,12 @@
 //! Entering what a call enters.
+ghost use Rattle.std.specs.Prelude.{◌≡◌, ◌+◌, true, false, not, is_some, None, IfOk, OnOk};
+ghost use Rattle.fiber_switch.specs.Frames.levels as levels;
+ghost use Rattle.vm_parts.specs.Arguments as passing;
+ghost use Rattle.vm_parts.specs.Beside as beside;
+ghost use Rattle.vm_parts.specs.Calling as calling;
+ghost use Rattle.vm_parts.specs.Entering as entering;
+ghost use Rattle.vm_parts.specs.Leaving as leaving;
+ghost use Rattle.vm_parts.specs.declared.flow.Flow.TheVariants.{Stays, Wakes};
 
 use crate::exits::{after, hand_out, handed};
 use crate::flow::Flow;
@@ -20,7 +28,11 @@ fn after_name(
     parts: &mut Parts,
     arguments: Arguments,
     name: Option<SymId>,
-) -> Result<Arguments, AllocError> {
+) -> Result<Arguments, AllocError>
+    ensures arguments { IfOk result (λ args. args ≡ passing.named (beside.of parts.old).seen arguments name) }
+    ensures kept { OnOk result (beside.of parts.new ≡ beside.with_seen (beside.of parts.old)
+        (passing.named_kept (beside.of parts.old).seen arguments name)) }
+{
     match name {
         Some(name) => parts.frames.keep_before(arguments, Value::Sym(name)),
         None => Ok(arguments),
@@ -47,7 +59,12 @@ pub fn open_body(
     activation: &Activation,
     entered: Entered,
     arguments: &Arguments,
-) -> Result<(), AllocError> {
+) -> Result<(), AllocError>
+    ensures frame { OnOk result (hot.new ≡ entering.frame_of (beside.of parts.old).seen hot.old number
+        (entering.registers code.now entered.body) activation.now entered arguments.now) }
+    ensures opened { OnOk result (beside.of parts.new ≡ entering.body_opened (beside.of parts.old) number
+        (entering.registers code.now entered.body) activation.now) }
+{
     let registers = code.registers(entered.body);
     parts.frames.open(hot, activation, registers, *arguments)?;
     hot.number = number;
@@ -71,7 +88,12 @@ fn open_frame(
     parts: &mut Parts,
     opening: &Opening,
     arguments: &Arguments,
-) -> Result<(), AllocError> {
+) -> Result<(), AllocError>
+    ensures frame { OnOk result (hot.new ≡ entering.opening_frame code.now (beside.of parts.old) hot.old opening.now
+        arguments.now) }
+    ensures opened { OnOk result (beside.of parts.new ≡ entering.opening_done code.now (beside.of parts.old) opening.now
+        arguments.now) }
+{
     let arguments = after_name(parts, *arguments, opening.name_first)?;
     let number = parts.next_activation()?;
     let entered = Entered {
@@ -101,7 +123,13 @@ pub fn open_proc(
     id: ObjId,
     block: Option<ObjId>,
     arguments: &Arguments,
-) -> Result<bool, AllocError> {
+) -> Result<bool, AllocError>
+    ensures there { IfOk result (λ there. there ≡ is_some (entering.proc_of (beside.of parts.old) id)) }
+    ensures frame { OnOk result (hot.new ≡ entering.proc_frame code.now (beside.of parts.old) hot.old number id block
+        arguments.now (entering.proc_of (beside.of parts.old) id)) }
+    ensures opened { OnOk result (beside.of parts.new ≡ entering.proc_opened code.now (beside.of parts.old) number id
+        (entering.proc_of (beside.of parts.old) id)) }
+{
     let (activation, entered) = match parts.heap.proc_of(id) {
         Some(contents) => (
             proc_running(id, contents, number),
@@ -123,7 +151,11 @@ fn begin_iteration(
     parts: &mut Parts,
     beginning: &Beginning,
     arguments: &Arguments,
-) -> Result<Flow, AllocError> {
+) -> Result<Flow, AllocError>
+    ensures flow { IfOk result (λ flow. flow ≡ Wakes) }
+    ensures begun { OnOk result (beside.of parts.new ≡ entering.iteration_begun (beside.of parts.old) beginning.now
+        arguments.now) }
+{
     let arguments = after_name(parts, *arguments, beginning.name_first)?;
     let number = parts.next_activation()?;
     parts.activations = number;
@@ -146,7 +178,10 @@ fn too_deep(
     block: Option<ObjId>,
     arguments: &Arguments,
     a: u16,
-) -> Result<Flow, AllocError> {
+) -> Result<Flow, AllocError>
+    ensures { IfOk result (λ flow. calling.TooDeep code.now (beside.of parts.old) hot.old block arguments.now a flow
+        hot.new (beside.of parts.new)) }
+{
     settle(&mut parts.heap, block, None);
     parts.frames.drop_arguments(*arguments);
     let given = parts.heap.fail(Cause::StackTooDeep)?;
@@ -162,7 +197,10 @@ pub fn answer(
     given: Given,
     block: Option<ObjId>,
     a: u16,
-) -> Result<Flow, AllocError> {
+) -> Result<Flow, AllocError>
+    ensures { IfOk result (λ flow. leaving.After code.now.code (calling.call_ended (beside.of parts.old) block) hot.old
+        given a flow hot.new (beside.of parts.new)) }
+{
     settle(&mut parts.heap, block, None);
     after(code, hot, parts, given, a)
 }
@@ -177,7 +215,12 @@ pub fn enter_body(
     entered: Entered,
     arguments: &Arguments,
     a: u16,
-) -> Result<Flow, AllocError> {
+) -> Result<Flow, AllocError>
+    ensures full { entering.is_full (beside.of parts.old) ≡ true → IfOk result (λ flow. calling.TooDeep code.now
+        (beside.of parts.old) hot.old entered.block arguments.now a flow hot.new (beside.of parts.new)) }
+    ensures entered { entering.is_full (beside.of parts.old) ≡ false → IfOk result (λ flow. calling.EntersBody code.now
+        (beside.of parts.old) hot.old activation.now entered arguments.now a flow hot.new (beside.of parts.new)) }
+{
     if parts.frames.is_full() {
         return too_deep(code, hot, parts, entered.block, arguments, a);
     }
@@ -196,7 +239,13 @@ fn keep_caller(
     parts: &mut Parts,
     block: Option<ObjId>,
     a: u16,
-) -> Result<bool, AllocError> {
+) -> Result<bool, AllocError>
+    ensures room { IfOk result (λ there. there ≡ not (entering.is_full (beside.of parts.old))) }
+    ensures full { entering.is_full (beside.of parts.old) ≡ true
+        → OnOk result ((hot.new ≡ hot.old) × (beside.of parts.new ≡ beside.of parts.old)) }
+    ensures kept { entering.is_full (beside.of parts.old) ≡ false → OnOk result ((hot.new ≡ levels.waiting_in hot.old a)
+        × (beside.of parts.new ≡ entering.caller_kept (beside.of parts.old) hot.old block a)) }
+{
     if parts.frames.is_full() {
         return Ok(false);
     }
@@ -215,7 +264,12 @@ fn enter_opening(
     block: Option<ObjId>,
     arguments: &Arguments,
     a: u16,
-) -> Result<Flow, AllocError> {
+) -> Result<Flow, AllocError>
+    ensures full { entering.is_full (beside.of parts.old) ≡ true → IfOk result (λ flow. calling.TooDeep code.now
+        (beside.of parts.old) hot.old block arguments.now a flow hot.new (beside.of parts.new)) }
+    ensures entered { entering.is_full (beside.of parts.old) ≡ false → IfOk result (λ flow. calling.EntersOpening
+        code.now (beside.of parts.old) hot.old opening.now block arguments.now a flow hot.new (beside.of parts.new)) }
+{
     if !keep_caller(hot, parts, block, a)? {
         return too_deep(code, hot, parts, block, arguments, a);
     }
@@ -233,7 +287,14 @@ pub fn enter_yielded(
     id: ObjId,
     arguments: &Arguments,
     a: u16,
-) -> Result<bool, AllocError> {
+) -> Result<bool, AllocError>
+    ensures there { IfOk result (λ there. there ≡ calling.yields_here (beside.of parts.old) id) }
+    ensures refused { calling.yields_here (beside.of parts.old) id ≡ false
+        → OnOk result ((hot.new ≡ hot.old) × (beside.of parts.new ≡ beside.of parts.old)) }
+    ensures entered { calling.yields_here (beside.of parts.old) id ≡ true → IfOk result (λ there. calling.CallsProc
+        code.now (calling.caller_waits (beside.of parts.old) hot.old a) (levels.waiting_in hot.old a) id None
+        arguments.now Stays hot.new (beside.of parts.new)) }
+{
     let number = parts.next_activation()?;
     if parts.frames.is_full() || parts.heap.proc_of(id).is_none() {
         return Ok(false);
@@ -251,7 +312,12 @@ pub fn enter_beginning(
     block: Option<ObjId>,
     arguments: &Arguments,
     a: u16,
-) -> Result<Flow, AllocError> {
+) -> Result<Flow, AllocError>
+    ensures full { entering.is_full (beside.of parts.old) ≡ true → IfOk result (λ flow. calling.TooDeep code.now
+        (beside.of parts.old) hot.old block arguments.now a flow hot.new (beside.of parts.new)) }
+    ensures begun { entering.is_full (beside.of parts.old) ≡ false → IfOk result (λ flow. calling.BeginsAbove
+        (beside.of parts.old) hot.old beginning.now block arguments.now a flow hot.new (beside.of parts.new)) }
+{
     if !keep_caller(hot, parts, block, a)? {
         return too_deep(code, hot, parts, block, arguments, a);
     }
@@ -267,7 +333,10 @@ pub fn enter(
     block: Option<ObjId>,
     arguments: &Arguments,
     a: u16,
-) -> Result<Flow, AllocError> {
+) -> Result<Flow, AllocError>
+    ensures { IfOk result (λ flow. calling.Enters code.now (beside.of parts.old) hot.old entry block arguments.now a flow
+        hot.new (beside.of parts.new)) }
+{
     match entry {
         Entry::Answers(given) => {
             parts.frames.drop_arguments(*arguments);
@@ -287,7 +356,13 @@ pub fn enter_block(
     hot: &mut Frame,
     parts: &mut Parts,
     beat: Beat,
-) -> Result<Flow, AllocError> {
+) -> Result<Flow, AllocError>
+    ensures { calling.has_room (beside.of parts.old) ≡ true
+        → is_some (entering.proc_of (beside.of parts.old) beat.callee) ≡ true
+        → IfOk result (λ flow. calling.CallsProc code.now (beside.with_seen (beside.of parts.old)
+        (calling.passed_kept (beside.of parts.old).seen beat.passed)) hot.old beat.callee None
+        (calling.passed_arguments (beside.of parts.old).seen beat.passed) flow hot.new (beside.of parts.new)) }
+{
     let arguments = keep_passed(parts, beat.passed)?;
     enter_called(code, hot, parts, beat.callee, None, &arguments)
 }
@@ -300,7 +375,12 @@ pub fn enter_called(
     callee: ObjId,
     block: Option<ObjId>,
     arguments: &Arguments,
-) -> Result<Flow, AllocError> {
+) -> Result<Flow, AllocError>
+    ensures { calling.has_room (beside.of parts.old) ≡ true
+        → is_some (entering.proc_of (beside.of parts.old) callee) ≡ true
+        → IfOk result (λ flow. calling.CallsProc code.now (beside.of parts.old) hot.old callee block arguments.now flow
+        hot.new (beside.of parts.new)) }
+{
     let number = parts.next_activation()?;
     if parts.frames.has_room() && open_proc(code, hot, parts, number, callee, block, arguments)? {
         return Ok(Flow::Stays);
@@ -310,7 +390,11 @@ pub fn enter_called(
 
 /// The values that a block is called with, as arguments.
 #[inline(always)]
-pub fn keep_passed(parts: &mut Parts, passed: Passed) -> Result<Arguments, AllocError> {
+pub fn keep_passed(parts: &mut Parts, passed: Passed) -> Result<Arguments, AllocError>
+    ensures arguments { IfOk result (λ args. args ≡ calling.passed_arguments (beside.of parts.old).seen passed) }
+    ensures kept { OnOk result (beside.of parts.new ≡ beside.with_seen (beside.of parts.old)
+        (calling.passed_kept (beside.of parts.old).seen passed)) }
+{
     let arguments = parts.frames.no_arguments();
     match passed {
         Passed::Nothing => Ok(arguments),
@@ -350,7 +434,10 @@ pub fn enter_above(
     parts: &mut Parts,
     entry: Entry,
     arguments: &Arguments,
-) -> Result<Flow, AllocError> {
+) -> Result<Flow, AllocError>
+    ensures { IfOk result (λ flow. calling.EntersAbove code.now (beside.of parts.old) hot.old entry arguments.now flow
+        hot.new (beside.of parts.new)) }
+{
     match entry {
         Entry::Enters(_) | Entry::Begins(_) if !parts.frames.has_room() => {
             too_deep_from(code, parts, arguments)
@@ -365,7 +452,10 @@ fn too_deep_from(
     code: &Loaded,
     parts: &mut Parts,
     arguments: &Arguments,
-) -> Result<Flow, AllocError> {
+) -> Result<Flow, AllocError>
+    ensures { IfOk result (λ flow. calling.TooDeepAbove code.now (beside.of parts.old) arguments.now flow
+        (beside.of parts.new)) }
+{
     parts.frames.drop_arguments(*arguments);
     let given = parts.heap.fail(Cause::StackTooDeep)?;
     hand_out(code, parts, handed(given))
@@ -379,7 +469,10 @@ pub fn enter_first(
     parts: &mut Parts,
     entry: Entry,
     arguments: &Arguments,
-) -> Result<Flow, AllocError> {
+) -> Result<Flow, AllocError>
+    ensures { IfOk result (λ flow. calling.EntersFirst code.now (beside.of parts.old) hot.old entry arguments.now flow
+        hot.new (beside.of parts.new)) }
+{
     match entry {
         Entry::Answers(given) => {
             parts.frames.drop_arguments(*arguments);
