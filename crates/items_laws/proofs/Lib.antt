@@ -67,6 +67,7 @@ pub mod Sieved
 pub mod Included
 pub mod Placed
 pub mod ByteRanges
+pub mod SievedKeys
 pub mod CutPlain
 pub mod CutMade
 pub mod CutSlices

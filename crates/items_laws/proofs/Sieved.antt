@@ -504,13 +504,13 @@ sieved k values others held less ts v after p comes runs =
     at_first refl (courses name ts v after begun (work.Sifts (work_at (first k) values others at_first)) p comes runs))
 
 -- what the method begins with
-record Begun (held : Held) (s : Sieve) (a b : ObjId) (c : Bool) (ts : List Turn) (v : Value) (after : Held) : Type 0 where
-  first_plan : Planned over_values.Stage
-  begins : comparing.SiftsHow c (with_symbol (codes "==") held) (symbol (codes "==") held) (comparing.sifting held a s b)
+pub record Begun (held : Held) (s : Sieve) (a b : ObjId) (c : Bool) (ts : List Turn) (v : Value) (after : Held) : Type 0 where
+  pub first_plan : Planned over_values.Stage
+  pub begins : comparing.SiftsHow c (with_symbol (codes "==") held) (symbol (codes "==") held) (comparing.sifting held a s b)
       first_plan
-  runs : Runs (lifted first_plan) ts (gives after v)
+  pub runs : Runs (lifted first_plan) ts (gives after v)
 
-begun_by : (held after : Held) (s : Sieve) (a b : ObjId) (y v : Value) (c : Bool) (ts : List Turn)
+pub begun_by : (held after : Held) (s : Sieve) (a b : ObjId) (y v : Value) (c : Bool) (ts : List Turn)
     (p : Planned over_values.Stage) → an_array held.store.objects y ≡ Some b
     → own_equality held (comparing.sifting held a s b).values (comparing.sifting held a s b).others ≡ c
     → comparing.SiftsBy held a s y (an_array held.store.objects y) p → Runs (lifted p) ts (gives after v)

@@ -3,10 +3,12 @@ use Rattle.std.specs.Prelude.{◌≡◌, ℕ, List, [], ◌∷◌, ◌++◌, sli
 use Rattle.rb_value.specs.declared.value.Value.{Value}
 use Rattle.rb_value.specs.declared.value.ObjId.{ObjId}
 use Rattle.rb_value.specs.declared.value.SymId.{SymId}
+use Rattle.rb_value.specs.Key.{same_key}
 use Rattle.rb_value.specs.Value.{is_true}
 use Rattle.def_core.specs.Parts.{elements_at}
+use Rattle.def_core.specs.Store.{Store}
 use Rattle.rb_store.specs.Held.{Held}
-use Rattle.iter_comparing.specs.Keyed.{have_own_equality}
+use Rattle.iter_comparing.specs.Keyed.{have_own_equality, key_in}
 use Rattle.items_laws.specs.Run.{Turn}
 use Rattle.items_laws.specs.Items.{IsArrayOf}
 use Rattle.items_laws.specs.Lists.{any_of}
@@ -70,3 +72,29 @@ abbrev pub own_equality : Held → List Value → List Value → Bool
 own_equality held values others =
     have_own_equality (with_symbol (codes "==") held).store (symbol (codes "==") held) values
     && have_own_equality (with_symbol (codes "==") held).store (symbol (codes "==") held) others
+
+-- Such values are told by their keys.
+
+-- whether a value has the key of one of these
+abbrev pub is_among : Store → List Value → Value → Bool
+is_among st [] v = false
+is_among st (x ∷ xs) v = if same_key (key_in st v) (key_in st x) then true else is_among st xs v
+
+-- those that aren't among others, and those that are
+abbrev pub picked_by_key : Bool → Store → List Value → List Value → List Value
+picked_by_key there st others [] = []
+picked_by_key true st others (v ∷ vs) =
+    if is_among st others v then v ∷ picked_by_key true st others vs else picked_by_key true st others vs
+picked_by_key false st others (v ∷ vs) =
+    if is_among st others v then picked_by_key false st others vs else v ∷ picked_by_key false st others vs
+
+-- each that isn't among those before it
+abbrev pub first_of_each : Store → List Value → List Value → List Value
+first_of_each st before [] = []
+first_of_each st before (v ∷ vs) =
+    if is_among st before v then first_of_each st (v ∷ before) vs else v ∷ first_of_each st (v ∷ before) vs
+
+-- a new Array of some values, and nothing is called
+pub record IsMadeAtOnce (held : Held) (vs : List Value) (ts : List Turn) (v : Value) (after : Held) : Type 0 where
+  pub unasked : ts ≡ []
+  pub result : IsArrayOf (with_symbol (codes "==") held) vs v after

@@ -18,9 +18,9 @@ ghost use Rattle.run_rows.specs.declared.row.StarRow.TheVariants as row;
 ghost use Rattle.items_laws.specs.Run.{Turn, Gives, waiting};
 ghost use Rattle.items_laws.specs.Items.{IsValue, collected_in};
 ghost use Rattle.items_laws.specs.Lists.{any_of, first_or_nil, is_untrue, picked, place_from};
-ghost use Rattle.items_laws.specs.Asked.{always, never};
+ghost use Rattle.items_laws.specs.Asked.{always, never, with_symbol};
 ghost use Rattle.items_laws.specs.Compared.{Compares, Deletes, differs, element, element_beside, element_of_equal, element_or_nil, first_or, gathers_for, keys_of, length_at, nothing_known, same_as, value_of, value_under, value_with};
-ghost use Rattle.items_laws.specs.Sieved.{IsNew, IsSieved, Lacks, SharesNew, elements, own_equality};
+ghost use Rattle.items_laws.specs.Sieved.{IsMadeAtOnce, IsNew, IsSieved, Lacks, SharesNew, elements, first_of_each, own_equality, picked_by_key};
 
 /// `index` of an Array: the place of the first element that is equal to a value, by what each replies to `==` as it stands
 /// then; nil where there is none. `include?`: whether there is one.
@@ -142,4 +142,28 @@ pub fn elements_are_sieved()
         → an_array held.store.objects y ≡ Some b → own_equality held (elements held a ++ elements held b) [] ≡ false
         → Gives (row.Items (items_row.Compares comparing_row.ArrayUnion)) held recv (y ∷ []) block ts v after
         → IsSieved (λ name. IsNew name []) held (elements held a ++ elements held b) ts v after }
+{}
+
+/// The same where all of them are Integers and Strings with the `==` of their class, which are told by their keys: nothing is
+/// called. Of `-` those stay whose key the other Array hasn't; of `&` those whose key it has, and of each key the first; of
+/// `|` the first of each key of both.
+pub fn elements_are_told_by_keys()
+    ensures difference { (held after : Held) (recv y v : Value) (a b : ObjId) (block : Option ObjId) (ts : List Turn)
+        → an_array held.store.objects recv ≡ Some a → an_array held.store.objects y ≡ Some b
+        → own_equality held (elements held a) (elements held b) ≡ true
+        → Gives (row.Items (items_row.Compares comparing_row.ArrayDifference)) held recv (y ∷ []) block ts v after
+        → IsMadeAtOnce held (picked_by_key false (with_symbol (codes "==") held).store (elements held b) (elements held a)) ts
+        v after }
+    ensures intersection { (held after : Held) (recv y v : Value) (a b : ObjId) (block : Option ObjId) (ts : List Turn)
+        → an_array held.store.objects recv ≡ Some a → an_array held.store.objects y ≡ Some b
+        → own_equality held (elements held a) (elements held b) ≡ true
+        → Gives (row.Items (items_row.Compares comparing_row.ArrayIntersection)) held recv (y ∷ []) block ts v after
+        → IsMadeAtOnce held (first_of_each (with_symbol (codes "==") held).store []
+        (picked_by_key true (with_symbol (codes "==") held).store (elements held b) (elements held a))) ts v after }
+    ensures union { (held after : Held) (recv y v : Value) (a b : ObjId) (block : Option ObjId) (ts : List Turn)
+        → an_array held.store.objects recv ≡ Some a → an_array held.store.objects y ≡ Some b
+        → own_equality held (elements held a ++ elements held b) [] ≡ true
+        → Gives (row.Items (items_row.Compares comparing_row.ArrayUnion)) held recv (y ∷ []) block ts v after
+        → IsMadeAtOnce held (first_of_each (with_symbol (codes "==") held).store [] (elements held a ++ elements held b)) ts v
+        after }
 {}
