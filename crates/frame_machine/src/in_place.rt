@@ -14,12 +14,14 @@ use vm_acts::heap::{Blank, Given, Heap};
 use vm_acts::run_calls::method_running;
 use vm_acts::run_rows::iter_items::iter_comparing::ComparingRow;
 use vm_acts::run_rows::iter_items::{ItemsRow, ItemsState};
+use vm_acts::run_rows::row_table::CoreRow;
+use vm_acts::run_rows::rows_object::ObjectRow;
 use vm_acts::run_rows::{
     KernelRow, PlainRow, Row, StarRow, call_at_once, call_of_table, call_plain,
 };
 use vm_acts::vm_frames::{Arguments, Begun, Frame};
 use vm_acts::vm_parts::entering::{Entered, enter_called, keep_passed, open_body};
-use vm_acts::vm_parts::exits::{hand_out, handed, raise_out, receive_here};
+use vm_acts::vm_parts::exits::{hand_out, handed, raise_out, receive, receive_here};
 use vm_acts::vm_parts::flow::Flow;
 use vm_acts::vm_parts::known::{MethodBody, Usual};
 use vm_acts::vm_parts::loaded::Loaded;
@@ -33,13 +35,14 @@ pub enum Initialize {
     Core(PlainRow),
 }
 
-/// What the first turn of an iteration does in place: it ends with a value, calls a Proc whose answer is handed on or gives
-/// way to a value, resumes a fiber with at most one value, or with none for the next item of an Enumerator, yields at most
+/// What the first turn of an iteration does in place: it ends with a value, has an answer and ends with a value in its next
+/// turn, calls a Proc whose answer is handed on or gives way to a value, resumes a fiber with at most one value, or with none for the next item of an Enumerator, yields at most
 /// one, makes an object of a class, has a class make one, which is raised, raises an exception, or asks its receiver for
 /// what a core method gives.
 #[derive(Clone, Copy)]
 pub enum First {
     Gives(Value),
+    Tells(Value),
     Calls(ObjId),
     Puts {
         callee: ObjId,
@@ -193,22 +196,14 @@ fn first_of_message(parts: &Parts, begun: &Begun) -> Option<First> {
     }
 }
 
-/// Whether a value is `==` another, or isn't, where that is a core method of the table and is remembered or is then.
-fn first_of_equal(
+/// Whether a value is `==` another, or isn't, by a row of the table.
+fn first_by_table(
     parts: &mut Parts,
     begun: &Begun,
     negating: bool,
+    number: u16,
+    row: Option<CoreRow>,
 ) -> Result<Option<First>, AllocError> {
-    let class = parts.heap.class_of(begun.receiver);
-    let Some(
-        Usual::Core {
-            number,
-            row: Row::OfTable(row),
-        },
-    ) = found_in(parts, class, parts.names.equal)?
-    else {
-        return Ok(None);
-    };
     let args = parts.frames.given(begun.arguments);
     if args.len() != 1 {
         return Ok(None);
@@ -224,6 +219,42 @@ fn first_of_equal(
             Ok(Some(First::Gives(told)))
         }
         Given::Raises(exception) => Ok(Some(First::Throws(exception))),
+    }
+}
+
+/// Whether a value is `==` another, or isn't, by being that value.
+fn first_by_identity(parts: &Parts, begun: &Begun, negating: bool) -> Option<First> {
+    match parts.frames.given(begun.arguments) {
+        [other] => {
+            let told = Value::from_truth((begun.receiver == *other) != negating);
+            Some(First::Tells(told))
+        }
+        _ => None,
+    }
+}
+
+/// Whether a value is `==` another, or isn't, where that is a core method of the table, or the one of every object, and is
+/// remembered or is then.
+fn first_of_equal(
+    parts: &mut Parts,
+    begun: &Begun,
+    negating: bool,
+) -> Result<Option<First>, AllocError> {
+    let class = parts.heap.class_of(begun.receiver);
+    match found_in(parts, class, parts.names.equal)? {
+        Some(
+            Usual::Core {
+                number,
+                row: Row::OfTable(row),
+            },
+        ) => first_by_table(parts, begun, negating, number, row),
+        Some(
+            Usual::Core {
+                number: _,
+                row: Row::Plain(PlainRow::Object(ObjectRow::Same)),
+            },
+        ) => Ok(first_by_identity(parts, begun, negating)),
+        _ => Ok(None),
     }
 }
 
@@ -424,6 +455,11 @@ fn begin_with(
         First::Gives(value) => {
             parts.frames.drop_arguments(begun.arguments);
             Ok(receive_here(hot, parts, value))
+        }
+        First::Tells(value) => {
+            wait(parts, begun, Iteration::Giving(value))?;
+            parts.frames.drop_arguments(begun.arguments);
+            Ok(receive(parts, value))
         }
         First::Calls(callee) => {
             wait_handing(parts, begun)?;

@@ -44,6 +44,42 @@ fn spends_what_is_given(rt: HostRuntime) -> Result<(), AllocError> {
     Ok(())
 }
 
+/// Asks nil for a method with nil as the argument.
+const ASKING: [Operation; 5] = [
+    Operation::LoadNil { a: 3 },
+    Operation::LoadNil { a: 4 },
+    Operation::Send { a: 3, b: 0, c: 1 },
+    Operation::SSend { a: 2, b: 1, c: 1 },
+    Operation::Stop,
+];
+
+/// The same without an output.
+const ASKING_ALONE: [Operation; 4] = [
+    Operation::LoadNil { a: 3 },
+    Operation::LoadNil { a: 4 },
+    Operation::Send { a: 3, b: 0, c: 1 },
+    Operation::Stop,
+];
+
+/// An iteration that asks for the `==` of every object takes a turn to ask and one to end.
+#[test]
+fn asks_for_identity_in_two_turns(rt: HostRuntime) -> Result<(), AllocError> {
+    let names: [&[u8]; 2] = [b"===", b"!="];
+    let told: [&[u8]; 2] = [b"true\n", b"false\n"];
+    for place in 0..2 {
+        let main_symbols: [&[u8]; 2] = [names[place], b"puts"];
+        let asking = plain(1, 7, &ASKING, &main_symbols);
+        let seen = run(rt.alloc(), &[asking], b"", 100)?;
+        assert!(rt; seen.out.as_slice() == told[place]);
+        let alone = plain(1, 7, &ASKING_ALONE, &main_symbols);
+        let spent = run(rt.alloc(), &[alone], b"", 5)?;
+        assert!(rt; spent.ran == Some(Ran::Spent));
+        let ended = run(rt.alloc(), &[alone], b"", 6)?;
+        assert!(rt; ended.ran == Some(Ran::Ended(0)));
+    }
+    Ok(())
+}
+
 #[test]
 fn echoes_a_line(rt: HostRuntime) -> Result<(), AllocError> {
     let main_operations = [
