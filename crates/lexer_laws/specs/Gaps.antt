@@ -2,6 +2,7 @@
 use Rattle.std.specs.Prelude.{◌≡◌, ℕ, ◌+◌, ◌-◌, ◌<◌, ◌≤◌, ◌⊎◌, Bool, true, false, not, ◌==◌, List, codes, length, slice_index}
 use Rattle.lexer_tables.specs.ByteClass.{is_blank, is_name_start}
 use Rattle.lexer_tables.specs.Following.{can_end}
+use Rattle.lexer_tables.specs.Marks.{operator_name}
 use Rattle.lexer_steps.specs.Scan.{is_comment_byte}
 use Rattle.lexer_laws.specs.Longest.{IsLongest, IsRun, Stands}
 use Rattle.lexer_laws.specs.Place.{Place, spaced_to, lined_to}
@@ -53,11 +54,17 @@ pub data IsBetween (text : List ℕ) : ℕ → ℕ → Type 0 where
   Here : (at : ℕ) → IsBetween text at at
   Part : (at next end : ℕ) → IsPart text at next → IsBetween text next end → IsBetween text at end
 
+-- a name, or that of an operator's method
+abbrev pub BeginsName : List ℕ → ℕ → Type 0
+BeginsName text at =
+    (is_name_start (slice_index text at) ≡ true)
+    ⊎ (0 < operator_name (slice_index text at) (slice_index text (at + 1)) (slice_index text (at + 2)))
+
 -- the next token is a single dot before a name
 pub record LeadsDot (text : List ℕ) (at dot : ℕ) : Type 0 where
   pub between : IsBetween text at dot
   pub dot_there : slice_index text dot ≡ 46
-  pub name : is_name_start (slice_index text (dot + 1)) ≡ true
+  pub name : BeginsName text (dot + 1)
 
 -- a newline is dropped where the token before can't end a statement, and up to a dot that leads a line
 pub record DropsNewline (text : List ℕ) (p q : Place) : Type 0 where

@@ -1,10 +1,11 @@
 -- White space, comments and the ends of lines.
-use Rattle.std.specs.Prelude.{ℕ, ◌+◌, ◌-◌, List, [], ◌∷◌, drop, codes, ◌==◌, nat_eq, not, Bool, true, false, ◌||◌, ◌&&◌, if◌then◌else◌, Option, Some, None, Result, Ok, Err, slice_index}
+use Rattle.std.specs.Prelude.{ℕ, ◌+◌, ◌-◌, List, [], ◌∷◌, drop, codes, ◌==◌, nat_eq, nat_lt, not, Bool, true, false, ◌||◌, ◌&&◌, if◌then◌else◌, Option, Some, None, Result, Ok, Err, slice_index}
 use Rattle.std.specs.List.{starts_with}
 use Rattle.rb_syntax.specs.declared.token.TokenKind.TheVariants as kinds
 use Rattle.lexer_tables.specs.declared.context.Context.TheVariants as contexts
 use Rattle.lexer_tables.specs.ByteClass.{is_blank, is_white, is_name_start}
 use Rattle.lexer_tables.specs.Following.{can_end}
+use Rattle.lexer_tables.specs.Marks.{operator_name}
 use Rattle.lexer_steps.specs.declared.trivia.Between.{Between}
 use Rattle.lexer_steps.specs.declared.trivia.Between.TheVariants.{Fresh, Inside, Comment, BlockLine, Block, Token}
 use Rattle.lexer_steps.specs.Scan.{comment_end, line_end}
@@ -65,9 +66,15 @@ next_token at between (x ∷ xs) =
     let next = passing between (x ∷ xs) x in
     if is_token next then at else next_token (at + 1) next xs
 
+-- whether a name begins at a place, or that of an operator's method
+abbrev pub begins_name : List ℕ → ℕ → Bool
+begins_name text at =
+    is_name_start (slice_index text at)
+    || nat_lt 0 (operator_name (slice_index text at) (slice_index text (at + 1)) (slice_index text (at + 2)))
+
 -- a single dot and a name
 abbrev pub is_dot : List ℕ → ℕ → Bool
-is_dot text at = (slice_index text at == 46) && is_name_start (slice_index text (at + 1))
+is_dot text at = (slice_index text at == 46) && begins_name text (at + 1)
 
 -- The end of a line, where the next line begins at next: a token where the token before can end a statement,
 -- unless the next token is a dot and a name.

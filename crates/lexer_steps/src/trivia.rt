@@ -7,8 +7,8 @@ ghost use Rattle.lexer_steps.specs.Trivia as trivia;
 use crate::error::LexError;
 use crate::scan::{byte_at, comment_end, line_end};
 use crate::state::Lexer;
-use lexer_tables::Context;
 use lexer_tables::bytes::{is_blank, is_name_start, is_white};
+use lexer_tables::{Context, operator_name};
 use rb_syntax::TokenKind;
 
 /// Where a place without tokens lies.
@@ -171,11 +171,20 @@ fn next_token(text: &[u8], from: usize) -> usize
     at
 }
 
+/// Whether a name begins at a place, or that of an operator's method.
+fn begins_name(text: &[u8], at: usize) -> bool
+    requires { at ≤ length text.now }
+    ensures { result ≡ trivia.begins_name text.now at }
+{
+    let first = byte_at(text, at);
+    is_name_start(first) || operator_name(first, byte_at(text, at + 1), byte_at(text, at + 2)) > 0
+}
+
 /// Whether a single dot and a name stand at a place.
 fn is_dot(text: &[u8], at: usize) -> bool
     ensures value { result ≡ trivia.is_dot text.now at }
 {
-    byte_at(text, at) == b'.' && is_name_start(byte_at(text, at + 1))
+    byte_at(text, at) == b'.' && begins_name(text, at + 1)
 }
 
 /// The end of a line, after which the next line begins at `next`.
