@@ -14,14 +14,17 @@ use Rattle.ir_core.specs.CoreForm as form
 use Rattle.ir_core.specs.CoreForm.{Body}
 use Rattle.ir_core.specs.Program.{Around, IsProgram}
 use Rattle.def_calls.specs.World.{World, with_store}
-use Rattle.def_calls.specs.Calls.{opening_world}
+use Rattle.rb_value.specs.declared.value.Value.{Value}
+use Rattle.def_calls.specs.Calls.{BlockArgument, no_block, block_of, not_a_block, block_argument, opening_world}
 use Rattle.def_calls.specs.Plans as plans
 use Rattle.def_calls.specs.Views.{callable_of, kind_in}
 use Rattle.def_eval.specs.Source.{Source, all_names, body_at, source_of}
-use Rattle.def_eval.specs.Configuration.{Scope, Item, part, activation, iteration, ensuring, Focus, perform, give, travel, Memory, Config, Run, Halt, opening}
+use Rattle.def_eval.specs.Configuration.{Scope, Part, operands, receiver, items, block, elements, hash_key, hash_value, pieces, rest, test, chosen, and_then, or_else, loop_test, loop_body, rescued, clause_class, clause_target, clause_body, ensured, Item, part, activation, iteration, ensuring, Focus, perform, give, travel, Memory, Config, Run, Halt, opening}
 use Rattle.def_eval.specs.Transition.{go_times}
 use Rattle.world_laws.specs.Fine.{MethodIs, EntryHas, KindIs, Fine}
 use Rattle.world_laws.proofs.Holding.{kind_in_held, methods_held}
+use Rattle.world_laws.specs.Outcomes.{BlockArgumentIs}
+use Rattle.world_laws.proofs.Ending.{block_argument_is}
 use Rattle.world_laws.proofs.Plans.{next_is}
 use Rattle.eval_laws.specs.Kinds.{IsKind, of_block, of_method}
 use Rattle.eval_laws.specs.Standing.{BlockStands, MethodStands}
@@ -29,7 +32,7 @@ use Rattle.eval_laws.specs.Fits.{ItemsFit, Fits, bodies}
 use Rattle.eval_laws.proofs.Start.{evaluation_fits}
 use Rattle.step_laws.specs.Implements.{IsCodeOf}
 use Rattle.step_laws.specs.Bodies.{BodyCode, ProcCode, IsMethod, IsEntry, HasCode, CallsBodies}
-use Rattle.step_laws.specs.Calm.{objects_for}
+use Rattle.step_laws.specs.Calm.{objects_with, objects_at, objects_for}
 use Rattle.step_laws.specs.Peaceful.{IsPeaceful, StaysPeaceful}
 
 module _ (s : Source) (p : Program) (methods : (n : ℕ) → IsKind s n of_method → BodyCode s p n)
@@ -80,6 +83,37 @@ module _ (s : Source) (p : Program) (methods : (n : ℕ) → IsKind s n of_metho
       procs = λ v. proc_is (kind_in w.store.objects v) (kind_in_held (bodies s cs) w fine v);
     }
 
+  -- the Proc of a block argument may be new
+  block_called : (m : Memory) → Fine (bodies s m.scopes) m.world → (q : BlockArgument)
+      → BlockArgumentIs (bodies s m.scopes) m.world q → CallsBodies s p (objects_with m.world q)
+  block_called m fine no_block is = all_called m.world m.scopes fine
+  block_called m fine (block_of q w) is = all_called w m.scopes is.0.fine
+  block_called m fine not_a_block is = all_called m.world m.scopes fine
+
+  at_part : (early : World) (v : Value) (k : Part) (ks : List Item) (m : Memory) → Fits s early (Run (give v) ks m)
+      → CallsBodies s p (objects_at k v m)
+  at_part early v (operands n a vs es) ks m h = all_called m.world m.scopes h.memory.world
+  at_part early v (receiver n x is b) ks m h = all_called m.world m.scopes h.memory.world
+  at_part early v (items n k recv vs is b) ks m h = all_called m.world m.scopes h.memory.world
+  at_part early v (block k recv vs) ks m h =
+      block_called m h.memory.world (block_argument m.world v)
+      (block_argument_is (bodies s m.scopes) m.world h.memory.world v h.focus)
+  at_part early v (elements n g id t is) ks m h = all_called m.world m.scopes h.memory.world
+  at_part early v (hash_key n id e ps) ks m h = all_called m.world m.scopes h.memory.world
+  at_part early v (hash_value n id u ps) ks m h = all_called m.world m.scopes h.memory.world
+  at_part early v (pieces n id es) ks m h = all_called m.world m.scopes h.memory.world
+  at_part early v (rest n es) ks m h = all_called m.world m.scopes h.memory.world
+  at_part early v (test n b bs o) ks m h = all_called m.world m.scopes h.memory.world
+  at_part early v chosen ks m h = all_called m.world m.scopes h.memory.world
+  at_part early v (and_then n e) ks m h = all_called m.world m.scopes h.memory.world
+  at_part early v (or_else n e) ks m h = all_called m.world m.scopes h.memory.world
+  at_part early v (loop_test n t b) ks m h = all_called m.world m.scopes h.memory.world
+  at_part early v (loop_body n t b) ks m h = all_called m.world m.scopes h.memory.world
+  at_part early v (rescued n b cs o) ks m h = all_called m.world m.scopes h.memory.world
+  at_part early v (clause_class n e es t b cs r) ks m h = all_called m.world m.scopes h.memory.world
+  at_part early v (clause_target n e b r) ks m h = all_called m.world m.scopes h.memory.world
+  at_part early v (clause_body r) ks m h = all_called m.world m.scopes h.memory.world
+  at_part early v (ensured n e) ks m h = all_called m.world m.scopes h.memory.world
   calls_all : (early : World) (f : Focus) (ks : List Item) (m : Memory) → Fits s early (Run f ks m)
       → CallsBodies s p (objects_for f ks m)
   calls_all early (perform n e) ks m h = all_called m.world m.scopes h.memory.world
@@ -87,7 +121,7 @@ module _ (s : Source) (p : Program) (methods : (n : ℕ) → IsKind s n of_metho
     where
       by : (is : List Item) → ItemsFit s m.world m.scopes m.place is → CallsBodies s p (objects_for (give v) is m)
       by [] g = all_called m.world m.scopes h.memory.world
-      by (part k ∷ is) g = all_called m.world m.scopes h.memory.world
+      by (part k ∷ is) g = at_part early v k ks m h
       by (activation a q ∷ is) g = all_called m.world m.scopes h.memory.world
       by (iteration a it q ∷ is) g =
           let x = plans.next it v m.world.store in

@@ -93,7 +93,7 @@ module _ (g : Ground) (h : Site) (static : Static h) (ks : List Item) (m : sourc
         alike = going (perform j (call bare y no_items absent)) ks m (frame (frame_at h d.x d.n) ∷ g.below) (aligned k m) refl;
         out = refl;
         quiet = peace.quiet;
-      }) (the_entry (symbol m y) (activation_at m.world h.activation) (self_of m)) ks m g
+      }) (the_entry (symbol m y) (activation_at m.world h.activation) (self_of m)) None ks m g
       (frame f ∷ g.below) k'
       (ap (λ (p : Place). enter h.source (the_entry (symbol m y) (activation_at m.world p.activation) (self_of m)) None ks m)
       d.there)

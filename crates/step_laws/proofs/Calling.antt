@@ -59,7 +59,7 @@ pub passed : (h : Site) (l : List Registers) (p : Part) (low n r end : ℕ) (aro
 passed h l (operands j a vs es) low n r end around b = tt
 passed h l (receiver j x is o) low n r end around b = tt
 passed h l (items j s recv vs is o) low n r end around b = tt
-passed h l (block s recv vs) low n r end around b = absurd b
+passed h l (block s recv vs) low n r end around b = tt
 passed h l (elements j g o s is) low n r end around b = tt
 passed h l (hash_key j o v ps) low n r end around b = tt
 passed h l (hash_value j o v ps) low n r end around b = tt

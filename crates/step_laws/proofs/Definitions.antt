@@ -38,12 +38,12 @@ use Rattle.step_laws.proofs.Literals.{aligned}
 use Rattle.step_laws.proofs.Answers.{symbols_same}
 
 -- the instruction that makes a body
-made_line : (h : Site) (n b : ℕ) (o : Operation) (bodies : List Irep) → Stands h n (makes o b bodies)
+pub made_line : (h : Site) (n b : ℕ) (o : Operation) (bodies : List Irep) → Stands h n (makes o b bodies)
     → LineAt h n (line.Does o)
 unfolding Stands makes
 made_line h n b o bodies s = s.0
 
-high_made : (o : Operation) (b : ℕ) (bodies : List Irep) → high (makes o b bodies) ≡ 1
+pub high_made : (o : Operation) (b : ℕ) (bodies : List Irep) → high (makes o b bodies) ≡ 1
 unfolding high makes
 high_made o b bodies = refl
 

@@ -1,7 +1,8 @@
 -- What a call enters, on both sides: an answer, the body of a method or a block, or an iteration.
 use Rattle.std.proofs.Common.{◌≡◌, ◌⊎◌, inl, inr, ℕ, zero, suc, ◌+◌, ◌<◌, List, [], ◌∷◌, refl, sym, ap, ◌∙◌, subst, arith, length, length-append, Bool, true, false}
-use Rattle.std.specs.Prelude.{if◌then◌else◌, None}
+use Rattle.std.specs.Prelude.{if◌then◌else◌, Option, Some, None}
 use Rattle.rb_value.specs.declared.value.Value.TheVariants.{Nil}
+use Rattle.rb_value.specs.declared.value.ObjId.{ObjId}
 use Rattle.rb_value.specs.Object.{Object}
 use Rattle.def_core.specs.declared.bound.Bound.{Bound}
 use Rattle.def_core.specs.declared.bound.Bound.TheVariants.{Values, Wrong}
@@ -9,7 +10,7 @@ use Rattle.def_core.specs.declared.cause.Cause.TheVariants as cause
 use Rattle.def_core.specs.Bind.{bind}
 use Rattle.rite_code.specs.Code.{Program}
 use Rattle.ir_core.specs.CoreForm.{CoreForm, Forms, none, more, Body}
-use Rattle.def_calls.specs.World.{World, Answer, Result, gives, raises, fail, next_activation, with_activation, with_store}
+use Rattle.def_calls.specs.World.{World, Activation, Answer, Result, gives, raises, fail, next_activation, with_activation, with_store}
 use Rattle.def_calls.specs.Calls.{Entry, answers, enters, begins, Opening, is_full, settle}
 use Rattle.def_eval.specs.Source.{Source, span, parameters_of, locals_of, body_at, form_of}
 use Rattle.def_eval.specs.Configuration as source
@@ -85,76 +86,100 @@ opens m s o ks l w q =
     let bound = bind w.store (shape_of (parameters_of b)) o.arguments o.binds in
     opens_scope m o b bound.bound ks l (with_store w bound.store) q
 
+-- What is settled of a block changes no activation.
+
+settled : (w : World) (b : Option ObjId) (t : Option ℕ) → (settle w b t).activations ≡ w.activations
+unfolding settle
+settled w None t = refl
+settled w (Some q) t = refl
+
+opens_settled : (s : Source) (p : Program) (w : World) (b : Option ObjId) (t : Option ℕ) (o : Opening)
+    → OpensBody s p w o → OpensBody s p (settle w b t) o
+opens_settled s p w b t o is = record {
+  code = is.code;
+  home = λ r e. is.home r e ∙ ap (λ (all : List Activation). length all + 1) (sym (settled w b t));
+}
+
 -- What a call enters: no body where no scope is opened, and else one with code.
 pub entered : (s : Source) (p : Program) (c : Config) (ls : List Level) (k : machine.Memory) (m : source.Memory)
-    → Origin s c ls k m → (e : Entry) (ks : List Item) (m' : source.Memory) (g : Ground) (gs : List Level)
-    (k' : machine.Memory) → go s c ≡ enter s e None ks m' → turn p (On ls k) ≡ enter_machine p e None gs k'
+    → Origin s c ls k m → (e : Entry) (block : Option ObjId) (ks : List Item) (m' : source.Memory) (g : Ground)
+    (gs : List Level) (k' : machine.Memory) → go s c ≡ enter s e block ks m'
+    → turn p (On ls k) ≡ enter_machine p e block gs k'
     → Falls gs ks m' c → length m'.scopes ≡ length m.scopes → Worlds s p (over_levels g gs) m m' k'
     → Waits g.sites g.fiber k'.lists ks m'.place gs → (Still m (go s c) ⊎ EntersBody s p e)
     → Advances s p c (On ls k)
-unfolding enter enter_machine settle
-entered s p c ls k m from (answers a) ks m' g gs k' goes turns less scopes both waits calls =
-    answered s p c ls k m from a.result a.world ks m' g gs k' goes turns less both waits
-entered s p c ls k m from (enters o w) ks m' g gs k' goes turns less scopes both waits calls =
+unfolding enter enter_machine
+entered s p c ls k m from (answers a) block ks m' g gs k' goes turns less scopes both waits calls =
+    answered s p c ls k m from a.result (settle a.world block None) ks m' g gs k' goes turns less both waits
+entered s p c ls k m from (enters o w) block ks m' g gs k' goes turns less scopes both waits calls =
     at (is_full (depth ks)) refl
   where
     failure : Answer
-    failure = fail w cause.StackTooDeep
+    failure = fail (settle w block None) cause.StackTooDeep
+
+    -- the world in which the block is settled
+    u : World
+    u = settle w block (Some (next_activation w))
 
     at : (b : Bool) → is_full (depth ks) ≡ b → Advances s p c (On ls k)
     at true e =
         let goes' = goes ∙ ap (λ (t : Bool). if t then after_result failure.result failure.world ks m'
-        else open_body s o ks m' w) e in
+        else open_body s o ks m' u) e in
         let turns' = turns ∙ ap (λ (t : Bool). if t
         then answer_result p failure.result gs (machine.with_world k' failure.world)
-        else open_frame p o w gs k')
+        else open_frame p o u gs k')
         (ap is_full (sym (depth_is g.sites g.fiber k'.lists ks m'.place gs waits)) ∙ e) in
         answered s p c ls k m from failure.result failure.world ks m' g gs k' goes' turns' less both waits
     at false e =
         let goes' = goes ∙ ap (λ (t : Bool). if t then after_result failure.result failure.world ks m'
-        else open_body s o ks m' w) e in
+        else open_body s o ks m' u) e in
         let turns' = turns ∙ ap (λ (t : Bool). if t
         then answer_result p failure.result gs (machine.with_world k' failure.world)
-        else open_frame p o w gs k')
+        else open_frame p o u gs k')
         (ap is_full (sym (depth_is g.sites g.fiber k'.lists ks m'.place gs waits)) ∙ e) in
         by goes' turns' calls
       where
-        by : go s c ≡ open_body s o ks m' w → turn p (On ls k) ≡ open_frame p o w gs k'
+        by : go s c ≡ open_body s o ks m' u → turn p (On ls k) ≡ open_frame p o u gs k'
             → (Still m (go s c) ⊎ OpensBody s p w o) → Advances s p c (On ls k)
         by goes' turns' (inl still) =
-            let more = opens m s o ks m' w (subst (Still m) goes' still) in
+            let more = opens m s o ks m' u (subst (Still m) goes' still) in
             absurd (omega (arith, more, scopes))
         by goes' turns' (inr is) =
             let sites = (both m.world (same_activations m.world m.world refl)).sites in
-            enters_body s p c ls k m from o w ks m' g gs k' goes' turns' is both waits
+            enters_body s p c ls k m from o u ks m' g gs k' goes' turns'
+            (opens_settled s p w block (Some (next_activation w)) o is) both waits
             (omega (arith, sites.scopes, sites.lists))
-entered s p c ls k m from (begins it a w) ks m' g gs k' goes turns less scopes both waits calls =
+entered s p c ls k m from (begins it a w) block ks m' g gs k' goes turns less scopes both waits calls =
     at (is_full (depth ks)) refl
   where
     failure : Answer
-    failure = fail w cause.StackTooDeep
+    failure = fail (settle w block None) cause.StackTooDeep
+
+    -- the world in which the block is settled
+    u : World
+    u = settle w block (Some (next_activation w))
 
     turned_to : (b : Bool) → is_full (depth ks) ≡ b → turn p (On ls k)
         ≡ (if b then answer_result p failure.result gs (machine.with_world k' failure.world)
-        else On (machine.iteration (next_activation w) it Nil ∷ gs) (machine.with_world k' (with_activation w a)))
+        else On (machine.iteration (next_activation u) it Nil ∷ gs) (machine.with_world k' (with_activation u a)))
     turned_to b e = turns ∙ ap (λ (t : Bool). if t
         then answer_result p failure.result gs (machine.with_world k' failure.world)
-        else On (machine.iteration (next_activation w) it Nil ∷ gs) (machine.with_world k' (with_activation w a)))
+        else On (machine.iteration (next_activation u) it Nil ∷ gs) (machine.with_world k' (with_activation u a)))
         (ap is_full (sym (depth_is g.sites g.fiber k'.lists ks m'.place gs waits)) ∙ e)
 
     at : (b : Bool) → is_full (depth ks) ≡ b → Advances s p c (On ls k)
     at true e =
         let goes' = goes ∙ ap (λ (t : Bool). if t then after_result failure.result failure.world ks m'
-        else open_iteration it a ks m' w) e in
+        else open_iteration it a ks m' u) e in
         answered s p c ls k m from failure.result failure.world ks m' g gs k' goes' (turned_to true e) less both waits
     at false e =
         let goes' = goes ∙ ap (λ (t : Bool). if t then after_result failure.result failure.world ks m'
-        else open_iteration it a ks m' w) e in
+        else open_iteration it a ks m' u) e in
         let quiet = subst (Quiet m) goes' from.quiet in
-        let all = both (with_activation w a) quiet.1 in
+        let all = both (with_activation u a) quiet.1 in
         one_turn s p c (On ls k) _ from.alike (turned_to false e)
-        (subst (λ (d : Config). Alike s p d (On (machine.iteration (next_activation w) it Nil ∷ gs)
-        (machine.with_world k' (with_activation w a)))) (sym goes') (record {
+        (subst (λ (d : Config). Alike s p d (On (machine.iteration (next_activation u) it Nil ∷ gs)
+        (machine.with_world k' (with_activation u a)))) (sym goes') (record {
           g = over_levels g gs;
           is = refl;
           both = record { world = all.world; sites = all.sites; fibers = all.fibers; apart = all.apart };

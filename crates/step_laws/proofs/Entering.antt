@@ -143,6 +143,10 @@ module _ (s : Source) (p : Program) (c : Config) (ls : List Level) (k : machine.
         home = λ r e. ap (λ (q : Activation). q.home) last ∙ is.home r e;
       }
 
+  first_same : (ns : List ℕ) → first_of_machine ns ≡ first_of ns
+  first_same [] = refl
+  first_same (n ∷ ns) = refl
+
   -- the arguments fit
   module _ (list : List Value) (st : Store) (right : length list ≡ length (all_of ps))
       (fits : bind_arguments w.store (shape_without ps) o.arguments o.binds
@@ -189,7 +193,8 @@ module _ (s : Source) (p : Program) (c : Config) (ls : List Level) (k : machine.
       record { sites = g.sites ++ d ∷ []; fiber = g.fiber; below = gs },
       d,
       opened s p g gs (source.with_world m' (u st)) (machine.with_world k' (u st)) d (scope list) (registers list)
-          (next_place m' w) (u st) ks m'.place base waits base.sites.lists new (same_activations (u st) (u st) refl),
+          (next_place m' w) (u st) ks m'.place base waits base.sites.lists (first_same o.scopes) new
+          (same_activations (u st) (u st) refl),
       record {
         x = y;
         n = 1;
@@ -298,7 +303,7 @@ module _ (s : Source) (p : Program) (c : Config) (ls : List Level) (k : machine.
     running : SiteIs s p d (m'.scopes ++ empty ∷ []) (k'.lists ++ fresh ∷ []) failure.world
         → Running s p above d (source.with_world inside failure.world) (machine.with_world before failure.world)
     running new = opened s p g gs (source.with_world m' failure.world) (machine.with_world k' failure.world) d empty fresh
-        (next_place m' w) failure.world ks m'.place ground waits ground.sites.lists new
+        (next_place m' w) failure.world ks m'.place ground waits ground.sites.lists (first_same o.scopes) new
         (same_activations failure.world failure.world refl)
 
     raises_inside : SiteIs s p d (m'.scopes ++ empty ∷ []) (k'.lists ++ fresh ∷ []) failure.world

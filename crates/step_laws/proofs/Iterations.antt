@@ -148,7 +148,7 @@ module _ (s : Source) (p : Program) (v : Value) (a : ℕ) (it : Iteration) (plac
         let w = with_store m.world st in
         let alone : (n : ℕ) → uses n [] + uses_in n e.others ≤ 1 = λ n. omega (arith, few_of n) in
         let lighter : waiting d.others ≡ waiting (put_aside m.fibers resuming (left next)) = ap waiting others in
-        entered s p conf levels (aligned k m) m from (enter_proc w b args None) []
+        entered s p conf levels (aligned k m) m from (enter_proc w b args None) None []
         (record m { fibers = d; world = w }) (record { sites = g.sites; fiber = d.running; below = [] }) []
         (record k { fibers = e; world = w })
         (goes ∙ ap (λ (r : Resumed Kept). resume_by s r args (iteration a next place ∷ ks) (source.with_world m w)) is)
@@ -222,13 +222,13 @@ module _ (s : Source) (p : Program) (v : Value) (a : ℕ) (it : Iteration) (plac
         })))
     planned (sends next u x args b public) st may goes turns =
         let w = with_store m.world st in
-        entered s p conf levels (aligned k m) m from (send_by_core w u x args b public) (iteration a next place ∷ ks)
+        entered s p conf levels (aligned k m) m from (send_by_core w u x args b public) None (iteration a next place ∷ ks)
         (source.with_world m w) g (machine.iteration a next Nil ∷ g.below) (machine.with_world k w) goes turns (omega arith)
         refl (stay next) (on next) (then_enters s p w.store.objects (send_by_core w u x args b public)
         (λ i. sent_entered s p w i u x args b public) may)
     planned (calls next q args b) st may goes turns =
         let w = with_store m.world st in
-        entered s p conf levels (aligned k m) m from (enter_proc w q args b) (iteration a next place ∷ ks)
+        entered s p conf levels (aligned k m) m from (enter_proc w q args b) None (iteration a next place ∷ ks)
         (source.with_world m w) g (machine.iteration a next Nil ∷ g.below) (machine.with_world k w) goes turns (omega arith)
         refl (stay next) (on next) (then_enters s p w.store.objects (enter_proc w q args b)
         (λ i. proc_entered s p w i q args b) may)

@@ -91,7 +91,8 @@ way_of g h l (part (receiver j x is o) ∷ ks) n r target around e a =
     way_of g h l ks a.end a.low target a.outer (a.inner ∙ e) a.next
 way_of g h l (part (items j s recv vs is o) ∷ ks) n r target around e a =
     way_of g h l ks a.end a.low target a.outer (a.inner ∙ e) a.next
-way_of g h l (part (block s recv vs) ∷ ks) n r target around e a = absurd a.behind
+way_of g h l (part (block s recv vs) ∷ ks) n r target around e a =
+    way_of g h l ks a.end a.low target a.outer (a.inner ∙ e) a.next
 way_of g h l (part (elements j q o s is) ∷ ks) n r target around e a =
     way_of g h l ks a.end a.low target a.outer (a.inner ∙ e) a.next
 way_of g h l (part (hash_key j o v ps) ∷ ks) n r target around e a =

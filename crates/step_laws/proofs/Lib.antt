@@ -15,6 +15,7 @@ pub mod Loops
 pub mod Operators
 pub mod Sends
 pub mod Calls
+pub mod Blocks
 pub mod Exits
 pub mod Jumps
 pub mod Returns

@@ -2,7 +2,7 @@
 use Rattle.std.proofs.Common.{◌≡◌, ℕ, zero, suc, ◌+◌, ◌<◌, ◌≤◌, List, [], ◌∷◌, ◌++◌, refl, sym, ap, ◌∙◌, subst, arith, length, length-append, get_or, Bool, true, false, ⊎_elim}
 use Rattle.std.specs.Prelude.{nat_eq, if◌then◌else◌, Option, Some, unwrap_or, slice_get}
 use Rattle.std.proofs.lemmas.Bool.{cases_lt, eqb-true}
-use Rattle.std.proofs.lemmas.List.{get_or_append_left}
+use Rattle.std.proofs.lemmas.List.{map-append, get_or_append_left}
 use Rattle.rb_value.specs.declared.value.Value.TheVariants.{Nil}
 use Rattle.rb_value.specs.declared.exit.Slot.TheVariants.{V}
 use Rattle.rb_value.specs.Slot.{read}
@@ -16,6 +16,7 @@ use Rattle.def_eval.specs.Configuration.{Place, Scope, Item, part, activation, i
 use Rattle.def_eval.specs.Scopes.{no_scope, value_in, scope_at}
 use Rattle.def_machine.specs.State as machine
 use Rattle.def_machine.specs.State.{Registers, no_registers, Frame, Level, frame, list_at, slot_at}
+use Rattle.scope_laws.specs.Numbers.{parents}
 use Rattle.step_laws.specs.Site.{Site, register}
 use Rattle.step_laws.specs.Calm.{Grows}
 use Rattle.step_laws.specs.Relation.{Inside, Ends, Waits, Same, Owned, SiteIs, SitesAre, FibersAre, AllFibers, uses, uses_in, Ground, over_levels, Both, Running}
@@ -188,9 +189,12 @@ same_before h cs c l r s =
     }
 
 pub sites_more : (s : Source) (p : Program) (hs : List Site) (d : Site) (cs : List Scope) (c : Scope)
-    (l : List Registers) (r : Registers) (w : World) → SitesAre s p hs cs l w → d.list ≡ length hs
+    (l : List Registers) (r : Registers) (w : World) → SitesAre s p hs cs l w → d.list ≡ length hs → r.outer ≡ c.parent
     → SiteIs s p d (cs ++ c ∷ []) (l ++ r ∷ []) w → SitesAre s p (hs ++ d ∷ []) (cs ++ c ∷ []) (l ++ r ∷ []) w
-sites_more s p hs d cs c l r w a e new = record {
+sites_more s p hs d cs c l r w a e out new = record {
+  around = map-append (λ (q : Registers). q.outer) l (r ∷ [])
+      ∙ ap (λ (os : List (Option ℕ)). os ++ r.outer ∷ []) a.around
+      ∙ ap (λ (o : Option ℕ). parents cs ++ o ∷ []) out ∙ sym (map-append (λ (q : Scope). q.parent) cs (c ∷ []));
   scopes = omega (arith, a.scopes, length-append cs (c ∷ []), length-append hs (d ∷ []));
   lists = omega (arith, a.lists, length-append l (r ∷ []), length-append hs (d ∷ []));
   each = λ h is. ⊎_elim (λ lt. old h (a.each h (before_or_new hs d h.list h is lt)))
@@ -215,15 +219,16 @@ sites_more s p hs d cs c l r w a e new = record {
 pub opened : (s : Source) (p : Program) (g : Ground) (gs : List Level) (m : source.Memory) (k : machine.Memory) (d : Site)
     (c : Scope) (r : Registers) (place : Place) (w : World) (ks : List Item) (back : Place)
     → Both s p (over_levels g gs) m k → Waits g.sites g.fiber k.lists ks back gs → d.list ≡ length g.sites
+    → r.outer ≡ c.parent
     → SiteIs s p d (m.scopes ++ c ∷ []) (k.lists ++ r ∷ []) w → Grows m.world w
     → Running s p (record { sites = g.sites ++ d ∷ []; fiber = g.fiber; below = gs }) d
     (record m { place = place; scopes = m.scopes ++ c ∷ []; world = w })
     (record k { lists = k.lists ++ r ∷ []; world = w })
-opened s p g gs m k d c r place w ks back b waits e new grows = record {
+opened s p g gs m k d c r place w ks back b waits e out new grows = record {
   all = record {
     world = refl;
     sites = sites_more s p g.sites d m.scopes c k.lists r w
-        (sites_grow s p g.sites m.scopes k.lists m.world w grows b.sites) e new;
+        (sites_grow s p g.sites m.scopes k.lists m.world w grows b.sites) e out new;
     fibers = all_fibers_more g.sites d g.fiber k.lists r b.sites.lists m.fibers k.fibers b.fibers;
     apart = b.apart;
   };

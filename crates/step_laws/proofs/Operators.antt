@@ -61,7 +61,7 @@ few h r x count own o (operates e one not_own is_there) = ap (nat_lt 253) one
 few h r x count own o (sends e n not_own named) = n
 few h r x count own o (sends_self e n is_own named) = n
 
-not_all : (n : ℕ) → nat_lt 253 n ≡ false → nat_eq n 255 ≡ false
+pub not_all : (n : ℕ) → nat_lt 253 n ≡ false → nat_eq n 255 ≡ false
 not_all n h = grind (arith, nat_tests)
 
 not_bare : (n : ℕ) → nat_lt 253 n ≡ false → nat_eq n 254 ≡ false

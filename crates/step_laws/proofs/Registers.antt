@@ -1,5 +1,5 @@
 -- A write to one register, and what it leaves.
-use Rattle.std.proofs.Common.{◌≡◌, ◌≢◌, ℕ, zero, suc, ◌+◌, ◌<◌, ◌≤◌, List, [], ◌∷◌, refl, sym, ap, ◌∙◌, subst, arith, length, get_or, set, Bool, true, false, length-set, get_or-set_same, get_or-set_other, true≢false, ◌⊎◌, inl, inr, ⊎_elim}
+use Rattle.std.proofs.Common.{◌≡◌, ◌≢◌, ℕ, zero, suc, ◌+◌, ◌<◌, ◌≤◌, List, [], ◌∷◌, refl, sym, ap, ◌∙◌, subst, arith, length, get_or, set, Bool, true, false, length-set, get_or-set_same, get_or-set_other, true≢false, ◌⊎◌, inl, inr, ⊎_elim, map}
 use Rattle.std.specs.Prelude.{Option, Some, None, unwrap_or, is_some, if◌then◌else◌}
 use Rattle.std.proofs.lemmas.Bool.{eq-eqb, eqb-true}
 use Rattle.std.proofs.lemmas.Slice.Eq.{bytes_eq-Decides}
@@ -13,6 +13,7 @@ use Rattle.gen_forms.specs.declared.context.Loop.{Loop}
 use Rattle.def_eval.specs.Configuration.{Place, Scope, Action, Part, operands, receiver, items, block, elements, hash_key, hash_value, pieces, rest as rest_part, test, chosen, and_then, or_else, loop_test, loop_body, rescued, clause_class, clause_target, clause_body, ensured, Item, part, activation, iteration, ensuring, Memory}
 use Rattle.def_eval.specs.Scopes.{same_local, value_in, put_value, no_scope, scope_at, outward, scopes_around, first_with, scope_of, variable, put_in, with_variable}
 use Rattle.def_machine.specs.State.{Registers, no_registers, body_at, list_at, slot_at, value_at, put}
+use Rattle.scope_laws.specs.Numbers.{parents, outers}
 use Rattle.step_laws.specs.Site.{Site, place_in, register, Known}
 use Rattle.step_laws.specs.Behind.{Static, Holds, HoldsCall, OperandBehind, Behind, to_local, to_global, strict, breaks, begins_round, leaves_body}
 use Rattle.step_laws.specs.Relation.{Inside, IsOwn, Owned, Same}
@@ -44,6 +45,24 @@ list_other l n i j v ne =
 pub length_put : (l : List Registers) (n i : ℕ) (v : Slot) → length (put l n i v) ≡ length l
 unfolding put
 length_put l n i v = length-set l n (record (list_at l n) { slots = set (list_at l n).slots i v })
+
+-- what is around a list stays, and so it does of a scope
+map_set : {A B : Type 0} (f : A → B) (xs : List A) (n : ℕ) (d y : A) → f y ≡ f (get_or xs n d)
+    → map f (set xs n y) ≡ map f xs
+map_set f [] n d y e = refl
+map_set f (x ∷ xs) zero d y e = ap (λ z. z ∷ map f xs) e
+map_set f (x ∷ xs) (suc n) d y e = ap (λ zs. f x ∷ zs) (map_set f xs n d y e)
+
+pub outers_put : (l : List Registers) (n i : ℕ) (v : Slot) → outers (put l n i v) ≡ outers l
+unfolding put
+outers_put l n i v =
+    map_set (λ (r : Registers). r.outer) l n no_registers
+    (record (list_at l n) { slots = set (list_at l n).slots i v }) refl
+
+pub parents_put : (cs : List Scope) (n : ℕ) (x : Local) (v : Value) → parents (put_in cs n x v) ≡ parents cs
+parents_put cs n x v =
+    map_set (λ (c : Scope). c.parent) cs n no_scope
+    (record (scope_at cs n) { variables = put_value (scope_at cs n).variables x v }) refl
 
 -- the registers between the locals and r stay
 pub record Keeps (h : Site) (l l' : List Registers) (r : ℕ) : Type 0 where
@@ -108,19 +127,28 @@ behind_kept h l l' (items j s recv vs is o) low n r end around k above b =
       at = b.at;
       s = b.s;
       here = b.here;
-      plain = b.plain;
       room = b.room;
       covered = b.covered;
       name = b.name;
       sending = b.sending;
       held = still;
-      o = b.o;
-      by = b.by;
       code = b.code;
-      calls = b.calls;
       ends = b.ends;
     }
-behind_kept h l l' (block s recv vs) low n r end around k above b = absurd b
+behind_kept h l l' (block s recv vs) low n r end around k above b =
+    let still = call_kept h l l' b.own r low recv vs k above (omega (arith, b.at)) b.held in
+    record {
+      own = b.own;
+      at = b.at;
+      room = b.room;
+      few = b.few;
+      name = b.name;
+      named = b.named;
+      sending = b.sending;
+      held = still;
+      sends = b.sends;
+      ends = b.ends;
+    }
 behind_kept h l l' (elements j g o s is) low n r end around k above b = record {
   at = b.at;
   gathers = b.gathers;

@@ -4,21 +4,26 @@ use Rattle.std.specs.Prelude.{is_some, if◌then◌else◌, Option, None, nat_lt
 use Rattle.rb_value.specs.declared.value.Value.{Value}
 use Rattle.rb_value.specs.declared.exit.Slot.TheVariants.{V}
 use Rattle.rb_value.specs.Slot.{read}
+use Rattle.rite_code.specs.declared.code.Irep.{Irep}
 use Rattle.rite_code.specs.declared.operation.Operation.{Operation}
+use Rattle.rite_code.specs.declared.operation.Operation.TheVariants as op
 use Rattle.ir_counts.specs.Tables.{item_count}
-use Rattle.ir_core.specs.CoreForm.{Name, absent, Items, no_items, plain, splat}
+use Rattle.ir_core.specs.CoreForm.{Name, function, Body, Maybe, absent, there, Items, no_items, plain, splat}
 use Rattle.gen_parts.specs.declared.line.Line.TheVariants as line
 use Rattle.gen_parts.specs.declared.emitter.Spot.{Spot}
-use Rattle.gen_parts.specs.Pieces.{past}
+use Rattle.scope_resolver.specs.declared.body_kind.BodyKind.TheVariants as kind
+use Rattle.gen_parts.specs.Pieces.{past, nothing, makes, ◌⊕◌}
+use Rattle.gen_parts.proofs.Laws.{past-both}
 use Rattle.gen_forms.specs.declared.context.Loop.{Loop}
-use Rattle.gen_forms.specs.Gen.{gen, pass_in_registers}
+use Rattle.gen_forms.specs.Gen.{gen, pass_in_registers, body_code, symbol as entry_of}
 use Rattle.def_core.specs.Store.{with_object}
 use Rattle.def_rows.specs.Answers.{items_object}
 use Rattle.def_calls.specs.World.{World, with_store, activation_at}
 use Rattle.def_calls.specs.Calls.{Sending, by_name, Entry}
 use Rattle.def_calls.specs.Calls as calls
 use Rattle.def_eval.specs.Configuration as source
-use Rattle.def_eval.specs.Configuration.{Place, receiver, items, Item, Config}
+use Rattle.eval_laws.specs.Standing.{past_items}
+use Rattle.def_eval.specs.Configuration.{Place, receiver, items, block, Item, part, perform, Config, Run}
 use Rattle.def_eval.specs.Entering.{enter}
 use Rattle.def_eval.specs.Forms.{perform_call, own_block, with_arguments, next_item}
 use Rattle.def_eval.specs.Transition.{go}
@@ -26,27 +31,29 @@ use Rattle.def_machine.specs.State as machine
 use Rattle.def_machine.specs.State.{Registers, Frame, frame, value_at, put}
 use Rattle.def_machine.specs.Entering.{enter as enter_machine}
 use Rattle.def_machine.specs.Turn.{call as call_machine, arguments}
-use Rattle.step_laws.specs.Site.{Site, within, place_in, at_line, LineAt, Room, number}
+use Rattle.step_laws.specs.Site.{Site, within, place_in, at_line, LineAt, Room, Named, number}
 use Rattle.step_laws.specs.Covered.{CoveredItems}
+use Rattle.step_laws.specs.Covers.{Makes, past_items_code}
 use Rattle.step_laws.specs.Calm.{IsSteady, Still}
 use Rattle.step_laws.specs.Bodies.{EntersBody, CallsBodies}
-use Rattle.step_laws.specs.Measure.{size_items, burden, measure}
+use Rattle.step_laws.specs.Measure.{size_items, size_block, burden, measure}
 use Rattle.step_laws.proofs.Covers.{at_top}
 use Rattle.step_laws.proofs.Placed.{high, high-both, high-nothing, line-past, Stands, left, right, Rest, frame_at, turned}
 use Rattle.step_laws.proofs.Matching.{by_none, state_at, written}
-use Rattle.step_laws.specs.Behind.{Static, Holds, HoldsCall, CallBy}
+use Rattle.step_laws.specs.Behind.{Static, Holds, HoldsCall, CallBy, block_sender, CallEnds, alone, with_literal}
 use Rattle.step_laws.specs.Relation.{Waits, Ground, over_levels, InFrame, Common, Related, Step}
 use Rattle.step_laws.proofs.Registers.{slot_same, slot_other, keeps_above}
 use Rattle.step_laws.proofs.Untouched.{put_only, frame_kept, grown, same_here, written_here, below_running}
 use Rattle.step_laws.proofs.Calling.{From, Worlds}
+use Rattle.step_laws.proofs.Definitions.{high_made}
 use Rattle.step_laws.proofs.Called.{call_entered}
 use Rattle.step_laws.proofs.Entered.{then_enters, entered}
 use Rattle.step_laws.proofs.Literals.{aligned}
 use Rattle.step_laws.proofs.Operators.{few, arguments_are, calls_value, calls_self}
 
--- A call some of whose items have their values, at line n.
+-- A call some of whose items have their values, at line n; the number is that of the first body behind.
 pub record CallSite (g : Ground) (h : Site) (l : List Registers) (recv : Value) (vs : List Value) (is : Items) (ks : List Item)
-    (n : ℕ) : Type 0 where
+    (n j : ℕ) (b : Maybe) : Type 0 where
   pub low : ℕ
   pub own : Bool
   pub loop : Option Loop
@@ -58,20 +65,30 @@ pub record CallSite (g : Ground) (h : Site) (l : List Registers) (recv : Value) 
   pub covered : CoveredItems h (is_some loop) r is
   pub name : Name
   pub held : HoldsCall h l own low recv vs
-  pub o : Operation
-  pub by : CallBy h low name (length vs + item_count is) own o
   pub code : Stands h n (pass_in_registers (within h loop) s r is)
-  pub calls : LineAt h (n + high (pass_in_registers (within h loop) s r is)) (line.Does o)
   pub end : ℕ
-  pub ends : n + high (pass_in_registers (within h loop) s r is) + 1 ≡ end
+  pub ends : CallEnds h low name (length vs + item_count is) own (past_items_code h loop r s is) (past_items j is) b
+      (n + high (pass_in_registers (within h loop) s r is)) end
   pub next : InFrame g h l ks end low loop
 
+pub ends_moved : (h : Site) (low : ℕ) (x : Name) (c c' : ℕ) (own : Bool) (s s' : Spot) (j : ℕ) (b : Maybe) (n n' end : ℕ)
+    → c ≡ c' → s ≡ s' → n ≡ n' → CallEnds h low x c own s j b n end → CallEnds h low x c' own s' j b n' end
+ends_moved h low x c c' own s s' j b n n' end same_count same_spot same_line e =
+    subst (λ (i : ℕ). CallEnds h low x i own s' j b n' end) same_count
+    (subst (λ (t : Spot). CallEnds h low x c own t j b n' end) same_spot
+    (subst (λ (i : ℕ). CallEnds h low x c own s j b i end) same_line e))
+
+stands_made : (h : Site) (n b : ℕ) (o : Operation) (bodies : List Irep) → LineAt h n (line.Does o)
+    → Stands h n (makes o b bodies)
+unfolding Stands makes
+stands_made h n b o bodies l = (l, tt)
+
 -- a frame that waits in a register for what its instruction calls
-abbrev asking : Site → Rest → ℕ → ℕ → Rest
+abbrev pub asking : Site → Rest → ℕ → ℕ → Rest
 asking h x n r = record x { after = at_line h (n + 1); waits = r }
 
 -- other registers keep the items
-items_kept : (h : Site) (l : List Registers) (r i : ℕ) (v : Value) (vs : List Value) → h.list < length l → i < r
+pub items_kept : (h : Site) (l : List Registers) (r i : ℕ) (v : Value) (vs : List Value) → h.list < length l → i < r
     → Holds l h.list r vs → Holds (put l h.list i (V v)) h.list r vs
 items_kept h l r i v [] lt below s = tt
 items_kept h l r i v (u ∷ vs) lt below s =
@@ -112,12 +129,12 @@ module _ (g : Ground) (h : Site) (static : Static h) (ks : List Item) (m : sourc
       (by_name (number h.source y)) recv vs None) None (frame (frame_at h (asking h x n r) n) ∷ g.below) k') same
 
   -- both sides, the frame of the call waiting
-  waiting_worlds : (k' : machine.Memory) → Common g h m k' → (f : Frame) → f.list ≡ h.list
+  pub waiting_worlds : (k' : machine.Memory) → Common g h m k' → (f : Frame) → f.list ≡ h.list
       → Worlds h.source h.program (over_levels g (frame f ∷ g.below)) m m k'
   waiting_worlds k' b f e w grows =
       grown (over_levels g (frame f ∷ g.below)) m k' (below_running g h m k' b f e) m.place w grows
 
-  waiting_frame : (x : Rest) (n r : ℕ) (around : Option Loop) (k' : machine.Memory) → Common g h m k' → Room h r
+  pub waiting_frame : (x : Rest) (n r : ℕ) (around : Option Loop) (k' : machine.Memory) → Common g h m k' → Room h r
       → InFrame g h k'.lists ks (n + 1) r around
       → Waits g.sites g.fiber k'.lists ks m.place (frame (frame_at h (asking h x n r) n) ∷ g.below)
   waiting_frame x n r around k' b room next = record {
@@ -145,39 +162,42 @@ module _ (g : Ground) (h : Site) (static : Static h) (ks : List Item) (m : sourc
       (λ is. call_entered h.source h.program m.world is (activation_at m.world h.activation)
       (by_name (number h.source name)) recv vs None) calls
 
-  -- all items have their values
-  call_now : (c : Config) (x : Rest) (n j : ℕ) (sender : Sending) (recv : Value) (vs : List Value)
-      (b : CallSite g h k.lists recv vs no_items ks n)
+  -- all items have their values, and no block is passed
+  call_now : (c : Config) (x : Rest) (n j : ℕ) (sender : Sending) (recv : Value) (vs : List Value) (mb : Maybe)
+      (b : CallSite g h k.lists recv vs no_items ks n j mb) (o : Operation)
+      → CallBy h b.low b.name (length vs + item_count no_items) b.own o
+      → LineAt h (n + high (pass_in_registers (within h b.loop) b.s b.r no_items)) (line.Does o)
+      → n + high (pass_in_registers (within h b.loop) b.s b.r no_items) + 1 ≡ b.end
       → From h c (frame (frame_at h x n) ∷ g.below) (aligned k m) m
       → go h.source c ≡ next_item h.source j sender recv vs no_items absent ks m
       → sender ≡ by_name (number h.source b.name) → burden ks m < measure c → MayCall c
       → Step h c (state_at g h x n (aligned k m))
-  call_now c x n j sender recv vs b from goes e less calls =
+  call_now c x n j sender recv vs mb b o by_that stands tall from goes e less calls =
       let count : length vs + item_count no_items ≡ length vs = omega arith in
-      let n253 = few h b.low b.name (length vs + item_count no_items) b.own b.o b.by in
+      let n253 = few h b.low b.name (length vs + item_count no_items) b.own o by_that in
       let goes' = goes ∙ goes_in j sender recv vs b.name e (ap (nat_lt 253) (sym count) ∙ n253) in
       let here : n + high (pass_in_registers (within h b.loop) b.s b.r no_items) ≡ n =
       omega (arith, high-nothing) in
-      let at : LineAt h n (line.Does b.o) = subst (λ (i : ℕ). LineAt h i (line.Does b.o)) here b.calls in
-      let ends : b.end ≡ n + 1 = omega (arith, here, b.ends) in
+      let at : LineAt h n (line.Does o) = subst (λ (i : ℕ). LineAt h i (line.Does o)) here stands in
+      let ends : b.end ≡ n + 1 = omega (arith, here, tall) in
       let next : InFrame g h k.lists ks (n + 1) b.low b.loop =
       subst (λ (i : ℕ). InFrame g h k.lists ks i b.low b.loop) ends b.next in
-      by b.own b.by b.held at next goes' count n253
+      by b.own by_that b.held at next goes' count n253
     where
-      by : (own : Bool) → CallBy h b.low b.name (length vs + item_count no_items) own b.o
-          → HoldsCall h k.lists own b.low recv vs → LineAt h n (line.Does b.o)
+      by : (own : Bool) → CallBy h b.low b.name (length vs + item_count no_items) own o
+          → HoldsCall h k.lists own b.low recv vs → LineAt h n (line.Does o)
           → InFrame g h k.lists ks (n + 1) b.low b.loop
           → go h.source c ≡ enter h.source (the_entry b.name recv vs) None ks m
           → length vs + item_count no_items ≡ length vs → nat_lt 253 (length vs + item_count no_items) ≡ false
           → Step h c (state_at g h x n (aligned k m))
       by false by_that held at next goes' count n253 =
-          let turns = turned h x n b.o g.below (aligned k m) at
-          ∙ calls_value g h x n b.low (at_line h (n + 1)) (aligned k m) b.name (length vs + item_count no_items) b.o steady
+          let turns = turned h x n o g.below (aligned k m) at
+          ∙ calls_value g h x n b.low (at_line h (n + 1)) (aligned k m) b.name (length vs + item_count no_items) o steady
           by_that
           ∙ turns_in x n b.low (length vs + item_count no_items) (aligned k m) recv vs b.name (ap read held.0) held.1
           count n253 refl in
           let f = frame_at h (asking h x n b.low) n in
-          entered h.source h.program c (frame (frame_at h x n) ∷ g.below) (aligned k m) m from (the_entry b.name recv vs) ks
+          entered h.source h.program c (frame (frame_at h x n) ∷ g.below) (aligned k m) m from (the_entry b.name recv vs) None ks
           m g (frame f ∷ g.below) (aligned k m) goes' turns less refl (waiting_worlds (aligned k m) both f refl)
           (waiting_frame x n b.low b.loop (aligned k m) both b.room next) (enters_by c b.name recv vs calls)
       by true by_that held at next goes' count n253 =
@@ -188,8 +208,8 @@ module _ (g : Ground) (h : Site) (static : Static h) (ks : List Item) (m : sourc
           let first : value_at k'.lists h.list b.low ≡ recv =
           ap read (slot_same k.lists h.list b.low (V v) s.present (omega (arith, s.long, b.room.within)))
           ∙ s.self ∙ sym held.0 in
-          let turns = turned h x n b.o g.below (aligned k m) at
-          ∙ calls_self g h x n b.low (at_line h (n + 1)) (aligned k m) b.name (length vs + item_count no_items) b.o steady
+          let turns = turned h x n o g.below (aligned k m) at
+          ∙ calls_self g h x n b.low (at_line h (n + 1)) (aligned k m) b.name (length vs + item_count no_items) o steady
           by_that
           ∙ turns_in x n b.low (length vs + item_count no_items) k' recv vs b.name first
           (items_kept h k.lists (b.low + 1) b.low v vs s.present (omega arith) held.1) count n253 refl in
@@ -197,21 +217,101 @@ module _ (g : Ground) (h : Site) (static : Static h) (ks : List Item) (m : sourc
           (keeps_above h k.lists b.low b.low (V v) s.present (omega arith)) (put_only k.lists h.list b.low v)
           (omega (arith, both.free)) next in
           let f = frame_at h (asking h x n b.low) n in
-          entered h.source h.program c (frame (frame_at h x n) ∷ g.below) (aligned k m) m from (the_entry b.name recv vs) ks
+          entered h.source h.program c (frame (frame_at h x n) ∷ g.below) (aligned k m) m from (the_entry b.name recv vs) None ks
           m g (frame f ∷ g.below) k' goes' turns less refl (waiting_worlds k' both' f refl)
           (waiting_frame x n b.low b.loop k' both' b.room next') (enters_by c b.name recv vs calls)
 
+  -- all items have their values, and the block is made
+  block_now : (c : Config) (x : Rest) (n j : ℕ) (sender : Sending) (recv : Value) (vs : List Value) (mb : Maybe)
+      (b : CallSite g h k.lists recv vs no_items ks n j mb) (f : Body) (count : ℕ) → count ≡ length vs
+      → mb ≡ there (function f) → nat_lt 253 count ≡ false → Named h b.name
+      → Makes h (b.low + 1 + count) (past_items_code h b.loop b.r b.s no_items) j f
+      → LineAt h n (line.Does (op.Block (b.low + 1 + count) (past_items_code h b.loop b.r b.s no_items).child))
+      → LineAt h (n + 1) (line.Does (block_sender b.own b.low (entry_of h.context b.name) count))
+      → n + 1 + 1 ≡ b.end → go h.source c ≡ next_item h.source j sender recv vs no_items mb ks m
+      → sender ≡ by_name (number h.source b.name) → 3 + burden ks m < measure c
+      → Step h c (state_at g h x n (aligned k m))
+  block_now c x n j sender recv vs mb b f count all literal few named made first second tall goes e less =
+      let sp = past_items_code h b.loop b.r b.s no_items in
+      let r = b.low + 1 + count in
+      let bodies = body_code kind.Block h.context.scopes sp.body f in
+      let o = op.Block r sp.child in
+      let few' : nat_lt 253 (length vs) ≡ false = ap (nat_lt 253) (sym all) ∙ few in
+      let goes' : go h.source c ≡ Run (perform j (function f)) (part (block sender recv vs) ∷ ks) m =
+      goes ∙ ap (λ (q : Maybe). next_item h.source j sender recv vs no_items q ks m) literal
+      ∙ ap (λ (t : Bool). Run (perform j (function f)) (part (block sender recv vs) ∷ ks) (if t
+      then source.with_world m (with_store m.world (with_object m.world.store (items_object vs))) else m)) few' in
+      by_none h c (state_at g h x n (aligned k m))
+      (subst (λ (d : Config). measure d < measure c) (sym goes') (omega (arith, less)))
+      (subst (λ (d : Config). Related h d (state_at g h x n (aligned k m))) (sym goes') (
+        g,
+        h,
+        both,
+        record {
+          x = x;
+          n = n;
+          r = r;
+          is = refl;
+          there = at_home;
+          loop = b.loop;
+          s = sp;
+          here = omega (arith, line-past b.s nothing, high-nothing, b.here);
+          covered = made;
+          above = omega (arith, b.room.above);
+          code = stands_made h n sp.body o bodies first;
+          next = record {
+            low = b.low;
+            end = b.end;
+            above = b.room.above;
+            below = omega arith;
+            behind = record {
+              own = b.own;
+              at = omega (arith, all);
+              room = b.room;
+              few = few';
+              name = b.name;
+              named = named;
+              sending = e;
+              held = b.held;
+              sends = subst (λ (i : ℕ). LineAt h i (line.Does (block_sender b.own b.low (entry_of h.context b.name) (length vs))))
+                  (omega (arith, high_made o sp.body bodies))
+                  (subst (λ (i : ℕ). LineAt h (n + 1) (line.Does (block_sender b.own b.low (entry_of h.context b.name) i))) all
+                  second);
+              ends = omega (arith, high_made o sp.body bodies, tall);
+            };
+            outer = b.loop;
+            inner = refl;
+            next = b.next;
+          };
+        },
+      ))
+
   -- the next item, or the call
   pub items_on : (c : Config) (x : Rest) (n j : ℕ) (sender : Sending) (recv : Value) (vs : List Value) (is : Items)
-      (b : CallSite g h k.lists recv vs is ks n)
+      (mb : Maybe) (b : CallSite g h k.lists recv vs is ks n j mb)
       → From h c (frame (frame_at h x n) ∷ g.below) (aligned k m) m
-      → go h.source c ≡ next_item h.source j sender recv vs is absent ks m
-      → sender ≡ by_name (number h.source b.name) → size_items is + burden ks m < measure c → MayCall c
+      → go h.source c ≡ next_item h.source j sender recv vs is mb ks m
+      → sender ≡ by_name (number h.source b.name) → size_items is + size_block mb + burden ks m < measure c → MayCall c
       → Step h c (state_at g h x n (aligned k m))
-  items_on c x n j sender recv vs no_items b from goes e less calls =
-      call_now c x n j sender recv vs b from goes e (omega (arith, less)) calls
-  items_on c x n j sender recv vs (splat i is) b from goes e less calls = absurd b.covered
-  items_on c x n j sender recv vs (plain i is) b from goes e less calls =
+  items_on c x n j sender recv vs no_items mb b from goes e less may = at b.ends
+    where
+      at : CallEnds h b.low b.name (length vs + item_count no_items) b.own (past_items_code h b.loop b.r b.s no_items)
+          (past_items j no_items) mb (n + high (pass_in_registers (within h b.loop) b.s b.r no_items)) b.end
+          → Step h c (state_at g h x n (aligned k m))
+      at (alone o none by_that stands tall) =
+          call_now c x n j sender recv vs mb b o by_that stands tall from
+          (goes ∙ ap (λ (q : Maybe). next_item h.source j sender recv vs no_items q ks m) none) e (omega (arith, less)) may
+      at (with_literal f literal few named made first second tall) =
+          let here : n + high (pass_in_registers (within h b.loop) b.s b.r no_items) ≡ n =
+          omega (arith, high-nothing) in
+          let count = length vs + item_count no_items in
+          block_now c x n j sender recv vs mb b f count (omega arith) literal few named made
+          (subst (λ (i : ℕ). LineAt h i
+          (line.Does (op.Block (b.low + 1 + count) (past_items_code h b.loop b.r b.s no_items).child))) here first)
+          (subst (λ (i : ℕ). LineAt h (i + 1) (line.Does (block_sender b.own b.low (entry_of h.context b.name) count))) here
+          second) (omega (arith, here, tall)) goes e (omega (arith, less, ap size_block literal))
+  items_on c x n j sender recv vs (splat i is) mb b from goes e less may = absurd b.covered
+  items_on c x n j sender recv vs (plain i is) mb b from goes e less may =
       let r = b.r in
       let p = gen (within h b.loop) b.s r i in
       let q = pass_in_registers (within h b.loop) (past b.s p) (r + 1) is in
@@ -244,17 +344,16 @@ module _ (g : Ground) (h : Site) (static : Static h) (ks : List Item) (m : sourc
               at = b.row;
               s = past b.s p;
               here = line-past b.s p ∙ ap (λ (l : ℕ). l + high p) b.here;
-              plain = refl;
               room = b.room;
               covered = b.covered.1;
               name = b.name;
               sending = e;
               held = b.held;
-              o = b.o;
-              by = subst (λ (l : ℕ). CallBy h b.low b.name l b.own b.o) more b.by;
               code = right h n p q b.code;
-              calls = subst (λ (l : ℕ). LineAt h l (line.Does b.o)) (omega (arith, high-both p q)) b.calls;
-              ends = omega (arith, high-both p q, b.ends);
+              ends = ends_moved h b.low b.name (length vs + item_count (plain i is)) (length vs + 1 + item_count is) b.own
+                  (past_items_code h b.loop r b.s (plain i is)) (past_items_code h b.loop (r + 1) (past b.s p) is)
+                  (past_items j (plain i is)) mb (n + high (p ⊕ q)) (n + high p + high q) b.end more (past-both b.s p q)
+                  (omega (arith, high-both p q)) b.ends;
             };
             outer = b.loop;
             inner = refl;

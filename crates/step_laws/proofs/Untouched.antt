@@ -22,7 +22,8 @@ use Rattle.def_machine.specs.State.{Registers, Frame, Level, frame, body_at, lis
 use Rattle.step_laws.specs.Site.{Site, place_in, register, Known}
 use Rattle.step_laws.specs.Calm.{Grows}
 use Rattle.step_laws.specs.Relation.{EndsBy, stops, returns, Ends, IsSite, Waits, Ground, over_levels, InFrame, Same, Owned, SiteIs, SitesAre, FibersAre, AllFibers, uses, uses_in, Both, Running}
-use Rattle.step_laws.proofs.Registers.{Keeps, inside_kept, list_other, length_put, scope_other, same_above, put_alike, assigned}
+use Rattle.scope_laws.specs.Numbers.{parents, outers}
+use Rattle.step_laws.proofs.Registers.{Keeps, inside_kept, outers_put, parents_put, list_other, length_put, scope_other, same_above, put_alike, assigned}
 
 -- lists that differ in that of one number alone
 pub record OnlyIn (c : ℕ) (l l' : List Registers) : Type 0 where
@@ -145,8 +146,10 @@ same_elsewhere h cs cs' l l' s scope scopes list lists = record {
 -- the scope and the list of one site change, and no others
 sites_changed : (s : Source) (p : Program) (hs : List Site) (cs cs' : List Scope) (l l' : List Registers) (w : World)
     (h : Site) → SitesAre s p hs cs l w → IsSite hs h → Same h cs' l' → length cs' ≡ length cs → length l' ≡ length l
-    → ((n : ℕ) → n ≢ h.list → scope_at cs' n ≡ scope_at cs n) → OnlyIn h.list l l' → SitesAre s p hs cs' l' w
-sites_changed s p hs cs cs' l l' w h a site same scopes lists elsewhere o = record {
+    → ((n : ℕ) → n ≢ h.list → scope_at cs' n ≡ scope_at cs n) → OnlyIn h.list l l' → outers l' ≡ parents cs'
+    → SitesAre s p hs cs' l' w
+sites_changed s p hs cs cs' l l' w h a site same scopes lists elsewhere o around = record {
+  around = around;
   scopes = scopes ∙ a.scopes;
   lists = lists ∙ a.lists;
   each = λ d is. ⊎_elim (λ e. at d is (a.each d is) (subst (λ (q : Site). Same q cs' l') (sym (site_is hs h d site is e)) same))
@@ -180,7 +183,8 @@ same_activations w u e = record { more = []; is = e ∙ sym (append-nil w.activa
 
 pub sites_grow : (s : Source) (p : Program) (hs : List Site) (cs : List Scope) (l : List Registers) (w u : World)
     → Grows w u → SitesAre s p hs cs l w → SitesAre s p hs cs l u
-sites_grow s p hs cs l w u g a = record { scopes = a.scopes; lists = a.lists; each = λ h is. at h (a.each h is) }
+sites_grow s p hs cs l w u g a =
+    record { scopes = a.scopes; lists = a.lists; around = a.around; each = λ h is. at h (a.each h is) }
   where
     at : (h : Site) → SiteIs s p h cs l w → SiteIs s p h cs l u
     at h i =
@@ -256,8 +260,8 @@ module _ {s : Source} {p : Program} where
       let o = put_only k.lists h.list r v in
       changed g h m m k (record k { lists = put k.lists h.list r (V v) }) b b.all.world refl refl refl
       (sites_changed s p g.sites m.scopes m.scopes k.lists (put k.lists h.list r (V v)) m.world h b.all.sites b.site
-      (same_above h m.scopes k.lists r v i.static above i.same) refl (length_put k.lists h.list r (V v)) (λ n ne. refl) o)
-      o
+      (same_above h m.scopes k.lists r v i.static above i.same) refl (length_put k.lists h.list r (V v)) (λ n ne. refl) o
+      (outers_put k.lists h.list r (V v) ∙ b.all.sites.around)) o
 
   -- a local of the body is assigned
   pub assigned_here : (g : Ground) (h : Site) (m : source.Memory) (k : machine.Memory) → Running s p g h m k → (x : Local)
@@ -274,7 +278,8 @@ module _ {s : Source} {p : Program} where
       (sites_changed s p g.sites m.scopes cs' k.lists l' m.world h b.all.sites b.site
       (put_alike h m.scopes k.lists x v i.static i.same known (omega (arith, known.low, i.static.room)))
       (length-set m.scopes h.list _) (length_put k.lists h.list (register h x) (V v))
-      (λ n ne. scope_other m.scopes h.list n (x) v ne) o)) o
+      (λ n ne. scope_other m.scopes h.list n (x) v ne) o
+      (outers_put k.lists h.list (register h x) (V v) ∙ b.all.sites.around ∙ sym (parents_put m.scopes h.list x v)))) o
 
   -- The frame that runs begins to wait, and one that waits runs again.
 

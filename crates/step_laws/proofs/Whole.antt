@@ -52,7 +52,8 @@ use Rattle.step_laws.proofs.Jumps.{do_break, do_next, leap_on}
 use Rattle.step_laws.proofs.Definitions.{do_define}
 use Rattle.step_laws.proofs.Returns.{do_return, passes_on, comes_home}
 use Rattle.step_laws.proofs.Loops.{do_while, give_loop_test, give_loop_body}
-use Rattle.step_laws.proofs.Calls.{do_call_to, do_call_self, give_receiver, give_item}
+use Rattle.step_laws.proofs.Blocks.{do_function, give_block}
+use Rattle.step_laws.proofs.Calls.{do_call_to, do_call_to_with, do_call_self, do_call_self_with, give_receiver, give_item}
 use Rattle.step_laws.proofs.Iterations.{give_iteration}
 use Rattle.step_laws.proofs.Exits.{give_end, give_activation, travel_end, travel_part_on, travel_activation_on, travel_iteration_on}
 use Rattle.def_core.specs.Store.{Store}
@@ -95,17 +96,18 @@ module _ (g : Ground) (h : Site) (static : Static h) (ks : List Item) (m : sourc
   form_matched j (form.or_form a b) c d = do_or g h static ks m ls k both j a b d
   form_matched j (form.while_form first t b) c d = do_while g h static ks m ls k both j first t b d
   form_matched j (form.call (form.to e) x is form.absent) c d = do_call_to g h static ks m ls k both c.0 j e x is d
-  form_matched j (form.call (form.to e) x is (form.there b)) c d = absurd d.covered
+  form_matched j (form.call (form.to e) x is (form.there b)) c d = do_call_to_with g h static ks m ls k both c.0 j e x is b d
   form_matched j (form.call form.on_self x is form.absent) c d =
       do_call_self g h static ks m ls k both c.0 j x is d c.3
-  form_matched j (form.call form.on_self x is (form.there b)) c d = absurd d.covered
+  form_matched j (form.call form.on_self x is (form.there b)) c d =
+      do_call_self_with g h static ks m ls k both c.0 j x is b d c.3
   form_matched j (form.call form.bare x form.no_items form.absent) c d = do_call_bare g h static ks m ls k both c.0 j x d c.3
   form_matched j (form.call form.bare x form.no_items (form.there b)) c d = absurd d.covered
   form_matched j (form.call form.bare x (form.plain e is) b) c d = absurd d.covered
   form_matched j (form.call form.bare x (form.splat e is) b) c d = absurd d.covered
   form_matched j (form.yield_form is) c d = absurd d.covered
   form_matched j (form.super_form is b) c d = absurd d.covered
-  form_matched j (form.function f) c d = absurd d.covered
+  form_matched j (form.function f) c d = do_function g h static ks m ls k both j f d c.3.quiet
   form_matched j (form.lambda f) c d = absurd d.covered
   form_matched j (form.begin_form b cs o e) c d = absurd d.covered
   form_matched j (form.return_form e) c d = do_return g h static ks m ls k both j e d
@@ -131,7 +133,7 @@ module _ (g : Ground) (h : Site) (static : Static h) (ks : List Item) (m : sourc
   part_matched v (operands j a vs es) c d = give_operand g h static j ks m ls k both c.0 v j a vs es d c.3.quiet
   part_matched v (receiver j x is b) c d = give_receiver g h static ks m ls k both c.0 v j x is b d c.3
   part_matched v (items j s recv vs is b) c d = give_item g h static ks m ls k both c.0 v j s recv vs is b d c.3
-  part_matched v (block s recv vs) c d = absurd d.next.behind
+  part_matched v (block s recv vs) c d = give_block g h static ks m ls k both c.0 v s recv vs d c.3
   part_matched v (elements j q o s is) c d = give_element g h static j ks m ls k both v j q o s is d c.1
   part_matched v (hash_key j o e ps) c d = give_key g h static ks m ls k both v j o e ps d
   part_matched v (hash_value j o u ps) c d = give_pair g h static ks m ls k both v j o u ps d c.1 c.3.quiet
@@ -382,7 +384,7 @@ module _ (s : Source) (p : Program) (input : List ℕ) (c : IsCodeOf s p) where
       (record { parent = None; variables = all_nil (locals_of (body_at s 0)) } ∷ [])
       (machine.fresh_registers (machine.body_at p 0) None (Obj main_object) ∷ []) (opening_world (all_names s) input)
   unfolding activation_at
-  opening_sites = record { scopes = refl; lists = refl; each = λ d is. at d d.list is }
+  opening_sites = record { scopes = refl; lists = refl; around = refl; each = λ d is. at d d.list is }
     where
       main : SiteIs s p h (record { parent = None; variables = all_nil (locals_of (body_at s 0)) } ∷ [])
           (machine.fresh_registers (machine.body_at p 0) None (Obj main_object) ∷ []) (opening_world (all_names s) input)

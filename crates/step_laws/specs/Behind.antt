@@ -7,7 +7,7 @@ use Rattle.rb_value.specs.declared.exit.Slot.TheVariants.{V}
 use Rattle.rite_code.specs.declared.operation.Operation.{Operation}
 use Rattle.rite_code.specs.declared.operation.Operation.TheVariants as op
 use Rattle.ir_counts.specs.Tables.{item_count}
-use Rattle.ir_core.specs.CoreForm.{Name, Local, CoreForm, absent, Forms, none, more, Items, Pairs, Branches}
+use Rattle.ir_core.specs.CoreForm.{Name, Local, CoreForm, function, Body, Maybe, absent, there, Forms, none, more, Items, Pairs, Branches}
 use Rattle.gen_parts.specs.declared.line.Line.TheVariants as line
 use Rattle.gen_parts.specs.declared.emitter.Spot.{Spot}
 use Rattle.gen_parts.specs.declared.emitter.Held.TheVariants as held
@@ -17,11 +17,12 @@ use Rattle.gen_forms.specs.Gen.{Context, gen, gather, gather_pairs, gather_text,
 use Rattle.def_calls.specs.Calls.{by_name}
 use Rattle.def_eval.specs.Configuration.{Action, assign, assign_gvar, leave_method, leave_call, leave_round, Gathering, an_array, Part, operands, receiver, items, block, elements, hash_key, hash_value, pieces, rest, test, chosen, and_then, or_else, loop_test, loop_body, rescued, clause_class, clause_target, clause_body, ensured, Stop, passes, loops, rescues, assigns, retries, ensures}
 use Rattle.def_eval.specs.Scopes.{same_local}
+use Rattle.eval_laws.specs.Standing.{past_items}
 use Rattle.def_machine.specs.State.{Registers, body_at, slot_at}
 use Rattle.step_laws.specs.Site.{Site, within, LineAt, Room, register, Known, IsThere, Named, number}
 use Rattle.step_laws.specs.Strict.{strict_op, IsReady, arity}
 use Rattle.step_laws.specs.Covered.{Covered, CoveredForms, CoveredItems, CoveredElements, CoveredPairs, CoveredBranches}
-use Rattle.step_laws.specs.Covers.{CoversAll}
+use Rattle.step_laws.specs.Covers.{Makes, past_items_code, CoversAll}
 use Rattle.step_laws.specs.Standing.{high, Stands}
 
 -- what holds of the body all along
@@ -48,6 +49,22 @@ pub data CallBy (h : Site) (r : ℕ) (x : Name) (count : ℕ) (own : Bool) (o : 
       → CallBy h r x count own o
   sends_self : o ≡ op.SSend r (symbol h.context x) count → nat_lt 253 count ≡ false → own ≡ true → Named h x
       → CallBy h r x count own o
+
+-- the instruction that passes a block with a call of that name, and of so many items
+abbrev pub block_sender : Bool → ℕ → ℕ → ℕ → Operation
+block_sender false r x n = op.SendB r x n
+block_sender true r x n = op.SSendB r x n
+
+-- What stands behind the items of a call from line n on, where that spot is: the call, or its block, whose body has that
+-- number, and the call.
+pub data CallEnds (h : Site) (low : ℕ) (x : Name) (count : ℕ) (own : Bool) (s : Spot) (j : ℕ) (b : Maybe) (n end : ℕ)
+    : Type 0 where
+  alone : (o : Operation) → b ≡ absent → CallBy h low x count own o → LineAt h n (line.Does o) → n + 1 ≡ end
+      → CallEnds h low x count own s j b n end
+  with_literal : (f : Body) → b ≡ there (function f) → nat_lt 253 count ≡ false → Named h x
+      → Makes h (low + 1 + count) s j f → LineAt h n (line.Does (op.Block (low + 1 + count) s.child))
+      → LineAt h (n + 1) (line.Does (block_sender own low (symbol h.context x) count)) → n + 1 + 1 ≡ end
+      → CallEnds h low x count own s j b n end
 
 -- what stands behind a test
 abbrev pub after_test : Context → Spot → ℕ → CoreForm → Branches → CoreForm → Piece
@@ -244,33 +261,38 @@ Behind h l (receiver j x is b) low n r end around = record {
   at : low ≡ r;
   s : Spot;
   here : s.line ≡ n;
-  plain : b ≡ absent;
   room : Room h low;
   covered : CoveredItems h (is_some around) (low + 1) is;
-  o : Operation;
-  by : CallBy h low x (item_count is) false o;
   code : Stands h n (pass_in_registers (within h around) s (low + 1) is);
-  calls : LineAt h (n + high (pass_in_registers (within h around) s (low + 1) is)) (line.Does o);
-  ends : n + high (pass_in_registers (within h around) s (low + 1) is) + 1 ≡ end;
+  ends : CallEnds h low x (item_count is) false (past_items_code h around (low + 1) s is) (past_items j is) b
+      (n + high (pass_in_registers (within h around) s (low + 1) is)) end;
 }
 Behind h l (items j k recv vs is b) low n r end around = record {
   own : Bool;
   at : low + 1 + length vs ≡ r;
   s : Spot;
   here : s.line ≡ n;
-  plain : b ≡ absent;
   room : Room h low;
   covered : CoveredItems h (is_some around) (r + 1) is;
   name : Name;
   sending : k ≡ by_name (number h.source name);
   held : HoldsCall h l own low recv vs;
-  o : Operation;
-  by : CallBy h low name (length vs + 1 + item_count is) own o;
   code : Stands h n (pass_in_registers (within h around) s (r + 1) is);
-  calls : LineAt h (n + high (pass_in_registers (within h around) s (r + 1) is)) (line.Does o);
-  ends : n + high (pass_in_registers (within h around) s (r + 1) is) + 1 ≡ end;
+  ends : CallEnds h low name (length vs + 1 + item_count is) own (past_items_code h around (r + 1) s is) (past_items j is)
+      b (n + high (pass_in_registers (within h around) s (r + 1) is)) end;
 }
-Behind h l (block k r vs) low n at end around = ⊥
+Behind h l (block k recv vs) low n r end around = record {
+  own : Bool;
+  at : low + 1 + length vs ≡ r;
+  room : Room h low;
+  few : nat_lt 253 (length vs) ≡ false;
+  name : Name;
+  named : Named h name;
+  sending : k ≡ by_name (number h.source name);
+  held : HoldsCall h l own low recv vs;
+  sends : LineAt h n (line.Does (block_sender own low (symbol h.context name) (length vs)));
+  ends : n + 1 ≡ end;
+}
 Behind h l (elements j g o s is) low n r end around = ElementBehind h l g o s is low n r end around
 Behind h l (hash_key j o e ps) low n r end around = KeyBehind h l o e ps low n r end around
 Behind h l (hash_value j o u ps) low n r end around = PairBehind h l o u ps low n r end around

@@ -1,13 +1,14 @@
 -- What an evaluation keeps that calls no bodies of the source but those of methods.
 use Rattle.std.specs.Prelude.{◌≡◌, ◌⊎◌, ℕ, List, [], ◌∷◌, ◌++◌, length, Some}
 use Rattle.rb_value.specs.Object.{Object}
+use Rattle.rb_value.specs.declared.value.Value.{Value}
 use Rattle.rb_value.specs.declared.value.Value.TheVariants.{Obj}
 use Rattle.rite_code.specs.Code.{Program}
 use Rattle.def_core.specs.Changes.{intern}
 use Rattle.ir_core.specs.CoreForm.{Name}
 use Rattle.def_calls.specs.World.{World, Activation, activation_at, class_around}
 use Rattle.def_calls.specs.Definitions.{space_in}
-use Rattle.def_calls.specs.Calls.{close}
+use Rattle.def_calls.specs.Calls.{BlockArgument, no_block, block_of, not_a_block, block_argument, close}
 use Rattle.def_calls.specs.Plans as plans
 use Rattle.def_calls.specs.Views.{an_array, a_hash, a_string}
 use Rattle.def_eval.specs.Source.{Source}
@@ -84,11 +85,40 @@ abbrev pub Still : Memory → Config → Type 0
 Still m (Run f ks l) = length l.scopes ≡ length m.scopes
 Still m (Halt e) = Unit {0}
 
--- the objects among which a transition finds what it calls: a plan of an iteration may have made some before
+-- the objects where a block argument is taken: the Proc of a Symbol is new
+abbrev pub objects_with : World → BlockArgument → List Object
+objects_with w no_block = w.store.objects
+objects_with w (block_of p u) = u.store.objects
+objects_with w not_a_block = w.store.objects
+
+abbrev pub objects_at : Part → Value → Memory → List Object
+objects_at (operands n a vs es) v m = m.world.store.objects
+objects_at (receiver n x is b) v m = m.world.store.objects
+objects_at (items n k recv vs is b) v m = m.world.store.objects
+objects_at (block k recv vs) v m = objects_with m.world (block_argument m.world v)
+objects_at (elements n g id s is) v m = m.world.store.objects
+objects_at (hash_key n id e ps) v m = m.world.store.objects
+objects_at (hash_value n id k ps) v m = m.world.store.objects
+objects_at (pieces n id es) v m = m.world.store.objects
+objects_at (rest n es) v m = m.world.store.objects
+objects_at (test n b bs o) v m = m.world.store.objects
+objects_at chosen v m = m.world.store.objects
+objects_at (and_then n e) v m = m.world.store.objects
+objects_at (or_else n e) v m = m.world.store.objects
+objects_at (loop_test n t b) v m = m.world.store.objects
+objects_at (loop_body n t b) v m = m.world.store.objects
+objects_at (rescued n b cs o) v m = m.world.store.objects
+objects_at (clause_class n e es t b cs r) v m = m.world.store.objects
+objects_at (clause_target n e b r) v m = m.world.store.objects
+objects_at (clause_body r) v m = m.world.store.objects
+objects_at (ensured n e) v m = m.world.store.objects
+
+-- the objects among which a transition finds what it calls: a plan of an iteration, or a block argument, may have made some
+-- before
 abbrev pub objects_for : Focus → List Item → Memory → List Object
 objects_for (perform n e) ks m = m.world.store.objects
 objects_for (give v) [] m = m.world.store.objects
-objects_for (give v) (part k ∷ ks) m = m.world.store.objects
+objects_for (give v) (part k ∷ ks) m = objects_at k v m
 objects_for (give v) (activation a place ∷ ks) m = m.world.store.objects
 objects_for (give v) (iteration a it place ∷ ks) m = (plans.next it v m.world.store).store.objects
 objects_for (give v) (ensuring o ∷ ks) m = m.world.store.objects

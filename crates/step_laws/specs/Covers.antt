@@ -1,22 +1,57 @@
 -- The forms whose code is followed where a spot of it and the number of their first body are known: what defines a method,
--- at the top of a body or in a sequence there, besides the covered ones.
-use Rattle.std.specs.Prelude.{◌≡◌, ℕ, ◌+◌, get_or, is_some, Option}
+-- and calls with a block, at the top of a body or in a sequence there, besides the covered ones.
+use Rattle.std.specs.Prelude.{◌≡◌, ℕ, ◌+◌, get_or, Bool, false, nat_lt, is_some, Option}
 use Rattle.rite_code.specs.declared.operation.Operation.TheVariants as op
-use Rattle.ir_core.specs.CoreForm.{Name, CoreForm, Body, nil, truth, falsehood, self_ref, int, str, sym, local, own, exception, set_local, ivar, set_ivar, gvar, set_gvar, constant, top_constant, in_constant, set_constant, set_in_constant, array, hash, range, text, intern, seq, cond, and_form, or_form, while_form, call, yield_form, super_form, function, lambda, begin_form, return_form, break_form, next_form, retry, define, define_on, class_form, module_form, singleton_class, alias_form, undef_form, defined, item, rest_of, tail_of, absent, there, Forms, none, more, no_items, plain, splat, to, on_self, bare}
+use Rattle.ir_counts.specs.Tables.{item_count}
+use Rattle.ir_core.specs.CoreForm.{Name, CoreForm, Body, nil, truth, falsehood, self_ref, int, str, sym, local, own, exception, set_local, ivar, set_ivar, gvar, set_gvar, constant, top_constant, in_constant, set_constant, set_in_constant, array, hash, range, text, intern, seq, cond, and_form, or_form, while_form, call, yield_form, super_form, function, lambda, begin_form, return_form, break_form, next_form, retry, define, define_on, class_form, module_form, singleton_class, alias_form, undef_form, defined, item, rest_of, tail_of, absent, there, Forms, none, more, Items, no_items, plain, splat, Receiver, to, on_self, bare}
 use Rattle.gen_parts.specs.declared.emitter.Spot.{Spot}
 use Rattle.gen_parts.specs.Pieces.{past, does}
 use Rattle.gen_forms.specs.declared.context.Loop.{Loop}
-use Rattle.gen_forms.specs.Gen.{gen}
-use Rattle.def_eval.specs.Source.{span}
+use Rattle.gen_forms.specs.Gen.{gen, gen_receiver, pass_in_registers}
+use Rattle.def_eval.specs.Source.{span, parameters_of}
+use Rattle.def_eval.specs.Scopes.{shape_of}
 use Rattle.def_machine.specs.State.{body_at}
+use Rattle.def_machine.specs.Turn.{fetch, shape_by}
+use Rattle.eval_laws.specs.Standing.{past_receiver, past_items}
 use Rattle.step_laws.specs.Site.{Site, within, Room, Named}
-use Rattle.step_laws.specs.Covered.{Covered}
+use Rattle.step_laws.specs.Covered.{Covered, CoveredItems}
 
 -- the body of a method is the child of its definition
 pub record Defines (h : Site) (o : Option Loop) (r : ℕ) (s : Spot) (j : ℕ) (x : Name) (f : Body) : Type 0 where
   pub room : Room h r
   pub named : Named h x
   pub child : get_or (body_at h.program h.body).children (past s (does (op.TClass r))).child 0 ≡ j
+
+-- The body of a block is the child that is made, and its code begins with its parameters.
+pub record Makes (h : Site) (r : ℕ) (s : Spot) (j : ℕ) (f : Body) : Type 0 where
+  pub room : Room h r
+  pub child : get_or (body_at h.program h.body).children s.child 0 ≡ j
+  pub shape : shape_by (fetch h.program j 0) ≡ shape_of (parameters_of f)
+
+abbrev pub CoveredReceiver : Site → Bool → ℕ → Receiver → Type 0
+CoveredReceiver h inside r (to e) = Covered h inside r e
+CoveredReceiver h inside r on_self = Unit {0}
+CoveredReceiver h inside r bare = ⊥
+
+-- the spot behind the receiver of a call, and that behind its items
+abbrev pub past_receiver_code : Site → Option Loop → ℕ → Spot → Receiver → Spot
+past_receiver_code h o r s e = past s (gen_receiver (within h o) s r e)
+
+abbrev pub past_items_code : Site → Option Loop → ℕ → Spot → Items → Spot
+past_items_code h o r s is = past s (pass_in_registers (within h o) s r is)
+
+-- a call with a block literal
+pub record CallsWith (h : Site) (o : Option Loop) (r : ℕ) (s : Spot) (j : ℕ) (e : Receiver) (x : Name) (is : Items)
+    (b : CoreForm) : Type 0 where
+  pub f : Body
+  pub literal : b ≡ function f
+  pub room : Room h r
+  pub receiver : CoveredReceiver h (is_some o) r e
+  pub items : CoveredItems h (is_some o) (r + 1) is
+  pub few : nat_lt 253 (item_count is) ≡ false
+  pub named : Named h x
+  pub made : Makes h (r + 1 + item_count is) (past_items_code h o (r + 1) (past_receiver_code h o r s e) is)
+      (past_items (past_receiver j e) is) f
 
 abbrev mutual
   pub Covers : Site → Option Loop → ℕ → Spot → ℕ → CoreForm → Type 0
@@ -51,16 +86,16 @@ abbrev mutual
   Covers h loop r spot j (or_form a b) = Covered h (is_some loop) r (or_form a b)
   Covers h loop r spot j (while_form first t b) = Covered h (is_some loop) r (while_form first t b)
   Covers h loop r spot j (call (to e) x is absent) = Covered h (is_some loop) r (call (to e) x is absent)
-  Covers h loop r spot j (call (to e) x is (there b)) = Covered h (is_some loop) r (call (to e) x is (there b))
+  Covers h loop r spot j (call (to e) x is (there b)) = CallsWith h loop r spot j (to e) x is b
   Covers h loop r spot j (call on_self x is absent) = Covered h (is_some loop) r (call on_self x is absent)
-  Covers h loop r spot j (call on_self x is (there b)) = Covered h (is_some loop) r (call on_self x is (there b))
+  Covers h loop r spot j (call on_self x is (there b)) = CallsWith h loop r spot j on_self x is b
   Covers h loop r spot j (call bare x no_items absent) = Covered h (is_some loop) r (call bare x no_items absent)
   Covers h loop r spot j (call bare x no_items (there b)) = Covered h (is_some loop) r (call bare x no_items (there b))
   Covers h loop r spot j (call bare x (plain e is) m) = Covered h (is_some loop) r (call bare x (plain e is) m)
   Covers h loop r spot j (call bare x (splat e is) m) = Covered h (is_some loop) r (call bare x (splat e is) m)
   Covers h loop r spot j (yield_form is) = Covered h (is_some loop) r (yield_form is)
   Covers h loop r spot j (super_form is m) = Covered h (is_some loop) r (super_form is m)
-  Covers h loop r spot j (function f) = Covered h (is_some loop) r (function f)
+  Covers h loop r spot j (function f) = Makes h r spot j f
   Covers h loop r spot j (lambda f) = Covered h (is_some loop) r (lambda f)
   Covers h loop r spot j (begin_form b cs o e) = Covered h (is_some loop) r (begin_form b cs o e)
   Covers h loop r spot j (return_form e) = Covered h (is_some loop) r (return_form e)

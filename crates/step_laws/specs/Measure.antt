@@ -37,7 +37,7 @@ abbrev mutual
   size (and_form a b) = 3 + size a
   size (or_form a b) = 3 + size a
   size (while_form first t b) = 1
-  size (call r x is b) = 5 + size_receiver r + size_items is
+  size (call r x is b) = 5 + size_receiver r + size_items is + size_block b
   size (yield_form is) = 1
   size (super_form is b) = 1
   size (function f) = 1
@@ -76,6 +76,11 @@ abbrev mutual
   size_maybe absent = 0
   size_maybe (there e) = size e
 
+  -- the block of a call is a form and a part
+  pub size_block : Maybe → ℕ
+  size_block absent = 0
+  size_block (there e) = 3 + size e
+
   pub size_receiver : Receiver → ℕ
   size_receiver (to e) = size e
   size_receiver on_self = 0
@@ -83,8 +88,8 @@ abbrev mutual
 
 abbrev pub weight : Part → ℕ
 weight (operands n a vs es) = 1 + sizes es
-weight (receiver n x is b) = 3 + size_items is
-weight (items n k r vs is b) = 1 + size_items is
+weight (receiver n x is b) = 3 + size_items is + size_block b
+weight (items n k r vs is b) = 1 + size_items is + size_block b
 weight (block k r vs) = 1
 weight (elements n g o s is) = 1
 weight (hash_key n o e ps) = 2 + size e

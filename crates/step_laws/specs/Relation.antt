@@ -27,6 +27,7 @@ use Rattle.def_machine.specs.State as machine
 use Rattle.def_machine.specs.State.{Registers, Frame, Level, frame, State, On, Off, Stuck, body_at, list_at, slot_at, value_at, shown}
 use Rattle.def_machine.specs.Unwind.{receive, throw}
 use Rattle.def_machine.specs.Turn.{turn}
+use Rattle.scope_laws.specs.Numbers.{parents, outers}
 use Rattle.step_laws.specs.Site.{Site, within, place_in, at_line, LineAt, Room, register, Known}
 use Rattle.step_laws.specs.Covers.{Covers}
 use Rattle.step_laws.specs.Calm.{StaysCalm}
@@ -189,6 +190,7 @@ pub record SitesAre (s : Source) (p : Program) (hs : List Site) (cs : List Scope
     : Type 0 where
   pub scopes : length cs ≡ length hs
   pub lists : length l ≡ length hs
+  pub around : outers l ≡ parents cs
   pub each : (h : Site) → IsSite hs h → SiteIs s p h cs l w
 
 -- Fibers that wait, one by one.
