@@ -114,6 +114,7 @@ module _ (s : Source) (p : Program) (methods : (n : ℕ) → IsKind s n of_metho
   at_part early v (clause_target n e b r) ks m h = all_called m.world m.scopes h.memory.world
   at_part early v (clause_body r) ks m h = all_called m.world m.scopes h.memory.world
   at_part early v (ensured n e) ks m h = all_called m.world m.scopes h.memory.world
+
   calls_all : (early : World) (f : Focus) (ks : List Item) (m : Memory) → Fits s early (Run f ks m)
       → CallsBodies s p (objects_for f ks m)
   calls_all early (perform n e) ks m h = all_called m.world m.scopes h.memory.world

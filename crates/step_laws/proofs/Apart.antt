@@ -6,7 +6,7 @@ use Rattle.std.proofs.lemmas.Slice.Eq.{bytes_eq-Decides}
 use Rattle.ir_core.specs.CoreForm.{Name, Local, named, hidden, pattern, rest}
 use Rattle.scope_resolver.specs.declared.seek.Search.{Search}
 use Rattle.scope_resolver.specs.declared.seek.Search.TheVariants.{Found, Past}
-use Rattle.scope_resolver.specs.Layout.{Slots, Scopes, is_at, seek, place_at, place_or_self, innermost_count, place_of}
+use Rattle.scope_resolver.specs.Layout.{Slots, Scopes, is_at, seek, place_at, place_from, place_or_self, innermost_count, place_of}
 use Rattle.def_eval.specs.Scopes.{same_local}
 use Rattle.step_laws.specs.Site.{Site, register, Known}
 
@@ -93,22 +93,54 @@ below_hidden x ss low =
     let h = within ss (register_in (ss ∷ []) x - 1) (named x) a.1 in
     omega (arith, h, low)
 
-module _ (h : Site) (ss : Slots) (scopes : h.context.scopes ≡ ss ∷ []) where
+-- what isn't found in the first body is in none, or further out
+pub further_out : (x : Local) (scopes : Scopes) (n : ℕ) → 1 ≤ n → (place_or_self (place_from x scopes n)).levels ≡ 0
+    → (place_or_self (place_from x scopes n)).register ≡ 0
+further_out x [] n le e = refl
+further_out x (ss ∷ scopes) n le e =
+    by (further_out x scopes (n + 1) (omega (arith, le))) (seek x ss (Past 1)) e
+  where
+    by : ((place_or_self (place_from x scopes (n + 1))).levels ≡ 0
+        → (place_or_self (place_from x scopes (n + 1))).register ≡ 0) → (r : Search)
+        → (place_or_self (place_at r n (place_from x scopes (n + 1)))).levels ≡ 0
+        → (place_or_self (place_at r n (place_from x scopes (n + 1)))).register ≡ 0
+    by out (Found i) e = absurd (omega (arith, le, e))
+    by out (Past i) e = out e
+
+-- so a name of the body is where it is in the first slots
+first_register : (ss : Slots) (around : Scopes) (x : Name) → (place_of (ss ∷ around) (named x)).levels ≡ 0
+    → 1 ≤ register_in (ss ∷ around) x → register_in (ss ∷ around) x ≡ register_in (ss ∷ []) x
+first_register ss around x level low = by (seek (named x) ss (Past 1)) level low
+  where
+    by : (q : Search) → (place_or_self (place_at q 0 (place_from (named x) around 1))).levels ≡ 0
+        → 1 ≤ (place_or_self (place_at q 0 (place_from (named x) around 1))).register
+        → (place_or_self (place_at q 0 (place_from (named x) around 1))).register
+        ≡ (place_or_self (place_at q 0 None)).register
+    by (Found i) level low = refl
+    by (Past i) level low = absurd (omega (arith, low, further_out (named x) around 1 (omega arith) level))
+
+module _ (h : Site) (ss : Slots) (around : Scopes) (scopes : h.context.scopes ≡ ss ∷ around) where
+  own_register : (x : Name) → Known h (named x) → register h (named x) ≡ register_in (ss ∷ []) x
+  own_register x k =
+      let there = ap (λ (c : Scopes). register_in c x) scopes in
+      let level = sym (ap (λ (c : Scopes). (place_of c (named x)).levels) scopes) ∙ k.level in
+      there ∙ first_register ss around x level (omega (arith, there, k.behind_self))
+
   named_low : (x : Name) → Known h (named x) → register h (named x) ≤ length ss
   named_low x k =
-      subst (λ (c : Scopes). register_in c x ≤ length ss) (sym scopes)
-      (below_hidden x ss (subst (λ (c : Scopes). 1 ≤ register_in c x) scopes k.behind_self))
+      let own = own_register x k in
+      let low = below_hidden x ss (omega (arith, own, k.behind_self)) in
+      omega (arith, own, low)
 
   hidden_is : (d : ℕ) → register h (hidden d) ≡ 1 + length ss + d
   hidden_is d = ap (λ (c : Scopes). 1 + innermost_count c + d) scopes
 
   pub apart : (x y : Local) → Known h x → Known h y → same_local x y ≡ false → register h x ≢ register h y
   apart (named x) (named y) j k ne f =
-      apart_in ss x y
-      (subst (λ (c : Scopes). 1 ≤ register_in c x) scopes j.behind_self)
-      (subst (λ (c : Scopes). 1 ≤ register_in c y) scopes k.behind_self)
-      ne
-      (subst (λ (c : Scopes). register_in c x ≡ register_in c y) scopes f)
+      let first = own_register x j in
+      let second = own_register y k in
+      apart_in ss x y (omega (arith, first, j.behind_self)) (omega (arith, second, k.behind_self)) ne
+      (sym first ∙ f ∙ second)
   apart (named x) (hidden d) j k ne f =
       let low = named_low x j in let is = hidden_is d in absurd (omega (arith, low, is, f))
   apart (hidden d) (named y) j k ne f =

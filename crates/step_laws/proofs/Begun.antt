@@ -22,6 +22,7 @@ use Rattle.def_machine.specs.State.{Registers, no_registers, list_at, slot_at}
 use Rattle.step_laws.specs.Site.{Site, register, Known}
 use Rattle.step_laws.specs.Bodies.{body_of, BodyAt}
 use Rattle.step_laws.specs.Relation.{IsOwn, Owned, Same}
+use Rattle.step_laws.proofs.Apart.{further_out}
 use Rattle.step_laws.proofs.Parameters.{Lined, Sought, at, nowhere, sought, lined_values, lined_nils, lined_block, set_row, length_row, row_below, row_at, row_past}
 
 named_all : (p : Parameters)
@@ -97,20 +98,6 @@ slots_enough (body p ls fm) =
     one : (xs : List Local) → 1 ≤ length (block_slot xs)
     one [] = omega arith
     one (x ∷ xs) = omega arith
-
--- what isn't found in the first body is in none, or further out
-further_out : (x : Local) (scopes : Scopes) (n : ℕ) → 1 ≤ n → (place_or_self (place_from x scopes n)).levels ≡ 0
-    → (place_or_self (place_from x scopes n)).register ≡ 0
-further_out x [] n le e = refl
-further_out x (ss ∷ scopes) n le e =
-    by (further_out x scopes (n + 1) (omega (arith, le))) (seek x ss (Past 1)) e
-  where
-    by : ((place_or_self (place_from x scopes (n + 1))).levels ≡ 0
-        → (place_or_self (place_from x scopes (n + 1))).register ≡ 0) → (r : Search)
-        → (place_or_self (place_at r n (place_from x scopes (n + 1)))).levels ≡ 0
-        → (place_or_self (place_at r n (place_from x scopes (n + 1)))).register ≡ 0
-    by out (Found i) e = absurd (omega (arith, le, e))
-    by out (Past i) e = out e
 
 -- A local of the body has the value of its register, where variables are lined up with the slots.
 

@@ -1,6 +1,6 @@
 -- Block literals, and calls with a block: the Proc is made, and passed with the call.
-use Rattle.std.proofs.Common.{◌≡◌, ◌⊎◌, inl, inr, ℕ, suc, ◌+◌, ◌<◌, List, [], ◌∷◌, refl, sym, ap, ◌∙◌, subst, arith, length, get_or, Bool, true, false}
-use Rattle.std.specs.Prelude.{if◌then◌else◌, nat_eq, nat_lt, Option, Some, None}
+use Rattle.std.proofs.Common.{◌≡◌, ◌⊎◌, ℕ, suc, ◌+◌, ◌<◌, List, ◌∷◌, refl, sym, ap, ◌∙◌, subst, arith, length, get_or, Bool, true, false}
+use Rattle.std.specs.Prelude.{if◌then◌else◌, nat_lt, Option, Some, None}
 use Rattle.rb_value.specs.declared.value.Value.{Value}
 use Rattle.rb_value.specs.declared.value.ObjId.{ObjId}
 use Rattle.rb_value.specs.declared.value.SymId.{SymId}
@@ -10,7 +10,6 @@ use Rattle.rb_value.specs.declared.method.Shape.{Shape}
 use Rattle.rb_value.specs.declared.procs.Sending.TheVariants.{Unsent}
 use Rattle.rb_value.specs.declared.kind.Kind.TheVariants as kinds
 use Rattle.rb_value.specs.declared.core_class.CoreClass.TheVariants as class
-use Rattle.rite_code.specs.declared.operation.Operation.{Operation}
 use Rattle.rite_code.specs.declared.operation.Operation.TheVariants as op
 use Rattle.ir_core.specs.CoreForm.{Name, function, Body}
 use Rattle.scope_resolver.specs.declared.body_kind.BodyKind.TheVariants as kind
@@ -35,16 +34,16 @@ use Rattle.def_machine.specs.State as machine
 use Rattle.def_machine.specs.State.{Frame, Level, frame, State, body_at, value_at}
 use Rattle.def_machine.specs.Unwind.{after_result as after_machine}
 use Rattle.def_machine.specs.Entering.{enter as enter_machine}
-use Rattle.def_machine.specs.Turn.{turn, act, fetch, shape_by, lists_around, make_proc as make_proc_machine, symbol, arguments, registers_of, call as call_machine, call_with}
+use Rattle.def_machine.specs.Turn.{turn, fetch, shape_by, lists_around, make_proc as make_proc_machine, symbol, arguments, registers_of, call as call_machine, call_with}
 use Rattle.scope_laws.proofs.Alike.{around_alike}
 use Rattle.step_laws.specs.Site.{Site, place_in, at_line, LineAt, Room, Named, number}
 use Rattle.step_laws.specs.Covers.{Makes}
 use Rattle.step_laws.specs.Calm.{IsSteady, Quiet, Still, Peace, objects_with}
-use Rattle.step_laws.specs.Bodies.{EntersBody, CallsBodies}
+use Rattle.step_laws.specs.Bodies.{CallsBodies}
 use Rattle.step_laws.specs.Measure.{burden, measure}
-use Rattle.step_laws.proofs.Placed.{high, Rest, frame_at, turned}
+use Rattle.step_laws.proofs.Placed.{Rest, frame_at, turned}
 use Rattle.step_laws.specs.Behind.{Static, Holds, HoldsCall, block_sender}
-use Rattle.step_laws.specs.Relation.{Ground, Waits, over_levels, InFrame, Common, Doing, GivesIn, raised, Related, Step}
+use Rattle.step_laws.specs.Relation.{Ground, over_levels, InFrame, Common, Doing, GivesIn, raised, Related, Step}
 use Rattle.step_laws.proofs.Registers.{slot_same, slot_other, keeps_above}
 use Rattle.step_laws.proofs.Untouched.{put_only, frame_kept, grown, grown_here, same_here, written_here, below_running}
 use Rattle.step_laws.proofs.Matching.{by_none, by_one, going, state_at, written, writes}

@@ -104,7 +104,7 @@ module _ {A : Type 0} (a : Gathered A) (names : (x : Name) → a.of_name x ≡ a
     none_in_forms (form.more e es) is =
         none_both (over a e) (over_forms a es) (no_bodies e is.0) (none_in_forms es is.1)
 
-    none_in_items : (is' : Items) → ArePlainItems is' → over_items a is' ≡ a.nothing
+    pub none_in_items : (is' : Items) → ArePlainItems is' → over_items a is' ≡ a.nothing
     none_in_items form.no_items is = refl
     none_in_items (form.plain e is') is =
         none_both (over a e) (over_items a is') (no_bodies e is.0) (none_in_items is' is.1)

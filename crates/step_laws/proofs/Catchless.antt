@@ -24,7 +24,7 @@ use Rattle.step_laws.specs.Plain.{IsPlain, ArePlain, ArePlainItems, ArePlainElem
 unfoldable pub IsBare : Piece → Type 0
 IsBare p = (p.catches ≡ []) × (p.children ≡ []) × (p.bodies ≡ [])
 
-bare_both : (p q : Piece) → IsBare p → IsBare q → IsBare (p ⊕ q)
+pub bare_both : (p q : Piece) → IsBare p → IsBare q → IsBare (p ⊕ q)
 unfolding IsBare both
 bare_both p q e f = (
   ap (λ (cs : List Catch). cs ++ q.catches) e.0 ∙ f.0,
@@ -36,19 +36,19 @@ bare_puts : (l : Line) → IsBare (puts l)
 unfolding IsBare puts
 bare_puts l = (refl, refl, refl)
 
-bare_nothing : IsBare nothing
+pub bare_nothing : IsBare nothing
 unfolding IsBare nothing
 bare_nothing = (refl, refl, refl)
 
 -- a code that stands bare everywhere
-abbrev Bare : Code → Type 0
+abbrev pub Bare : Code → Type 0
 Bare k = (c : Context) (s : Spot) (r : ℕ) → IsBare (k c s r)
 
 bare_over : (h : Held) (s : Spot) (next : Spot → Piece) → ((u : Spot) → IsBare (next u)) → IsBare (over h s next)
 bare_over h s next f = bare_both (puts (line_by h (past (behind s) (next (behind s))).line)) (next (behind s)) (bare_puts _)
     (f (behind s))
 
-bare_passed : (g : Passing) (each gathered : Code) → Bare each → Bare gathered → Bare (passed_by g each gathered)
+pub bare_passed : (g : Passing) (each gathered : Code) → Bare each → Bare gathered → Bare (passed_by g each gathered)
 bare_passed (passed.InRegisters n) each gathered e f c s r = e c s (r + 1)
 bare_passed (passed.InArrayOf n) each gathered e f c s r = bare_both (each c s (r + 1)) (does (op.Array (r + 1) n)) (e c s (r + 1)) (bare_puts _)
 bare_passed passed.InArray each gathered e f c s r =
@@ -107,7 +107,7 @@ bare_next None r = bare_puts _
 bare_next (Some l) r = bare_puts _
 
 -- items may be elements
-elements_of : (is' : Items) → ArePlainItems is' → ArePlainElements is'
+pub elements_of : (is' : Items) → ArePlainItems is' → ArePlainElements is'
 elements_of form.no_items is = tt
 elements_of (form.plain e is') is = (is.0, elements_of is' is.1)
 elements_of (form.splat e is') is = absurd is
@@ -253,14 +253,14 @@ mutual
       (bare_both q (leap ⊕ others) (bare b is.1 c body r)
       (bare_both leap others (bare_puts _) (bare_choose bs o is.2 k c further r))))
 
-  bare_items : (is' : Items) → ArePlainItems is' → Bare (λ c s r. pass_in_registers c s r is')
+  pub bare_items : (is' : Items) → ArePlainItems is' → Bare (λ c s r. pass_in_registers c s r is')
   bare_items form.no_items is c s r = bare_nothing
   bare_items (form.plain e is') is c s r =
       let p = gen c s r e in
       bare_both p (pass_in_registers c (past s p) (r + 1) is') (bare e is.0 c s r) (bare_items is' is.1 c (past s p) (r + 1))
   bare_items (form.splat e is') is c s r = absurd is
 
-  bare_gather : (is' : Items) → ArePlainElements is' → Bare (λ c s r. gather c s r is')
+  pub bare_gather : (is' : Items) → ArePlainElements is' → Bare (λ c s r. gather c s r is')
   bare_gather form.no_items is c s r = bare_nothing
   bare_gather (form.plain e is') is c s r =
       let p = gen c s (r + 1) e ⊕ does (op.AryPush r 1) in

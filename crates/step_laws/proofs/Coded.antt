@@ -1,7 +1,9 @@
--- The code of a program of plain forms and of methods of such forms within the limits is code of it.
-use Rattle.std.proofs.Common.{◌≡◌, ◌<◌, ◌≤◌, ℕ, zero, suc, ◌+◌, List, [], ◌∷◌, ◌++◌, length, map, arith, refl, sym, ap, subst, Bool, true}
-use Rattle.std.specs.Prelude.{◌&&◌, None}
+-- The code of a program of plain forms, methods of such forms and calls with a block of such forms within the limits is
+-- code of it.
+use Rattle.std.proofs.Common.{◌≡◌, ◌<◌, ◌≤◌, ℕ, zero, suc, ◌+◌, List, [], ◌∷◌, ◌++◌, length, map, arith, refl, sym, ap, ◌∙◌, subst, Bool, true}
+use Rattle.std.specs.Prelude.{◌&&◌, slice_get, Some, None}
 use Rattle.std.proofs.lemmas.List.{append-nil}
+use Rattle.std.proofs.lemmas.Option.{get_or_from_slice_get}
 use Rattle.rite_code.specs.Code.{Program, program}
 use Rattle.rite_code.specs.declared.operation.Operation.TheVariants as op
 use Rattle.ir_core.specs.CoreForm as form
@@ -29,12 +31,13 @@ use Rattle.code_laws.proofs.Binding.{main_knows}
 use Rattle.text_set.specs.Sets.{is_among}
 use Rattle.rb_store.specs.Opening.{with_names}
 use Rattle.def_calls.specs.Rows
-use Rattle.def_eval.specs.Source.{over, in_order, body_at as source_body, no_parameters, source_of, all_names}
+use Rattle.def_eval.specs.Source.{over, in_order, body_at as source_body, no_parameters, parameters_of, source_of, all_names}
+use Rattle.def_eval.specs.Scopes.{shape_of}
 use Rattle.def_machine.specs.State.{body_at, no_body, all_symbols}
 use Rattle.step_laws.specs.Site.{Site, LineAt, Lines, IsThere, opening_store}
 use Rattle.step_laws.specs.Simple.{IsSimple}
 use Rattle.step_laws.specs.Covers.{Covers}
-use Rattle.step_laws.specs.Bodies.{BodyCode}
+use Rattle.step_laws.specs.Bodies.{BodyCode, ProcCode}
 use Rattle.step_laws.specs.Tops.{AreTops, IsPlainProgram, no_tops, form_before}
 use Rattle.step_laws.specs.Implements.{main_site, IsCodeOf, Implements}
 use Rattle.step_laws.proofs.Placed.{high, Stands, left, right, the_line}
@@ -44,14 +47,16 @@ use Rattle.step_laws.proofs.Plainly.{simple_plain}
 use Rattle.step_laws.proofs.Whole.{implements}
 use Rattle.step_laws.proofs.Steady.{peace_is_calm}
 use Rattle.step_laws.proofs.Alone.{stays_peaceful}
-use Rattle.eval_laws.specs.Kinds.{of_method}
-use Rattle.step_laws.proofs.Blockless.{no_blocks, kind_within, method_behind}
+use Rattle.eval_laws.specs.Kinds.{Kind, IsKind, of_method, of_block, kinds}
+use Rattle.eval_laws.proofs.Sources.{program_stands}
+use Rattle.step_laws.proofs.Numbered.{kind_within}
 use Rattle.step_laws.proofs.Found.{both_true}
 use Rattle.step_laws.proofs.Naming.{one_more, names_written, all_known}
-use Rattle.step_laws.proofs.Written.{Written, AllWritten, nth_written, tops_written, tops_catchless}
+use Rattle.step_laws.proofs.Written.{Written, WrittenAs, AllWritten, nth_written, tops_written, tops_catchless}
 use Rattle.step_laws.proofs.Topped as topped
 use Rattle.step_laws.proofs.Laid.{first_place}
 use Rattle.step_laws.proofs.Fitting as fitting
+use Rattle.step_laws.proofs.Fitting.{Around, of_main}
 use Rattle.step_laws.proofs.Covering.{Has}
 use Rattle.step_laws.proofs.Coding as coding
 
@@ -63,19 +68,40 @@ fits_main p ls f c = (
       (whole (walked extent.Program [] f)),
 )
 
--- a method of the source by its number in the code
+-- a method or a block of the source by its number in the code
 method_of : (s : List Body) (c : Program) (n : ℕ) (b : Body) → c.version ≡ 2 → source_body s n ≡ b
-    → Written n b (body_at c n) → ((x : Name) → is_among x (tally b).symbols ≡ true → IsThere s x) → BodyCode s c n
+    → Written kind.Method n b (body_at c n) → ((x : Name) → is_among x (tally b).symbols ≡ true → IsThere s x)
+    → BodyCode s c n
 method_of s c n (form.body p ls f) version mine w there =
-    coding.method_coded s c n (record {
+    coding.body_coded s c n (record {
+      kind_of = kind.Method;
+      enters = refl;
       parameters = p;
       locals = ls;
       form_of_it = f;
+      slots = refl;
       version = version;
       mine = mine;
       written = w;
       there = there;
     })
+
+block_of : (s : List Body) (c : Program) (n : ℕ) (b : Body) → c.version ≡ 2 → source_body s n ≡ b
+    → Written kind.Block n b (body_at c n) → ((x : Name) → is_among x (tally b).symbols ≡ true → IsThere s x)
+    → ProcCode s c n
+block_of s c n (form.body p ls f) version mine w there =
+    coding.block_coded s c n (record {
+      kind_of = kind.Block;
+      enters = refl;
+      parameters = p;
+      locals = ls;
+      form_of_it = f;
+      slots = refl;
+      version = version;
+      mine = mine;
+      written = w;
+      there = there;
+    }) refl
 
 module _ (p : Parameters) (ls : List Local) (f : CoreForm) (program_is : IsProgram (form.body p ls f))
     (limits : first_excess (need (form.body p ls f)) ≡ None) (tops : AreTops (form.more f form.none)) where
@@ -104,13 +130,13 @@ module _ (p : Parameters) (ls : List Local) (f : CoreForm) (program_is : IsProgr
   few = omega (arith, within.few)
 
   abbrev start : ℕ
-  start = fitting.start kind.Main p ls f fits
+  start = fitting.start kind.Main [] of_main p ls f fits
 
   abbrev around : Context
-  around = fitting.around kind.Main p ls f fits
+  around = fitting.around kind.Main [] of_main p ls f fits
 
   abbrev wide : Bool
-  wide = fitting.wide kind.Main p ls f fits
+  wide = fitting.wide kind.Main [] of_main p ls f fits
 
   abbrev q : Piece
   q = gen around (first_spot 0) start f
@@ -124,7 +150,7 @@ module _ (p : Parameters) (ls : List Local) (f : CoreForm) (program_is : IsProgr
   placed : Lines site 0 (q.lines ++ line.Does op.Stop ∷ [])
   unfolding coded assembled both puts
   placed =
-      fitting.lines_placed kind.Main p ls f fits 0 q (fitting.main_inner p ls f fits (within_program ls) refl formed)
+      fitting.lines_placed kind.Main [] of_main p ls f fits 0 q (fitting.main_inner p ls f fits (within_program ls) refl formed)
       op.Stop (fitting.main_ready p ls f fits (within_program ls) refl formed)
       (fitting.main_entered p ls f fits (within_program ls) refl formed) few site refl refl refl refl
 
@@ -138,11 +164,16 @@ module _ (p : Parameters) (ls : List Local) (f : CoreForm) (program_is : IsProgr
 
   -- The other bodies.
 
-  written : AllWritten 1 (over in_order f) (q.bodies ++ [])
+  -- what is around a block of the main program: its slots
+  out : Around kind.Block around.scopes
+  out = record { short = (fitting.w kind.Main [] of_main p ls f fits).able.each; few = omega arith }
+
+  written : AllWritten 1 (kinds f) (over in_order f) (q.bodies ++ [])
   unfolding both nothing
   written =
-      subst (λ (bs : List Body). AllWritten 1 bs (q.bodies ++ [])) (append-nil (over in_order f))
-      (tops_written tops t (within_program ls) around (first_spot 0) start (fits.1, tt) all_formed)
+      subst (λ (bs : List Body). AllWritten 1 (kinds f) bs (q.bodies ++ [])) (append-nil (over in_order f))
+      (subst (λ (ks : List Kind). AllWritten 1 ks (over in_order f ++ []) (q.bodies ++ [])) (append-nil (kinds f))
+      (tops_written tops t (within_program ls) around (first_spot 0) start out (fits.1, tt) all_formed))
 
   nth_there : (n : ℕ) (x : Name) → n < length (source_of b)
       → is_among x (tally (source_body (source_of b) n)).symbols ≡ true
@@ -150,27 +181,44 @@ module _ (p : Parameters) (ls : List Local) (f : CoreForm) (program_is : IsProgr
   unfolding IsThere opening_store source_body
   nth_there n x lt e = all_known (source_of b) n (form.body no_parameters [] form.nil) Rows.opening x lt e
 
-  others : (n : ℕ) → 0 < n → n < length (source_of b) → BodyCode (source_of b) code n
+  nth_at : (j : ℕ) (k : Kind) → slice_get (kinds f) j ≡ Some k
+      → WrittenAs k (suc j) (source_body (source_of b) (suc j)) (body_at code (suc j))
   unfolding coded assembled both puts source_body
-  others zero some lt = absurd (omega (arith, some))
-  others (suc k) some lt =
-      let w = nth_written 1 k (over in_order f) (q.bodies ++ []) (form.body no_parameters [] form.nil) no_body written
-      (omega (arith, lt)) in
-      let same : 1 + k ≡ suc k = omega arith in
-      method_of (source_of b) code (suc k) (source_body (source_of b) (suc k)) refl refl
-      (subst (λ (n : ℕ). Written n (source_body (source_of b) (suc k)) (body_at code (suc k))) same w)
-      (λ x e. nth_there (suc k) x lt e)
+  nth_at j k e =
+      subst (λ (n : ℕ). WrittenAs k n (source_body (source_of b) (suc j)) (body_at code (suc j))) (omega arith)
+      (nth_written 1 j (kinds f) (over in_order f) (q.bodies ++ []) k (form.body no_parameters [] form.nil) no_body written e)
+
+  methods : (n : ℕ) → IsKind (source_of b) n of_method → BodyCode (source_of b) code n
+  methods zero e = absurd (cc e)
+  methods (suc j) e =
+      method_of (source_of b) code (suc j) (source_body (source_of b) (suc j)) refl refl (nth_at j of_method e)
+      (λ x there. nth_there (suc j) x (kind_within b (suc j) of_method e) there)
+
+  blocks : (n : ℕ) → IsKind (source_of b) n of_block → ProcCode (source_of b) code n
+  blocks zero e = absurd (cc e)
+  blocks (suc j) e =
+      block_of (source_of b) code (suc j) (source_body (source_of b) (suc j)) refl refl (nth_at j of_block e)
+      (λ x there. nth_there (suc j) x (kind_within b (suc j) of_block e) there)
+
+  -- the code of each block begins with its parameters
+  shapes : topped.Shapes site
+  unfolding source_body
+  shapes n g e is =
+      coding.begins_with (source_of b) code n (blocks n is).code
+      ∙ ap (λ (d : Body). shape_of (parameters_of d))
+      (get_or_from_slice_get (source_of b) n g (form.body no_parameters [] form.nil) e)
 
   -- both sides have the same symbols
   names_are : with_names Rows.opening (all_names (source_of b)) ≡ with_names Rows.opening (all_symbols code.bodies)
   unfolding coded assembled both puts
   names_are =
       one_more p ls f (over in_order f) (q.bodies ++ [])
-      (λ st. names_written 1 (over in_order f) (q.bodies ++ []) written st) Rows.opening
+      (λ st. names_written 1 (kinds f) (over in_order f) (q.bodies ++ []) written st) Rows.opening
 
   has : Has site (named_slots ls) ls t (start + width f)
   unfolding coded assembled both puts source_body
   has = record {
+    around = [];
     scopes = refl;
     held = (main_knows p ls f).0;
     symbols = refl;
@@ -181,7 +229,6 @@ module _ (p : Parameters) (ls : List Local) (f : CoreForm) (program_is : IsProgr
     registers = refl;
     first = omega arith;
     there = λ x e. nth_there 0 x (omega arith) e;
-    returns = λ r. refl;
   }
 
   all_stand : topped.Stands (body_at code 0).children (first_spot 0)
@@ -191,8 +238,8 @@ module _ (p : Parameters) (ls : List Local) (f : CoreForm) (program_is : IsProgr
 
   covers : Covers site None start (first_spot 0) 1 f
   covers =
-      (topped.tops_cover site (named_slots ls) ls t (start + width f) has tops (first_spot 0) start (width f)
-      (within_program ls) refl refl (fits.1, tt) all_formed (omega arith) (omega arith, tt) (omega arith) all_stand).0
+      (topped.tops_cover site (named_slots ls) ls t (start + width f) has shapes tops (first_spot 0) start (width f)
+      (within_program ls) (refl, λ e r. refl) refl (program_stands b program_is, tt) (fits.1, tt) all_formed (omega arith) (omega arith, tt) (omega arith) all_stand).0
 
   code_of_it : IsCodeOf (source_of b) code
   unfolding coded assembled both puts high Stands source_body
@@ -201,7 +248,7 @@ module _ (p : Parameters) (ls : List Local) (f : CoreForm) (program_is : IsProgr
     at = at;
     context = around;
     first = start;
-    apart = apart site (named_slots ls) refl;
+    apart = apart site (named_slots ls) [] refl;
     begins = first_place wide 0 (q.lines ++ line.Does op.Stop ∷ []);
     some = omega arith;
     room = omega arith;
@@ -211,8 +258,8 @@ module _ (p : Parameters) (ls : List Local) (f : CoreForm) (program_is : IsProgr
     code = left site 0 q (does op.Stop) both_stand;
     stop = subst (λ (n : ℕ). LineAt site n (line.Does op.Stop)) (omega arith)
         (the_line site (0 + high q) (line.Does op.Stop) (right site 0 q (does op.Stop) both_stand));
-    methods = λ n e. others n (method_behind b n e) (kind_within b n of_method e);
-    blocks = λ n e. absurd (no_blocks b tops n e);
+    methods = methods;
+    blocks = blocks;
     names = names_are;
   }
 

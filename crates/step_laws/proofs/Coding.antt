@@ -1,41 +1,50 @@
--- The code of a method of a program of plain forms within the limits is code of it.
+-- The code of a method or a block of a program of plain forms within the limits is code of it.
 use Rattle.std.proofs.Common.{◌≡◌, ◌≤◌, ℕ, ◌+◌, List, [], ◌∷◌, ◌++◌, length, map, arith, refl, sym, ap, ◌∙◌, subst, Bool, true, false}
-use Rattle.std.specs.Prelude.{Some, None}
+use Rattle.std.specs.Prelude.{Option, Some, None}
 use Rattle.rite_code.specs.Code.{Program}
 use Rattle.rite_code.specs.declared.code.Irep.{Irep}
+use Rattle.rite_code.specs.Instruction.{Instruction}
+use Rattle.rite_code.specs.declared.operation.Operation.{Operation}
 use Rattle.rite_code.specs.declared.operation.Operation.TheVariants as op
 use Rattle.text_set.specs.Sets.{is_among}
 use Rattle.ir_core.specs.CoreForm as form
 use Rattle.ir_core.specs.CoreForm.{Name, Local, named, hidden, pattern, rest, Parameters, CoreForm, Body, form_of}
-use Rattle.ir_core.specs.Program.{all_parameters, has_defaults, within_method, is_form}
+use Rattle.ir_core.specs.Program.{all_parameters}
 use Rattle.ir_walk.specs.Width.{width}
 use Rattle.ir_counts.specs.declared.tally.Tally.{Tally}
 use Rattle.ir_counts.specs.Counts.{tally}
+use Rattle.scope_resolver.specs.declared.body_kind.BodyKind.{BodyKind}
 use Rattle.scope_resolver.specs.declared.body_kind.BodyKind.TheVariants as kind
 use Rattle.scope_resolver.specs.declared.seek.Search.TheVariants.{Past}
-use Rattle.scope_resolver.specs.Layout.{Slots, named_slots, block_slot, slots_of, seek}
+use Rattle.scope_resolver.specs.Layout.{Slots, Scopes, has_parameters, seen_around, named_slots, block_slot, parameter_slots, slots_of, seek}
 use Rattle.gen_parts.specs.declared.line.Line.TheVariants as line
 use Rattle.gen_parts.specs.declared.line.Catch.{Catch}
 use Rattle.gen_parts.specs.Pieces.{Piece, behind, both, puts, does}
-use Rattle.gen_parts.specs.Assembly.{places, entry_by}
+use Rattle.gen_parts.specs.Assembly.{places, entry_by, instruction_before}
 use Rattle.gen_forms.specs.Gen.{Context, gen, first_spot, parameters}
 use Rattle.code_laws.proofs.Shares.{Fits, many}
+use Rattle.code_laws.specs.Bound.{AreHeld}
 use Rattle.code_laws.proofs.Binding.{method_knows}
+use Rattle.code_laws.proofs.Entering.{Inner}
 use Rattle.def_eval.specs.Source.{Source, body_at as source_body, parameters_of}
-use Rattle.def_calls.specs.World.{Runs}
+use Rattle.def_calls.specs.World.{Runs, main_program}
+use Rattle.def_eval.specs.Scopes.{shape_of}
 use Rattle.def_machine.specs.State.{body_at}
+use Rattle.def_machine.specs.Turn.{fetch, shape_by}
 use Rattle.rb_value.specs.declared.value.Value.{Value}
+use Rattle.rb_value.specs.declared.value.Value.TheVariants.{Nil}
 use Rattle.step_laws.specs.Site.{Site, LineAt, Lines, IsThere}
 use Rattle.step_laws.specs.Simple.{IsNamedLocal}
 use Rattle.step_laws.specs.Covered.{Covered}
-use Rattle.step_laws.specs.Bodies.{AreStraight, BodyAt, BodyCode}
+use Rattle.step_laws.specs.Bodies.{AreStraight, BodyAt, BodyCode, ProcCode}
 use Rattle.step_laws.specs.Tops.{AreNamed}
 use Rattle.step_laws.proofs.Placed.{high, Stands, high-both, high-puts, moved, left, right, the_line}
-use Rattle.step_laws.proofs.Found.{both_true}
 use Rattle.step_laws.proofs.Apart.{apart}
 use Rattle.step_laws.proofs.Catchless.{IsBare, bare}
 use Rattle.step_laws.proofs.Laid.{first_place}
+use Rattle.step_laws.proofs.Bound.{shape_is, shape_is_too}
 use Rattle.step_laws.proofs.Fitting as fitting
+use Rattle.step_laws.proofs.Fitting.{Around}
 use Rattle.step_laws.proofs.Covering.{Has, covered}
 use Rattle.step_laws.proofs.Written.{Written}
 
@@ -92,14 +101,17 @@ slots_hidden p ls f a =
     (block_hidden p.block last.1))
     (named_hidden ls own.1)
 
--- A method of a source, and its body in the code.
+-- A body of a method or a block of a source, and its body in the code.
 pub record Coded (s : Source) (c : Program) (n : ℕ) : Type 0 where
+  pub kind_of : BodyKind
+  pub enters : has_parameters kind_of ≡ true
   pub parameters : Parameters
   pub locals : List Local
   pub form_of_it : CoreForm
+  pub slots : slots_of kind_of (form.body parameters locals form_of_it) ≡ parameter_slots parameters ++ named_slots locals
   pub version : c.version ≡ 2
   pub mine : source_body s n ≡ form.body parameters locals form_of_it
-  pub written : Written n (form.body parameters locals form_of_it) (body_at c n)
+  pub written : Written kind_of n (form.body parameters locals form_of_it) (body_at c n)
   pub there : (x : Name) → is_among x (tally (form.body parameters locals form_of_it)).symbols ≡ true → IsThere s x
 
 module _ (s : Source) (c : Program) (n : ℕ) (g : Coded s c n) where
@@ -118,26 +130,29 @@ module _ (s : Source) (c : Program) (n : ℕ) (g : Coded s c n) where
   abbrev t : Tally
   t = tally b
 
+  abbrev sc : Scopes
+  sc = g.written.around
+
+  abbrev out : Around g.kind_of sc
+  out = g.written.out
+
   abbrev fits : Fits b
   fits = g.written.fits
 
   abbrev ss : Slots
-  ss = slots_of kind.Method b
-
-  formed : is_form (within_method p ls) f ≡ true
-  formed = (both_true (has_defaults p.optional f) (is_form (within_method p ls) f) g.written.formed).1
+  ss = slots_of g.kind_of b
 
   abbrev straight : p.optional ≡ []
-  straight = g.written.plain.straight.no_optional
+  straight = g.written.straight.no_optional
 
   abbrev first : ℕ
-  first = fitting.start kind.Method p ls f fits
+  first = fitting.start g.kind_of sc out p ls f fits
 
   abbrev around : Context
-  around = fitting.around kind.Method p ls f fits
+  around = fitting.around g.kind_of sc out p ls f fits
 
   abbrev wide : Bool
-  wide = fitting.wide kind.Method p ls f fits
+  wide = fitting.wide g.kind_of sc out p ls f fits
 
   abbrev code : Piece
   code = gen around (behind (first_spot n)) first f
@@ -148,16 +163,24 @@ module _ (s : Source) (c : Program) (n : ℕ) (g : Coded s c n) where
   abbrev at : List ℕ
   at = places wide 0 (lines.lines ++ line.Does (op.Return first) ∷ [])
 
+  abbrev inner : Inner g.kind_of sc p ls f fits out.short n lines
+  inner =
+      fitting.body_inner g.kind_of g.enters sc out p ls f fits n g.written.within g.written.in_block g.written.formed straight
+
   no_entries : IsBare code
-  no_entries = bare f g.written.plain.plain around (behind (first_spot n)) first
+  no_entries = bare f g.written.plain around (behind (first_spot n)) first
 
   few : many f ≤ 65535
   unfolding both puts IsBare
-  few = omega (arith, (fitting.method_inner p ls f fits n formed straight).count, ap length no_entries.2)
+  few = omega (arith, inner.count, ap length no_entries.2)
 
-  -- what is shown of the body of the method is so of the source's of that number
+  -- what is shown of the body is so of the source's of that number
   of_body : (P : Body → Type 0) → P b → P (source_body s n)
   of_body P x = subst P (sym g.mine) x
+
+  -- its slots are those of a method
+  slots_are : ss ≡ slots_of kind.Method b
+  slots_are = g.slots
 
 -- A run of it.
 module _ (s : Source) (c : Program) (n : ℕ) (g : Coded s c n) (activation list : ℕ) (self : Value) (runs : Runs) where
@@ -176,27 +199,33 @@ module _ (s : Source) (c : Program) (n : ℕ) (g : Coded s c n) (activation list
     first = first s c n g;
   }
 
-  placed : Lines h 0 ((lines s c n g).lines ++ line.Does (op.Return (first s c n g)) ∷ [])
+  abbrev back : Operation
+  back = op.Return (first s c n g)
+
+  placed : Lines h 0 ((lines s c n g).lines ++ line.Does back ∷ [])
   unfolding both puts
   placed =
-      fitting.lines_placed kind.Method (p s c n g) (ls s c n g) (f s c n g) (fits s c n g) n (lines s c n g)
-      (fitting.method_inner (p s c n g) (ls s c n g) (f s c n g) (fits s c n g) n (formed s c n g) (straight s c n g))
-      (op.Return (first s c n g))
-      (fitting.method_ready (p s c n g) (ls s c n g) (f s c n g) (fits s c n g) n (formed s c n g) (straight s c n g))
-      (fitting.method_entered (p s c n g) (ls s c n g) (f s c n g) (fits s c n g) n (formed s c n g) (straight s c n g))
+      fitting.lines_placed g.kind_of (sc s c n g) (out s c n g) (p s c n g) (ls s c n g) (f s c n g) (fits s c n g) n
+      (lines s c n g) (inner s c n g) back
+      (fitting.body_ready g.kind_of g.enters (sc s c n g) (out s c n g) (p s c n g) (ls s c n g) (f s c n g) (fits s c n g) n
+      g.written.within g.written.in_block g.written.formed (straight s c n g))
+      (fitting.body_entered g.kind_of g.enters (sc s c n g) (out s c n g) (p s c n g) (ls s c n g) (f s c n g)
+      (fits s c n g) n g.written.within g.written.in_block g.written.formed (straight s c n g))
       (few s c n g) h g.version (ap (λ (i : Irep). i.code) g.written.is) refl refl
 
-  all_stand : Stands h 0 (both (lines s c n g) (does (op.Return (first s c n g))))
+  all_stand : Stands h 0 (both (lines s c n g) (does back))
   unfolding Stands both puts
   all_stand = placed
 
   front : Stands h 0 (lines s c n g)
-  front = left h 0 (lines s c n g) (does (op.Return (first s c n g))) all_stand
+  front = left h 0 (lines s c n g) (does back) all_stand
 
   has : Has h (ss s c n g) (all_parameters (p s c n g) ++ ls s c n g) (t s c n g) (first s c n g + width (f s c n g))
   has = record {
+    around = seen_around g.kind_of (sc s c n g);
     scopes = refl;
-    held = (method_knows (p s c n g) (ls s c n g) (f s c n g) [] g.written.plain.straight.one_block).0;
+    held = subst (λ (z : Slots). AreHeld (z ∷ []) (all_parameters (p s c n g) ++ ls s c n g)) (sym (slots_are s c n g))
+        (method_knows (p s c n g) (ls s c n g) (f s c n g) [] g.written.straight.one_block).0;
     symbols = refl;
     integers = refl;
     texts = refl;
@@ -205,7 +234,6 @@ module _ (s : Source) (c : Program) (n : ℕ) (g : Coded s c n) (activation list
     registers = ap (λ (i : Irep). i.registers) g.written.is;
     first = omega arith;
     there = g.there;
-    returns = λ r. refl;
   }
 
   no_catches : (body_at c n).catches ≡ []
@@ -216,9 +244,10 @@ module _ (s : Source) (c : Program) (n : ℕ) (g : Coded s c n) (activation list
 
   covers : Covered h false (first s c n g) (f s c n g)
   covers =
-      covered h (ss s c n g) (all_parameters (p s c n g) ++ ls s c n g) (t s c n g) (first s c n g + width (f s c n g)) has
-      (f s c n g) (first s c n g) (within_method (p s c n g) (ls s c n g)) refl g.written.plain.plain (fits s c n g).1
-      (formed s c n g) (omega arith) (omega arith)
+      subst (λ (b : Bool). Covered h b (first s c n g) (f s c n g)) g.written.outside
+      (covered h (ss s c n g) (all_parameters (p s c n g) ++ ls s c n g) (t s c n g)
+      (first s c n g + width (f s c n g)) has (f s c n g) (first s c n g) g.written.inner
+      (g.written.known, g.written.returns) g.written.plain (fits s c n g).1 g.written.closed (omega arith) (omega arith))
 
   form_stands : Stands h 1 (code s c n g)
   form_stands =
@@ -226,32 +255,36 @@ module _ (s : Source) (c : Program) (n : ℕ) (g : Coded s c n) (activation list
       moved h (0 + high (puts enter)) 1 (code s c n g) (omega (arith, high-puts enter))
       (right h 0 (puts enter) (code s c n g) front)
 
-  returns_there : LineAt h (1 + high (code s c n g)) (line.Does (op.Return (first s c n g)))
+  returns_there : LineAt h (1 + high (code s c n g)) (line.Does back)
   returns_there =
       let enter = line.Does (op.Enter (parameters (p s c n g))) in
-      subst (λ (i : ℕ). LineAt h i (line.Does (op.Return (first s c n g))))
+      subst (λ (i : ℕ). LineAt h i (line.Does back))
       (omega (arith, high-both (puts enter) (code s c n g), high-puts enter))
-      (the_line h (0 + high (lines s c n g)) (line.Does (op.Return (first s c n g)))
-      (right h 0 (lines s c n g) (does (op.Return (first s c n g))) all_stand))
+      (the_line h (0 + high (lines s c n g)) (line.Does back)
+      (right h 0 (lines s c n g) (does back) all_stand))
 
   at_run : BodyAt h
   at_run =
       let registers = ap (λ (i : Irep). i.registers) g.written.is in
+      let same = ap length (slots_are s c n g) in
       record {
         static = record {
-          apart = apart h (ss s c n g) refl;
+          apart = apart h (ss s c n g) (seen_around g.kind_of (sc s c n g)) refl;
           some = omega arith;
           room = omega (arith, registers);
           no_catches = no_catches;
         };
-        begins = first_place (wide s c n g) 0 ((lines s c n g).lines ++ line.Does (op.Return (first s c n g)) ∷ []);
-        straight = of_body s c n g (λ (d : Body). AreStraight (parameters_of d)) g.written.plain.straight;
-        around = [];
-        scopes = of_body s c n g (λ (d : Body). h.context.scopes ≡ slots_of kind.Method d ∷ []) refl;
-        low = of_body s c n g (λ (d : Body). 1 + length (slots_of kind.Method d) ≤ h.first) (omega arith);
+        begins = first_place (wide s c n g) 0 ((lines s c n g).lines ++ line.Does back ∷ []);
+        straight = of_body s c n g (λ (d : Body). AreStraight (parameters_of d)) g.written.straight;
+        around = seen_around g.kind_of (sc s c n g);
+        scopes = of_body s c n g (λ (d : Body).
+            h.context.scopes ≡ slots_of kind.Method d ∷ seen_around g.kind_of (sc s c n g))
+            (ap (λ (z : Slots). z ∷ seen_around g.kind_of (sc s c n g)) (slots_are s c n g));
+        low = of_body s c n g (λ (d : Body). 1 + length (slots_of kind.Method d) ≤ h.first) (omega (arith, same));
         none_hidden = of_body s c n g (λ (d : Body). (i : ℕ) → seek (hidden i) (slots_of kind.Method d) (Past 1)
             ≡ Past (1 + length (slots_of kind.Method d)))
-            (λ i. sought_past i 1 (ss s c n g) (slots_hidden (p s c n g) (ls s c n g) (f s c n g) g.written.plain.named));
+            (λ i. sought_past i 1 (slots_of kind.Method (b s c n g))
+            (slots_hidden (p s c n g) (ls s c n g) (f s c n g) g.written.named));
         outside = refl;
         covered = of_body s c n g (λ (d : Body). Covered h false h.first (form_of d)) covers;
         enters = of_body s c n g (λ (d : Body). LineAt h 0 (line.Does (op.Enter (parameters (parameters_of d)))))
@@ -264,11 +297,26 @@ module _ (s : Source) (c : Program) (n : ℕ) (g : Coded s c n) (activation list
             (line.Does (op.Return h.first))) returns_there;
       }
 
-pub method_coded : (s : Source) (c : Program) (n : ℕ) → Coded s c n → BodyCode s c n
-method_coded s c n g = record {
+pub body_coded : (s : Source) (c : Program) (n : ℕ) → Coded s c n → BodyCode s c n
+body_coded s c n g = record {
   wide = wide s c n g;
   at = at s c n g;
   context = around s c n g;
   first = first s c n g;
   everywhere = λ activation list self runs. at_run s c n g activation list self runs;
 }
+
+pub block_coded : (s : Source) (c : Program) (n : ℕ) (g : Coded s c n) → g.kind_of ≡ kind.Block → ProcCode s c n
+unfolding body_coded
+block_coded s c n g e = record { code = body_coded s c n g; of_block = e }
+
+-- the code of a body begins with its parameters
+pub begins_with : (s : Source) (c : Program) (n : ℕ) → BodyCode s c n
+    → shape_by (fetch c n 0) ≡ shape_of (parameters_of (source_body s n))
+unfolding instruction_before
+begins_with s c n code =
+    let at = code.everywhere 0 0 Nil main_program in
+    let p = parameters_of (source_body s n) in
+    ap (λ (i : ℕ). shape_by (fetch c n i)) (sym at.begins)
+    ∙ ap (λ (i : Option (Instruction × ℕ)). shape_by i) at.enters.here
+    ∙ shape_is_too p at.straight ∙ sym (shape_is p at.straight)

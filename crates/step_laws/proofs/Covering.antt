@@ -16,7 +16,9 @@ use Rattle.ir_walk.specs.Width.{greatest, in_order, of_call, has_splat, width, w
 use Rattle.ir_counts.specs.declared.tally.Tally.{Tally}
 use Rattle.ir_counts.specs.Tables.{hidden_by, is_wide}
 use Rattle.scope_resolver.specs.declared.place.Place.{Place}
-use Rattle.scope_resolver.specs.Layout.{Slots, Scopes, innermost_count, place_of}
+use Rattle.scope_resolver.specs.declared.seek.Search.{Search}
+use Rattle.scope_resolver.specs.declared.seek.Search.TheVariants.{Found, Past}
+use Rattle.scope_resolver.specs.Layout.{Slots, Scopes, innermost_count, seek, place_at, place_from, place_or_self, place_of}
 use Rattle.gen_forms.specs.Gen.{place_or, is_within, integer_entry, text_entry, symbol, operates, return_by}
 use Rattle.code_laws.specs.Bound.{AreHeld}
 use Rattle.code_laws.proofs.Shares.{Numbered, Adds, Noted, Noted_all, Noted_items, Noted_pairs, Noted_branches}
@@ -28,9 +30,10 @@ use Rattle.step_laws.specs.Plain.{IsLookedIn, IsPlain, ArePlain, ArePlainItems, 
 use Rattle.step_laws.proofs.Found.{both_true}
 use Rattle.step_laws.proofs.Listing.{name_there, integer_there, text_there, wide_is, local_there}
 
--- What a body has that sees no other: its slots, of which some locals are known, and its tally.
+-- What a body has: its slots, of which some locals are known, those around it, and its tally.
 pub record Has (h : Site) (ss : Slots) (ls : List Local) (t : Tally) (size : ℕ) : Type 0 where
-  pub scopes : h.context.scopes ≡ ss ∷ []
+  pub around : Scopes
+  pub scopes : h.context.scopes ≡ ss ∷ around
   pub held : AreHeld (ss ∷ []) ls
   pub symbols : h.context.symbols ≡ t.symbols
   pub integers : h.context.integers ≡ t.integers
@@ -40,7 +43,21 @@ pub record Has (h : Site) (ss : Slots) (ls : List Local) (t : Tally) (size : ℕ
   pub registers : (body_at h.program h.body).registers ≡ size
   pub first : 1 + length ss + t.hidden ≤ h.first
   pub there : (x : Name) → is_among x t.symbols ≡ true → IsThere h.source x
-  pub returns : (r : ℕ) → return_by h.context.kind_of r ≡ op.Return r
+
+-- the known locals are those, and where there may be a return it ends the body
+abbrev pub Agrees : Site → List Local → Around → Type 0
+Agrees h ls a = (a.known ≡ ls) × (a.returns ≡ true → (r : ℕ) → return_by h.context.kind_of r ≡ op.Return r)
+
+-- what is found in the first slots is so whatever is around them
+first_found : (ss : Slots) (around : Scopes) (x : Name) (r : ℕ)
+    → place_of (ss ∷ []) (form.named x) ≡ record { levels = 0; register = r } → 1 ≤ r
+    → place_of (ss ∷ around) (form.named x) ≡ record { levels = 0; register = r }
+first_found ss around x r e low = by (seek (form.named x) ss (Past 1)) e
+  where
+    by : (q : Search) → place_or_self (place_at q 0 None) ≡ record { levels = 0; register = r }
+        → place_or_self (place_at q 0 (place_from (form.named x) around 1)) ≡ record { levels = 0; register = r }
+    by (Found i) e = e
+    by (Past i) e = absurd (omega (arith, low, ap (λ (p : Place). p.register) e))
 
 module _ (h : Site) (ss : Slots) (ls : List Local) (t : Tally) (registers : ℕ) (has : Has h ss ls t registers) where
   pub room : (r : ℕ) → h.first ≤ r → r < registers → Room h r
@@ -50,7 +67,7 @@ module _ (h : Site) (ss : Slots) (ls : List Local) (t : Tally) (registers : ℕ)
   known (form.named x) is e few =
       let l = local_there x ss (has.held (form.named x) tt e) in
       let place : place_of h.context.scopes (form.named x) ≡ record { levels = 0; register = l.place } =
-      ap (λ (c : Scopes). place_of c (form.named x)) has.scopes ∙ l.is in
+      ap (λ (c : Scopes). place_of c (form.named x)) has.scopes ∙ first_found ss has.around x l.place l.is l.low in
       let at : register h (form.named x) ≡ l.place = ap (λ (p : Place). p.register) place in
       record {
         scoped = tt;
@@ -126,13 +143,13 @@ module _ (h : Site) (ss : Slots) (ls : List Local) (t : Tally) (registers : ℕ)
   asked_of asks.Yield x o a is = absurd is
   asked_of asks.Super x o a is = absurd is
 
-  none_spread : (is' : Items) → ArePlainItems is' → has_splat is' ≡ false
+  pub none_spread : (is' : Items) → ArePlainItems is' → has_splat is' ≡ false
   none_spread form.no_items is = refl
   none_spread (form.plain e is') is = none_spread is' is.1
   none_spread (form.splat e is') is = absurd is
 
   mutual
-    cover : (e : CoreForm) (r : ℕ) (a : Around) → a.known ≡ ls → IsPlain e → Noted t e → is_form a e ≡ true
+    cover : (e : CoreForm) (r : ℕ) (a : Around) → Agrees h ls a → IsPlain e → Noted t e → is_form a e ≡ true
         → h.first ≤ r → r + width e ≤ registers → Covered h a.loops r e
     cover form.nil r a k is n f low w = room r low (omega (arith, w))
     cover form.truth r a k is n f low w = room r low (omega (arith, w))
@@ -141,14 +158,14 @@ module _ (h : Site) (ss : Slots) (ls : List Local) (t : Tally) (registers : ℕ)
     cover (form.int z) r a k is n f low w = (room r low (omega (arith, w)), pooled z n.integer)
     cover (form.str x) r a k is n f low w = (room r low (omega (arith, w)), texted x n.text)
     cover (form.sym x) r a k is n f low w = (room r low (omega (arith, w)), named x n.name)
-    cover (form.local x) r a k is n f low w = (room r low (omega (arith, w)), known x is (subst (λ (xs : List Local). is_known x xs ≡ true) k f) n.hidden)
+    cover (form.local x) r a k is n f low w = (room r low (omega (arith, w)), known x is (subst (λ (xs : List Local). is_known x xs ≡ true) k.0 f) n.hidden)
     cover (form.own x) r a k is n f low w = absurd is
     cover form.exception r a k is n f low w = absurd is
     cover (form.set_local x e) r a k is n f low w =
         let both = both_true (is_known x a.known) (is_form a e) f in
         let part = order_within registers r (width e ∷ []) w in (
           cover e r a k is.0 n.1 both.1 low part.0,
-          known x is.1 (subst (λ (xs : List Local). is_known x xs ≡ true) k both.0) n.0.hidden,
+          known x is.1 (subst (λ (xs : List Local). is_known x xs ≡ true) k.0 both.0) n.0.hidden,
         )
     cover (form.ivar x) r a k is n f low w = (room r low (omega (arith, w)), named x n.name)
     cover (form.set_ivar x e) r a k is n f low w =
@@ -282,7 +299,7 @@ module _ (h : Site) (ss : Slots) (ls : List Local) (t : Tally) (registers : ℕ)
     cover (form.return_form e) r a k is n f low w =
         let both = both_true a.returns (is_form a e) f in
         let part = order_within registers r (width e ∷ []) w in
-        (has.returns r, cover e r a k is n.1 both.1 low part.0)
+        (k.1 both.0 r, cover e r a k is n.1 both.1 low part.0)
     cover (form.break_form e) r a k is n f low w =
         let both = both_true a.loops (is_form a e) f in
         let part = order_within registers r (width e ∷ []) w in
@@ -319,7 +336,7 @@ module _ (h : Site) (ss : Slots) (ls : List Local) (t : Tally) (registers : ℕ)
         let some = order_room registers r (width e ∷ []) w in
         (room r low (omega (arith, some)), cover e r a k is.0 n.1 f low part.0, is.1)
 
-    cover_forms : (es : Forms) (r g : ℕ) (a : Around) → a.known ≡ ls → ArePlain es → Noted_all t es
+    cover_forms : (es : Forms) (r g : ℕ) (a : Around) → Agrees h ls a → ArePlain es → Noted_all t es
         → are_forms a es ≡ true → h.first ≤ r → Under g (widths es) → r + 2 + g ≤ registers → CoveredForms h a.loops r es
     cover_forms form.none r g a k is n f low u w = tt
     cover_forms (form.more e es) r g a k is n f low u w =
@@ -328,7 +345,7 @@ module _ (h : Site) (ss : Slots) (ls : List Local) (t : Tally) (registers : ℕ)
           cover_forms es r g a k is.1 n.1 both.1 low u.1 w,
         )
 
-    cover_items : (is' : Items) (r : ℕ) (a : Around) → a.known ≡ ls → ArePlainItems is' → Noted_items t is'
+    cover_items : (is' : Items) (r : ℕ) (a : Around) → Agrees h ls a → ArePlainItems is' → Noted_items t is'
         → are_items a is' ≡ true → h.first ≤ r → InOrder registers r (item_widths is' ++ []) → CoveredItems h a.loops r is'
     cover_items form.no_items r a k is n f low w = tt
     cover_items (form.plain e is') r a k is n f low w =
@@ -338,7 +355,7 @@ module _ (h : Site) (ss : Slots) (ls : List Local) (t : Tally) (registers : ℕ)
         )
     cover_items (form.splat e is') r a k is n f low w = absurd is
 
-    cover_elements : (is' : Items) (r g : ℕ) (a : Around) → a.known ≡ ls → ArePlainElements is' → Noted_items t is'
+    cover_elements : (is' : Items) (r g : ℕ) (a : Around) → Agrees h ls a → ArePlainElements is' → Noted_items t is'
         → are_items a is' ≡ true → h.first ≤ r → Under g (item_widths is') → r + g ≤ registers
         → CoveredElements h a.loops r is'
     cover_elements form.no_items r g a k is n f low u w = tt
@@ -353,7 +370,7 @@ module _ (h : Site) (ss : Slots) (ls : List Local) (t : Tally) (registers : ℕ)
           cover_elements is' r g a k is.1 n.1 both.1 low u.1 w,
         )
 
-    cover_pairs : (ps : Pairs) (r g : ℕ) (a : Around) → a.known ≡ ls → ArePlainPairs ps → Noted_pairs t ps
+    cover_pairs : (ps : Pairs) (r g : ℕ) (a : Around) → Agrees h ls a → ArePlainPairs ps → Noted_pairs t ps
         → are_pairs a ps ≡ true → h.first ≤ r → Under g (pair_widths ps) → r + 2 + g ≤ registers
         → CoveredPairs h a.loops r ps
     cover_pairs form.no_pairs r g a k is n f low u w = tt
@@ -365,7 +382,7 @@ module _ (h : Site) (ss : Slots) (ls : List Local) (t : Tally) (registers : ℕ)
           cover_pairs ps r g a k is.2 n.2 second.1 low u.1 w,
         )
 
-    cover_branches : (bs : Branches) (r g : ℕ) (a : Around) → a.known ≡ ls → ArePlainBranches bs
+    cover_branches : (bs : Branches) (r g : ℕ) (a : Around) → Agrees h ls a → ArePlainBranches bs
         → Noted_branches t bs → are_branches a bs ≡ true → h.first ≤ r → Under g (branch_widths bs)
         → r + 2 + g ≤ registers → CoveredBranches h a.loops r bs
     cover_branches form.no_branches r g a k is n f low u w = tt
@@ -377,6 +394,10 @@ module _ (h : Site) (ss : Slots) (ls : List Local) (t : Tally) (registers : ℕ)
           cover_branches bs r g a k is.2 n.2 second.1 low u.1 w,
         )
 
-  pub covered : (e : CoreForm) (r : ℕ) (a : Around) → a.known ≡ ls → IsPlain e → Noted t e → is_form a e ≡ true
+  pub covered_items : (is' : Items) (r : ℕ) (a : Around) → Agrees h ls a → ArePlainItems is' → Noted_items t is'
+      → are_items a is' ≡ true → h.first ≤ r → InOrder registers r (item_widths is' ++ []) → CoveredItems h a.loops r is'
+  covered_items is' r a k is n f low w = cover_items is' r a k is n f low w
+
+  pub covered : (e : CoreForm) (r : ℕ) (a : Around) → Agrees h ls a → IsPlain e → Noted t e → is_form a e ≡ true
       → h.first ≤ r → r + width e ≤ registers → Covered h a.loops r e
   covered e r a k is n f low w = cover e r a k is n f low w

@@ -1,5 +1,5 @@
--- The lines of the code of a body that sees no other stand where they are placed: those of a main program, and those of
--- a method whose parameters are all required.
+-- The lines of the code of a body stand where they are placed: those of a main program, and those of a method or a
+-- block none of whose parameters is optional.
 use Rattle.std.proofs.Common.{◌≡◌, ◌≤◌, ◌<◌, ℕ, ◌+◌, ◌*◌, List, [], ◌∷◌, ◌++◌, length, get_or, arith, refl, sym, ap, ◌∙◌, subst, length-append, Bool, true, false, nat_lt}
 use Rattle.std.specs.Prelude.{◌||◌}
 use Rattle.std.proofs.lemmas.Bool.{ltb-false}
@@ -8,14 +8,15 @@ use Rattle.rite_code.specs.declared.operation.Operation.{Operation}
 use Rattle.rite_code.specs.declared.operation.Operation.TheVariants as op
 use Rattle.ir_core.specs.CoreForm as form
 use Rattle.ir_core.specs.CoreForm.{Local, Parameters, CoreForm, Body}
-use Rattle.ir_core.specs.Program.{Around, within_method, is_form}
+use Rattle.ir_core.specs.Program.{is_form}
+use Rattle.ir_core.specs.Program as program
 use Rattle.ir_walk.specs.Walk.{walked}
 use Rattle.ir_walk.specs.declared.extent.Extent.TheVariants as extent
 use Rattle.ir_counts.specs.Counts.{tally, code_of}
 use Rattle.ir_counts.specs.Tally.{no_form}
 use Rattle.scope_resolver.specs.declared.body_kind.BodyKind.{BodyKind}
 use Rattle.scope_resolver.specs.declared.body_kind.BodyKind.TheVariants as kind
-use Rattle.scope_resolver.specs.Layout.{has_parameters, seen_around, slots_of}
+use Rattle.scope_resolver.specs.Layout.{Scopes, has_parameters, seen_around, slots_of}
 use Rattle.gen_parts.specs.declared.line.Line.{Line}
 use Rattle.gen_parts.specs.declared.line.Line.TheVariants as line
 use Rattle.gen_parts.specs.Pieces.{Piece, behind, both, puts, does}
@@ -49,22 +50,22 @@ either_false : (x y : Bool) → (x || y) ≡ false → (x ≡ false) × (y ≡ f
 either_false true y e = absurd (cc e)
 either_false false y e = (refl, e)
 
-seen_none : (k : BodyKind) → seen_around k [] ≡ []
-seen_none kind.Main = refl
-seen_none kind.Method = refl
-seen_none kind.Block = refl
-seen_none kind.Class = refl
+-- Scopes around a body: each has few locals, and they are few.
+pub record Around (k : BodyKind) (scopes : Scopes) : Type 0 where
+  pub short : AreShort scopes
+  pub few : length (seen_around k scopes) ≤ 65535
 
 -- What is the same all over the body.
-module _ (k : BodyKind) (p : Parameters) (ls : List Local) (f : CoreForm) (fits : Fits (form.body p ls f)) where
+module _ (k : BodyKind) (sc : Scopes) (out : Around k sc) (p : Parameters) (ls : List Local) (f : CoreForm)
+    (fits : Fits (form.body p ls f)) where
   abbrev pub w : Room
-  w = site k [] p ls f fits no_scopes
+  w = site k sc p ls f fits out.short
 
   abbrev pub start : ℕ
-  start = first k [] p ls f fits no_scopes
+  start = first k sc p ls f fits out.short
 
   abbrev pub around : Context
-  around = opening k (form.body p ls f) [] (tally (form.body p ls f))
+  around = opening k (form.body p ls f) sc (tally (form.body p ls f))
 
   abbrev pub wide : Bool
   wide = (layout k (form.body p ls f) (tally (form.body p ls f))).head.wide
@@ -81,92 +82,100 @@ module _ (k : BodyKind) (p : Parameters) (ls : List Local) (f : CoreForm) (fits 
       (q.lines ++ line.Does o ∷ [])
 
 -- Lines and the instruction that ends them.
-module _ (k : BodyKind) (p : Parameters) (ls : List Local) (f : CoreForm) (fits : Fits (form.body p ls f)) (m : ℕ)
-    (q : Piece) (inner : Inner k [] p ls f fits no_scopes m q) (o : Operation) (ready : Ready (own (w k p ls f fits)) o 4)
-    (entered : IsEntered k p ls f fits q o) (few : many f ≤ 65535) where
-  abbrev pub whole : List Line
-  whole = q.lines ++ line.Does o ∷ []
+module _ (k : BodyKind) (sc : Scopes) (out : Around k sc) (p : Parameters) (ls : List Local) (f : CoreForm)
+    (fits : Fits (form.body p ls f)) (m : ℕ) (q : Piece) (inner : Inner k sc p ls f fits out.short m q) (o : Operation)
+    (ready : Ready (own (w k sc out p ls f fits)) o 4) (entered : IsEntered k sc out p ls f fits q o) (few : many f ≤ 65535)
+  where
+    abbrev pub whole : List Line
+    whole = q.lines ++ line.Does o ∷ []
 
-  abbrev is_wide : Bool
-  is_wide = wide k p ls f fits
+    abbrev pub is_wide : Bool
+    is_wide = wide k sc out p ls f fits
 
-  abbrev at : List ℕ
-  at = places is_wide 0 whole
+    abbrev at : List ℕ
+    at = places is_wide 0 whole
 
-  light : weights whole ≤ code_of (form.body p ls f) (tally (form.body p ls f))
-  light =
-      let sum = weights_append q.lines (line.Does o ∷ []) in
-      omega (arith, sum, ready.light, inner.light, code_is k p ls f fits)
+    light : weights whole ≤ code_of (form.body p ls f) (tally (form.body p ls f))
+    light =
+        let sum = weights_append q.lines (line.Does o ∷ []) in
+        omega (arith, sum, ready.light, inner.light, code_is k sc out p ls f fits)
 
-  deep : length (own (w k p ls f fits)).scopes ≤ 65536
-  deep = omega (arith, ap length (seen_none k))
+    deep : length (own (w k sc out p ls f fits)).scopes ≤ 65536
+    deep = omega (arith, out.few)
 
-  within : (to : ℕ) → to ≤ tall q → place_of at to ≤ sizes is_wide whole
-  unfolding tall
-  within to h =
-      let most = place_most is_wide 0 to whole (omega (arith, h, length-append q.lines (line.Does o ∷ []))) in
-      omega (arith, most)
+    within : (to : ℕ) → to ≤ tall q → place_of at to ≤ sizes is_wide whole
+    unfolding tall
+    within to h =
+        let most = place_most is_wide 0 to whole (omega (arith, h, length-append q.lines (line.Does o ∷ []))) in
+        omega (arith, most)
 
-  narrow : is_wide ≡ false → (sizes is_wide whole ≤ 32767) × ((own (w k p ls f fits)).registers ≤ 256)
-  narrow e =
-      let parts = either_false (nat_lt 32767 (code_of (form.body p ls f) (tally (form.body p ls f))))
-      (nat_lt 256 (w k p ls f fits).registers) e in
-      let heavy = sizes_weights is_wide whole in (
-        omega (arith, heavy, light, ltb-false 32767 (code_of (form.body p ls f) (tally (form.body p ls f))) parts.0),
-        ltb-false 256 (w k p ls f fits).registers parts.1,
-      )
+    narrow : is_wide ≡ false → (sizes is_wide whole ≤ 32767) × ((own (w k sc out p ls f fits)).registers ≤ 256)
+    narrow e =
+        let parts = either_false (nat_lt 32767 (code_of (form.body p ls f) (tally (form.body p ls f))))
+        (nat_lt 256 (w k sc out p ls f fits).registers) e in
+        let heavy = sizes_weights is_wide whole in (
+          omega (arith, heavy, light, ltb-false 32767 (code_of (form.body p ls f) (tally (form.body p ls f))) parts.0),
+          ltb-false 256 (w k sc out p ls f fits).registers parts.1,
+        )
 
-  all_fit : AllFit (instructions is_wide at 0 whole)
-  all_fit =
-      let heavy = sizes_weights is_wide whole in
-      entered_fit (own (w k p ls f fits)) is_wide at (tall q) (sizes is_wide whole) deep (w k p ls f fits).able.few within
-      (omega (arith, heavy, light, fits.0.code)) narrow (has_parameters k)
-      (1 + length (slots_of k (form.body p ls f))) whole (omega arith) entered
-      (few_more q.lines (line.Does o ∷ []) (all_few inner.made (omega (arith, inner.count, few)))
-      (subst IsFew (sym ready.unused) tt, tt))
+    all_fit : AllFit (instructions is_wide at 0 whole)
+    all_fit =
+        let heavy = sizes_weights is_wide whole in
+        entered_fit (own (w k sc out p ls f fits)) is_wide at (tall q) (sizes is_wide whole) deep
+        (w k sc out p ls f fits).able.few within
+        (omega (arith, heavy, light, fits.0.code)) narrow (has_parameters k)
+        (1 + length (slots_of k (form.body p ls f))) whole (omega arith) entered
+        (few_more q.lines (line.Does o ∷ []) (all_few inner.made (omega (arith, inner.count, few)))
+        (subst IsFew (sym ready.unused) tt, tt))
 
-  -- so they stand in a body with that code
-  pub lines_placed : (h : Site) → h.program.version ≡ 2
-      → (body_at h.program h.body).code ≡ encodings (instructions is_wide at 0 whole) → h.wide ≡ is_wide → h.at ≡ at
-      → Lines h 0 whole
-  lines_placed h version is same places_are =
-      let by_places : instructions is_wide h.at 0 whole ≡ instructions is_wide at 0 whole =
-      ap (λ (xs : List ℕ). instructions is_wide xs 0 whole) places_are in
-      let all : instructions h.wide h.at 0 whole ≡ instructions is_wide at 0 whole =
-      ap (λ (v : Bool). instructions v h.at 0 whole) same ∙ by_places in
-      lines_stand h (encodings (instructions is_wide at 0 whole)) version is 0 0 whole []
-      (sym (ap encodings all)) refl (subst AllFit (sym all) all_fit)
-      (λ n le.
-      let here : at_line h (0 + n) ≡ at_line h n = ap (at_line h) (omega arith) in
-      here ∙ ap (λ (xs : List ℕ). get_or xs n 0) places_are
-      ∙ ap (λ (v : Bool). get_or (places v 0 whole) n 0) (sym same))
+    -- so they stand in a body with that code
+    pub lines_placed : (h : Site) → h.program.version ≡ 2
+        → (body_at h.program h.body).code ≡ encodings (instructions is_wide at 0 whole) → h.wide ≡ is_wide → h.at ≡ at
+        → Lines h 0 whole
+    lines_placed h version is same places_are =
+        let by_places : instructions is_wide h.at 0 whole ≡ instructions is_wide at 0 whole =
+        ap (λ (xs : List ℕ). instructions is_wide xs 0 whole) places_are in
+        let all : instructions h.wide h.at 0 whole ≡ instructions is_wide at 0 whole =
+        ap (λ (v : Bool). instructions v h.at 0 whole) same ∙ by_places in
+        lines_stand h (encodings (instructions is_wide at 0 whole)) version is 0 0 whole []
+        (sym (ap encodings all)) refl (subst AllFit (sym all) all_fit)
+        (λ n le.
+        let here : at_line h (0 + n) ≡ at_line h n = ap (at_line h) (omega arith) in
+        here ∙ ap (λ (xs : List ℕ). get_or xs n 0) places_are
+        ∙ ap (λ (v : Bool). get_or (places v 0 whole) n 0) (sym same))
 
 -- A main program.
-module _ (p : Parameters) (ls : List Local) (f : CoreForm) (fits : Fits (form.body p ls f)) (a : Around)
+pub none_around : (k : BodyKind) → length (seen_around k []) ≤ 65535 → Around k []
+none_around k few = record { short = no_scopes; few = few }
+
+abbrev pub of_main : Around kind.Main []
+of_main = none_around kind.Main (omega arith)
+
+module _ (p : Parameters) (ls : List Local) (f : CoreForm) (fits : Fits (form.body p ls f)) (a : program.Around)
     (outside : a.loops ≡ false) (formed : is_form a f ≡ true) where
   abbrev pub main_lines : Piece
-  main_lines = gen (around kind.Main p ls f fits) (first_spot 0) (start kind.Main p ls f fits) f
+  main_lines = gen (around kind.Main [] of_main p ls f fits) (first_spot 0) (start kind.Main [] of_main p ls f fits) f
 
   never : a.loops ≡ true → kind.Main ≡ kind.Block
   never e = absurd (cc (sym outside ∙ e))
 
-  main_well : Own (own (w kind.Main p ls f fits)) (first_spot 0) main_lines (cost f) (many f)
+  main_well : Own (own (w kind.Main [] of_main p ls f fits)) (first_spot 0) main_lines (cost f) (many f)
   main_well =
-      gen_well f (w kind.Main p ls f fits) a no_inside (first_spot 0) (start kind.Main p ls f fits)
-      (opened (w kind.Main p ls f fits) a.loops (first_spot 0) never (omega arith)) fits.1 formed (omega arith)
+      gen_well f (w kind.Main [] of_main p ls f fits) a no_inside (first_spot 0) (start kind.Main [] of_main p ls f fits)
+      (opened (w kind.Main [] of_main p ls f fits) a.loops (first_spot 0) never (omega arith)) fits.1 formed (omega arith)
 
-  pub main_inner : Inner kind.Main [] p ls f fits no_scopes 0 main_lines
-  main_inner = inner_straight kind.Main [] p ls f fits no_scopes 0 main_lines refl main_well
+  pub main_inner : Inner kind.Main [] p ls f fits of_main.short 0 main_lines
+  main_inner = inner_straight kind.Main [] p ls f fits of_main.short 0 main_lines refl main_well
 
-  pub main_ready : Ready (own (w kind.Main p ls f fits)) op.Stop 4
-  main_ready = stop_ready (w kind.Main p ls f fits) refl
+  pub main_ready : Ready (own (w kind.Main [] of_main p ls f fits)) op.Stop 4
+  main_ready = stop_ready (w kind.Main [] of_main p ls f fits) refl
 
-  pub main_entered : IsEntered kind.Main p ls f fits main_lines op.Stop
+  pub main_entered : IsEntered kind.Main [] of_main p ls f fits main_lines op.Stop
   main_entered =
-      lines_append (own (w kind.Main p ls f fits)) (tall main_lines) main_lines.lines (line.Does op.Stop ∷ [])
+      lines_append (own (w kind.Main [] of_main p ls f fits)) (tall main_lines) main_lines.lines (line.Does op.Stop ∷ [])
       main_inner.entered (main_ready.serve, tt)
 
--- A method.
+-- A method, or a block.
 abbrev optional_in : Operation → ℕ
 optional_in (op.Enter q) = q.optional
 optional_in o = 0
@@ -175,43 +184,43 @@ abbrev optional_of : Line → ℕ
 optional_of (line.Does o) = optional_in o
 optional_of l = 0
 
-module _ (p : Parameters) (ls : List Local) (f : CoreForm) (fits : Fits (form.body p ls f)) (n : ℕ)
-    (formed : is_form (within_method p ls) f ≡ true) (straight : p.optional ≡ []) where
-  abbrev pub method_form : Piece
-  method_form = gen (around kind.Method p ls f fits) (behind (first_spot n)) (start kind.Method p ls f fits) f
+module _ (k : BodyKind) (enters : has_parameters k ≡ true) (sc : Scopes) (out : Around k sc) (p : Parameters)
+    (ls : List Local) (f : CoreForm) (fits : Fits (form.body p ls f)) (n : ℕ) (a : program.Around)
+    (in_block : a.loops ≡ true → k ≡ kind.Block) (formed : is_form a f ≡ true) (straight : p.optional ≡ []) where
+  abbrev pub body_form : Piece
+  body_form = gen (around k sc out p ls f fits) (behind (first_spot n)) (start k sc out p ls f fits) f
 
-  abbrev pub method_lines : Piece
-  method_lines = both (does (op.Enter (parameters p))) method_form
+  abbrev pub body_lines : Piece
+  body_lines = both (does (op.Enter (parameters p))) body_form
 
   never_optional : 0 < length p.optional → ⊥
   never_optional some = absurd (omega (arith, some, ap length straight))
 
-  never_block : false ≡ true → kind.Method ≡ kind.Block
-  never_block e = absurd (cc e)
+  body_well : Own (own (w k sc out p ls f fits)) (behind (first_spot n)) body_form (cost f) (many f)
+  body_well =
+      gen_well f (w k sc out p ls f fits) a no_inside (behind (first_spot n)) (start k sc out p ls f fits)
+      (opened (w k sc out p ls f fits) a.loops (behind (first_spot n)) in_block (omega arith)) fits.1 formed (omega arith)
 
-  method_well : Own (own (w kind.Method p ls f fits)) (behind (first_spot n)) method_form (cost f) (many f)
-  method_well =
-      gen_well f (w kind.Method p ls f fits) (within_method p ls) no_inside (behind (first_spot n))
-      (start kind.Method p ls f fits)
-      (opened (w kind.Method p ls f fits) false (behind (first_spot n)) never_block (omega arith)) fits.1 formed
-      (omega arith)
-
-  pub method_inner : Inner kind.Method [] p ls f fits no_scopes n method_lines
-  method_inner =
-      inner_entered kind.Method [] p ls f fits no_scopes n method_form refl
-      (lower (own (w kind.Method p ls f fits)) ((behind (first_spot n)).line + tall method_form) (behind (first_spot n))
-      method_form (cost f) (6 * (length p.optional + 1) + cost f) (many f) (many f) (omega arith) refl method_well)
+  pub body_inner : Inner k sc p ls f fits out.short n body_lines
+  body_inner =
+      inner_entered k sc p ls f fits out.short n body_form enters
+      (lower (own (w k sc out p ls f fits)) ((behind (first_spot n)).line + tall body_form) (behind (first_spot n))
+      body_form (cost f) (6 * (length p.optional + 1) + cost f) (many f) (many f) (omega arith) refl body_well)
       (λ some. absurd (never_optional some))
 
-  pub method_ready : Ready (own (w kind.Method p ls f fits)) (op.Return (start kind.Method p ls f fits)) 4
-  method_ready =
-      return_ready (w kind.Method p ls f fits) (start kind.Method p ls f fits) (omega (arith, width_some f))
+  pub body_ready : Ready (own (w k sc out p ls f fits)) (op.Return (start k sc out p ls f fits)) 4
+  body_ready =
+      return_ready (w k sc out p ls f fits) (start k sc out p ls f fits) (omega (arith, width_some f))
 
-  pub method_entered : IsEntered kind.Method p ls f fits method_lines (op.Return (start kind.Method p ls f fits))
+  pub body_entered : IsEntered k sc out p ls f fits body_lines (op.Return (start k sc out p ls f fits))
   unfolding both puts
-  method_entered =
-      let i = method_inner.entered in
-      let none : length p.optional ≡ i.0.parameters.optional = ap optional_of i.0.is in (
+  body_entered =
+      let locals = 1 + length (slots_of k (form.body p ls f)) in
+      let i = subst (λ (b : Bool). Entered b locals (own (w k sc out p ls f fits)) (tall body_lines) body_lines.lines) enters
+      body_inner.entered in
+      let none : length p.optional ≡ i.0.parameters.optional = ap optional_of i.0.is in
+      subst (λ (b : Bool). Entered b locals (own (w k sc out p ls f fits)) (tall body_lines)
+      (body_lines.lines ++ line.Does (op.Return (start k sc out p ls f fits)) ∷ [])) (sym enters) (
         record {
           parameters = i.0.parameters;
           is = i.0.is;
@@ -220,6 +229,6 @@ module _ (p : Parameters) (ls : List Local) (f : CoreForm) (fits : Fits (form.bo
           fit = i.0.fit;
           follow = λ some. absurd (never_optional (omega (arith, some, none)));
         },
-        lines_append (own (w kind.Method p ls f fits)) (tall method_lines) method_form.lines
-            (line.Does (op.Return (start kind.Method p ls f fits)) ∷ []) i.1 (method_ready.serve, tt),
+        lines_append (own (w k sc out p ls f fits)) (tall body_lines) body_form.lines
+            (line.Does (op.Return (start k sc out p ls f fits)) ∷ []) i.1 (body_ready.serve, tt),
       )

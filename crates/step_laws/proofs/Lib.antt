@@ -64,6 +64,6 @@ pub mod Naming
 pub mod Coding
 pub mod Steady
 pub mod Alone
-pub mod Blockless
+pub mod Numbered
 pub mod Coded
 pub mod Methods

@@ -10,7 +10,8 @@ use Rattle.rb_store.specs.Opening.{with_names}
 use Rattle.def_eval.specs.Source.{over, named_in, all_names}
 use Rattle.def_machine.specs.State.{all_symbols}
 use Rattle.step_laws.proofs.Names.{Knows, named_append, knows_named, among_known, same_symbols}
-use Rattle.step_laws.proofs.Written.{AllWritten}
+use Rattle.eval_laws.specs.Kinds.{Kind, of_program, of_block, of_method, of_class}
+use Rattle.step_laws.proofs.Written.{WrittenAs, AllWritten}
 
 -- a body and those behind it
 pub one_more : (p : form.Parameters) (ls : List form.Local) (f : form.CoreForm) (bs : List Body) (is : List Irep)
@@ -24,14 +25,24 @@ one_more p ls f bs is further st =
     ∙ further (with_names st ns)
     ∙ sym (named_append ns (all_symbols is) st)
 
-pub names_written : (n : ℕ) (bs : List Body) (is : List Irep) → AllWritten n bs is → (st : Store)
+-- those of the code of a body of the source
+symbols_are : (k : Kind) (n : ℕ) (p : form.Parameters) (ls : List form.Local) (f : form.CoreForm) (i : Irep)
+    → WrittenAs k n (form.body p ls f) i → i.symbols ≡ (tally (form.body p ls f)).symbols
+symbols_are of_program n p ls f i w = absurd w
+symbols_are of_block n p ls f i w = ap (λ (j : Irep). j.symbols) w.is
+symbols_are of_method n p ls f i w = ap (λ (j : Irep). j.symbols) w.is
+symbols_are of_class n p ls f i w = absurd w
+
+pub names_written : (n : ℕ) (ks : List Kind) (bs : List Body) (is : List Irep) → AllWritten n ks bs is → (st : Store)
     → with_names st (all_names bs) ≡ with_names st (all_symbols is)
-names_written n [] [] w st = refl
-names_written n [] (i ∷ is) w st = absurd w
-names_written n (b ∷ bs) [] w st = absurd w
-names_written n (form.body p ls f ∷ bs) (i ∷ is) w st =
-    one_more p ls f bs is (λ (z : Store). names_written (n + 1) bs is w.1 z) st
-    ∙ ap (λ (xs : List Name). with_names st (xs ++ all_symbols is)) (sym (ap (λ (j : Irep). j.symbols) w.0.is))
+names_written n [] [] [] w st = refl
+names_written n [] [] (i ∷ is) w st = absurd w
+names_written n [] (b ∷ bs) is w st = absurd w
+names_written n (k ∷ ks) [] is w st = absurd w
+names_written n (k ∷ ks) (b ∷ bs) [] w st = absurd w
+names_written n (k ∷ ks) (form.body p ls f ∷ bs) (i ∷ is) w st =
+    one_more p ls f bs is (λ (z : Store). names_written (n + 1) ks bs is w.1 z) st
+    ∙ ap (λ (xs : List Name). with_names st (xs ++ all_symbols is)) (sym (symbols_are k n p ls f i w.0))
 
 -- the symbols of a body
 pub all_known : (bs : List Body) (k : ℕ) (b : Body) (st : Store) (x : Name) → k < length bs

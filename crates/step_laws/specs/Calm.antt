@@ -1,4 +1,4 @@
--- What an evaluation keeps that calls no bodies of the source but those of methods.
+-- What an evaluation keeps that calls no bodies of the source but those with code.
 use Rattle.std.specs.Prelude.{◌≡◌, ◌⊎◌, ℕ, List, [], ◌∷◌, ◌++◌, length, Some}
 use Rattle.rb_value.specs.Object.{Object}
 use Rattle.rb_value.specs.declared.value.Value.{Value}
@@ -113,8 +113,8 @@ objects_at (clause_target n e b r) v m = m.world.store.objects
 objects_at (clause_body r) v m = m.world.store.objects
 objects_at (ensured n e) v m = m.world.store.objects
 
--- the objects among which a transition finds what it calls: a plan of an iteration, or a block argument, may have made some
--- before
+-- the objects among which a transition finds what it calls: a plan of an iteration, or a block argument, may have made
+-- some before
 abbrev pub objects_for : Focus → List Item → Memory → List Object
 objects_for (perform n e) ks m = m.world.store.objects
 objects_for (give v) [] m = m.world.store.objects

@@ -1,5 +1,5 @@
--- The forms whose code is followed where a spot of it and the number of their first body are known: what defines a method,
--- and calls with a block, at the top of a body or in a sequence there, besides the covered ones.
+-- The forms whose code is followed where a spot of it and the number of their first body are known: what defines a
+-- method, block literals and calls with them, at the top of a body or in a sequence there, besides the covered ones.
 use Rattle.std.specs.Prelude.{◌≡◌, ℕ, ◌+◌, get_or, Bool, false, nat_lt, is_some, Option}
 use Rattle.rite_code.specs.declared.operation.Operation.TheVariants as op
 use Rattle.ir_counts.specs.Tables.{item_count}

@@ -1,7 +1,7 @@
--- Programs of simple and of plain forms and one with methods, and what is shown of them.
+-- Programs of simple and of plain forms, one with methods and one with a block, and what is shown of them.
 use Rattle.std.specs.Prelude.{◌≡◌, ℕ, pos, false, List, [], ◌∷◌, codes, None}
 use Rattle.rite_code.specs.Code.{Program, program}
-use Rattle.ir_core.specs.CoreForm.{named, hidden, Local, CoreForm, nil, truth, int, str, sym, local, set_local, gvar, set_gvar, array, hash, text, seq, cond, while_form, call, return_form, break_form, define, item, Body, body, plain_body, form_of, absent, Forms, more, two, no_items, plain, splat, no_pairs, pair, no_branches, branch, to, on_self}
+use Rattle.ir_core.specs.CoreForm.{named, hidden, Local, CoreForm, nil, truth, int, str, sym, local, set_local, gvar, set_gvar, array, hash, text, seq, cond, while_form, call, function, return_form, break_form, define, item, Body, body, plain_body, form_of, absent, there, Forms, more, two, no_items, plain, splat, no_pairs, pair, no_branches, branch, to, on_self}
 use Rattle.ir_core.specs.Program.{IsProgram}
 use Rattle.ir_counts.specs.Counts.{need}
 use Rattle.ir_counts.specs.Limits.{first_excess}
@@ -120,3 +120,25 @@ pub record IsMethodWitness (b : Body) : Type 0 where
   pub plain : IsPlainProgram b
   pub evaluates : evaluation (source_of b) [] 100 ≡ Over (Ended (codes "3\n") 0)
   pub runs : machine (code_of b) [] 100 ≡ Over (Ended (codes "3\n") 0)
+
+-- [4, 5].each do |i|
+--   a = i + 1
+--   puts a
+-- end
+abbrev pub teller : Body
+teller =
+    body (record { required = i ∷ []; optional = []; rest = []; post = []; block = [] }) (a ∷ [])
+    (seq (two (set_local a (on (local i) (codes "+") (int (pos 1))))
+    (call on_self (codes "puts") (plain (local a) no_items) absent)))
+
+abbrev pub visitor : Body
+visitor = plain_body [] (call (to (array (plain (int (pos 4)) (plain (int (pos 5)) no_items)))) (codes "each") no_items
+    (there (function teller)))
+
+-- it is a program of plain forms and a block within the limits, and both sides end with the lines 5 and 6
+pub record IsBlockWitness (b : Body) : Type 0 where
+  pub program : IsProgram b
+  pub within : first_excess (need b) ≡ None
+  pub plain : IsPlainProgram b
+  pub evaluates : evaluation (source_of b) [] 200 ≡ Over (Ended (codes "5\n6\n") 0)
+  pub runs : machine (code_of b) [] 200 ≡ Over (Ended (codes "5\n6\n") 0)

@@ -47,7 +47,7 @@ ghost use Rattle.step_laws.specs.Relation.{Alike, Shared};
 ghost use Rattle.step_laws.specs.Simple.{IsSimple};
 ghost use Rattle.step_laws.specs.Tops.{IsPlainProgram};
 ghost use Rattle.step_laws.specs.Implements.{IsCodeOf, Implements};
-ghost use Rattle.step_laws.specs.Example.{countdown, gatherer, chooser, IsWitness, IsPlainWitness, IsMethodWitness};
+ghost use Rattle.step_laws.specs.Example.{countdown, gatherer, chooser, visitor, IsWitness, IsPlainWitness, IsMethodWitness, IsBlockWitness};
 
 /// From a configuration and a state that are alike a transition is matched by few turns, after which they are alike again;
 /// what waits below the running frame, and in other fibers, may be anything that is alike. Both begin alike.
@@ -85,9 +85,9 @@ pub fn simple_code_implements()
         → Implements s p input }
 {}
 
-/// The code that gen_forms gives for a program of plain forms, and of methods of such forms without optional parameters,
-/// within the limits is code of it and of its methods. No block stands in such a program, so its evaluation enters no
-/// bodies but those of its methods, and the code implements it for every input.
+/// The code that gen_forms gives for a program of plain forms, of methods of such forms without optional parameters, and of
+/// calls with blocks of that sort that name no locals but their own, within the limits is code of it, its methods and its
+/// blocks. Its evaluation enters no other bodies, and the code implements it for every input.
 #[tactic(auto, using(crate::proofs::Coded::program_is_code, crate::proofs::Coded::program_implements))]
 pub fn plain_programs_are_implemented()
     ensures coded { (b : Body) → IsProgram b → first_excess (need b) ≡ None → IsPlainProgram b
@@ -124,4 +124,10 @@ pub fn a_program_gathers()
 #[tactic(auto, using(crate::proofs::Methods::chooses))]
 pub fn a_program_calls_methods()
     ensures { IsMethodWitness chooser }
+{}
+
+/// There is one that calls a method with a block, which has a local of its own; both sides come to the same end.
+#[tactic(auto, using(crate::proofs::Methods::visits))]
+pub fn a_program_visits_each()
+    ensures { IsBlockWitness visitor }
 {}
