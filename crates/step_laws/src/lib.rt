@@ -1,5 +1,5 @@
-//! The step law of forms without bodies and of methods that are called, over the whole definitions: the code that gen_forms
-//! gives for a form goes with the evaluation of the form, transition by transition. There is no code here.
+//! The step law of forms without bodies, of methods and of blocks, over the whole definitions: the code that gen_forms gives
+//! for a form goes with the evaluation of the form, transition by transition. There is no code here.
 //!
 //! - `specs::Covered`: the forms whose code is followed: nil, true, false, self, integers, strings, symbols, variables and
 //!   constants with their assignments, locals, Arrays with splats, Hashes, Ranges, texts, sequences, branches, `and` and
@@ -7,12 +7,13 @@
 //!   calls of a name alone, calls of a value and of self with plain items and no block. Operators are calls by look-up and
 //!   row, and `puts` is the iteration that it is, plan by plan.
 //! - `specs::Plain`: the same as a condition on a form alone
-//! - `specs::Tops`: programs of such forms and of methods of such forms
+//! - `specs::Tops`: programs of such forms, of methods of such forms and of calls with blocks of such forms
 //! - `specs::Simple`: those over nil, true, false and integers, with operators and `puts`, whose evaluation calls no body
-//! - `specs::Covers`: what defines a method besides, at the top of a body or in a sequence there
+//! - `specs::Covers`: what defines a method, block literals and calls with them besides, at the top of a body or in a
+//!   sequence there
 //! - `specs::Bodies`: code of the body of a method or a block without optional parameters, and a store whose methods and
 //!   Procs have such code
-//! - `specs::Calm`: what is asked of an evaluation otherwise: it calls no bodies of the source but those of such methods
+//! - `specs::Calm`: what is asked of an evaluation otherwise: it calls no bodies of the source but those with such code
 //! - `specs::Peaceful`: what of this isn't so of every program
 //! - `specs::Implements`: code of a source, and what it means that code implements a source
 //! - `specs::Behind`: the code behind each part of a form that waits for its value
