@@ -121,6 +121,13 @@ pub record IsMethodWitness (b : Body) : Type 0 where
   pub evaluates : evaluation (source_of b) [] 100 ≡ Over (Ended (codes "3\n") 0)
   pub runs : machine (code_of b) [] 100 ≡ Over (Ended (codes "3\n") 0)
 
+-- def hand(i, &h)
+--   h.call(i)
+-- end
+-- hand(3) do |i|
+--   a = i + 1
+--   puts a
+-- end
 -- [4, 5].each do |i|
 --   a = i + 1
 --   puts a
@@ -131,14 +138,21 @@ teller =
     (seq (two (set_local a (on (local i) (codes "+") (int (pos 1))))
     (call on_self (codes "puts") (plain (local a) no_items) absent)))
 
-abbrev pub visitor : Body
-visitor = plain_body [] (call (to (array (plain (int (pos 4)) (plain (int (pos 5)) no_items)))) (codes "each") no_items
-    (there (function teller)))
+abbrev pub hand : Body
+hand =
+    body (record { required = i ∷ []; optional = []; rest = []; post = []; block = h ∷ [] }) []
+    (on (local h) (codes "call") (local i))
 
--- it is a program of plain forms and a block within the limits, and both sides end with the lines 5 and 6
+abbrev pub visitor : Body
+visitor = plain_body [] (seq (three (define (codes "hand") hand)
+    (call on_self (codes "hand") (plain (int (pos 3)) no_items) (there (function teller)))
+    (call (to (array (plain (int (pos 4)) (plain (int (pos 5)) no_items)))) (codes "each") no_items
+    (there (function teller)))))
+
+-- it is a program of plain forms, a method and blocks within the limits, and both sides end with the lines 4, 5 and 6
 pub record IsBlockWitness (b : Body) : Type 0 where
   pub program : IsProgram b
   pub within : first_excess (need b) ≡ None
   pub plain : IsPlainProgram b
-  pub evaluates : evaluation (source_of b) [] 200 ≡ Over (Ended (codes "5\n6\n") 0)
-  pub runs : machine (code_of b) [] 200 ≡ Over (Ended (codes "5\n6\n") 0)
+  pub evaluates : evaluation (source_of b) [] 200 ≡ Over (Ended (codes "4\n5\n6\n") 0)
+  pub runs : machine (code_of b) [] 200 ≡ Over (Ended (codes "4\n5\n6\n") 0)

@@ -127,7 +127,8 @@ pub fn a_program_calls_methods()
     ensures { IsMethodWitness chooser }
 {}
 
-/// There is one that calls a method with a block, which has a local of its own; both sides come to the same end.
+/// There is one that hands a block, which has a local of its own, to a method that calls it, and one to `each` of an Array;
+/// both sides come to the same end.
 #[tactic(auto, using(crate::proofs::Methods::visits))]
 pub fn a_program_visits_each()
     ensures { IsBlockWitness visitor }
