@@ -73,3 +73,4 @@ pub mod CutMade
 pub mod CutSlices
 pub mod CutSlid
 pub mod CutSums
+pub mod Handing

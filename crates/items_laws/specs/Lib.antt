@@ -23,3 +23,4 @@ pub mod Cut
 pub mod Compared
 pub mod Sieved
 pub mod Placed
+pub mod Handed

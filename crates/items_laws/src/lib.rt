@@ -10,11 +10,13 @@
 //!   of a String, `loop`
 //! - `specs::Decided`, `specs::Asked`, `specs::Placed`, `specs::Compared`, `specs::Sieved`: items that decide without a call,
 //!   values that are asked for a method, how a value stands to others, and what comes of it where many are compared
+//! - `specs::Handed`: methods that want one thing alone
 //! - `specs::Cut`: runs that are left
 #![tactic(auto)]
 
 pub mod asked;
 pub mod compared;
+pub mod handed;
 pub mod left;
 
 ghost use Rattle.std.specs.Prelude.{◌≡◌, ℕ, ◌<◌, ◌+◌, ◌^◌, ℤ, pos, negsuc, ◌-ℤ◌, int_lt, List, [], ◌∷◌, length, map, take, drop, slice_get, not, true, false, Option, Some, None, Ok};

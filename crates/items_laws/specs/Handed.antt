@@ -1,0 +1,52 @@
+-- Methods that want one thing alone, and hand on what comes of it.
+use Rattle.std.specs.Prelude.{◌≡◌, List, [], ◌∷◌, Bool, Option, Some, None}
+use Rattle.rb_value.specs.declared.value.Value.{Value}
+use Rattle.rb_value.specs.declared.value.ObjId.{ObjId}
+use Rattle.rb_value.specs.declared.value.SymId.{SymId}
+use Rattle.def_core.specs.Store.{Store}
+use Rattle.rb_store.specs.Held.{Held}
+use Rattle.def_plans.specs.Plan.{Plan, finishes, fails, raises, sends, calls, writes, reads, resumes, yields}
+use Rattle.core_iter.specs.Stage.{Stage}
+use Rattle.items_laws.specs.Run.{Turn}
+
+-- the Proc that is called, with what, and with which block
+abbrev pub call_in : Plan Stage → Option (ObjId × List Value × Option ObjId)
+call_in (finishes v) = None
+call_in (fails c) = None
+call_in (raises e) = None
+call_in (sends s v name args block public) = None
+call_in (calls s p args block) = Some (p, args, block)
+call_in (writes s bytes) = None
+call_in (reads s) = None
+call_in (resumes s f args) = None
+call_in (yields s args) = None
+
+-- the message that is sent to a value, with what, and with which block; and whether its method has to be public
+abbrev pub message_in : Plan Stage → Option (Value × SymId × List Value × Option ObjId × Bool)
+message_in (finishes v) = None
+message_in (fails c) = None
+message_in (raises e) = None
+message_in (sends s v name args block public) = Some (v, name, args, block, public)
+message_in (calls s p args block) = None
+message_in (writes s bytes) = None
+message_in (reads s) = None
+message_in (resumes s f args) = None
+message_in (yields s args) = None
+
+-- One thing is wanted, in the heap with that store; its answer ends the run, and the value is by that.
+pub record HandsOn (IsWanted : Plan Stage → Type 0) (st : Store) (result : Value → Value) (ts : List Turn) (v : Value)
+    (after : Held) : Type 0 where
+  pub turn : Turn
+  pub alone : ts ≡ turn ∷ []
+  pub wanted : IsWanted turn.wanted.plan
+  pub heap : turn.wanted.held.store ≡ st
+  pub value : v ≡ result turn.answer
+  pub left : after ≡ turn.held
+
+-- the answer itself
+abbrev pub as_answered : Value → Value
+as_answered a = a
+
+-- whatever the answer
+abbrev pub always_that : Value → Value → Value
+always_that v a = v

@@ -1,0 +1,55 @@
+//! What comes of methods that want one thing alone.
+
+ghost use Rattle.std.specs.Prelude.{◌≡◌, List, [], ◌∷◌, true, false, codes, Option, Some, None, Ok};
+ghost use Rattle.rb_value.specs.declared.value.Value.{Value};
+ghost use Rattle.rb_value.specs.declared.value.Value.TheVariants.{Obj};
+ghost use Rattle.rb_value.specs.declared.value.ObjId.{ObjId};
+ghost use Rattle.rb_value.specs.declared.value.SymId.{SymId};
+ghost use Rattle.rb_value.specs.declared.kind.Sort.TheVariants as sort;
+ghost use Rattle.def_core.specs.Store.{next_number};
+ghost use Rattle.def_calls.specs.Views.{a_proc};
+ghost use Rattle.rb_store.specs.Held.{Held};
+ghost use Rattle.heap.specs.declared.making.Blank.{Blank};
+ghost use Rattle.heap.specs.Made.{with_blank};
+ghost use Rattle.heap.specs.Reading.{sort_of_value};
+ghost use Rattle.core_calls.specs.Checks.{name_in};
+ghost use Rattle.core_iter.specs.Making.{blank_for};
+ghost use Rattle.run_rows.specs.declared.row.KernelRow.TheVariants as kernel;
+ghost use Rattle.run_rows.specs.declared.row.StarRow.TheVariants as row;
+ghost use Rattle.items_laws.specs.Run.{Turn, Gives};
+ghost use Rattle.items_laws.specs.Asked.{symbol, with_symbol};
+ghost use Rattle.items_laws.specs.Handed.{HandsOn, always_that, as_answered, call_in, message_in};
+
+/// `call`, `()`, `[]`, `yield` and `===` of a Proc: it is called with the arguments and the block, and what it answers is
+/// given. `tap` and `then`: the block is called with the receiver, and that, or the answer, is given. `send`, `__send__` and
+/// `public_send`: the receiver is sent the message of that name with the other arguments and the block, and the answer is
+/// given. `new`: a new object is sent `initialize` with the arguments and the block, and is given, whatever that answers.
+pub fn answers_are_handed_on()
+    ensures proc { (held after : Held) (recv v : Value) (p : ObjId) (args : List Value) (block : Option ObjId)
+        (ts : List Turn) → a_proc held.store.objects recv ≡ Some p
+        → Gives (row.Kernel kernel.CallProc) held recv args block ts v after
+        → HandsOn (λ q. call_in q ≡ Some (p, args, block)) held.store as_answered ts v after }
+    ensures tap { (held after : Held) (recv v : Value) (b : ObjId) (ts : List Turn)
+        → Gives (row.Kernel kernel.Tap) held recv [] (Some b) ts v after
+        → HandsOn (λ q. call_in q ≡ Some (b, recv ∷ [], None)) held.store (always_that recv) ts v after }
+    ensures then { (held after : Held) (recv v : Value) (b : ObjId) (ts : List Turn)
+        → Gives (row.Kernel kernel.Then) held recv [] (Some b) ts v after
+        → HandsOn (λ q. call_in q ≡ Some (b, recv ∷ [], None)) held.store as_answered ts v after }
+    ensures send { (held after : Held) (recv n v : Value) (args : List Value) (block : Option ObjId) (name : SymId)
+        (ts : List Turn) → (name_in held.store n).name ≡ Ok name
+        → Gives (row.Kernel kernel.Send) held recv (n ∷ args) block ts v after
+        → HandsOn (λ q. message_in q ≡ Some (recv, name, args, block, false)) (name_in held.store n).store as_answered ts v
+        after }
+    ensures public_send { (held after : Held) (recv n v : Value) (args : List Value) (block : Option ObjId) (name : SymId)
+        (ts : List Turn) → (name_in held.store n).name ≡ Ok name
+        → Gives (row.Kernel kernel.PublicSend) held recv (n ∷ args) block ts v after
+        → HandsOn (λ q. message_in q ≡ Some (recv, name, args, block, true)) (name_in held.store n).store as_answered ts v
+        after }
+    ensures new { (held after : Held) (c : ObjId) (v : Value) (k : Blank) (args : List Value) (block : Option ObjId)
+        (ts : List Turn) → sort_of_value held.store (Obj c) ≡ Some sort.Class → blank_for held.store c ≡ Some k
+        → Gives (row.Kernel kernel.NewObject) held (Obj c) args block ts v after
+        → HandsOn (λ q. message_in q
+        ≡ Some (Obj (next_number held.store), symbol (codes "initialize") (with_blank held c k), args, block, false))
+        (with_symbol (codes "initialize") (with_blank held c k)).store (always_that (Obj (next_number held.store))) ts v
+        after }
+{}
