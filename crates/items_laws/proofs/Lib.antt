@@ -73,4 +73,6 @@ pub mod CutMade
 pub mod CutSlices
 pub mod CutSlid
 pub mod CutSums
+pub mod Wrote
+pub mod Pieced
 pub mod Handing

@@ -55,13 +55,13 @@ pub record Read {S : Type 0} (g : Reader S) (name : SymId) (held : Held) (s : S)
 
 -- What is asked is the value at the place.
 
-not_ends : (x r : Value) (arg : Option Value) → AsksFor x arg ≡ Ends r → ⊥
+pub not_ends : (x r : Value) (arg : Option Value) → AsksFor x arg ≡ Ends r → ⊥
 not_ends x r arg e = cc
 
-receiver_same : (x y : Value) (o p : Option Value) → AsksFor x o ≡ AsksFor y p → x ≡ y
+pub receiver_same : (x y : Value) (o p : Option Value) → AsksFor x o ≡ AsksFor y p → x ≡ y
 receiver_same x y o p e = cc
 
-argument_same : (x y : Value) (o p : Option Value) → AsksFor x o ≡ AsksFor y p → o ≡ p
+pub argument_same : (x y : Value) (o p : Option Value) → AsksFor x o ≡ AsksFor y p → o ≡ p
 argument_same x y o p e = cc
 
 abbrev asking : {S : Type 0} → Reader S → Held → S → Value → Asked Work

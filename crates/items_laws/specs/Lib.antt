@@ -23,4 +23,5 @@ pub mod Cut
 pub mod Compared
 pub mod Sieved
 pub mod Placed
+pub mod Written
 pub mod Handed

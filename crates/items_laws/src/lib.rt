@@ -10,6 +10,7 @@
 //!   of a String, `loop`
 //! - `specs::Decided`, `specs::Asked`, `specs::Placed`, `specs::Compared`, `specs::Sieved`: items that decide without a call,
 //!   values that are asked for a method, how a value stands to others, and what comes of it where many are compared
+//! - `specs::Written`: texts that are made of those that values are asked for
 //! - `specs::Handed`: methods that want one thing alone
 //! - `specs::Cut`: runs that are left
 #![tactic(auto)]
@@ -18,6 +19,7 @@ pub mod asked;
 pub mod compared;
 pub mod handed;
 pub mod left;
+pub mod written;
 
 ghost use Rattle.std.specs.Prelude.{◌≡◌, ℕ, ◌<◌, ◌+◌, ◌^◌, ℤ, pos, negsuc, ◌-ℤ◌, int_lt, List, [], ◌∷◌, length, map, take, drop, slice_get, not, true, false, Option, Some, None, Ok};
 ghost use Rattle.rb_value.specs.declared.value.Value.{Value};
