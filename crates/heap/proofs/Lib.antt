@@ -6,3 +6,4 @@ pub mod Told
 pub mod Spaces
 pub mod Sorted
 pub mod Copied
+pub mod Lent

@@ -348,6 +348,15 @@ text_there st (Obj i) id h =
     let both = text_in_kind (object_at st.objects i).kind i id h in
     both.1 ∙ ap (λ (j : ObjId). Some (parts.text_at st.objects j)) both.0
 
+-- the String that a value is is the value
+pub string_at : (st : Store) (v : Value) (id : ObjId) → a_string st.objects v ≡ Some id → v ≡ Obj id
+string_at st Nil id h = cc
+string_at st True id h = cc
+string_at st False id h = cc
+string_at st (Int n) id h = cc
+string_at st (Sym s) id h = cc
+string_at st (Obj i) id h = ap Obj (text_in_kind (object_at st.objects i).kind i id h).0
+
 text_in_none : (k : Kind) (i : ObjId) → if_there (string_of k) (Obj i) ≡ None → string_of k ≡ None
 text_in_none kind.Plain i h = refl
 text_in_none (kind.Class c) i h = refl

@@ -1,5 +1,6 @@
 //! Changes of single facts of objects.
-ghost use Rattle.std.specs.Prelude.{◌≡◌};
+ghost use Rattle.std.specs.Prelude.{◌≡◌, OnErr};
+ghost use Rattle.rb_value.specs.declared.value.Value.TheVariants.{Obj};
 ghost use Rattle.def_core.specs.Sound.{Sound, census};
 ghost use Rattle.def_core.specs.Store.{object_at};
 ghost use Rattle.def_calls.specs.Views as views;
@@ -44,6 +45,7 @@ pub(crate) fn set_instance_variable(
     ensures keeps { Keeps st.old st.new }
     ensures answers { Answers st.old st.new result (operands.with_symbol name (λ w.
         values.set_instance_variable w (operands.own st.old.store receiver) name (operands.own st.old.store value))) }
+    ensures err { (id : ObjId) → operands.own st.old.store receiver ≡ Obj id → OnErr result (st.new ≡ st.old) }
 {
     let receiver = own(st, receiver);
     let value = own(st, value);
@@ -116,7 +118,8 @@ impl Heap {
         run_values::instance_variable(&self.st, own(&self.st, receiver), name)
     }
 
-    /// Sets an instance variable of a value, and gives what it is set to; a value that can have none raises.
+    /// Sets an instance variable of a value, and gives what it is set to; a value that can have none raises. Where memory
+    /// runs out for an object, all is as before.
     #[inline(always)]
     pub fn set_instance_variable(
         &mut self,
@@ -126,6 +129,7 @@ impl Heap {
     ) -> Result<Given, AllocError>
         ensures answers { Answers self.old self.new result (operands.with_symbol name (λ w.
             values.set_instance_variable w (operands.own self.old.store receiver) name (operands.own self.old.store value))) }
+        ensures err { (id : ObjId) → operands.own self.old.store receiver ≡ Obj id → OnErr result (self.new ≡ self.old) }
     {
         set_instance_variable(&mut self.st, receiver, name, value)
     }

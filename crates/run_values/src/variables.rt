@@ -1,5 +1,7 @@
 //! Instance variables: one that was never set is nil, and only objects have them.
-ghost use Rattle.std.specs.Prelude.{◌≡◌};
+ghost use Rattle.std.specs.Prelude.{◌≡◌, OnErr};
+ghost use Rattle.rb_value.specs.declared.value.ObjId.{ObjId};
+ghost use Rattle.rb_value.specs.declared.value.Value.TheVariants.{Obj};
 ghost use Rattle.def_core.specs.Sound.{Sound, census, IsSymbol, IsValue};
 ghost use Rattle.def_calls.specs.World.{World, with_store};
 ghost use Rattle.def_calls.specs.Values as values;
@@ -26,7 +28,8 @@ pub fn instance_variable(st: &Store, self_value: Value, name: SymId) -> Value
     }
 }
 
-/// Sets an instance variable, and gives its value. What is no object raises.
+/// Sets an instance variable, and gives its value. What is no object raises. Where memory runs out for an object, the store
+/// is as before.
 #[tactic(auto, unfolding(def_calls::specs::Values::set_instance_variable), using(def_core::proofs::Good::is_good, rb_store::proofs::Keeping::keeps_itself))]
 pub fn set_instance_variable(
     st: &mut Store,
@@ -38,7 +41,8 @@ pub fn set_instance_variable(
     requires self_value { IsValue (census st.old.store) self_value }
     requires name { IsSymbol (census st.old.store) name }
     requires value { IsValue (census st.old.store) value }
-    ensures { Answers st.old st.new result (λ w. values.set_instance_variable w self_value name value) }
+    ensures answers { Answers st.old st.new result (λ w. values.set_instance_variable w self_value name value) }
+    ensures err { (id : ObjId) → self_value ≡ Obj id → OnErr result (st.new ≡ st.old) }
 {
     match self_value {
         Value::Obj(id) => {
