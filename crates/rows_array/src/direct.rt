@@ -1,5 +1,5 @@
 //! Methods whose outcome is given straight on.
-ghost use Rattle.std.specs.Prelude.{◌≡◌, [], IfOk, OnErr};
+ghost use Rattle.std.specs.Prelude.{◌≡◌, [], None, IfOk, OnErr};
 ghost use Rattle.rows_array.specs.Directly as directly;
 
 use crate::places::value_at;
@@ -11,7 +11,8 @@ use std::alloc::AllocError;
 /// Puts a value in the place of the element at an index that counts from the front; nothing where there is none.
 #[inline(always)]
 fn put_in_place(heap: &mut Heap, id: ObjId, index: i64, value: Value) -> Option<Value>
-    ensures { directly.put_in_place heap.old id index value ≡ (result, heap.new) }
+    ensures given { directly.put_in_place heap.old id index value ≡ (result, heap.new) }
+    ensures none { result ≡ None → heap.new ≡ heap.old }
 {
     let place = usize::try_from(index).ok()?;
     if place < heap.elements(id).len() {
@@ -46,6 +47,7 @@ pub fn give_directly(
     args: &[Value],
 ) -> Result<Option<Value>, AllocError>
     ensures given { IfOk result (λ found. directly.given row heap.old receiver args.now ≡ (found, heap.new)) }
+    ensures none { IfOk result (λ found. found ≡ None → heap.new ≡ heap.old) }
     ensures err { OnErr result (heap.new ≡ heap.old) }
 {
     let Some(id) = heap.an_array(receiver) else {

@@ -1,11 +1,11 @@
 -- What is done straight on, without a call: nothing is given of any other method, receiver or arguments, nor where a
 -- method refuses.
-use Rattle.std.specs.Prelude.{List, [], ◌∷◌, length, nat_eq, Bool, Option, Some, None, Result, Ok, Err}
+use Rattle.std.specs.Prelude.{List, [], ◌∷◌, length, nat_eq, Bool, false, is_some, Option, Some, None, Result, Ok, Err}
 use Rattle.rb_value.specs.declared.value.Value.{Value}
 use Rattle.rb_value.specs.declared.value.ObjId.{ObjId}
 use Rattle.rb_value.specs.Value.{truth}
 use Rattle.def_core.specs.declared.cause.Cause.{Cause}
-use Rattle.def_calls.specs.Views.{a_hash}
+use Rattle.def_calls.specs.Views.{a_hash, a_string}
 use Rattle.rb_store.specs.Held.{Held}
 use Rattle.rows_hash.specs.declared.rows.HashRow.{HashRow}
 use Rattle.rows_hash.specs.declared.rows.HashRow.TheVariants as row
@@ -60,3 +60,14 @@ directly_at row held (Some id) args = directly row held id args
 
 abbrev pub given : HashRow → Held → Value → List Value → Option Value × Held
 given row held recv args = directly_at row held (a_hash held.store.objects recv) args
+
+-- a value is put under a String, of which a copy may be made
+abbrev pub puts_under_text : Held → List Value → Bool
+puts_under_text held [] = false
+puts_under_text held (k ∷ []) = false
+puts_under_text held (k ∷ v ∷ []) = is_some (a_string held.store.objects k)
+puts_under_text held (k ∷ v ∷ w ∷ rest) = false
+
+abbrev pub may_copy : HashRow → Held → List Value → Bool
+may_copy row.Store held args = puts_under_text held args
+may_copy _ held args = false

@@ -1,5 +1,6 @@
 //! Methods whose outcome is given straight on.
-ghost use Rattle.std.specs.Prelude.{◌≡◌, [], ◌∷◌, length, IfOk};
+ghost use Rattle.std.specs.Prelude.{◌≡◌, [], ◌∷◌, length, false, is_some, None, IfOk, OnErr};
+ghost use Rattle.def_calls.specs.Views.{a_string};
 ghost use Rattle.rows_hash.specs.declared.rows.HashRow.TheVariants as methods;
 ghost use Rattle.rows_hash.specs.Directly as directly;
 
@@ -37,7 +38,9 @@ fn key_there(heap: &Heap, id: ObjId, key: Value) -> Result<Option<Value>, AllocE
 
 /// Gives a key a value, and gives the value; nothing where no key is made of it.
 fn stored(heap: &mut Heap, id: ObjId, key: Value, value: Value) -> Result<Option<Value>, AllocError>
-    ensures { IfOk result (λ found. directly.directly methods.Store heap.old id (key ∷ value ∷ []) ≡ (found, heap.new)) }
+    ensures given { IfOk result (λ found. directly.directly methods.Store heap.old id (key ∷ value ∷ []) ≡ (found, heap.new)) }
+    ensures none { IfOk result (λ found. found ≡ None → heap.new ≡ heap.old) }
+    ensures err { is_some (a_string heap.old.store.objects key) ≡ false → OnErr result (heap.new ≡ heap.old) }
 {
     match pairs::store(heap, id, key, value) {
         Ok(value) => Ok(Some(value)),
@@ -47,7 +50,8 @@ fn stored(heap: &mut Heap, id: ObjId, key: Value, value: Value) -> Result<Option
 }
 
 /// What a method gives straight on: how many pairs there are, or whether there is none, whether a key is there, a value
-/// under a key. Nothing of any other method, receiver and arguments, which change nothing then.
+/// under a key. Nothing of any other method, receiver and arguments, which change nothing then. Where memory runs out
+/// all is as before, unless a value was put under a String, of which a copy may have been made.
 #[inline(always)]
 pub fn give_directly(
     heap: &mut Heap,
@@ -55,7 +59,9 @@ pub fn give_directly(
     receiver: Value,
     args: &[Value],
 ) -> Result<Option<Value>, AllocError>
-    ensures { IfOk result (λ found. directly.given row heap.old receiver args.now ≡ (found, heap.new)) }
+    ensures given { IfOk result (λ found. directly.given row heap.old receiver args.now ≡ (found, heap.new)) }
+    ensures none { IfOk result (λ found. found ≡ None → heap.new ≡ heap.old) }
+    ensures err { directly.may_copy row heap.old args.now ≡ false → OnErr result (heap.new ≡ heap.old) }
 {
     let Some(id) = heap.a_hash(receiver) else {
         return Ok(None);

@@ -47,7 +47,8 @@ fn put_under_text(heap: &mut Heap, id: ObjId, key: Value, value: Value) -> Resul
 #[tactic(auto, using(crate::proofs::Put::other_put, crate::proofs::Put::other_refused))]
 fn put_under_other(heap: &mut Heap, id: ObjId, key: Value, value: Value) -> Result<(), RowError>
     requires { is_some (a_string heap.old.store.objects key) ≡ false }
-    ensures { Leaves heap.old heap.new result (put heap.old id key value) }
+    ensures put { Leaves heap.old heap.new result (put heap.old id key value) }
+    ensures err { OnErr result (heap.new ≡ heap.old) }
 {
     if heap.put_pair(id, key, value)? {
         Ok(())
@@ -56,9 +57,10 @@ fn put_under_other(heap: &mut Heap, id: ObjId, key: Value, value: Value) -> Resu
     }
 }
 
-/// Gives a key a value, and gives the value.
+/// Gives a key a value, and gives the value. Where memory runs out for a key that is no String, all is as before.
 pub(crate) fn store(heap: &mut Heap, id: ObjId, key: Value, value: Value) -> Result<Value, RowError>
-    ensures { Gives heap.old heap.new result (defined.store heap.old id key value) }
+    ensures given { Gives heap.old heap.new result (defined.store heap.old id key value) }
+    ensures err { is_some (a_string heap.old.store.objects key) ≡ false → OnErr result (heap.new ≡ heap.old) }
 {
     if heap.a_string(key).is_some() {
         put_under_text(heap, id, key, value)?;

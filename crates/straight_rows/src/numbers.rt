@@ -1,5 +1,5 @@
 //! What methods of Integer without arguments give.
-ghost use Rattle.std.specs.Prelude.{◌≡◌, IfOk, OnErr};
+ghost use Rattle.std.specs.Prelude.{◌≡◌, None, IfOk, OnErr};
 ghost use Rattle.row_table.specs.declared.line.CoreRow.TheVariants as rows;
 ghost use Rattle.straight_rows.specs.Straight as straight;
 
@@ -19,6 +19,7 @@ pub(crate) fn give_number(
     args: &[Value],
 ) -> Result<Option<Value>, AllocError>
     ensures given { IfOk result (λ found. straight.given (rows.Integer method) heap.old receiver args.now ≡ (found, heap.new)) }
+    ensures none { IfOk result (λ found. found ≡ None → heap.new ≡ heap.old) }
     ensures err { OnErr result (heap.new ≡ heap.old) }
 {
     let (Value::Int(number), []) = (receiver, args) else {

@@ -1,5 +1,5 @@
 //! What rows of the table give straight on.
-ghost use Rattle.std.specs.Prelude.{◌≡◌, IfOk, OnErr};
+ghost use Rattle.std.specs.Prelude.{◌≡◌, None, IfOk, OnErr};
 ghost use Rattle.straight_rows.specs.Straight as straight;
 ghost use Rattle.straight_rows.specs.Called.{GivesAsCalled};
 
@@ -22,6 +22,7 @@ pub fn give(
 ) -> Result<Option<Value>, AllocError>
     ensures given { IfOk result (λ found. straight.given row heap.old receiver args.now ≡ (found, heap.new)) }
     ensures called { IfOk result (λ found. GivesAsCalled row heap.old heap.new receiver args.now found) }
+    ensures none { IfOk result (λ found. found ≡ None → heap.new ≡ heap.old) }
     ensures err { OnErr result (heap.new ≡ heap.old) }
 {
     match row {

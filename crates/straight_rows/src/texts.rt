@@ -1,5 +1,5 @@
 //! What methods of String give that make a String, or change one.
-ghost use Rattle.std.specs.Prelude.{◌≡◌, [], ◌∷◌, IfOk, OnOk, OnErr};
+ghost use Rattle.std.specs.Prelude.{◌≡◌, [], ◌∷◌, None, IfOk, OnOk, OnErr};
 ghost use Rattle.rb_value.specs.declared.value.Value.TheVariants as values;
 ghost use Rattle.row_table.specs.declared.line.CoreRow.TheVariants as rows;
 ghost use Rattle.row_table.specs.declared.string.StringMethod.TheVariants as methods;
@@ -38,6 +38,7 @@ fn append_text(heap: &mut Heap, id: ObjId, from: ObjId) -> Result<(), AllocError
 #[tactic(auto, unfolding(def_rows::specs::StringRows::gives, def_core::specs::Changes::fails), using(crate::proofs::Places::appended_is))]
 fn append(heap: &mut Heap, receiver: Value, other: Value) -> Result<Option<Value>, AllocError>
     ensures given { IfOk result (λ found. straight.given (rows.String methods.Append) heap.old receiver (other ∷ []) ≡ (found, heap.new)) }
+    ensures none { IfOk result (λ found. found ≡ None → heap.new ≡ heap.old) }
     ensures err { OnErr result (heap.new ≡ heap.old) }
 {
     let (Some(id), Some(from)) = (a_string(heap, receiver), a_string(heap, other)) else {
@@ -55,6 +56,7 @@ fn append(heap: &mut Heap, receiver: Value, other: Value) -> Result<Option<Value
 #[tactic(auto, unfolding(def_rows::specs::StringRows::gives, def_core::specs::Changes::fails))]
 fn joined(heap: &mut Heap, receiver: Value, other: Value) -> Result<Option<Value>, AllocError>
     ensures given { IfOk result (λ found. straight.given (rows.String methods.Plus) heap.old receiver (other ∷ []) ≡ (found, heap.new)) }
+    ensures none { IfOk result (λ found. found ≡ None → heap.new ≡ heap.old) }
     ensures err { OnErr result (heap.new ≡ heap.old) }
 {
     let (Some(id), Some(more)) = (a_string(heap, receiver), a_string(heap, other)) else {
@@ -70,6 +72,7 @@ fn joined(heap: &mut Heap, receiver: Value, other: Value) -> Result<Option<Value
 #[tactic(auto, unfolding(def_rows::specs::StringRows::gives))]
 fn byte(heap: &mut Heap, receiver: Value, index: i64) -> Result<Option<Value>, AllocError>
     ensures given { IfOk result (λ found. straight.given (rows.String methods.Element) heap.old receiver (values.Int index ∷ []) ≡ (found, heap.new)) }
+    ensures none { IfOk result (λ found. found ≡ None → heap.new ≡ heap.old) }
     ensures err { OnErr result (heap.new ≡ heap.old) }
 {
     let Some(id) = a_string(heap, receiver) else {
@@ -91,6 +94,7 @@ fn part(
 ) -> Result<Option<Value>, AllocError>
     ensures given { IfOk result (λ found. straight.given (rows.String methods.Element) heap.old receiver
         (values.Int index ∷ values.Int count ∷ []) ≡ (found, heap.new)) }
+    ensures none { IfOk result (λ found. found ≡ None → heap.new ≡ heap.old) }
     ensures err { OnErr result (heap.new ≡ heap.old) }
 {
     let Some(id) = a_string(heap, receiver) else {
@@ -108,6 +112,7 @@ fn part(
 /// `text[value]` with an index; nothing with any other value.
 fn element(heap: &mut Heap, receiver: Value, value: Value) -> Result<Option<Value>, AllocError>
     ensures given { IfOk result (λ found. straight.given (rows.String methods.Element) heap.old receiver (value ∷ []) ≡ (found, heap.new)) }
+    ensures none { IfOk result (λ found. found ≡ None → heap.new ≡ heap.old) }
     ensures err { OnErr result (heap.new ≡ heap.old) }
 {
     match value {
@@ -125,6 +130,7 @@ fn give_by(
     argument: Value,
 ) -> Result<Option<Value>, AllocError>
     ensures given { IfOk result (λ found. straight.given (rows.String method) heap.old receiver (argument ∷ []) ≡ (found, heap.new)) }
+    ensures none { IfOk result (λ found. found ≡ None → heap.new ≡ heap.old) }
     ensures err { OnErr result (heap.new ≡ heap.old) }
 {
     match method {
@@ -143,6 +149,7 @@ pub(crate) fn give_text(
     args: &[Value],
 ) -> Result<Option<Value>, AllocError>
     ensures given { IfOk result (λ found. straight.given (rows.String method) heap.old receiver args.now ≡ (found, heap.new)) }
+    ensures none { IfOk result (λ found. found ≡ None → heap.new ≡ heap.old) }
     ensures err { OnErr result (heap.new ≡ heap.old) }
 {
     match args {
