@@ -18,6 +18,7 @@ use Rattle.iter_items.specs.Moved.{Moved}
 use Rattle.iter_items.specs.Rows as over_items
 use Rattle.iter_items.specs.Stage as items_stage
 use Rattle.iter_items.specs.declared.state.ItemsState.{ItemsState}
+pub use Rattle.run_rows.specs.Above as rows
 use Rattle.run_rows.specs.declared.row.KernelRow.{KernelRow}
 use Rattle.run_rows.specs.declared.row.KernelRow.TheVariants as kernel
 use Rattle.run_rows.specs.declared.row.VisitRow.{VisitRow}

@@ -2,8 +2,8 @@
 use Rattle.std.specs.Prelude.{ℕ, List, [], ◌∷◌, ◌++◌, map, codes, nat_eq, if◌then◌else◌}
 use Rattle.rows_items.specs.declared.rows.ItemRow.{ItemRow}
 use Rattle.rows_items.specs.declared.rows.ItemRow.TheVariants as item
-use Rattle.iter_comparing.specs.declared.row.ComparingRow.{ComparingRow}
-use Rattle.iter_comparing.specs.declared.row.ComparingRow.TheVariants as comparing
+pub use Rattle.iter_comparing.specs.declared.row.ComparingRow.{ComparingRow}
+pub use Rattle.iter_comparing.specs.declared.row.ComparingRow.TheVariants as comparing
 use Rattle.iter_comparing.specs.declared.row.OrderRow.{OrderRow}
 use Rattle.iter_comparing.specs.declared.row.OrderRow.TheVariants as order
 use Rattle.iter_enumerators.specs.declared.row.EnumeratorRow.{EnumeratorRow}

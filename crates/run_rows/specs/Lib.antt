@@ -4,3 +4,5 @@ pub mod Numbered
 pub mod Calls
 pub mod Opening
 pub mod Methods
+pub mod Above
+pub mod Given
