@@ -1,8 +1,9 @@
 -- The activations of bodies: that of a Proc's body, and what is left when one ends.
-use Rattle.std.specs.Prelude.{ℕ, Bool, None, if◌then◌else◌}
+use Rattle.std.specs.Prelude.{ℕ, Bool, Option, Some, None, if◌then◌else◌}
 use Rattle.rb_value.specs.declared.value.Value.{Value}
 use Rattle.rb_value.specs.declared.value.Value.TheVariants.{Nil, True, False, Int, Sym, Obj}
 use Rattle.rb_value.specs.declared.value.ObjId.{ObjId}
+use Rattle.rb_value.specs.declared.value.SymId.{SymId}
 use Rattle.rb_value.specs.declared.method.Visibility.TheVariants.{Public}
 use Rattle.rb_value.specs.declared.procs.ProcContents.{ProcContents}
 use Rattle.def_core.specs.declared.bound.BindKind.{BindKind}
@@ -23,6 +24,30 @@ outside = record {
   name = None;
   home = 0;
   classes = 0;
+  block = None;
+}
+
+-- the activation of a method's body
+abbrev pub method_running : ObjId → ℕ → SymId → Value → Option ObjId → ℕ → Activation
+method_running owner classes name receiver block next = record {
+  runs = runs.MethodBody;
+  receiver = receiver;
+  owner = Some owner;
+  name = Some name;
+  home = next;
+  classes = classes;
+  block = block;
+}
+
+-- that of the body of a class or module, with the list of classes around its text
+abbrev pub space_running : Activation → ObjId → ℕ → Activation
+space_running caller class classes = record {
+  runs = runs.ClassBody;
+  receiver = Obj class;
+  owner = None;
+  name = None;
+  home = caller.home;
+  classes = classes;
   block = None;
 }
 

@@ -1,5 +1,5 @@
 //! Block arguments, and what a break ends.
-ghost use Rattle.std.specs.Prelude.{◌≡◌};
+ghost use Rattle.std.specs.Prelude.{◌≡◌, IfOk, OnOk, OnErr};
 ghost use Rattle.def_core.specs.Store.{object_at};
 ghost use Rattle.heap.specs.Reading.{proc_in};
 ghost use Rattle.run_calls.specs.Blocks as blocks;
@@ -20,7 +20,11 @@ pub enum BlockArgument {
 
 /// The value of a block argument: nil, a Proc, or a Symbol, whose Proc sends it to its first argument. Where memory
 /// runs out the heap is as before.
-pub fn block_argument(heap: &mut Heap, value: Value) -> Result<BlockArgument, AllocError> {
+pub fn block_argument(heap: &mut Heap, value: Value) -> Result<BlockArgument, AllocError>
+    ensures passed { IfOk result (λ passed. passed ≡ blocks.passed heap.old.store value) }
+    ensures made { OnOk result (heap.new ≡ blocks.with_passed heap.old value) }
+    ensures err { OnErr result (heap.new ≡ heap.old) }
+{
     match value {
         Value::Nil => Ok(BlockArgument::NoBlock),
         Value::Sym(_) => {

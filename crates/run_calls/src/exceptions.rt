@@ -1,4 +1,9 @@
 //! Exceptions: where a clause takes one, and what is seen of one that nothing rescued.
+ghost use Rattle.std.specs.Prelude.{◌≡◌, IfOk};
+ghost use Rattle.def_calls.specs.Calls as defined;
+ghost use Rattle.def_calls.specs.World.{World, with_store};
+ghost use Rattle.heap.specs.Operands.{own};
+ghost use Rattle.run_values.specs.Answers.{answered};
 
 use core_iter::heap::{Given, Heap};
 use def_core::Cause;
@@ -7,7 +12,11 @@ use std::alloc::AllocError;
 
 /// Gives whether a clause of a begin form takes an exception: its class is among the ancestors. What is no class or
 /// module raises.
-pub fn is_of(heap: &mut Heap, value: Value, class: Value) -> Result<Given, AllocError> {
+#[tactic(auto, unfolding(def_calls::specs::Calls::is_of, heap::specs::Told::told))]
+pub fn is_of(heap: &mut Heap, value: Value, class: Value) -> Result<Given, AllocError>
+    ensures { IfOk result (λ g. (w : World) → defined.is_of (with_store w heap.old.store) (own heap.old.store value)
+        (own heap.old.store class) ≡ answered g (with_store w heap.new.store)) }
+{
     match heap.space_in(class) {
         Some(space) => Ok(Given::Gives(Value::from_truth(heap.is_a(value, space)))),
         None => heap.fail(Cause::RescueNotClass),

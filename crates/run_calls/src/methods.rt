@@ -1,4 +1,6 @@
 //! What the call of a method enters.
+ghost use Rattle.std.specs.Prelude.{◌≡◌};
+ghost use Rattle.run_calls.specs.Activations as activations;
 
 use crate::activation::{Activation, Runs};
 use crate::entry::{Entry, Opening, Request};
@@ -19,7 +21,9 @@ pub fn method_running(
     receiver: Value,
     block: Option<ObjId>,
     number: u64,
-) -> Activation {
+) -> Activation
+    ensures { result ≡ activations.method_running owner classes name receiver block number }
+{
     Activation {
         runs: Runs::MethodBody,
         receiver,

@@ -1,5 +1,5 @@
 //! Bodies of classes and modules.
-ghost use Rattle.std.specs.Prelude.{◌≡◌};
+ghost use Rattle.std.specs.Prelude.{◌≡◌, IfOk};
 ghost use Rattle.run_calls.specs.Activations as activations;
 
 use crate::activation::{Activation, Runs};
@@ -13,7 +13,9 @@ pub fn open_space(
     heap: &mut Heap,
     caller: &Activation,
     class: ObjId,
-) -> Result<Activation, AllocError> {
+) -> Result<Activation, AllocError>
+    ensures { IfOk result (λ a. a ≡ activations.space_running caller.now class a.classes) }
+{
     let classes = heap.open_list(class, caller.classes)?;
     heap.set_default(class, Visibility::Public);
     Ok(Activation {

@@ -1,0 +1,2 @@
+-- What those above name of rows.
+pub use Rattle.core_iter.specs.Rows.rows as rows
