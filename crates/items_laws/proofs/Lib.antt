@@ -76,3 +76,5 @@ pub mod CutSums
 pub mod Wrote
 pub mod Pieced
 pub mod Handing
+pub mod Speaking
+pub mod Printing

@@ -25,3 +25,4 @@ pub mod Sieved
 pub mod Placed
 pub mod Written
 pub mod Handed
+pub mod Output
