@@ -78,3 +78,5 @@ pub mod Pieced
 pub mod Handing
 pub mod Speaking
 pub mod Printing
+pub mod Raising
+pub mod Telling

@@ -26,3 +26,4 @@ pub mod Placed
 pub mod Written
 pub mod Handed
 pub mod Output
+pub mod Raised

@@ -20,6 +20,7 @@ pub mod compared;
 pub mod handed;
 pub mod left;
 pub mod output;
+pub mod raised;
 pub mod written;
 
 ghost use Rattle.std.specs.Prelude.{◌≡◌, ℕ, ◌<◌, ◌+◌, ◌^◌, ℤ, pos, negsuc, ◌-ℤ◌, int_lt, List, [], ◌∷◌, length, map, take, drop, slice_get, not, true, false, Option, Some, None, Ok};
