@@ -12,13 +12,13 @@ use Rattle.rb_value.specs.declared.core_class.CoreClass.TheVariants as class
 use Rattle.def_core.specs.declared.cause.Cause.{Cause}
 use Rattle.def_core.specs.declared.cause.Cause.TheVariants as cause
 use Rattle.def_core.specs.Store.{Store, next_number}
-use Rattle.def_calls.specs.Views.{a_proc}
+use Rattle.def_calls.specs.Views.{a_fiber, a_proc}
 use Rattle.rb_store.specs.Held.{Held}
 use Rattle.heap.specs.declared.making.Blank.{Blank}
 use Rattle.heap.specs.Made.{with_blank}
 use Rattle.heap.specs.Reading.{sort_of_value}
 use Rattle.core_calls.specs.Checks.{miscounted, name_in}
-use Rattle.def_plans.specs.Plan.{Plan, Planned, calls, sends, gives, wanted}
+use Rattle.def_plans.specs.Plan.{Plan, Planned, calls, sends, reads, resumes, yields, gives, wanted}
 use Rattle.run_rows.specs.declared.row.KernelRow.TheVariants as kernel
 use Rattle.run_rows.specs.declared.row.StarRow.TheVariants as row
 use Rattle.core_iter.specs.declared.iteration.Iteration.TheVariants as state
@@ -28,13 +28,13 @@ use Rattle.core_iter.specs.Sending as sending
 use Rattle.core_iter.specs.Stage.{Stage, own}
 use Rattle.items_laws.specs.Run.{Turn, Runs, Gives, waiting}
 use Rattle.items_laws.specs.Asked.{symbol, with_symbol}
-use Rattle.items_laws.specs.Handed.{HandsOn, always_that, as_answered, call_in, message_in}
+use Rattle.items_laws.specs.Handed.{HandsOn, always_that, as_answered, call_in, is_read, message_in, resumed_in, yielded_in}
 use Rattle.items_laws.proofs.Course.{given}
 use Rattle.items_laws.proofs.Small.{none_some, some_same}
 
 -- where it stands while it waits, and what it gives by the answer
-record Handing (s : Stage) (result : Value → Value) : Type 0 where
-  goes : (held : Held) (a : Value) (p : Planned Stage) → GoesOn held s a p → p ≡ gives held (result a)
+pub record Handing (s : Stage) (result : Value → Value) : Type 0 where
+  pub goes : (held : Held) (a : Value) (p : Planned Stage) → GoesOn held s a p → p ≡ gives held (result a)
 
 hands : Handing (own state.Handing) as_answered
 hands = record { goes = λ held a p e. e }
@@ -42,7 +42,7 @@ hands = record { goes = λ held a p e. e }
 gives_it : (v : Value) → Handing (own (state.Giving v)) (always_that v)
 gives_it v = record { goes = λ held a p e. e }
 
-once : (IsWanted : Plan Stage → Type 0) (s : Stage) (result : Value → Value) → Handing s result → (ts : List Turn)
+pub once : (IsWanted : Plan Stage → Type 0) (s : Stage) (result : Value → Value) → Handing s result → (ts : List Turn)
     (v : Value) (after : Held) (first : Planned Stage) → waiting first.plan ≡ Some s → IsWanted first.plan
     → Runs first ts (gives after v) → HandsOn IsWanted first.held.store result ts v after
 once IsWanted s result h [] v after first waits is runs =
@@ -155,3 +155,42 @@ makes_new held after c v k args block ts is_class holds run =
     (always_that new_object) (gives_it new_object) (with_symbol (codes "initialize") (with_blank held c k)).store ts v after
     run.first (sends (own (state.Giving new_object)) new_object name args block false)
     (ap (λ (q : Planned Stage). q.plan) first) (ap (λ (q : Planned Stage). q.held.store) first) refl refl run.runs
+
+-- the Proc of a Symbol
+pub sends_kept : (held after : Held) (recv x v : Value) (args : List Value) (block : Option ObjId) (name : SymId)
+    (ts : List Turn) → (name_in held.store recv).name ≡ Ok name
+    → Gives (row.Kernel kernel.SendKept) held recv (x ∷ args) block ts v after
+    → HandsOn (λ q. message_in q ≡ Some (x, name, args, block, false)) (name_in held.store recv).store as_answered ts v after
+sends_kept held after recv x v args block name ts named run =
+    sending_so held after x recv x v false args block name ts run.first named
+    (subst (λ (o : Option Cause). Unless o held run.first (sending.Sends held x recv (x ∷ args) block false run.first))
+    (counted (length args)) run.starts) run.runs
+
+-- fibers, and a line
+
+pub resumes_it : (held after : Held) (recv v : Value) (f : ObjId) (args : List Value) (block : Option ObjId)
+    (ts : List Turn) → a_fiber held.store.objects recv ≡ Some f
+    → Gives (row.Kernel kernel.Resume) held recv args block ts v after
+    → HandsOn (λ q. resumed_in q ≡ Some (f, args)) held.store as_answered ts v after
+resumes_it held after recv v f args block ts is run =
+    let first = run.starts ∙ ap (λ (o : Option ObjId). wanted held class.Fiber recv o
+    (λ x. record { plan = resumes (own state.Handing) x args; held = held })) is in
+    by_first (λ q. resumed_in q ≡ Some (f, args)) (own state.Handing) as_answered hands held.store ts v after run.first
+    (resumes (own state.Handing) f args) (ap (λ (q : Planned Stage). q.plan) first)
+    (ap (λ (q : Planned Stage). q.held.store) first) refl refl run.runs
+
+pub yields_them : (held after : Held) (recv v : Value) (args : List Value) (block : Option ObjId) (ts : List Turn)
+    → Gives (row.Kernel kernel.Yield) held recv args block ts v after
+    → HandsOn (λ q. yielded_in q ≡ Some args) held.store as_answered ts v after
+yields_them held after recv v args block ts run =
+    by_first (λ q. yielded_in q ≡ Some args) (own state.Handing) as_answered hands held.store ts v after run.first
+    (yields (own state.Handing) args) (ap (λ (q : Planned Stage). q.plan) run.starts)
+    (ap (λ (q : Planned Stage). q.held.store) run.starts) refl refl run.runs
+
+pub reads_line : (held after : Held) (recv v : Value) (block : Option ObjId) (ts : List Turn)
+    → Gives (row.Kernel kernel.Gets) held recv [] block ts v after
+    → HandsOn (λ q. is_read q ≡ true) held.store as_answered ts v after
+reads_line held after recv v block ts run =
+    by_first (λ q. is_read q ≡ true) (own state.Handing) as_answered hands held.store ts v after run.first
+    (reads (own state.Handing)) (ap (λ (q : Planned Stage). q.plan) run.starts)
+    (ap (λ (q : Planned Stage). q.held.store) run.starts) refl refl run.runs

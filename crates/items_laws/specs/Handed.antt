@@ -1,5 +1,5 @@
 -- Methods that want one thing alone, and hand on what comes of it.
-use Rattle.std.specs.Prelude.{◌≡◌, List, [], ◌∷◌, Bool, Option, Some, None}
+use Rattle.std.specs.Prelude.{◌≡◌, List, [], ◌∷◌, Bool, true, false, Option, Some, None}
 use Rattle.rb_value.specs.declared.value.Value.{Value}
 use Rattle.rb_value.specs.declared.value.ObjId.{ObjId}
 use Rattle.rb_value.specs.declared.value.SymId.{SymId}
@@ -32,6 +32,42 @@ message_in (writes s bytes) = None
 message_in (reads s) = None
 message_in (resumes s f args) = None
 message_in (yields s args) = None
+
+-- the fiber that is resumed, and with what
+abbrev pub resumed_in : Plan Stage → Option (ObjId × List Value)
+resumed_in (finishes v) = None
+resumed_in (fails c) = None
+resumed_in (raises e) = None
+resumed_in (sends s v name args block public) = None
+resumed_in (calls s p args block) = None
+resumed_in (writes s bytes) = None
+resumed_in (reads s) = None
+resumed_in (resumes s f args) = Some (f, args)
+resumed_in (yields s args) = None
+
+-- what a fiber yields
+abbrev pub yielded_in : Plan Stage → Option (List Value)
+yielded_in (finishes v) = None
+yielded_in (fails c) = None
+yielded_in (raises e) = None
+yielded_in (sends s v name args block public) = None
+yielded_in (calls s p args block) = None
+yielded_in (writes s bytes) = None
+yielded_in (reads s) = None
+yielded_in (resumes s f args) = None
+yielded_in (yields s args) = Some args
+
+-- whether a line is read
+abbrev pub is_read : Plan Stage → Bool
+is_read (finishes v) = false
+is_read (fails c) = false
+is_read (raises e) = false
+is_read (sends s v name args block public) = false
+is_read (calls s p args block) = false
+is_read (writes s bytes) = false
+is_read (reads s) = true
+is_read (resumes s f args) = false
+is_read (yields s args) = false
 
 -- One thing is wanted, in the heap with that store; its answer ends the run, and the value is by that.
 pub record HandsOn (IsWanted : Plan Stage → Type 0) (st : Store) (result : Value → Value) (ts : List Turn) (v : Value)

@@ -7,7 +7,7 @@ ghost use Rattle.rb_value.specs.declared.value.ObjId.{ObjId};
 ghost use Rattle.rb_value.specs.declared.value.SymId.{SymId};
 ghost use Rattle.rb_value.specs.declared.kind.Sort.TheVariants as sort;
 ghost use Rattle.def_core.specs.Store.{next_number};
-ghost use Rattle.def_calls.specs.Views.{a_proc};
+ghost use Rattle.def_calls.specs.Views.{a_fiber, a_proc};
 ghost use Rattle.rb_store.specs.Held.{Held};
 ghost use Rattle.heap.specs.declared.making.Blank.{Blank};
 ghost use Rattle.heap.specs.Made.{with_blank};
@@ -18,7 +18,7 @@ ghost use Rattle.run_rows.specs.declared.row.KernelRow.TheVariants as kernel;
 ghost use Rattle.run_rows.specs.declared.row.StarRow.TheVariants as row;
 ghost use Rattle.items_laws.specs.Run.{Turn, Gives};
 ghost use Rattle.items_laws.specs.Asked.{symbol, with_symbol};
-ghost use Rattle.items_laws.specs.Handed.{HandsOn, always_that, as_answered, call_in, message_in};
+ghost use Rattle.items_laws.specs.Handed.{HandsOn, always_that, as_answered, call_in, is_read, message_in, resumed_in, yielded_in};
 
 /// `call`, `()`, `[]`, `yield` and `===` of a Proc: it is called with the arguments and the block, and what it answers is
 /// given. `tap` and `then`: the block is called with the receiver, and that, or the answer, is given. `send`, `__send__` and
@@ -52,4 +52,25 @@ pub fn answers_are_handed_on()
         ≡ Some (Obj (next_number held.store), symbol (codes "initialize") (with_blank held c k), args, block, false))
         (with_symbol (codes "initialize") (with_blank held c k)).store (always_that (Obj (next_number held.store))) ts v
         after }
+{}
+
+/// The Proc of a Symbol: its first argument is sent the message of that name with the others and the block. `resume`: the
+/// fiber goes on with the arguments, and what it yields then, or gives at its end, is given. `Fiber.yield`: the arguments are
+/// handed out, and what the next `resume` hands in is given. `gets`: a line is read and given, or nil where none is left.
+pub fn answers_come_from_elsewhere()
+    ensures symbol { (held after : Held) (recv x v : Value) (args : List Value) (block : Option ObjId) (name : SymId)
+        (ts : List Turn) → (name_in held.store recv).name ≡ Ok name
+        → Gives (row.Kernel kernel.SendKept) held recv (x ∷ args) block ts v after
+        → HandsOn (λ q. message_in q ≡ Some (x, name, args, block, false)) (name_in held.store recv).store as_answered ts v
+        after }
+    ensures resume { (held after : Held) (recv v : Value) (f : ObjId) (args : List Value) (block : Option ObjId)
+        (ts : List Turn) → a_fiber held.store.objects recv ≡ Some f
+        → Gives (row.Kernel kernel.Resume) held recv args block ts v after
+        → HandsOn (λ q. resumed_in q ≡ Some (f, args)) held.store as_answered ts v after }
+    ensures yields { (held after : Held) (recv v : Value) (args : List Value) (block : Option ObjId) (ts : List Turn)
+        → Gives (row.Kernel kernel.Yield) held recv args block ts v after
+        → HandsOn (λ q. yielded_in q ≡ Some args) held.store as_answered ts v after }
+    ensures line { (held after : Held) (recv v : Value) (block : Option ObjId) (ts : List Turn)
+        → Gives (row.Kernel kernel.Gets) held recv [] block ts v after
+        → HandsOn (λ q. is_read q ≡ true) held.store as_answered ts v after }
 {}
