@@ -64,24 +64,24 @@ array_there objects (Obj i) a e =
 
 -- The object is there.
 
-in_range : (objects : List Object) (a : ObjId) (xs : List Value) (c : Bool) → nat_lt a.0 (length objects) ≡ c
-    → (object_at objects a).kind ≡ kind.Array xs → a.0 < length objects
-in_range objects a xs true less e = ltb-true a.0 (length objects) less
-in_range objects a xs false less e = absurd (no_array xs
+in_range : (objects : List Object) (a : ObjId) (k : Kind) (c : Bool) → (kind.Plain ≡ k → ⊥)
+    → nat_lt a.0 (length objects) ≡ c → (object_at objects a).kind ≡ k → a.0 < length objects
+in_range objects a k true other less e = ltb-true a.0 (length objects) less
+in_range objects a k false other less e = absurd (other
     (sym (ap (λ (o : Object). o.kind) (get_or_past objects a.0 absent (ltb-false a.0 (length objects) less))) ∙ e))
-  where
-    no_array : (xs : List Value) → kind.Plain ≡ kind.Array xs → ⊥
-    no_array xs e = cc
 
-set_there : (objects : List Object) (a : ObjId) (k : Kind) (xs : List Value)
-    → (object_at objects a).kind ≡ kind.Array xs → (object_at (parts.with_kind objects a k) a).kind ≡ k
-set_there objects a k xs e = ap (λ (o : Object). o.kind)
+pub set_there : (objects : List Object) (a : ObjId) (k was : Kind) → (kind.Plain ≡ was → ⊥)
+    → (object_at objects a).kind ≡ was → (object_at (parts.with_kind objects a k) a).kind ≡ k
+set_there objects a k was other e = ap (λ (o : Object). o.kind)
     (get_or-set_same objects a.0 (record (object_at objects a) { kind = k }) absent
-    (in_range objects a xs (nat_lt a.0 (length objects)) refl e))
+    (in_range objects a was (nat_lt a.0 (length objects)) other refl e))
+
+no_array : (xs : List Value) → kind.Plain ≡ kind.Array xs → ⊥
+no_array xs e = cc
 
 -- with other elements
 
-abbrev changed_if : Held → List Object → Bool → Held
+abbrev pub changed_if : Held → List Object → Bool → Held
 changed_if held objects c = if c then with_objects held objects else held
 
 array_sort : (held : Held) (a : ObjId) (xs : List Value) → Holds held a xs → is_array (sort_of (kind_at held a)) ≡ true
@@ -91,7 +91,7 @@ holds_others : (held : Held) (a : ObjId) (xs ys : List Value) (c : Bool) → c �
     → Holds (changed_if held (parts.with_elements held.store.objects a ys) c) a ys
 holds_others held a xs ys c met e =
     ap (λ (b : Bool). kind_at (changed_if held (parts.with_elements held.store.objects a ys) b) a) met
-    ∙ set_there held.store.objects a (kind.Array ys) xs e
+    ∙ set_there held.store.objects a (kind.Array ys) (kind.Array xs) (no_array xs) e
 
 pub holds_one_more : (held : Held) (a : ObjId) (xs : List Value) (v : Value) → Holds held a xs
     → Holds (pushed held a v) a (xs ++ own held.store v ∷ [])
@@ -110,6 +110,16 @@ holds_another held a xs n v less e =
     holds_others held a xs (slice_set (parts.elements_at held.store.objects a) n (own held.store v))
     (nat_lt n (length (parts.elements_at held.store.objects a))) within e
     ∙ ap (λ (ys : List Value). kind.Array (slice_set ys n (own held.store v))) same
+
+abbrev owned_if : Held → ObjId → List Value → Bool → Held
+owned_if held a ys c =
+    if c then changed_if held (parts.with_elements held.store.objects a ys) (is_array (sort_of (kind_at held a))) else held
+
+pub holds_these : (held : Held) (a : ObjId) (xs ys : List Value) → has_all held.store ys ≡ true → Holds held a xs
+    → Holds (with_elements held a ys) a ys
+holds_these held a xs ys all e =
+    ap (λ (c : Bool). kind_at (owned_if held a ys c) a) all
+    ∙ holds_others held a xs ys (is_array (sort_of (kind_at held a))) (array_sort held a xs e) e
 
 pub holds_none : (held : Held) (a : ObjId) (xs : List Value) → Holds held a xs → Holds (with_elements held a []) a []
 holds_none held a xs e =
@@ -143,10 +153,6 @@ has_rest st (suc n) (v ∷ vs) all = has_rest st n vs (and_second (has st v) (ha
 
 abbrev emptied_if : Held → ObjId → List Value → Bool → Held
 emptied_if held a ys c = if c then with_elements held a ys else held
-
-abbrev owned_if : Held → ObjId → List Value → Bool → Held
-owned_if held a ys c =
-    if c then changed_if held (parts.with_elements held.store.objects a ys) (is_array (sort_of (kind_at held a))) else held
 
 pub holds_without : (held : Held) (a : ObjId) (xs : List Value) (n : ℕ) → n < length xs → one_more n ≡ n + 1
     → has_all held.store xs ≡ true → Holds held a xs → Holds (deleted held a n) a (take n xs ++ drop (n + 1) xs)

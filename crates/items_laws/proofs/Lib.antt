@@ -80,3 +80,4 @@ pub mod Speaking
 pub mod Printing
 pub mod Raising
 pub mod Telling
+pub mod Fetched

@@ -14,7 +14,7 @@ use Rattle.iter_items.specs.Rows as over_rows
 use Rattle.iter_items.specs.Stage as over_items
 use Rattle.iter_items.specs.declared.row.ItemsRow.TheVariants as items_row
 use Rattle.run_rows.specs.declared.row.StarRow.TheVariants as row
-use Rattle.core_iter.specs.Rows.{GoesOn as FollowsOf}
+use Rattle.core_iter.specs.Rows.{GoesOn as FollowsOf, Starts}
 use Rattle.core_iter.specs.Stage.{Stage, items}
 use Rattle.items_laws.specs.Run.{Turn, Leads, Runs, Gives}
 use Rattle.items_laws.specs.Sums.{send_of}
@@ -24,7 +24,28 @@ use Rattle.items_laws.proofs.Inversion.{unmoved, not_given}
 abbrev pub lifted : Planned over_values.Stage → Planned Stage
 lifted p = as_moved items (as_moved over_items.compares p)
 
--- how a row begins
+-- how a row begins, whatever its last plan
+
+pub record Opening (r : ComparingRow) (held : Held) (recv : Value) (args : List Value) (block : Option ObjId)
+    (ts : List Turn) (last : Planned Stage) : Type 0 where
+  pub first : Planned over_values.Stage
+  pub starts : comparing.Starts r held recv args block first
+  pub runs : Runs (lifted first) ts last
+
+pub opening : (r : ComparingRow) (held : Held) (recv : Value) (args : List Value) (block : Option ObjId) (ts : List Turn)
+    (p last : Planned Stage) → Starts (row.Items (items_row.Compares r)) held recv args block p → Runs p ts last
+    → Opening r held recv args block ts last
+opening r held recv args block ts p last starts runs =
+    let outer = unmoved items (over_rows.Starts (items_row.Compares r) held recv args block) p starts in
+    let inner = unmoved over_items.compares (comparing.Starts r held recv args block) outer.inner outer.meant in
+    record {
+      first = inner.inner;
+      starts = inner.meant;
+      runs = subst (λ (p : Planned Stage). Runs p ts last)
+          (outer.same ∙ ap (λ (p : Planned over_items.Stage). as_moved items p) inner.same) runs;
+    }
+
+-- and where it gives a value
 
 pub record First (r : ComparingRow) (held : Held) (recv : Value) (args : List Value) (block : Option ObjId) (ts : List Turn)
     (v : Value) (after : Held) : Type 0 where
@@ -36,14 +57,8 @@ pub first_of : (r : ComparingRow) (held : Held) (recv : Value) (args : List Valu
     (v : Value) (after : Held) → Gives (row.Items (items_row.Compares r)) held recv args block ts v after
     → First r held recv args block ts v after
 first_of r held recv args block ts v after run =
-    let outer = unmoved items (over_rows.Starts (items_row.Compares r) held recv args block) run.first run.starts in
-    let inner = unmoved over_items.compares (comparing.Starts r held recv args block) outer.inner outer.meant in
-    record {
-      first = inner.inner;
-      starts = inner.meant;
-      runs = subst (λ (p : Planned Stage). Runs p ts (gives after v))
-          (outer.same ∙ ap (λ (p : Planned over_items.Stage). as_moved items p) inner.same) run.runs;
-    }
+    let o = opening r held recv args block ts run.first (gives after v) run.starts run.runs in
+    record { first = o.first; starts = o.starts; runs = o.runs }
 
 -- a message that is answered
 

@@ -27,3 +27,4 @@ pub mod Written
 pub mod Handed
 pub mod Output
 pub mod Raised
+pub mod Stored

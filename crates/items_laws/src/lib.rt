@@ -21,6 +21,7 @@ pub mod handed;
 pub mod left;
 pub mod output;
 pub mod raised;
+pub mod stored;
 pub mod written;
 
 ghost use Rattle.std.specs.Prelude.{◌≡◌, ℕ, ◌<◌, ◌+◌, ◌^◌, ℤ, pos, negsuc, ◌-ℤ◌, int_lt, List, [], ◌∷◌, length, map, take, drop, slice_get, not, true, false, Option, Some, None, Ok};
