@@ -1,6 +1,7 @@
 -- `each` of a Range of bytes.
 use Rattle.std.proofs.Common.{◌≡◌, ℕ, suc, ◌<◌, ◌≤◌, ◌+◌, ◌-◌, ◌^◌, refl, sym, ap, subst, ◌∙◌, List, [], ◌∷◌, arith, lt-ltb, ltb-true, ltb-false}
-use Rattle.std.specs.Prelude.{pos, map, nat_lt, Bool, true, false, if◌then◌else◌, Option, Some, None}
+use Rattle.std.specs.Prelude.{ℤ, pos, negsuc, ◌-ℤ◌, map, cond, nat_lt, Bool, true, false, if◌then◌else◌, Option, Some, None}
+use Rattle.std.proofs.lemmas.Bool.Decides.{nat_tests}
 use Rattle.rb_value.specs.declared.value.Value.{Value}
 use Rattle.rb_value.specs.declared.value.Value.TheVariants.{Nil, Obj}
 use Rattle.rb_value.specs.declared.value.ObjId.{ObjId}
@@ -21,8 +22,9 @@ use Rattle.core_iter.specs.Counting as counting
 use Rattle.core_iter.specs.Sending.{Beaten, with_one}
 use Rattle.core_iter.specs.Stage.{Stage}
 use Rattle.items_laws.specs.Run.{Turn, Runs, Gives}
-use Rattle.items_laws.specs.Items.{call_of, calls_of}
-use Rattle.items_laws.specs.Texts.{HandsOnBytes, bytes_to}
+use Rattle.items_laws.specs.Items.{IsValue, call_of, calls_of}
+use Rattle.items_laws.specs.Texts.{HandsOnBytes, bytes_before, bytes_to}
+use Rattle.items_laws.proofs.Course.{given}
 use Rattle.items_laws.proofs.Walks.{Walk, as_left, Walks, Called, Done, Goes, walks, one_same}
 use Rattle.items_laws.proofs.Small.{none_some, some_none}
 
@@ -152,3 +154,46 @@ bytes_each held after recv v a z b ts small is run =
     (subst (λ (q : Planned Stage). Runs q ts (gives after v))
     (run.starts ∙ ap (λ (o : Option RangeContents). wanted held class.Range recv o
     (λ r. counting.count_next held (counting.numbers_of r recv b (pos 1)))) is) run.runs))
+
+-- without the last end
+
+one_less : (z : ℕ) → pos (suc z) -ℤ pos 1 ≡ pos z
+one_less z = ap (λ (c : Bool). cond c (negsuc (1 - suc (suc z))) (pos (suc z - 1))) (above z)
+    ∙ ap (λ (n : ℕ). pos n) (same z)
+  where
+    above : (z : ℕ) → nat_lt (suc z) 1 ≡ false
+    above z = grind (arith, nat_tests)
+
+    same : (z : ℕ) → suc z - 1 ≡ z
+    same z = omega arith
+
+abbrev before_so : Value → ObjId → ℕ → ℕ → Option ℤ → Count
+before_so recv b a z o = counting.before_end (counting.up_to_end (bytes_before a z) recv b (pos 1)) o
+
+ends_before : (recv : Value) (b : ObjId) (a z : ℕ) → z < 2 ^ 63
+    → counting.numbers_of (bytes_before a (suc z)) recv b (pos 1) ≡ from_byte recv b a z
+ends_before recv b a z small = ap (λ (n : ℤ). before_so recv b a (suc z) (counting.within n)) (one_less z)
+    ∙ ap (λ (c : Bool). before_so recv b a (suc z) (if c then Some (pos z) else None)) (lt-ltb z (2 ^ 63) small)
+
+pub bytes_before_end : (held after : Held) (recv v : Value) (a z : ℕ) (b : ObjId) (ts : List Turn) → z < 256
+    → range_in (kind_in held.store.objects recv) ≡ Some (bytes_before a (suc z))
+    → Gives (row.Visit visit.EachOfRange) held recv [] (Some b) ts v after → HandsOnBytes held a z b ts recv v after
+bytes_before_end held after recv v a z b ts small is run =
+    byte_course ts v after held recv b a z small (walks over_bytes bytes_go ts held (from_byte recv b a z) v after tt
+    (subst (λ (q : Planned Stage). Runs q ts (gives after v))
+    (run.starts ∙ ap (λ (o : Option RangeContents). wanted held class.Range recv o
+    (λ r. counting.count_next held (counting.numbers_of r recv b (pos 1)))) is
+    ∙ ap (counting.count_next held) (ends_before recv b a z less)) run.runs))
+  where
+    less : z < 2 ^ 63
+    less = omega (arith, small)
+
+-- where that is the first byte of all there is none before it
+pub no_byte_before : (held after : Held) (recv v : Value) (a : ℕ) (b : ObjId) (ts : List Turn)
+    → range_in (kind_in held.store.objects recv) ≡ Some (bytes_before a 0)
+    → Gives (row.Visit visit.EachOfRange) held recv [] (Some b) ts v after → (ts ≡ []) × IsValue held recv v after
+no_byte_before held after recv v a b ts is run =
+    let end = given ts held recv v after (subst (λ (q : Planned Stage). Runs q ts (gives after v))
+    (run.starts ∙ ap (λ (o : Option RangeContents). wanted held class.Range recv o
+    (λ r. counting.count_next held (counting.numbers_of r recv b (pos 1)))) is) run.runs) in
+    (end.0, record { value = end.1; left = end.2 })

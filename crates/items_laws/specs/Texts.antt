@@ -1,5 +1,5 @@
 -- Parts of a String that a block is called with.
-use Rattle.std.specs.Prelude.{◌≡◌, ℕ, suc, ◌+◌, ◌-◌, pos, List, [], ◌∷◌, length, map, slice_get, nat_eq, false, if◌then◌else◌, Option, Some, None}
+use Rattle.std.specs.Prelude.{◌≡◌, ℕ, suc, ◌+◌, ◌-◌, ℤ, pos, List, [], ◌∷◌, length, map, slice_get, nat_eq, true, false, if◌then◌else◌, Option, Some, None}
 use Rattle.rb_value.specs.declared.value.Value.TheVariants.{Int, Obj}
 use Rattle.rb_value.specs.declared.value.Value.{Value}
 use Rattle.rb_value.specs.declared.value.ObjId.{ObjId}
@@ -11,6 +11,8 @@ use Rattle.def_core.specs.Parts.{text_at}
 use Rattle.def_core.specs.Store.{core, next_number}
 use Rattle.rb_store.specs.Held.{Held}
 use Rattle.heap.specs.Made.{with_new}
+use Rattle.iter_items.specs.declared.source.Source.{Source}
+use Rattle.iter_items.specs.declared.source.Source.TheVariants as source
 use Rattle.core_iter.specs.Writing.{newline}
 use Rattle.items_laws.specs.Run.{Turn}
 use Rattle.items_laws.specs.Items.{IsValue, calls_of, last_heap}
@@ -57,6 +59,14 @@ pub record HandsOnBytes (held : Held) (first last : ℕ) (b : ObjId) (ts : List 
 -- a Range of bytes, with its last end
 abbrev pub bytes_to : ℕ → ℕ → RangeContents
 bytes_to a z = record { ends = range.Bytes a z; exclusive = false }
+
+-- without it
+abbrev pub bytes_before : ℕ → ℕ → RangeContents
+bytes_before a z = record { ends = range.Bytes a z; exclusive = true }
+
+-- so many bytes from one on, as a source of items
+abbrev pub so_many_bytes : ℤ → ℤ → ℕ → Source
+so_many_bytes z last k = source.Numbers (record { first = z; last = last; left = k; as_bytes = true })
 
 -- the bytes of a String from a place on, each as it stands in the next of these heaps
 abbrev pub bytes_read : ObjId → ℕ → List Held → List (Option ℕ)

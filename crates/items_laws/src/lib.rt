@@ -16,6 +16,7 @@
 #![tactic(auto)]
 
 pub mod asked;
+pub mod byte_ranges;
 pub mod compared;
 pub mod handed;
 pub mod left;

@@ -1,0 +1,44 @@
+//! Ranges of bytes.
+
+ghost use Rattle.std.specs.Prelude.{◌≡◌, ℕ, suc, ◌<◌, ℤ, List, [], ◌∷◌, length, map, Some, None};
+ghost use Rattle.rb_value.specs.declared.value.Value.{Value};
+ghost use Rattle.rb_value.specs.declared.value.Value.TheVariants.{Obj};
+ghost use Rattle.rb_value.specs.declared.value.ObjId.{ObjId};
+ghost use Rattle.def_core.specs.Store.{next_number};
+ghost use Rattle.def_calls.specs.Views.{kind_in};
+ghost use Rattle.rb_store.specs.Held.{Held};
+ghost use Rattle.heap.specs.Reading.{range_in};
+ghost use Rattle.iter_items.specs.Sources.{byte_of, next};
+ghost use Rattle.run_rows.specs.declared.row.StarRow.TheVariants as row;
+ghost use Rattle.run_rows.specs.declared.row.VisitRow.TheVariants as visit;
+ghost use Rattle.items_laws.specs.Run.{Turn, Gives};
+ghost use Rattle.items_laws.specs.Items.{Hands, IsValue, last_heap, left_of};
+ghost use Rattle.items_laws.specs.Numbers.{integers_from};
+ghost use Rattle.items_laws.specs.Read.{heaps_before};
+ghost use Rattle.items_laws.specs.Texts.{HandsOnBytes, bytes_before, so_many_bytes, texts_made};
+
+/// `each` of a Range of bytes without its last end: the block is called with a new String of each byte before that, and with
+/// none where that is the first byte of all.
+pub fn bytes_end_before_the_last()
+    ensures before { (held after : Held) (recv v : Value) (a z : ℕ) (b : ObjId) (ts : List Turn) → z < 256
+        → range_in (kind_in held.store.objects recv) ≡ Some (bytes_before a (suc z))
+        → Gives (row.Visit visit.EachOfRange) held recv [] (Some b) ts v after
+        → HandsOnBytes held a z b ts recv v after }
+    ensures none { (held after : Held) (recv v : Value) (a : ℕ) (b : ObjId) (ts : List Turn)
+        → range_in (kind_in held.store.objects recv) ≡ Some (bytes_before a 0)
+        → Gives (row.Visit visit.EachOfRange) held recv [] (Some b) ts v after → (ts ≡ []) × IsValue held recv v after }
+{}
+
+/// The items of a Range of bytes, of which so many are left: a new String of one after another, each made when the answer before
+/// has come, and all of them where none is left.
+pub fn bytes_are_items()
+    ensures items { (held : Held) (z last : ℤ) (k : ℕ) (ts : List Turn) (xs : List Value)
+        → Hands next held (so_many_bytes z last k) ts xs
+        → xs ≡ map (λ h. Obj (next_number h.store)) (heaps_before held ts) }
+    ensures texts { (held : Held) (z last : ℤ) (k : ℕ) (ts : List Turn) (xs : List Value)
+        → Hands next held (so_many_bytes z last k) ts xs → map (λ t. t.wanted.held) ts
+        ≡ texts_made (map (λ n. byte_of n ∷ []) (integers_from z (length ts))) (heaps_before held ts) }
+    ensures end { (held : Held) (z last : ℤ) (k : ℕ) (ts : List Turn) (xs : List Value)
+        → Hands next held (so_many_bytes z last k) ts xs
+        → (next (last_heap held ts) (left_of next held (so_many_bytes z last k) ts)).item ≡ None → length ts ≡ k }
+{}
