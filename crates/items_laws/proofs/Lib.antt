@@ -81,3 +81,4 @@ pub mod Printing
 pub mod Raising
 pub mod Telling
 pub mod Fetched
+pub mod Collected

@@ -28,3 +28,4 @@ pub mod Handed
 pub mod Output
 pub mod Raised
 pub mod Stored
+pub mod Gathered

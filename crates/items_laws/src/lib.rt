@@ -18,6 +18,7 @@
 pub mod asked;
 pub mod byte_ranges;
 pub mod compared;
+pub mod gathered;
 pub mod handed;
 pub mod left;
 pub mod output;
