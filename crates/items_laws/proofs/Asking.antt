@@ -94,7 +94,7 @@ record Telling {S : Type 0} (g : Shape S) (held : Held) (s : Source) (x : S) (l 
   told_so : Replies (knows_of g l q) g.name held l (q ∷ []) ws answer left
   rest : Course g left s (g.step x answer) us r after
 
-abbrev IsAsked : {S : Type 0} → Shape S → Held → Visit → S → Value → Value → Held → Visit → Wish → Type 0
+abbrev pub IsAsked : {S : Type 0} → Shape S → Held → Visit → S → Value → Value → Held → Visit → Wish → Type 0
 IsAsked g held v x l q h u w =
     wishes held (between g x v) (wish.Asks l q) ≡ record { wish = Some w; visit = u; held = h }
 
@@ -113,7 +113,7 @@ Behind g ts r after = (t : Turn) (us : List Turn) → ts ≡ t ∷ us → Coursi
 
 -- What an answer to a message leads to.
 
-abbrev message : {S : Type 0} → Shape S → Held → Visit → S → Value → Value → Site → Planned Stage
+abbrev pub message : {S : Type 0} → Shape S → Held → Visit → S → Value → Value → Site → Planned Stage
 message g held v x l q site = record {
   plan = sends (items (over_items.visits (at_site (between g x v) site))) l g.name (q ∷ []) None false;
   held = held;
@@ -160,7 +160,7 @@ by_message g m (t ∷ ts) r after rest held v x l q site p same runs =
     answered_by g m t ts r after (rest t ts refl) held v x l q site (runs.0 ∙ same) runs.1
 
 -- the message that is sent, whether the reply is known or not
-abbrev sent_by : {S : Type 0} → Shape S → Held → Visit → S → Value → Value → Site → Bool → Planned Stage
+abbrev pub sent_by : {S : Type 0} → Shape S → Held → Visit → S → Value → Value → Site → Bool → Planned Stage
 sent_by g held v x l q site c = lifted (if c then sent held (at_site (between g x v) site) Nil Nil (Some g.name)
     else sent held (at_site (between g x v) site) l q (Some g.name))
 

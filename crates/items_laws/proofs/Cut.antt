@@ -24,8 +24,8 @@ use Rattle.iter_items.specs.Moved.{as_moved}
 use Rattle.iter_items.specs.Stage as over_items
 use Rattle.core_iter.specs.Stage.{Stage, items}
 use Rattle.items_laws.specs.Run.{Turn, Leads, Runs, waiting}
-use Rattle.items_laws.specs.Items.{call_of, calls_of, with_arguments}
-use Rattle.items_laws.specs.Cut.{IsLeft, left_itself, left_by_each, Cut, IsCut}
+use Rattle.items_laws.specs.Items.{call_of, calls_of, with_arguments, with_arguments_by}
+use Rattle.items_laws.specs.Cut.{IsLeft, IsLeftBy, left_itself, left_by_each, Cut, IsCut}
 use Rattle.items_laws.proofs.Begun.{Opened, opened, gathered, BeginsFor}
 use Rattle.items_laws.proofs.Course.{Settled, at_item, called_with, no_turn, waits_for, heard_of}
 use Rattle.items_laws.proofs.Inversion.{begun, gone, Calling, arrives, comes_of}
@@ -34,31 +34,44 @@ use Rattle.items_laws.proofs.Small.{none_some, not_cons, tail_same}
 use Rattle.items_laws.proofs.Visits.{settled_by}
 
 -- how such a run begins
-pub record Leaving (t : Task) (held : Held) (recv : Value) (s : Source) (value : Option Value) (name : Option SymId)
-    (size : ℕ) (b : ObjId) (ts : List Turn) (last : Planned Stage) : Type 0 where
-  pub start : Opened t held recv s value name size (Some b) ts last
+pub record LeavingBy (t : Task) (held : Held) (recv : Value) (s : Source) (value : Option Value) (name : Option SymId)
+    (size : ℕ) (block : Option ObjId) (ts : List Turn) (last : Planned Stage) : Type 0 where
+  pub start : Opened t held recv s value name size block ts last
   pub stage : Stage
   pub waits : waiting last.plan ≡ Some stage
+
+pub leaving_by : (t : Task) (held : Held) (recv : Value) (s : Source) (args : List Value) (value : Option Value)
+    (name : Option SymId) (size : ℕ) (block : Option ObjId) (ts : List Turn) (last : Planned Stage)
+    → (given t held args block).arguments ≡ Ok (arguments value name size) → IsLeftBy t held recv s args block ts last
+    → LeavingBy t (with_arguments_by t held args block) recv s value name size block ts last
+leaving_by t held recv s args value name size block ts last read (left_itself first stage starts_so over runs waits) = record {
+  start = opened t held recv s args value name size block ts first last read over starts_so runs;
+  stage = stage;
+  waits = waits;
+}
+leaving_by t held recv s args value name size block ts last read (left_by_each before first stage each collected a starts_so by_each same array there runs waits) =
+    record {
+      start = subst (λ (x : Source). Opened t (with_arguments_by t held args block) recv x value name size block ts last)
+          (sym there) (subst (λ (h : Held). Opened t (with_arguments_by t h args block) recv
+          (Elements a (place_for (is_backwards t))) value name size block ts last) (sym same)
+          (gathered t recv args block each collected a value name size ts first last runs by_each array
+          (subst (λ (h : Held). (given t h args block).arguments ≡ Ok (arguments value name size)) same read)));
+      stage = stage;
+      waits = waits;
+    }
+
+-- with a block
+
+abbrev pub Leaving : Task → Held → Value → Source → Option Value → Option SymId → ℕ → ObjId → List Turn → Planned Stage
+    → Type 0
+Leaving t held recv s value name size b ts last = LeavingBy t held recv s value name size (Some b) ts last
 
 pub leaving : (t : Task) (held : Held) (recv : Value) (s : Source) (args : List Value) (value : Option Value)
     (name : Option SymId) (size : ℕ) (b : ObjId) (ts : List Turn) (last : Planned Stage)
     → (given t held args (Some b)).arguments ≡ Ok (arguments value name size) → IsLeft t held recv s args b ts last
     → Leaving t (with_arguments t held args b) recv s value name size b ts last
-leaving t held recv s args value name size b ts last read (left_itself first stage starts_so over runs waits) = record {
-  start = opened t held recv s args value name size (Some b) ts first last read over starts_so runs;
-  stage = stage;
-  waits = waits;
-}
-leaving t held recv s args value name size b ts last read (left_by_each before first stage each collected a starts_so by_each same array there runs waits) =
-    record {
-      start = subst (λ (x : Source). Opened t (with_arguments t held args b) recv x value name size (Some b) ts last)
-          (sym there) (subst (λ (h : Held). Opened t (with_arguments t h args b) recv
-          (Elements a (place_for (is_backwards t))) value name size (Some b) ts last) (sym same)
-          (gathered t recv args (Some b) each collected a value name size ts first last runs by_each array
-          (subst (λ (h : Held). (given t h args (Some b)).arguments ≡ Ok (arguments value name size)) same read)));
-      stage = stage;
-      waits = waits;
-    }
+leaving t held recv s args value name size b ts last read is =
+    leaving_by t held recv s args value name size (Some b) ts last read is
 
 -- the values of a call that is the last
 abbrev pub Single : Shape → Type 0

@@ -18,14 +18,20 @@ use Rattle.iter_items.specs.Checks.{arguments}
 use Rattle.iter_items.specs.Driving.{visit_of}
 use Rattle.iter_items.specs.Hearing.{onward, tallied}
 use Rattle.iter_items.specs.Sources.{next, left}
+use Rattle.def_plans.specs.Plan.{Planned}
+use Rattle.core_iter.specs.Stage.{Stage}
 use Rattle.items_laws.specs.Run.{Turn}
 use Rattle.items_laws.specs.Items.{IsRunBy}
 use Rattle.items_laws.specs.Asked.{Asks, none_left as no_more, one_asked, always, never, symbol, with_symbol, CountsEqual}
+use Rattle.items_laws.specs.Cut.{IsLeftBy}
+use Rattle.items_laws.specs.CutAsked.{AsksOff, CutsCounting, one_replied, unreplied}
 use Rattle.items_laws.specs.Lists.{counted_from}
 use Rattle.items_laws.proofs.Asking.{Shape, Method, Course, none_left, one_more as one_further, between, coursed}
 use Rattle.items_laws.proofs.Begun.{begun_by}
 use Rattle.items_laws.proofs.Counted.{number_is, one_behind, still_less, skipped, from_zero}
 use Rattle.items_laws.proofs.Course.{ended}
+use Rattle.items_laws.proofs.Cut.{leaving_by}
+use Rattle.items_laws.proofs.CutVisits.{Cutting, cut_off, has_replied, never_replied}
 use Rattle.items_laws.proofs.Inversion.{begun, comes_of}
 
 abbrev one_more_if : Bool → ℕ → ℕ
@@ -147,3 +153,38 @@ counted_all held after recv v s ts is =
       e.1 ∙ ap (λ (x : Store). Int (pos (min (left x s) (2 ^ 63 - 1)))) st.same,
       ap (λ (h : Held). h.store) e.2 ∙ st.same,
     )
+
+-- where one of them never replies
+
+record CountsOff (name : SymId) (y : Value) (held : Held) (s : Source) (ts : List Turn) (last : Planned Stage) : Type 0 where
+  items : List Value
+  replies : List Value
+  asks : AsksOff same_value name next (always y) never held s ts items replies last
+
+counts_off : (block : Option ObjId) (name : SymId) (y : Value) (held : Held) (s : Source) (n : ℕ) (ts : List Turn)
+    (last : Planned Stage) → Cutting (counting block name y) held s n ts last → CountsOff name y held s ts last
+counts_off block name y held s n ts last (never_replied h u m i q there lost) =
+    record { items = []; replies = []; asks = unreplied h u i q there lost }
+counts_off block name y held s n ts last (has_replied h k u m i a ws us q there replies rest) =
+    let c = counts_off block name y k (next h u).source (one_more_if (is_true a) m) us q rest in
+    record {
+      items = i ∷ c.items;
+      replies = a ∷ c.replies;
+      asks = one_replied h k u i a ws us c.items c.replies q there replies refl c.asks;
+    }
+
+pub counting_cut : (held : Held) (recv y : Value) (s : Source) (block : Option ObjId) (ts : List Turn)
+    (last : Planned Stage) → IsLeftBy task.Count held recv s (y ∷ []) block ts last → CutsCounting held s y ts last
+counting_cut held recv y s block ts last is =
+    let name = symbol (codes "==") held in
+    let l = leaving_by task.Count held recv s (y ∷ []) (Some y) (Some name) 0 block ts last refl is in
+    let c = counts_off block name y l.start.begun s 0 ts last (cut_off (counting block name y) (counts block name y) ts last
+    l.stage l.waits l.start.begun (visit_of task.Count recv s None (arguments (Some y) (Some name) 0) block) 0 l.start.first
+    l.start.begins l.start.runs) in
+    record {
+      begun = l.start.begun;
+      same = l.start.same;
+      items = c.items;
+      replies = c.replies;
+      asks = c.asks;
+    }

@@ -31,17 +31,20 @@ use Rattle.iter_comparing.specs.Rows as comparing
 use Rattle.iter_comparing.specs.Stage as over_values
 use Rattle.iter_items.specs.declared.row.ItemsRow.TheVariants as items_row
 use Rattle.run_rows.specs.declared.row.StarRow.TheVariants as row
+use Rattle.core_iter.specs.Stage.{Stage}
 use Rattle.items_laws.specs.Run.{Turn, Runs, Gives}
 use Rattle.items_laws.specs.Items.{IsValue}
 use Rattle.items_laws.specs.Lists.{any_of, is_untrue}
 use Rattle.items_laws.specs.Asked.{symbol, with_symbol}
+use Rattle.items_laws.specs.CutAsked.{CutsAsking, IsAbandoned}
 use Rattle.items_laws.specs.Compared.{Compares, pair_under, partner, same_as, value_beside, value_in, value_under, value_with}
 use Rattle.items_laws.proofs.Counted.{one_behind, still_less, from_zero}
 use Rattle.items_laws.proofs.Course.{given}
 use Rattle.items_laws.proofs.Found.{ends_same, no_question}
 use Rattle.items_laws.proofs.Readers.{Reader, Reading, reads}
 use Rattle.items_laws.proofs.Small.{and_true, as_value, some_none, some_same, sum_zero, sum_more, true_is, untrue_is}
-use Rattle.items_laws.proofs.Sent.{first_of, lifted}
+use Rattle.items_laws.proofs.Sent.{first_of, lifted, opening}
+use Rattle.items_laws.proofs.Unended.{cuts_asking}
 use Rattle.items_laws.proofs.Working.{courses}
 
 -- What is asked of a pair.
@@ -227,3 +230,19 @@ hashes_differ held after recv y v h other block ts hash beside many run =
     let e = given ts held False v after
     (subst (λ (p : Planned over_values.Stage). Runs (lifted p) ts (gives after v)) b.begins b.runs) in
     (e.0, record { value = e.1; left = e.2 })
+
+-- where one of them never replies
+pub equal_cut : (held : Held) (recv y : Value) (h other : ObjId) (block : Option ObjId) (ts : List Turn)
+    (last : Planned Stage) → a_hash held.store.objects recv ≡ Some h → a_hash held.store.objects y ≡ Some other
+    → nat_eq (length (pairs held.store h)) (length (pairs held.store other)) ≡ true
+    → IsAbandoned comparing_row.HashEquality held recv (y ∷ []) block ts last
+    → CutsAsking (codes "==") same_as (value_with (items (pairs held.store h)) other)
+    (value_under (items (pairs held.store h)) other) is_untrue held ts last
+equal_cut held recv y h other block ts last hash beside many run =
+    let f = opening comparing_row.HashEquality held recv (y ∷ []) block ts run.first last run.starts run.runs in
+    let ps = items (pairs held.store h) in
+    let starts = subst (λ (o : Option ObjId). comparing.Of held class.Hash recv o
+    (λ x. comparing.ForHash comparing_row.HashEquality held x (y ∷ []) block f.first) f.first) hash f.starts in
+    let to = subst (λ (o : Option ObjId). comparing.EqualTo held h o f.first) beside starts in
+    cuts_asking (equating ps other) (equates ps other) (codes "==") held 0 ts last run.stage f.first run.waits refl
+    (subst (λ (b : Bool). comparing.EqualBy held h other b f.first) many to) f.runs

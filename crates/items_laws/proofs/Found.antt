@@ -26,16 +26,19 @@ use Rattle.iter_comparing.specs.Searching as searching
 use Rattle.iter_comparing.specs.Stage as over_values
 use Rattle.iter_items.specs.declared.row.ItemsRow.TheVariants as items_row
 use Rattle.run_rows.specs.declared.row.StarRow.TheVariants as row
-use Rattle.items_laws.specs.Run.{Turn, Runs, Gives}
+use Rattle.core_iter.specs.Stage.{Stage}
+use Rattle.items_laws.specs.Run.{Turn, Runs, Gives, waiting}
 use Rattle.items_laws.specs.Items.{IsValue}
 use Rattle.items_laws.specs.Lists.{any_of, first_or_nil, picked, place_from}
 use Rattle.items_laws.specs.Asked.{always, symbol, with_symbol}
+use Rattle.items_laws.specs.CutAsked.{CutsAsking, IsAbandoned}
 use Rattle.items_laws.specs.Compared.{Compares, element, keys_of, same_as, value_of}
 use Rattle.items_laws.proofs.Counted.{number_is, one_behind, still_less, from_zero, place_here, place_later}
 use Rattle.items_laws.proofs.Pairs.{behind_one}
 use Rattle.items_laws.proofs.Readers.{Reader, Reading, reads}
 use Rattle.items_laws.proofs.Small.{and_true, as_value, some_none, some_same}
-use Rattle.items_laws.proofs.Sent.{first_of, lifted}
+use Rattle.items_laws.proofs.Sent.{first_of, lifted, opening}
+use Rattle.items_laws.proofs.Unended.{cuts_asking}
 use Rattle.items_laws.proofs.Working.{courses}
 
 pub ends_same : (x r : Value) → Ends x ≡ Ends r → x ≡ r
@@ -333,3 +336,53 @@ key_found held after recv y v h block ts hash run =
       asks = k.asks;
       result = λ less. k.holds (from_zero (length k.replies) less);
     }
+
+-- Where one of them never replies.
+
+search_cut : (held : Held) (y : Value) (a : ObjId) (indexed : Bool) (ts : List Turn) (last : Planned Stage)
+    (stage : Stage) (first : Planned over_values.Stage) → waiting last.plan ≡ Some stage
+    → Begins held (codes "==") (comparing.search a y indexed) first → Runs (lifted first) ts last
+    → CutsAsking (codes "==") same_as (element a) (always y) is_true held ts last
+search_cut held y a indexed ts last stage first waits begins runs =
+    cuts_asking (seeking a y indexed) (seeks a y indexed) (codes "==") held 0 ts last stage first waits refl begins runs
+
+pub index_cut : (held : Held) (recv y : Value) (a : ObjId) (block : Option ObjId) (ts : List Turn) (last : Planned Stage)
+    → an_array held.store.objects recv ≡ Some a → IsAbandoned comparing_row.ArrayIndex held recv (y ∷ []) block ts last
+    → CutsAsking (codes "==") same_as (element a) (always y) is_true held ts last
+index_cut held recv y a block ts last array run =
+    let f = opening comparing_row.ArrayIndex held recv (y ∷ []) block ts run.first last run.starts run.runs in
+    search_cut held y a true ts last run.stage f.first run.waits (subst (λ (o : Option ObjId). comparing.Of held class.Array recv
+    o (λ x. comparing.ForArray comparing_row.ArrayIndex held x (y ∷ []) f.first) f.first) array f.starts) f.runs
+
+pub included_cut : (held : Held) (recv y : Value) (a : ObjId) (block : Option ObjId) (ts : List Turn)
+    (last : Planned Stage) → an_array held.store.objects recv ≡ Some a
+    → IsAbandoned comparing_row.ArrayIncludes held recv (y ∷ []) block ts last
+    → CutsAsking (codes "==") same_as (element a) (always y) is_true held ts last
+included_cut held recv y a block ts last array run =
+    let f = opening comparing_row.ArrayIncludes held recv (y ∷ []) block ts run.first last run.starts run.runs in
+    search_cut held y a false ts last run.stage f.first run.waits (subst (λ (o : Option ObjId). comparing.Of held class.Array
+    recv o (λ x. comparing.ForArray comparing_row.ArrayIncludes held x (y ∷ []) f.first) f.first) array f.starts) f.runs
+
+key_search_cut : (held : Held) (y : Value) (h : ObjId) (keyed : Bool) (ts : List Turn) (last : Planned Stage)
+    (stage : Stage) (first : Planned over_values.Stage) → waiting last.plan ≡ Some stage
+    → Begins held (codes "==") (comparing.key_search held h y keyed) first → Runs (lifted first) ts last
+    → CutsAsking (codes "==") same_as (value_of (items (pairs held.store h))) (always y) is_true held ts last
+key_search_cut held y h keyed ts last stage first waits begins runs =
+    let ps = items (pairs held.store h) in
+    cuts_asking (seeking_key ps y keyed) (seeks_key ps y keyed) (codes "==") held 0 ts last stage first waits refl begins runs
+
+pub value_cut : (held : Held) (recv y : Value) (h : ObjId) (block : Option ObjId) (ts : List Turn) (last : Planned Stage)
+    → a_hash held.store.objects recv ≡ Some h → IsAbandoned comparing_row.HashHasValue held recv (y ∷ []) block ts last
+    → CutsAsking (codes "==") same_as (value_of (items (pairs held.store h))) (always y) is_true held ts last
+value_cut held recv y h block ts last hash run =
+    let f = opening comparing_row.HashHasValue held recv (y ∷ []) block ts run.first last run.starts run.runs in
+    key_search_cut held y h false ts last run.stage f.first run.waits (subst (λ (o : Option ObjId). comparing.Of held class.Hash
+    recv o (λ x. comparing.ForHash comparing_row.HashHasValue held x (y ∷ []) block f.first) f.first) hash f.starts) f.runs
+
+pub key_cut : (held : Held) (recv y : Value) (h : ObjId) (block : Option ObjId) (ts : List Turn) (last : Planned Stage)
+    → a_hash held.store.objects recv ≡ Some h → IsAbandoned comparing_row.HashKeyOf held recv (y ∷ []) block ts last
+    → CutsAsking (codes "==") same_as (value_of (items (pairs held.store h))) (always y) is_true held ts last
+key_cut held recv y h block ts last hash run =
+    let f = opening comparing_row.HashKeyOf held recv (y ∷ []) block ts run.first last run.starts run.runs in
+    key_search_cut held y h true ts last run.stage f.first run.waits (subst (λ (o : Option ObjId). comparing.Of held class.Hash
+    recv o (λ x. comparing.ForHash comparing_row.HashKeyOf held x (y ∷ []) block f.first) f.first) hash f.starts) f.runs

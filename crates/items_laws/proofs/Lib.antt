@@ -81,4 +81,6 @@ pub mod Printing
 pub mod Raising
 pub mod Telling
 pub mod Fetched
+pub mod Unended
+pub mod CutVisits
 pub mod Collected

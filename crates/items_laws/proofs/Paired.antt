@@ -21,17 +21,21 @@ use Rattle.iter_comparing.specs.Ordering.{same_value}
 use Rattle.iter_comparing.specs.Pairing.{at_end as order_at_end, difference, is_same, order, pair}
 use Rattle.iter_comparing.specs.Questions.{Heard, asked, compare, ends_with, goes_on}
 use Rattle.iter_comparing.specs.Rows as comparing
+use Rattle.def_plans.specs.Plan.{Planned}
 use Rattle.iter_items.specs.declared.row.ItemsRow.TheVariants as items_row
 use Rattle.run_rows.specs.declared.row.StarRow.TheVariants as row
+use Rattle.core_iter.specs.Stage.{Stage}
 use Rattle.items_laws.specs.Run.{Turn, Gives}
 use Rattle.items_laws.specs.Items.{IsValue}
 use Rattle.items_laws.specs.Lists.{any_of, is_untrue}
 use Rattle.items_laws.specs.Asked.{symbol, with_symbol}
+use Rattle.items_laws.specs.CutAsked.{CutsAsking, IsAbandoned}
 use Rattle.items_laws.specs.Compared.{Compares, beside, differs, element_beside, element_of_equal, element_or_nil, first_or, length_at, nothing_known, same_as}
 use Rattle.items_laws.proofs.Found.{ends_same, no_question}
 use Rattle.items_laws.proofs.Readers.{Reader, Reading, reads}
 use Rattle.items_laws.proofs.Small.{and_false, and_true, as_value, some_none, some_same, true_is, untrue_is}
-use Rattle.items_laws.proofs.Sent.{first_of}
+use Rattle.items_laws.proofs.Sent.{first_of, opening}
+use Rattle.items_laws.proofs.Unended.{cuts_asking}
 use Rattle.items_laws.proofs.Working.{courses}
 
 abbrev elements : Held → ObjId → List Value
@@ -239,3 +243,27 @@ equality_found held after recv y v a b block ts array other run =
     let k = reads (equating a b) (equates a b) name begun 0 w ts v after refl
     (courses name ts v after begun w f.first comes f.runs) in
     record { items = k.items; replies = k.replies; last = k.last; asks = k.asks; result = k.holds }
+
+-- Where one of them never replies.
+
+pub order_cut : (held : Held) (recv y : Value) (a b : ObjId) (block : Option ObjId) (ts : List Turn)
+    (last : Planned Stage) → an_array held.store.objects recv ≡ Some a → an_array held.store.objects y ≡ Some b
+    → IsAbandoned comparing_row.ArrayOrder held recv (y ∷ []) block ts last
+    → CutsAsking (codes "<=>") nothing_known (element_beside a b) (element_or_nil b) differs held ts last
+order_cut held recv y a b block ts last array other run =
+    let f = opening comparing_row.ArrayOrder held recv (y ∷ []) block ts run.first last run.starts run.runs in
+    let starts = subst (λ (o : Option ObjId). comparing.Of held class.Array recv o
+    (λ x. comparing.ForArray comparing_row.ArrayOrder held x (y ∷ []) f.first) f.first) array f.starts in
+    cuts_asking (ordering a b) (orders a b) (codes "<=>") held 0 ts last run.stage f.first run.waits refl
+    (subst (λ (o : Option ObjId). comparing.PairsWith held a true o f.first) other starts) f.runs
+
+pub equality_cut : (held : Held) (recv y : Value) (a b : ObjId) (block : Option ObjId) (ts : List Turn)
+    (last : Planned Stage) → an_array held.store.objects recv ≡ Some a → an_array held.store.objects y ≡ Some b
+    → IsAbandoned comparing_row.ArrayEquality held recv (y ∷ []) block ts last
+    → CutsAsking (codes "==") same_as (element_of_equal a b) (element_or_nil b) is_untrue held ts last
+equality_cut held recv y a b block ts last array other run =
+    let f = opening comparing_row.ArrayEquality held recv (y ∷ []) block ts run.first last run.starts run.runs in
+    let starts = subst (λ (o : Option ObjId). comparing.Of held class.Array recv o
+    (λ x. comparing.ForArray comparing_row.ArrayEquality held x (y ∷ []) f.first) f.first) array f.starts in
+    cuts_asking (equating a b) (equates a b) (codes "==") held 0 ts last run.stage f.first run.waits refl
+    (subst (λ (o : Option ObjId). comparing.PairsWith held a false o f.first) other starts) f.runs

@@ -64,10 +64,10 @@ receiver_same x y o p e = cc
 pub argument_same : (x y : Value) (o p : Option Value) → AsksFor x o ≡ AsksFor y p → o ≡ p
 argument_same x y o p e = cc
 
-abbrev asking : {S : Type 0} → Reader S → Held → S → Value → Asked Work
+abbrev pub asking : {S : Type 0} → Reader S → Held → S → Value → Asked Work
 asking g held s x = asked held (g.busy s x) (compare x (g.other held (g.place s)))
 
-reply_seen : {S : Type 0} (g : Reader S) (m : Reading g) (name : SymId) (held k : Held) (s : S) (w : Work) (x y a : Value)
+pub reply_seen : {S : Type 0} (g : Reader S) (m : Reading g) (name : SymId) (held k : Held) (s : S) (w : Work) (x y a : Value)
     (arg : Option Value) (us : List Turn) → question held w ≡ asking g held s x
     → (question held w).question ≡ AsksFor y arg
     → Replies (is_known (question held w).work y arg) name (question held w).held y (args_of arg) us a k

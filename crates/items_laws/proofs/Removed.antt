@@ -19,16 +19,20 @@ use Rattle.iter_comparing.specs.Ordering.{same_value}
 use Rattle.iter_comparing.specs.Questions.{Asked, goes_on}
 use Rattle.iter_comparing.specs.Removing as removing
 use Rattle.iter_comparing.specs.Rows as comparing
+use Rattle.def_plans.specs.Plan.{Planned}
 use Rattle.iter_items.specs.declared.row.ItemsRow.TheVariants as items_row
 use Rattle.run_rows.specs.declared.row.StarRow.TheVariants as row
+use Rattle.core_iter.specs.Stage.{Stage}
 use Rattle.items_laws.specs.Run.{Turn, Gives}
 use Rattle.items_laws.specs.Lists.{is_untrue, picked}
 use Rattle.items_laws.specs.Asked.{always, never, symbol, with_symbol}
+use Rattle.items_laws.specs.CutAsked.{CutsAsking, IsAbandoned}
 use Rattle.items_laws.specs.Compared.{Compares, Deletes, DeletesThose, element, same_as}
 use Rattle.items_laws.proofs.Found.{ends_same, no_question}
 use Rattle.items_laws.proofs.Readers.{Reader, Reading, reads}
 use Rattle.items_laws.proofs.Small.{and_true}
-use Rattle.items_laws.proofs.Sent.{first_of}
+use Rattle.items_laws.proofs.Sent.{first_of, opening}
+use Rattle.items_laws.proofs.Unended.{cuts_asking}
 use Rattle.items_laws.proofs.Working.{courses}
 
 -- what it keeps: the place, the element that was asked last, those that stay, and the last that is taken away
@@ -179,3 +183,14 @@ deleted held after recv y v a block ts array run =
     let k = reads (removing_from a y) (removes a y) name begun at_first (comparing.removal a y) ts v after refl
     (courses name ts v after begun (comparing.removal a y) f.first comes f.runs) in
     record { items = k.items; replies = k.replies; last = k.last; asks = k.asks; result = k.holds }
+
+-- where one of them never replies
+pub deleting_cut : (held : Held) (recv y : Value) (a : ObjId) (block : Option ObjId) (ts : List Turn)
+    (last : Planned Stage) → an_array held.store.objects recv ≡ Some a
+    → IsAbandoned comparing_row.ArrayDelete held recv (y ∷ []) block ts last
+    → CutsAsking (codes "==") same_as (element a) (always y) never held ts last
+deleting_cut held recv y a block ts last array run =
+    let f = opening comparing_row.ArrayDelete held recv (y ∷ []) block ts run.first last run.starts run.runs in
+    cuts_asking (removing_from a y) (removes a y) (codes "==") held at_first ts last run.stage f.first run.waits refl
+    (subst (λ (o : Option ObjId). comparing.Of held class.Array recv o
+    (λ x. comparing.ForArray comparing_row.ArrayDelete held x (y ∷ []) f.first) f.first) array f.starts) f.runs

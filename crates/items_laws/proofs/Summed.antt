@@ -11,7 +11,6 @@ use Rattle.def_core.specs.Store.{Store}
 use Rattle.run_values.specs.declared.given.Given.{Given}
 use Rattle.core_calls.specs.declared.beat.Passed.TheVariants.{One}
 use Rattle.def_plans.specs.Plan.{Planned, raises, sends, calls, gives}
-use Rattle.iter_items.specs.declared.row.ItemsRow.TheVariants as items_row
 use Rattle.iter_items.specs.declared.row.Task.TheVariants as task
 use Rattle.iter_items.specs.declared.source.Source.{Source}
 use Rattle.iter_items.specs.declared.visit.Visit.{Visit}
@@ -21,14 +20,13 @@ use Rattle.iter_items.specs.Asking.{Wished, wishes, with_item, with_source}
 use Rattle.iter_items.specs.Checks.{arguments}
 use Rattle.iter_items.specs.Driving.{WantsOf, Hears, Comes, stops, raises_at_once, goes_on, at_site, planned, Begins, begins, at_once, visit_of}
 use Rattle.iter_items.specs.Moved.{as_moved}
-use Rattle.iter_items.specs.Sources.{next, source_of}
+use Rattle.iter_items.specs.Sources.{next}
 use Rattle.iter_items.specs.Stage as over_items
-use Rattle.run_rows.specs.declared.row.StarRow.TheVariants as row
 use Rattle.core_iter.specs.Stage.{Stage, items}
-use Rattle.items_laws.specs.Run.{Turn, Leads, Runs, Gives}
-use Rattle.items_laws.specs.Items.{IsRunOf, call_of}
+use Rattle.items_laws.specs.Run.{Turn, Leads, Runs}
+use Rattle.items_laws.specs.Items.{IsRunBy, IsRunOf, call_of}
 use Rattle.items_laws.specs.Sums.{Told, Added, Sums, at_once as told_at_once, when_asked, itself, answered, no_item, one_item, send_of, plus, with_plus, AddsUp}
-use Rattle.items_laws.proofs.Begun.{Started, started, begun_so}
+use Rattle.items_laws.proofs.Begun.{Started, begun_by, begun_so}
 use Rattle.items_laws.proofs.Course.{ended, no_turn, waits_for, heard_of}
 use Rattle.items_laws.proofs.Inversion.{begun, gone, Calling, arrives, comes_of, not_given}
 use Rattle.items_laws.proofs.Small.{not_cons, tail_same}
@@ -292,15 +290,11 @@ block_added_to held after recv first v s b ts is = of_started (Some b) held recv
     (begun_so task.Sum held recv s (first ∷ []) b (Some first) (Some (plus held)) 0 ts v after refl is)
 
 pub items_added : (held after : Held) (recv v : Value) (s : Source) (ts : List Turn)
-    → source_of (with_plus held).store recv false ≡ Some s
-    → Gives (row.Items (items_row.Visits task.Sum)) held recv [] None ts v after
-    → AddsUp None held s (Int (pos 0)) ts v after
-items_added held after recv v s ts there run = of_started None held recv s (Int (pos 0)) ts v after
-    (started task.Sum held recv s [] (Some (Int (pos 0))) (Some (plus held)) 0 None ts v after refl there run)
+    → IsRunBy task.Sum held recv s [] None ts v after → AddsUp None held s (Int (pos 0)) ts v after
+items_added held after recv v s ts is = of_started None held recv s (Int (pos 0)) ts v after
+    (begun_by task.Sum held recv s [] None (Some (Int (pos 0))) (Some (plus held)) 0 ts v after refl is)
 
 pub items_added_to : (held after : Held) (recv first v : Value) (s : Source) (ts : List Turn)
-    → source_of (with_plus held).store recv false ≡ Some s
-    → Gives (row.Items (items_row.Visits task.Sum)) held recv (first ∷ []) None ts v after
-    → AddsUp None held s first ts v after
-items_added_to held after recv first v s ts there run = of_started None held recv s first ts v after
-    (started task.Sum held recv s (first ∷ []) (Some first) (Some (plus held)) 0 None ts v after refl there run)
+    → IsRunBy task.Sum held recv s (first ∷ []) None ts v after → AddsUp None held s first ts v after
+items_added_to held after recv first v s ts is = of_started None held recv s first ts v after
+    (begun_by task.Sum held recv s (first ∷ []) None (Some first) (Some (plus held)) 0 ts v after refl is)

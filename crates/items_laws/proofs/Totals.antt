@@ -19,6 +19,7 @@ use Rattle.iter_items.specs.declared.source.Source.TheVariants as source
 use Rattle.iter_items.specs.Sources.{next, of_array}
 use Rattle.run_rows.specs.declared.row.StarRow.TheVariants as row
 use Rattle.items_laws.specs.Run.{Turn, Gives}
+use Rattle.items_laws.specs.Items.{of_its_own}
 use Rattle.items_laws.specs.Sums.{Told, Added, Sums, at_once, when_asked, itself, no_item, one_item, plus, with_plus, total, AddsIntegers}
 use Rattle.items_laws.proofs.Pairs.{behind_one, none_behind}
 use Rattle.items_laws.proofs.Reading.{counted}
@@ -125,7 +126,7 @@ pub integers_added : (held after : Held) (recv v : Value) (a : ObjId) (zs : List
     → AddsIntegers (with_plus held).store (plus held)
     → Gives (row.Items (items_row.Visits task.Sum)) held recv [] None [] v after → v ≡ Int (total (pos 0) zs)
 integers_added held after recv v a zs few array elements adds run =
-    let k = items_added held after recv v (source.Elements a 0) []
-    (ap (λ (o : Option ObjId). of_array (with_plus held).store recv false o) array) run in
+    let k = items_added held after recv v (source.Elements a 0) [] (of_its_own run
+    (ap (λ (o : Option ObjId). of_array (with_plus held).store recv false o) array)) in
     summed_up (plus held) (with_plus held).store a zs adds elements few 0 (pos 0) k.begun (source.Elements a 0)
     (Int (pos 0)) [] v after k.same refl refl refl k.sums

@@ -105,13 +105,13 @@ by_nil name ts r after rest held w (Asks x arg) is knows runs = by_message name 
     is (λ t wanted message. nil_asked t knows wanted message) runs
 
 -- what replies at once
-record Once (name : SymId) (held : Held) (w : Work) (a : Value) (left : Held) : Type 0 where
-  x : Value
-  arg : Option Value
-  asks : (question held w).question ≡ Asks x arg
-  replies : Replies (is_known (question held w).work x arg) name (question held w).held x (args_of arg) [] a left
+pub record Once (name : SymId) (held : Held) (w : Work) (a : Value) (left : Held) : Type 0 where
+  pub x : Value
+  pub arg : Option Value
+  pub asks : (question held w).question ≡ Asks x arg
+  pub replies : Replies (is_known (question held w).work x arg) name (question held w).held x (args_of arg) [] a left
 
-once : (name : SymId) (held left : Held) (w : Work) (a : Value) (q : Question) → (question held w).question ≡ q
+pub once : (name : SymId) (held left : Held) (w : Work) (a : Value) (q : Question) → (question held w).question ≡ q
     → told_by name (question held w).held.store (question held w).work q ≡ (Some (GivesValue a), left.store)
     → Once name held w a left
 once name held left w a (Ends v) is gives_so = absurd (none_some (GivesValue a) (ap (λ (o : Option Given × Store). o.0) gives_so))

@@ -1,5 +1,5 @@
 -- Runs that are left: what was called last never answers, since it raised, broke out or went elsewhere.
-use Rattle.std.specs.Prelude.{◌≡◌, ℕ, suc, ℤ, List, [], ◌∷◌, ◌++◌, length, map, take, not, Bool, true, false, Some}
+use Rattle.std.specs.Prelude.{◌≡◌, ℕ, suc, ℤ, List, [], ◌∷◌, ◌++◌, length, map, take, not, Bool, true, false, Option, Some}
 use Rattle.rb_value.specs.declared.value.Value.{Value}
 use Rattle.rb_value.specs.declared.value.Value.TheVariants.{Int, Obj}
 use Rattle.rb_value.specs.declared.value.ObjId.{ObjId}
@@ -28,7 +28,7 @@ use Rattle.core_iter.specs.declared.iteration.Iteration.TheVariants as state
 use Rattle.core_iter.specs.Stage.{Stage}
 use Rattle.core_iter.specs.Rows.{Starts}
 use Rattle.items_laws.specs.Run.{Turn, Runs, waiting}
-use Rattle.items_laws.specs.Items.{Passing, Hands, call_of, calls_of, last_heap, left_of, with_arguments, gathers_in, collected_in}
+use Rattle.items_laws.specs.Items.{Passing, Hands, call_of, calls_of, last_heap, left_of, with_arguments_by, gathers_in, collected_in}
 use Rattle.items_laws.specs.Lists.{alone}
 use Rattle.items_laws.specs.Made.{Joins, PutsPicked}
 use Rattle.items_laws.specs.Neighbours.{neighbours, items_in, heaps_in, arrays_given, arrays_made, heaps_behind}
@@ -36,22 +36,27 @@ use Rattle.items_laws.specs.Numbers.{numbers_from}
 use Rattle.items_laws.specs.Settled.{Settles}
 use Rattle.items_laws.specs.Sums.{Told, Added, plus, send_of, with_plus}
 
--- the run of a method with a block over these items from a heap on, in which the last thing that is wanted isn't answered
-pub data IsLeft (t : Task) (held : Held) (recv : Value) (s : Source) (args : List Value) (b : ObjId) (ts : List Turn)
-    (last : Planned Stage) : Type 0 where
+-- the run of a method with a block or without one, over these items from a heap on, in which the last thing that is wanted
+-- isn't answered
+pub data IsLeftBy (t : Task) (held : Held) (recv : Value) (s : Source) (args : List Value) (block : Option ObjId)
+    (ts : List Turn) (last : Planned Stage) : Type 0 where
   -- of an Array, a Hash or a Range
   left_itself : (first : Planned Stage) (stage : Stage)
-      → Starts (row.Items (items_row.Visits t)) held recv args (Some b) first
-      → source_of (with_arguments t held args b).store recv (is_backwards t) ≡ Some s
-      → Runs first ts last → waiting last.plan ≡ Some stage → IsLeft t held recv s args b ts last
+      → Starts (row.Items (items_row.Visits t)) held recv args block first
+      → source_of (with_arguments_by t held args block).store recv (is_backwards t) ≡ Some s
+      → Runs first ts last → waiting last.plan ≡ Some stage → IsLeftBy t held recv s args block ts last
   -- of Enumerable, once `each` has returned: over a new Array of what that collected
   left_by_each : (before : Held) (first : Planned Stage) (stage : Stage) (each : Turn) (collected a : ObjId)
-      → Starts (row.Items (items_row.Gathers (gathering.Visits t))) before recv args (Some b) first
-      → waiting each.wanted.plan ≡ Some (gathers_in t recv args (Some b) collected)
+      → Starts (row.Items (items_row.Gathers (gathering.Visits t))) before recv args block first
+      → waiting each.wanted.plan ≡ Some (gathers_in t recv args block collected)
       → held ≡ with_array each.held (collected_in each collected)
       → array_given each.held.store (collected_in each collected) ≡ Obj a
       → s ≡ source.Elements a (place_for (is_backwards t))
-      → Runs first (each ∷ ts) last → waiting last.plan ≡ Some stage → IsLeft t held recv s args b ts last
+      → Runs first (each ∷ ts) last → waiting last.plan ≡ Some stage → IsLeftBy t held recv s args block ts last
+
+-- with a block
+abbrev pub IsLeft : Task → Held → Value → Source → List Value → ObjId → List Turn → Planned Stage → Type 0
+IsLeft t held recv s args b ts last = IsLeftBy t held recv s args (Some b) ts last
 
 -- The block was called with the items, one after another, and at last with the next item, in the heap as the answers before
 -- left it; no other item was handed on.

@@ -28,4 +28,5 @@ pub mod Handed
 pub mod Output
 pub mod Raised
 pub mod Stored
+pub mod CutAsked
 pub mod Gathered

@@ -12,7 +12,9 @@
 //!   values that are asked for a method, how a value stands to others, and what comes of it where many are compared
 //! - `specs::Written`: texts that are made of those that values are asked for
 //! - `specs::Handed`: methods that want one thing alone
-//! - `specs::Cut`: runs that are left
+//! - `specs::Output`, `specs::Raised`: what goes out, and exceptions
+//! - `specs::Stored`, `specs::Gathered`: what stands under keys, and what `each` of Enumerable gives
+//! - `specs::Cut`, `specs::CutAsked`: runs that are left
 #![tactic(auto)]
 
 pub mod asked;
@@ -24,9 +26,10 @@ pub mod left;
 pub mod output;
 pub mod raised;
 pub mod stored;
+pub mod unreplied;
 pub mod written;
 
-ghost use Rattle.std.specs.Prelude.{◌≡◌, ℕ, ◌<◌, ◌+◌, ◌^◌, ℤ, pos, negsuc, ◌-ℤ◌, int_lt, List, [], ◌∷◌, length, map, take, drop, slice_get, not, true, false, Option, Some, None, Ok};
+ghost use Rattle.std.specs.Prelude.{◌≡◌, ℕ, ◌<◌, ◌+◌, ◌^◌, ℤ, pos, negsuc, ◌-ℤ◌, int_lt, List, [], ◌∷◌, length, map, take, drop, slice_get, not, true, false, Some, None, Ok};
 ghost use Rattle.rb_value.specs.declared.value.Value.{Value};
 ghost use Rattle.rb_value.specs.declared.value.Value.TheVariants.{Int, Obj};
 ghost use Rattle.rb_value.specs.declared.hash.HashItem.{HashItem};
@@ -50,7 +53,7 @@ ghost use Rattle.iter_items.specs.declared.source.Source.{Source};
 ghost use Rattle.iter_items.specs.declared.source.Source.TheVariants as source;
 ghost use Rattle.iter_items.specs.Asking.{taken};
 ghost use Rattle.iter_items.specs.Checks.{size_of};
-ghost use Rattle.iter_items.specs.Sources.{next, previous, is_pairs, source_of};
+ghost use Rattle.iter_items.specs.Sources.{next, previous, is_pairs};
 ghost use Rattle.iter_items.specs.declared.state.ItemsState.TheVariants as items_state;
 ghost use Rattle.iter_items.specs.declared.visit.Visit as of_items;
 ghost use Rattle.iter_items.specs.Stage.{visits};
@@ -211,13 +214,9 @@ pub fn items_add_up()
     ensures block_from { (held after : Held) (recv first v : Value) (s : Source) (b : ObjId) (ts : List Turn)
         → IsRunOf task.Sum held recv s (first ∷ []) b ts v after → AddsUp (Some b) held s first ts v after }
     ensures alone { (held after : Held) (recv v : Value) (s : Source) (ts : List Turn)
-        → source_of (with_plus held).store recv false ≡ Some s
-        → Gives (row.Items (items_row.Visits task.Sum)) held recv [] None ts v after
-        → AddsUp None held s (Int (pos 0)) ts v after }
+        → IsRunBy task.Sum held recv s [] None ts v after → AddsUp None held s (Int (pos 0)) ts v after }
     ensures alone_from { (held after : Held) (recv first v : Value) (s : Source) (ts : List Turn)
-        → source_of (with_plus held).store recv false ≡ Some s
-        → Gives (row.Items (items_row.Visits task.Sum)) held recv (first ∷ []) None ts v after
-        → AddsUp None held s first ts v after }
+        → IsRunBy task.Sum held recv s (first ∷ []) None ts v after → AddsUp None held s first ts v after }
     ensures integers { (held after : Held) (recv v : Value) (a : ObjId) (zs : List ℤ) → length zs < 2 ^ 63
         → an_array (with_plus held).store.objects recv ≡ Some a
         → elements_at (with_plus held).store.objects a ≡ map (λ z. Int z) zs

@@ -1,0 +1,91 @@
+//! Runs that are left while a value is asked.
+
+ghost use Rattle.std.specs.Prelude.{◌≡◌, pos, nat_eq, true, List, [], ◌∷◌, length, codes, Option, Some, None, Ok};
+ghost use Rattle.rb_value.specs.declared.value.Value.{Value};
+ghost use Rattle.rb_value.specs.declared.value.Value.TheVariants.{Int};
+ghost use Rattle.rb_value.specs.declared.value.ObjId.{ObjId};
+ghost use Rattle.rb_value.specs.declared.value.SymId.{SymId};
+ghost use Rattle.rb_value.specs.Value.{is_true};
+ghost use Rattle.def_calls.specs.Views.{an_array, a_hash};
+ghost use Rattle.rb_store.specs.Held.{Held};
+ghost use Rattle.core_calls.specs.Checks.{name_in};
+ghost use Rattle.def_plans.specs.Plan.{Planned};
+ghost use Rattle.iter_comparing.specs.declared.row.ComparingRow.TheVariants as comparing_row;
+ghost use Rattle.iter_comparing.specs.Hashes.{items, pairs};
+ghost use Rattle.iter_items.specs.declared.row.Task.TheVariants as task;
+ghost use Rattle.iter_items.specs.declared.source.Source.{Source};
+ghost use Rattle.iter_items.specs.Sources.{next};
+ghost use Rattle.core_iter.specs.Stage.{Stage};
+ghost use Rattle.items_laws.specs.Run.{Turn};
+ghost use Rattle.items_laws.specs.Lists.{is_untrue};
+ghost use Rattle.items_laws.specs.Asked.{always, never, with_name_of};
+ghost use Rattle.items_laws.specs.Compared.{differs, element, element_beside, element_of_equal, element_or_nil, nothing_known, same_as, value_of, value_under, value_with};
+ghost use Rattle.items_laws.specs.Cut.{IsLeftBy};
+ghost use Rattle.items_laws.specs.CutAsked.{CutsAsking, CutsCombining, CutsCombiningFirst, CutsCounting, IsAbandoned};
+ghost use Rattle.items_laws.specs.Sums.{plus, with_plus};
+
+/// Where a value that is asked for `==` or `<=>` never replies, by an exception or an exit: until then the values were asked, one
+/// after another, each in the heap as the reply before left it, and no reply stopped it. `index`, `include?` and `delete` of an
+/// Array, and `key` and `value?` of a Hash.
+pub fn searches_are_left()
+    ensures index { (held : Held) (recv y : Value) (a : ObjId) (block : Option ObjId) (ts : List Turn)
+        (last : Planned Stage) → an_array held.store.objects recv ≡ Some a
+        → IsAbandoned comparing_row.ArrayIndex held recv (y ∷ []) block ts last
+        → CutsAsking (codes "==") same_as (element a) (always y) is_true held ts last }
+    ensures included { (held : Held) (recv y : Value) (a : ObjId) (block : Option ObjId) (ts : List Turn)
+        (last : Planned Stage) → an_array held.store.objects recv ≡ Some a
+        → IsAbandoned comparing_row.ArrayIncludes held recv (y ∷ []) block ts last
+        → CutsAsking (codes "==") same_as (element a) (always y) is_true held ts last }
+    ensures delete { (held : Held) (recv y : Value) (a : ObjId) (block : Option ObjId) (ts : List Turn)
+        (last : Planned Stage) → an_array held.store.objects recv ≡ Some a
+        → IsAbandoned comparing_row.ArrayDelete held recv (y ∷ []) block ts last
+        → CutsAsking (codes "==") same_as (element a) (always y) never held ts last }
+    ensures value { (held : Held) (recv y : Value) (h : ObjId) (block : Option ObjId) (ts : List Turn)
+        (last : Planned Stage) → a_hash held.store.objects recv ≡ Some h
+        → IsAbandoned comparing_row.HashHasValue held recv (y ∷ []) block ts last
+        → CutsAsking (codes "==") same_as (value_of (items (pairs held.store h))) (always y) is_true held ts last }
+    ensures key { (held : Held) (recv y : Value) (h : ObjId) (block : Option ObjId) (ts : List Turn)
+        (last : Planned Stage) → a_hash held.store.objects recv ≡ Some h
+        → IsAbandoned comparing_row.HashKeyOf held recv (y ∷ []) block ts last
+        → CutsAsking (codes "==") same_as (value_of (items (pairs held.store h))) (always y) is_true held ts last }
+{}
+
+/// The same of `==` and `<=>` of Arrays and of `==` of Hashes that have as many pairs.
+pub fn comparisons_are_left()
+    ensures order { (held : Held) (recv y : Value) (a b : ObjId) (block : Option ObjId) (ts : List Turn)
+        (last : Planned Stage) → an_array held.store.objects recv ≡ Some a → an_array held.store.objects y ≡ Some b
+        → IsAbandoned comparing_row.ArrayOrder held recv (y ∷ []) block ts last
+        → CutsAsking (codes "<=>") nothing_known (element_beside a b) (element_or_nil b) differs held ts last }
+    ensures equal { (held : Held) (recv y : Value) (a b : ObjId) (block : Option ObjId) (ts : List Turn)
+        (last : Planned Stage) → an_array held.store.objects recv ≡ Some a → an_array held.store.objects y ≡ Some b
+        → IsAbandoned comparing_row.ArrayEquality held recv (y ∷ []) block ts last
+        → CutsAsking (codes "==") same_as (element_of_equal a b) (element_or_nil b) is_untrue held ts last }
+    ensures hash { (held : Held) (recv y : Value) (h other : ObjId) (block : Option ObjId) (ts : List Turn)
+        (last : Planned Stage) → a_hash held.store.objects recv ≡ Some h → a_hash held.store.objects y ≡ Some other
+        → nat_eq (length (pairs held.store h)) (length (pairs held.store other)) ≡ true
+        → IsAbandoned comparing_row.HashEquality held recv (y ∷ []) block ts last
+        → CutsAsking (codes "==") same_as (value_with (items (pairs held.store h)) other)
+        (value_under (items (pairs held.store h)) other) is_untrue held ts last }
+{}
+
+/// `count` of a value, `inject` by the name of a method and `sum` without a block: the items were asked, or what came so far was
+/// asked with them, one after another, and the last one never replies.
+pub fn replies_are_awaited()
+    ensures count { (held : Held) (recv y : Value) (s : Source) (block : Option ObjId) (ts : List Turn)
+        (last : Planned Stage) → IsLeftBy task.Count held recv s (y ∷ []) block ts last
+        → CutsCounting held s y ts last }
+    ensures inject { (held : Held) (recv first n : Value) (name : SymId) (s : Source) (block : Option ObjId)
+        (ts : List Turn) (last : Planned Stage) → (name_in held.store n).name ≡ Ok name
+        → IsLeftBy task.Inject held recv s (first ∷ n ∷ []) block ts last
+        → CutsCombining name (with_name_of n held) s first ts last }
+    ensures from_first { (held : Held) (recv first n : Value) (name : SymId) (s : Source) (ts : List Turn)
+        (last : Planned Stage) → (name_in held.store n).name ≡ Ok name
+        → (next (with_name_of n held) s).item ≡ Some first → IsLeftBy task.Inject held recv s (n ∷ []) None ts last
+        → CutsCombiningFirst name (with_name_of n held) s first ts last }
+    ensures sum { (held : Held) (recv : Value) (s : Source) (ts : List Turn) (last : Planned Stage)
+        → IsLeftBy task.Sum held recv s [] None ts last
+        → CutsCombining (plus held) (with_plus held) s (Int (pos 0)) ts last }
+    ensures sum_from { (held : Held) (recv first : Value) (s : Source) (ts : List Turn) (last : Planned Stage)
+        → IsLeftBy task.Sum held recv s (first ∷ []) None ts last
+        → CutsCombining (plus held) (with_plus held) s first ts last }
+{}
