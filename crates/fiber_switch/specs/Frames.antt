@@ -4,6 +4,7 @@ pub use Rattle.vm_unwind.specs.Frames.environments as environments
 pub use Rattle.vm_unwind.specs.Frames.exits as exits
 pub use Rattle.vm_unwind.specs.Frames.levels as levels
 pub use Rattle.vm_unwind.specs.Frames.opening as opening
+pub use Rattle.vm_unwind.specs.Frames.registers as registers
 pub use Rattle.vm_unwind.specs.Frames.seen as seen
 pub use Rattle.vm_unwind.specs.Frames.{Arguments, Frame, Begun, Level}
 pub use Rattle.vm_unwind.specs.Frames.level as level

@@ -3,3 +3,4 @@ pub mod Stacking
 pub mod Steps
 pub mod Storing
 pub mod Writing
+pub mod Padding

@@ -1,4 +1,5 @@
 -- What those above name of calls.
+pub use Rattle.run_calls.specs.Rows.rows as rows
 pub use Rattle.run_calls.specs.Activations as activations
 pub use Rattle.run_calls.specs.Blocks as blocks
 pub use Rattle.run_calls.specs.declared.activation.Activation.{Activation}

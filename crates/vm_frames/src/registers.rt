@@ -14,7 +14,7 @@ use std::alloc::AllocError;
 /// So many values from a place on; none where there are fewer.
 #[inline(always)]
 #[tactic(auto, unfolding(crate::specs::Registers::saturated))]
-pub(crate) fn part(values: &[Value], from: usize, count: usize) -> &[Value]
+pub fn part(values: &[Value], from: usize, count: usize) -> &[Value]
     ensures { result.now ≡ lists.part values.now from count }
 {
     values.get(from..from.saturating_add(count)).unwrap_or(&[])
@@ -72,7 +72,7 @@ pub(crate) fn clear(registers: &mut [Value], base: usize, end: usize, own: Value
 
 /// The register at a place, and a value where there is none.
 #[inline(always)]
-pub(crate) fn register_or(registers: &[Value], place: usize, value: Value) -> Value
+pub fn register_or(registers: &[Value], place: usize, value: Value) -> Value
     ensures { result ≡ slice_index_or registers.now place value }
 {
     match registers.get(place) {
@@ -100,6 +100,21 @@ pub fn copy_within(registers: &mut [Value], from: usize, to: usize, count: usize
 {
     'values: for i in 0..count {
         copy_one(registers, from.wrapping_add(i), to.wrapping_add(i));
+    }
+}
+
+/// Registers from a place on get so many values, and nil where there are fewer.
+#[inline(always)]
+#[tactic(auto, unfolding(crate::specs::Registers::wrapped))]
+pub fn put_padded(registers: &mut [Value], place: usize, values: &[Value], wanted: usize)
+    ensures { registers.new ≡ lists.put_all registers.old place (lists.padded values.now wanted) }
+{
+    'values: for i in 0..wanted {
+        put_at(
+            registers,
+            place.wrapping_add(i),
+            register_or(values, i, Value::Nil),
+        );
     }
 }
 
