@@ -1,5 +1,15 @@
+pub mod Answering
 pub mod Arguments
 pub mod Beside
 pub mod Calling
+pub mod Code
+pub mod Constants
 pub mod Entering
+pub mod Finding
+pub mod Known
 pub mod Leaving
+pub mod Operators
+pub mod Superinstructions
+pub mod Loading
+pub mod Below
+pub mod Holding

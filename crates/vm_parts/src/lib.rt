@@ -5,6 +5,7 @@
 //!
 //! Types: [`Parts`], [`Loaded`], [`Superinstruction`], [`CoreCall`], [`Operators`], [`Names`], [`KnownCalls`],
 //! [`KnownConstants`]; [`Flow`], [`Step`], [`End`], [`Handed`]. Calls: modules [`exits`], [`entering`], [`arguments`].
+//! Law: [`laws_of_known_calls`].
 #![tactic(auto)]
 
 pub mod arguments;
@@ -14,6 +15,7 @@ pub mod entering;
 pub mod exits;
 pub mod flow;
 pub mod known;
+pub mod laws;
 pub mod loaded;
 pub mod names;
 pub mod operators;
@@ -27,6 +29,7 @@ pub use fiber_switch::{core_calls, core_iter, heap, run_calls, run_rows, vm_fram
 pub use flow::{End, Flow, Handed, Step};
 pub use integer_operators;
 pub use known::{KnownCalls, MethodBody, Usual};
+pub use laws::laws_of_known_calls;
 pub use loaded::Loaded;
 pub use names::Names;
 pub use operators::Operators;

@@ -1,4 +1,6 @@
 //! Names of methods that the machine calls by itself.
+ghost use Rattle.std.specs.Prelude.{◌≡◌, IfOk, OnOk};
+ghost use Rattle.vm_parts.specs.Operators as operators;
 
 use fiber_switch::heap::Heap;
 use rb_value::SymId;
@@ -16,7 +18,12 @@ pub struct Names {
 
 impl Names {
     /// The names, which every heap has from its start.
-    pub fn of(heap: &mut Heap) -> Result<Names, AllocError> {
+    pub fn of(heap: &mut Heap) -> Result<Names, AllocError>
+        ensures symbols { IfOk result (λ ns. operators.own_symbols ns
+            ≡ operators.numbered heap.old.store operators.own_names) }
+        ensures store { OnOk result (heap.new.store ≡ operators.with_names heap.old.store operators.own_names) }
+        ensures changes { heap.new.changes ≡ heap.old.changes }
+    {
         Ok(Names {
             new: heap.intern(b"new")?,
             initialize: heap.intern(b"initialize")?,
