@@ -83,4 +83,5 @@ pub mod Telling
 pub mod Fetched
 pub mod Unended
 pub mod CutVisits
+pub mod Awaited
 pub mod Collected

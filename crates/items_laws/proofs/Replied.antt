@@ -51,7 +51,7 @@ answered name held s x y u ts r after Result k same result =
 
 -- `!=` and `===`
 
-negated_next : (c : Bool) (h : Held) (a : Value) (p : Planned over_values.Stage) → comparing.GoesOn h (stage c) a p
+pub negated_next : (c : Bool) (h : Held) (a : Value) (p : Planned over_values.Stage) → comparing.GoesOn h (stage c) a p
     → p ≡ gives h (negated c a)
 negated_next true h a p goes = goes
 negated_next false h a p goes = goes
@@ -102,15 +102,15 @@ matches held after recv y v block ts run =
 
 -- Comparable
 
-abbrev order : OrderRow → Value → Value → over_values.Stage
+abbrev pub order : OrderRow → Value → Value → over_values.Stage
 order r x y = over_values.orders (ordering.order r x (y ∷ []))
 
 -- where the answer isn't an Integer the method fails, and else it tells
-abbrev Ordered : OrderRow → (ℤ → Bool) → Type 0
+abbrev pub Ordered : OrderRow → (ℤ → Bool) → Type 0
 Ordered r test = (h : Held) (x y : Value) (z : ℤ) (p : Planned over_values.Stage) → comparing.GoesOn h (order r x y) (Int z) p
     → p ≡ gives h (truth (test z))
 
-abbrev Refuses : OrderRow → Type 0
+abbrev pub Refuses : OrderRow → Type 0
 Refuses r = (h : Held) (x y : Value) → ordering.refused_by r h (ordering.order r x (y ∷ []))
     ≡ ordering.incomparable h (ordering.order r x (y ∷ []))
 

@@ -56,6 +56,11 @@ pub record IsAbandoned (r : ComparingRow) (held : Held) (recv : Value) (args : L
   pub runs : Runs first ts last
   pub waits : waiting last.plan ≡ Some stage
 
+-- One value is asked, and never replies.
+pub record IsAwaited (name : List ℕ) (held : Held) (x y : Value) (ts : List Turn) (last : Planned Stage) : Type 0 where
+  pub none : ts ≡ []
+  pub wanted : IsUnreplied false (symbol name held) (with_symbol name held) x (y ∷ []) last
+
 -- Each item is asked whether it is `==` a value, but for that value itself; these were asked, and the last one never replies.
 pub record CutsCounting (held : Held) (s : Source) (y : Value) (ts : List Turn) (last : Planned Stage) : Type 0 where
   pub begun : Held

@@ -11,6 +11,7 @@ ghost use Rattle.rb_store.specs.Held.{Held};
 ghost use Rattle.core_calls.specs.Checks.{name_in};
 ghost use Rattle.def_plans.specs.Plan.{Planned};
 ghost use Rattle.iter_comparing.specs.declared.row.ComparingRow.TheVariants as comparing_row;
+ghost use Rattle.iter_comparing.specs.declared.row.OrderRow.TheVariants as order_row;
 ghost use Rattle.iter_comparing.specs.Hashes.{items, pairs};
 ghost use Rattle.iter_items.specs.declared.row.Task.TheVariants as task;
 ghost use Rattle.iter_items.specs.declared.source.Source.{Source};
@@ -21,7 +22,7 @@ ghost use Rattle.items_laws.specs.Lists.{is_untrue};
 ghost use Rattle.items_laws.specs.Asked.{always, never, with_name_of};
 ghost use Rattle.items_laws.specs.Compared.{differs, element, element_beside, element_of_equal, element_or_nil, nothing_known, same_as, value_of, value_under, value_with};
 ghost use Rattle.items_laws.specs.Cut.{IsLeftBy};
-ghost use Rattle.items_laws.specs.CutAsked.{CutsAsking, CutsCombining, CutsCombiningFirst, CutsCounting, IsAbandoned};
+ghost use Rattle.items_laws.specs.CutAsked.{CutsAsking, CutsCombining, CutsCombiningFirst, CutsCounting, IsAbandoned, IsAwaited};
 ghost use Rattle.items_laws.specs.Sums.{plus, with_plus};
 
 /// Where a value that is asked for `==` or `<=>` never replies, by an exception or an exit: until then the values were asked, one
@@ -88,4 +89,26 @@ pub fn replies_are_awaited()
     ensures sum_from { (held : Held) (recv first : Value) (s : Source) (ts : List Turn) (last : Planned Stage)
         → IsLeftBy task.Sum held recv s (first ∷ []) None ts last
         → CutsCombining (plus held) (with_plus held) s first ts last }
+{}
+
+/// `!=` and `===` of Object, `<`, `<=`, `>` and `>=` of Comparable: the receiver is asked, and nothing else.
+pub fn a_reply_is_awaited()
+    ensures differs { (held : Held) (recv y : Value) (block : Option ObjId) (ts : List Turn) (last : Planned Stage)
+        → IsAbandoned comparing_row.Differs held recv (y ∷ []) block ts last
+        → IsAwaited (codes "==") held recv y ts last }
+    ensures matches { (held : Held) (recv y : Value) (block : Option ObjId) (ts : List Turn) (last : Planned Stage)
+        → IsAbandoned comparing_row.Matches held recv (y ∷ []) block ts last
+        → IsAwaited (codes "==") held recv y ts last }
+    ensures less { (held : Held) (recv y : Value) (block : Option ObjId) (ts : List Turn) (last : Planned Stage)
+        → IsAbandoned (comparing_row.Order order_row.Less) held recv (y ∷ []) block ts last
+        → IsAwaited (codes "<=>") held recv y ts last }
+    ensures at_most { (held : Held) (recv y : Value) (block : Option ObjId) (ts : List Turn) (last : Planned Stage)
+        → IsAbandoned (comparing_row.Order order_row.AtMost) held recv (y ∷ []) block ts last
+        → IsAwaited (codes "<=>") held recv y ts last }
+    ensures greater { (held : Held) (recv y : Value) (block : Option ObjId) (ts : List Turn) (last : Planned Stage)
+        → IsAbandoned (comparing_row.Order order_row.Greater) held recv (y ∷ []) block ts last
+        → IsAwaited (codes "<=>") held recv y ts last }
+    ensures at_least { (held : Held) (recv y : Value) (block : Option ObjId) (ts : List Turn) (last : Planned Stage)
+        → IsAbandoned (comparing_row.Order order_row.AtLeast) held recv (y ∷ []) block ts last
+        → IsAwaited (codes "<=>") held recv y ts last }
 {}
