@@ -84,4 +84,5 @@ pub mod Fetched
 pub mod Unended
 pub mod CutVisits
 pub mod Awaited
+pub mod Sole
 pub mod Collected

@@ -6,6 +6,8 @@ use Rattle.rb_value.specs.declared.value.SymId.{SymId}
 use Rattle.def_core.specs.Store.{Store}
 use Rattle.rb_store.specs.Held.{Held}
 use Rattle.def_plans.specs.Plan.{Plan, finishes, fails, raises, sends, calls, writes, reads, resumes, yields}
+use Rattle.run_rows.specs.declared.row.KernelRow.{KernelRow}
+use Rattle.run_rows.specs.declared.row.KernelRow.TheVariants as kernel
 use Rattle.core_iter.specs.Stage.{Stage}
 use Rattle.items_laws.specs.Run.{Turn}
 
@@ -68,6 +70,26 @@ is_read (writes s bytes) = false
 is_read (reads s) = true
 is_read (resumes s f args) = false
 is_read (yields s args) = false
+
+-- the methods that want one thing alone; of `raise` that is `new` of a class
+abbrev pub wants_one : KernelRow → Bool
+wants_one kernel.Puts = false
+wants_one kernel.Print = false
+wants_one kernel.Inspect = false
+wants_one kernel.Gets = true
+wants_one kernel.Raise = true
+wants_one kernel.Loop = false
+wants_one kernel.Send = true
+wants_one kernel.PublicSend = true
+wants_one kernel.SendKept = true
+wants_one kernel.Tap = true
+wants_one kernel.Then = true
+wants_one kernel.NewObject = true
+wants_one kernel.CallProc = true
+wants_one kernel.Resume = true
+wants_one kernel.Yield = true
+wants_one kernel.Message = false
+wants_one kernel.InspectException = false
 
 -- One thing is wanted, in the heap with that store; its answer ends the run, and the value is by that.
 pub record HandsOn (IsWanted : Plan Stage → Type 0) (st : Store) (result : Value → Value) (ts : List Turn) (v : Value)

@@ -13,12 +13,16 @@ ghost use Rattle.heap.specs.declared.making.Blank.{Blank};
 ghost use Rattle.heap.specs.Made.{with_blank};
 ghost use Rattle.heap.specs.Reading.{sort_of_value};
 ghost use Rattle.core_calls.specs.Checks.{name_in};
+ghost use Rattle.def_plans.specs.Plan.{Planned};
 ghost use Rattle.core_iter.specs.Making.{blank_for};
+ghost use Rattle.run_rows.specs.declared.row.KernelRow.{KernelRow};
 ghost use Rattle.run_rows.specs.declared.row.KernelRow.TheVariants as kernel;
 ghost use Rattle.run_rows.specs.declared.row.StarRow.TheVariants as row;
-ghost use Rattle.items_laws.specs.Run.{Turn, Gives};
+ghost use Rattle.core_iter.specs.Rows.{Starts};
+ghost use Rattle.core_iter.specs.Stage.{Stage};
+ghost use Rattle.items_laws.specs.Run.{Turn, Runs, Gives, waiting};
 ghost use Rattle.items_laws.specs.Asked.{symbol, with_symbol};
-ghost use Rattle.items_laws.specs.Handed.{HandsOn, always_that, as_answered, call_in, is_read, message_in, resumed_in, yielded_in};
+ghost use Rattle.items_laws.specs.Handed.{HandsOn, always_that, as_answered, call_in, is_read, message_in, resumed_in, wants_one, yielded_in};
 
 /// `call`, `()`, `[]`, `yield` and `===` of a Proc: it is called with the arguments and the block, and what it answers is
 /// given. `tap` and `then`: the block is called with the receiver, and that, or the answer, is given. `send`, `__send__` and
@@ -73,4 +77,12 @@ pub fn answers_come_from_elsewhere()
     ensures line { (held after : Held) (recv v : Value) (block : Option ObjId) (ts : List Turn)
         → Gives (row.Kernel kernel.Gets) held recv [] block ts v after
         → HandsOn (λ q. is_read q ≡ true) held.store as_answered ts v after }
+{}
+
+/// Where what such a method wants never comes, nothing has come before: that is the first thing that it wanted.
+pub fn the_first_thing_is_awaited()
+    ensures { (held : Held) (recv : Value) (r : KernelRow) (args : List Value) (block : Option ObjId) (ts : List Turn)
+        (first last : Planned Stage) (s : Stage) → wants_one r ≡ true
+        → Starts (row.Kernel r) held recv args block first → Runs first ts last → waiting last.plan ≡ Some s
+        → (ts ≡ []) × (last ≡ first) }
 {}
