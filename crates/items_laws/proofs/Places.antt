@@ -1,6 +1,6 @@
 -- `each_index`
-use Rattle.std.proofs.Common.{◌≡◌, ℕ, ◌<◌, ◌+◌, ◌-◌, ◌^◌, refl, ap, subst, ◌∙◌, List, [], ◌∷◌, length, arith}
-use Rattle.std.specs.Prelude.{pos, min, nat_lt, Bool, true, false, if◌then◌else◌, Option, Some, None}
+use Rattle.std.proofs.Common.{◌≡◌, ℕ, suc, ◌<◌, ◌+◌, ◌-◌, ◌^◌, refl, ap, subst, ◌∙◌, List, [], ◌∷◌, ◌++◌, length, arith}
+use Rattle.std.specs.Prelude.{pos, map, min, nat_lt, Bool, true, false, if◌then◌else◌, Option, Some, None}
 use Rattle.rb_value.specs.declared.value.Value.{Value}
 use Rattle.rb_value.specs.declared.value.Value.TheVariants.{Int, Obj}
 use Rattle.rb_value.specs.declared.value.ObjId.{ObjId}
@@ -13,13 +13,16 @@ use Rattle.run_rows.specs.declared.row.StarRow.TheVariants as row
 use Rattle.run_rows.specs.declared.row.VisitRow.TheVariants as visit
 use Rattle.core_iter.specs.declared.iteration.Iteration.TheVariants as state
 use Rattle.core_iter.specs.declared.visiting.Visit.{Visit}
+use Rattle.core_iter.specs.Rows.{Starts}
 use Rattle.core_iter.specs.Sending.{with_one}
 use Rattle.core_iter.specs.Stage.{Stage}
 use Rattle.core_iter.specs.Visiting as visiting
-use Rattle.items_laws.specs.Run.{Turn, Runs, Gives}
+use Rattle.items_laws.specs.Run.{Turn, Runs, Gives, waiting}
 use Rattle.items_laws.specs.Items.{call_of, calls_of, last_heap}
-use Rattle.items_laws.specs.Numbers.{Places}
+use Rattle.items_laws.specs.Cut.{CutsPlaces}
+use Rattle.items_laws.specs.Numbers.{Places, places_from}
 use Rattle.items_laws.proofs.Counted.{number_is, one_behind, from_zero}
+use Rattle.items_laws.proofs.CutWalks.{CutEnd, CutWalks, cut_walks}
 use Rattle.items_laws.proofs.Walks.{Walk, as_left, Walks, Called, Done, Goes, plan_at, walks, one_same}
 use Rattle.items_laws.proofs.Small.{none_some, some_none, sum_zero, sum_more}
 
@@ -108,3 +111,52 @@ each_index held after recv v a b ts less there run =
     (λ x. visiting.begun visit.EachIndex held (record { array = x; place = 0; block = b }))) there in
     place_course ts v after held w (from_zero (length ts) less) (walks indexes indexes_go ts held w v after tt
     (subst (λ (q : Planned Stage). Runs q ts (gives after v)) first run.runs))
+
+-- Where the block never answers.
+
+abbrev PlaceCut : List Turn → Planned Stage → Type 0
+PlaceCut ts last = (held : Held) (w : Visit) → w.place + suc (length ts) < 2 ^ 63 → CutWalks indexes ts held w last
+    → calls_of ts ++ call_of last.plan ∷ []
+    ≡ map (λ k. Some (w.block, Int (pos k) ∷ [])) (places_from w.place (suc (length ts)))
+
+place_lost : (held : Held) (w : Visit) (last : Planned Stage) (c : Bool) → is_there held w ≡ c → w.place + 1 < 2 ^ 63
+    → CutEnd indexes held w last → call_of last.plan ≡ Some (w.block, Int (pos w.place) ∷ [])
+place_lost held w last true there less k =
+    let call = subst (λ (c : Bool). (visiting.beat_by held w (place_if c w)).beat ≡ Some k.call) there k.there in
+    k.called ∙ one_same w.block (number_at w) k.call call
+    ∙ ap (λ (x : Value). Some (w.block, x ∷ [])) (number_is w.place 1 less)
+place_lost held w last false there less k = absurd (none_some k.call
+    (subst (λ (c : Bool). (visiting.beat_by held w (place_if c w)).beat ≡ Some k.call) there k.there))
+
+place_cut : (ts : List Turn) (last : Planned Stage) → PlaceCut ts last
+place_cut [] last = λ held w less k.
+    ap (λ (c : Option (ObjId × List Value)). c ∷ []) (place_lost held w last (is_there held w) refl less k)
+place_cut (t ∷ ts) last = λ held w less k.
+    let there = place_called held w t (CutWalks indexes ts t.held (visiting.index_beat held w).state last) (is_there held w)
+    refl k in
+    let one = one_behind w.place (suc (length ts)) less in
+    let call = subst (λ (c : Bool). (visiting.beat_by held w (place_if c w)).beat ≡ Some k.call) there k.there in
+    let rest = subst (λ (c : Bool). CutWalks indexes ts t.held (visiting.beat_by held w (place_if c w)).state last) there
+    k.rest in
+    let still : one_more w.place + suc (length ts) < 2 ^ 63 = omega (arith, less, one) in
+    let more = subst (λ (n : ℕ). calls_of ts ++ call_of last.plan ∷ []
+    ≡ map (λ k. Some (w.block, Int (pos k) ∷ [])) (places_from n (suc (length ts)))) one
+    (place_cut ts last t.held (visiting.passed w) still rest) in
+    let number = number_is w.place (suc (suc (length ts))) less in
+    let call_is : call_of t.wanted.plan ≡ Some (w.block, Int (pos w.place) ∷ []) =
+    k.called ∙ one_same w.block (number_at w) k.call call
+    ∙ ap (λ (x : Value). Some (w.block, x ∷ [])) number in
+    ap (λ (c : Option (ObjId × List Value)). c ∷ (calls_of ts ++ call_of last.plan ∷ [])) call_is
+    ∙ ap (λ (cs : List (Option (ObjId × List Value))). Some (w.block, Int (pos w.place) ∷ []) ∷ cs) more
+
+pub index_left : (held : Held) (recv : Value) (a b : ObjId) (ts : List Turn) (first last : Planned Stage) (stage : Stage)
+    → suc (length ts) < 2 ^ 63 → an_array held.store.objects recv ≡ Some a
+    → Starts (row.Visit visit.EachIndex) held recv [] (Some b) first → Runs first ts last
+    → waiting last.plan ≡ Some stage → CutsPlaces b ts last
+index_left held recv a b ts first last stage less there starts runs waits =
+    let w : Visit = record { array = a; place = 0; block = b } in
+    let same : first ≡ plan_at indexes held w = starts
+    ∙ ap (λ (o : Option ObjId). wanted held class.Array recv o
+    (λ x. visiting.begun visit.EachIndex held (record { array = x; place = 0; block = b }))) there in
+    place_cut ts last held w (from_zero (suc (length ts)) less) (cut_walks indexes indexes_go ts last stage waits held w tt
+    (subst (λ (q : Planned Stage). Runs q ts last) same runs))

@@ -1,5 +1,5 @@
 -- Runs that are left: what was called last never answers, since it raised, broke out or went elsewhere.
-use Rattle.std.specs.Prelude.{◌≡◌, ℕ, suc, ℤ, List, [], ◌∷◌, ◌++◌, length, map, take, not, Bool, true, false, Option, Some}
+use Rattle.std.specs.Prelude.{◌≡◌, ℕ, suc, ℤ, pos, List, [], ◌∷◌, ◌++◌, length, map, take, not, Bool, true, false, Option, Some}
 use Rattle.rb_value.specs.declared.value.Value.{Value}
 use Rattle.rb_value.specs.declared.value.Value.TheVariants.{Int, Obj}
 use Rattle.rb_value.specs.declared.value.ObjId.{ObjId}
@@ -32,7 +32,7 @@ use Rattle.items_laws.specs.Items.{Passing, Hands, call_of, calls_of, last_heap,
 use Rattle.items_laws.specs.Lists.{alone}
 use Rattle.items_laws.specs.Made.{Joins, PutsPicked}
 use Rattle.items_laws.specs.Neighbours.{neighbours, items_in, heaps_in, arrays_given, arrays_made, heaps_behind}
-use Rattle.items_laws.specs.Numbers.{numbers_from}
+use Rattle.items_laws.specs.Numbers.{numbers_from, places_from}
 use Rattle.items_laws.specs.Settled.{Settles}
 use Rattle.items_laws.specs.Sums.{Told, Added, plus, send_of, with_plus}
 
@@ -153,6 +153,11 @@ hands_alone s _ = false
 abbrev pub CutsOff : ℤ → ℤ → ObjId → List Turn → Planned Stage → Type 0
 CutsOff first by b ts last = calls_of ts ++ call_of last.plan ∷ []
     ≡ map (λ z. Some (b, Int z ∷ [])) (numbers_from first by (suc (length ts)))
+
+-- The block was called with the places of an Array, one after another, and the last call isn't answered.
+abbrev pub CutsPlaces : ObjId → List Turn → Planned Stage → Type 0
+CutsPlaces b ts last = calls_of ts ++ call_of last.plan ∷ []
+    ≡ map (λ k. Some (b, Int (pos k) ∷ [])) (places_from 0 (suc (length ts)))
 
 -- a `loop` that a StopIteration ends by its result
 pub record Stops (st : Store) (s : Iteration) (e : ObjId) (v : Value) : Type 0 where

@@ -1,6 +1,6 @@
 //! Runs that are left, since what they called raised, broke out or went elsewhere.
 
-ghost use Rattle.std.specs.Prelude.{◌≡◌, ℕ, ◌<◌, ◌^◌, ℤ, pos, true, false, List, [], ◌∷◌, length, Some, Ok};
+ghost use Rattle.std.specs.Prelude.{◌≡◌, ℕ, suc, ◌<◌, ◌^◌, ℤ, pos, true, false, List, [], ◌∷◌, length, Some, Ok};
 ghost use Rattle.rb_value.specs.declared.value.Value.{Value};
 ghost use Rattle.rb_value.specs.declared.value.Value.TheVariants.{Int};
 ghost use Rattle.rb_value.specs.declared.value.ObjId.{ObjId};
@@ -29,7 +29,7 @@ ghost use Rattle.items_laws.specs.Run.{Turn, Runs, waiting};
 ghost use Rattle.items_laws.specs.Items.{answers, with_arguments};
 ghost use Rattle.items_laws.specs.Lists.{alone, in_turn, is_untrue, with_object, with_places};
 ghost use Rattle.items_laws.specs.Changed.{replaced_from};
-ghost use Rattle.items_laws.specs.Cut.{Cut, CutsGroups, CutsNeighbours, CutsOff, CutsPairs, CutsSums, IsLeft, IsCut, Stops, hands_alone};
+ghost use Rattle.items_laws.specs.Cut.{Cut, CutsGroups, CutsNeighbours, CutsOff, CutsPairs, CutsPlaces, CutsSums, IsLeft, IsCut, Stops, hands_alone};
 ghost use Rattle.items_laws.specs.Slices.{slices};
 
 /// Where the block never answers, by an exception or an exit, it was called with the items one after another until then, each
@@ -98,6 +98,14 @@ pub fn numbers_are_left()
     ensures { (held : Held) (c : Count) (z : ℤ) (ts : List Turn) (last : Planned Stage) (stage : Stage)
         → c.next ≡ Some z → c.of_bytes ≡ false → Runs (count_next held c) ts last → waiting last.plan ≡ Some stage
         → CutsOff z c.by c.block ts last }
+{}
+
+/// And of `each_index`: the block is called with each place from the first one on until it doesn't answer.
+pub fn places_are_left()
+    ensures { (held : Held) (recv : Value) (a b : ObjId) (ts : List Turn) (first last : Planned Stage) (stage : Stage)
+        → suc (length ts) < 2 ^ 63 → an_array held.store.objects recv ≡ Some a
+        → Starts (row.Visit visit.EachIndex) held recv [] (Some b) first → Runs first ts last
+        → waiting last.plan ≡ Some stage → CutsPlaces b ts last }
 {}
 
 /// An iteration that catches an exception is a `loop`, the exception is a StopIteration, and its result is given; so any
