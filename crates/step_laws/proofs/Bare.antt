@@ -89,7 +89,7 @@ module _ (g : Ground) (h : Site) (static : Static h) (ks : List Item) (m : sourc
         around = d.loop;
         next = next;
       } in
-      entered h.source h.program conf (frame (frame_at h d.x d.n) ∷ g.below) (aligned k m) m (record {
+      (entered h.source h.program conf (frame (frame_at h d.x d.n) ∷ g.below) (aligned k m) m (record {
         alike = going (perform j (call bare y no_items absent)) ks m (frame (frame_at h d.x d.n) ∷ g.below) (aligned k m) refl;
         out = refl;
         quiet = peace.quiet;
@@ -104,7 +104,7 @@ module _ (g : Ground) (h : Site) (static : Static h) (ks : List Item) (m : sourc
       waiting (then_enters h.source h.program m.world.store.objects
       (the_entry (symbol m y) (activation_at m.world h.activation) (self_of m))
       (λ is. call_entered h.source h.program m.world is (activation_at m.world h.activation) (by_bare_name (symbol m y))
-      (self_of m) [] None) peace.calls)
+      (self_of m) [] None) peace.calls)).advances
     where
       told : SymId → Value → State
       told i recv = enter_machine h.program (the_entry i (activation_at m.world h.activation) recv) None

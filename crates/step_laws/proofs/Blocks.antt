@@ -158,7 +158,7 @@ module _ (g : Ground) (h : Site) (static : Static h) (ks : List Item) (m : sourc
     enters_with b w goes turns may =
         let f = frame_at h (asking h x n low) n in
         let e = the_entry w b in
-        entered h.source h.program c (frame (frame_at h x n) ∷ g.below) (aligned k m) m from e b ks (source.with_world m w) g
+        (entered h.source h.program c (frame (frame_at h x n) ∷ g.below) (aligned k m) m from e b ks (source.with_world m w) g
         (frame f ∷ g.below) (machine.with_world k' w)
         (goes
         ∙ ap (λ (q : Sending). perform_call h.source q recv vs b ks (source.with_world m w)) sending
@@ -176,7 +176,7 @@ module _ (g : Ground) (h : Site) (static : Static h) (ks : List Item) (m : sourc
         (waiting_frame g h static ks m k both steady at_home x n low around k' both' room next)
         (then_enters h.source h.program w.store.objects e
         (λ is. call_entered h.source h.program w is (activation_at w h.activation) (by_name (number h.source name)) recv vs
-        b) may)
+        b) may)).advances
 
     -- by what the block argument is
     passes : (q : BlockArgument) → go h.source c ≡ with_block h.source sender recv vs q ks m

@@ -76,7 +76,7 @@ module _ {A : Type 0} (a : Gathered A) (names : (x : Name) → a.of_name x ≡ a
     no_bodies (form.call form.bare x form.no_items (form.there b)) is = absurd is
     no_bodies (form.call form.bare x (form.plain e is') b) is = absurd is
     no_bodies (form.call form.bare x (form.splat e is') b) is = absurd is
-    no_bodies (form.yield_form is') is = absurd is
+    no_bodies (form.yield_form is') is = none_in_items is' is.0
     no_bodies (form.super_form is' b) is = absurd is
     no_bodies (form.function f) is = absurd is
     no_bodies (form.lambda f) is = absurd is

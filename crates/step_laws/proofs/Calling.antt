@@ -22,9 +22,9 @@ use Rattle.step_laws.specs.Calm.{Grows, Quiet}
 use Rattle.step_laws.specs.Measure.{burden, measure}
 use Rattle.step_laws.proofs.Placed.{Rest, frame_at}
 use Rattle.step_laws.specs.Behind.{Behind}
-use Rattle.step_laws.specs.Relation.{Inside, EndsBy, stops, returns, Ends, IsSite, Waits, Ground, over_levels, InFrame, IsPassed, Leaving, Both, raised, Alike, Advances}
+use Rattle.step_laws.specs.Relation.{Inside, EndsBy, stops, returns, Ends, IsSite, Waits, Ground, over_levels, InFrame, IsPassed, Leaving, Both, raised, Alike}
 use Rattle.step_laws.proofs.Untouched.{leaves_end, runs_again}
-use Rattle.step_laws.proofs.Matching.{no_turn, one_turn, written, writes}
+use Rattle.step_laws.proofs.Matching.{Soon, soon_none, soon_one, written, writes}
 
 -- both sides have the same number of activations under way
 
@@ -170,22 +170,22 @@ light (q ∷ gs) ks m c lt = lt
 pub given_on : (s : Source) (p : Program) (c : Config) (ls : List Level) (k : machine.Memory) → shown (On ls k) ≡ seen c
     → (v : Value) (ks : List Item) (m : source.Memory) (g : Ground) (gs : List Level) (k' : machine.Memory)
     → go s c ≡ Run (give v) ks m → turn p (On ls k) ≡ receive v gs k' → 0 < length gs
-    → Both s p (over_levels g gs) m k' → Waits g.sites g.fiber k'.lists ks m.place gs → Advances s p c (On ls k)
+    → Both s p (over_levels g gs) m k' → Waits g.sites g.fiber k'.lists ks m.place gs → Soon s p c (On ls k)
 given_on s p c ls k alike v ks m g [] k' goes turns some both a = absurd (omega (arith, some))
 given_on s p c ls k alike v ks m g (q ∷ gs) k' goes turns some both a =
-    one_turn s p c (On ls k) (receive v (q ∷ gs) k') alike turns
+    soon_one s p c (On ls k) (receive v (q ∷ gs) k') alike turns
     (subst (λ (d : Config). Alike s p d (receive v (q ∷ gs) k')) (sym goes) (received_by g v ks m q gs k' both a))
 
 -- A value goes to what waits for it, or to what resumed the fiber.
 pub given_back : (s : Source) (p : Program) (c : Config) (ls : List Level) (k : machine.Memory) (m : source.Memory)
     → Origin s c ls k m → (v : Value) (ks : List Item) (m' : source.Memory) (g : Ground) (gs : List Level)
     (k' : machine.Memory) → go s c ≡ Run (give v) ks m' → turn p (On ls k) ≡ receive v gs k' → Falls gs ks m' c
-    → Both s p (over_levels g gs) m' k' → Waits g.sites g.fiber k'.lists ks m'.place gs → Advances s p c (On ls k)
+    → Both s p (over_levels g gs) m' k' → Waits g.sites g.fiber k'.lists ks m'.place gs → Soon s p c (On ls k)
 given_back s p c ls k m from v ks m' g [] k' goes turns less both a =
     let goes' = goes ∙ ap (λ (is : List Item). Run (give v) is m') a in
     let quiet = subst (Quiet m) goes' from.quiet in
     let less' = subst (λ (is : List Item). 1 + burden is m' < measure c) a less in
-    no_turn s p c (On ls k) (subst (λ (d : Config). measure d < measure c) (sym goes') less')
+    soon_none s p c (On ls k) (subst (λ (d : Config). measure d < measure c) (sym goes') less')
     (subst (λ (d : Config). Alike s p d (On ls k)) (sym goes') (record {
       g = over_levels g [];
       memory = k';
@@ -202,7 +202,7 @@ pub answered : (s : Source) (p : Program) (c : Config) (ls : List Level) (k : ma
     → Origin s c ls k m → (x : Result) (w : World) (ks : List Item) (m' : source.Memory) (g : Ground) (gs : List Level)
     (k' : machine.Memory) → go s c ≡ after_result x w ks m'
     → turn p (On ls k) ≡ answer_result p x gs (machine.with_world k' w) → Falls gs ks m' c
-    → Worlds s p (over_levels g gs) m m' k' → Waits g.sites g.fiber k'.lists ks m'.place gs → Advances s p c (On ls k)
+    → Worlds s p (over_levels g gs) m m' k' → Waits g.sites g.fiber k'.lists ks m'.place gs → Soon s p c (On ls k)
 answered s p c ls k m from (gives v) w ks m' g gs k' goes turns less both a =
     let quiet = subst (Quiet m) goes from.quiet in
     given_back s p c ls k m from v ks (source.with_world m' w) g gs (machine.with_world k' w) goes turns
@@ -215,7 +215,7 @@ answered s p c ls k m from (gives v) w ks m' g gs k' goes turns less both a =
 answered s p c ls k m from (raises e) w ks m' g gs k' goes turns less both a =
     let quiet = subst (Quiet m) goes from.quiet in
     let less' : burden ks m' < measure c = light gs ks m' c less in
-    no_turn s p c (On ls k) (subst (λ (d : Config). measure d < measure c) (sym goes) (omega (arith, less')))
+    soon_none s p c (On ls k) (subst (λ (d : Config). measure d < measure c) (sym goes) (omega (arith, less')))
     (subst (λ (d : Config). Alike s p d (On ls k)) (sym goes) (raised (record {
       g = over_levels g gs;
       e = e;

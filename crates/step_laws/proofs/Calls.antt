@@ -33,25 +33,25 @@ use Rattle.step_laws.specs.Covers.{Makes, past_receiver_code, past_items_code}
 use Rattle.step_laws.specs.Calm.{IsSteady, Peace}
 use Rattle.step_laws.proofs.Covers.{at_top}
 use Rattle.step_laws.proofs.Placed.{high, high-both, high-puts, high-nothing, line-past, Stands, moved, left, right, the_line, frame_at}
-use Rattle.step_laws.specs.Behind.{Static, Holds, HoldsCall, CallBy, operates, sends, sends_self, block_sender, CallEnds, alone, with_literal}
+use Rattle.step_laws.specs.Behind.{Static, Holds, HoldsCall, CallBy, operates, sends, sends_self, block_sender, CallEnds, alone, with_literal, by_call}
 use Rattle.step_laws.specs.Relation.{Ground, Common, Doing, GivesIn, Step}
 use Rattle.step_laws.proofs.Untouched.{same_here}
 use Rattle.step_laws.proofs.Matching.{by_none, in_loop, going, state_at}
 use Rattle.step_laws.proofs.Literals.{aligned, self_is}
 use Rattle.step_laws.proofs.Definitions.{made_line, high_made}
-use Rattle.step_laws.proofs.Sends.{ends_moved, items_on}
+use Rattle.step_laws.proofs.Sends.{ends_moved, sent_moved, items_on}
 
-no_splat : (h : Site) (inside : Bool) (r : ℕ) (is : Items) → CoveredItems h inside r is → has_splats is ≡ false
+pub no_splat : (h : Site) (inside : Bool) (r : ℕ) (is : Items) → CoveredItems h inside r is → has_splats is ≡ false
 no_splat h inside r no_items c = refl
 no_splat h inside r (plain e is) c = no_splat h inside (r + 1) is c.1
 no_splat h inside r (splat e is) c = absurd c
 
-none_spread : (h : Site) (inside : Bool) (r : ℕ) (is : Items) → CoveredItems h inside r is → has_splat is ≡ false
+pub none_spread : (h : Site) (inside : Bool) (r : ℕ) (is : Items) → CoveredItems h inside r is → has_splat is ≡ false
 none_spread h inside r no_items c = refl
 none_spread h inside r (plain e is) c = none_spread h inside (r + 1) is c.1
 none_spread h inside r (splat e is) c = absurd c
 
-passing_is : (is : Items) → has_splat is ≡ false → nat_lt 253 (item_count is) ≡ false
+pub passing_is : (is : Items) → has_splat is ≡ false → nat_lt 253 (item_count is) ≡ false
     → passing is ≡ passed.InRegisters (item_count is)
 passing_is is e f =
     ap (λ (b : Bool). if b then passed.InArray
@@ -354,7 +354,7 @@ module _ (g : Ground) (h : Site) (static : Static h) (ks : List Item) (m : sourc
       let q = pass_in_registers (within h d.loop) (past d.s nothing) (d.r + 1) is in
       let sp = past_items_code h d.loop (d.r + 1) (past d.s nothing) is in
       let end = d.n + high (gen (within h d.loop) d.s d.r (call on_self x is b)) in
-      items_on g h static ks m k both steady d.there conf d.x d.n j (by_name (symbol m x)) (self_of m) [] is b (record {
+      (items_on g h static ks m k both steady d.there conf d.x d.n j (by_name (symbol m x)) (self_of m) [] is b (record {
         low = d.r;
         own = true;
         loop = d.loop;
@@ -364,20 +364,20 @@ module _ (g : Ground) (h : Site) (static : Static h) (ks : List Item) (m : sourc
         row = omega arith;
         room = room;
         covered = items_covered;
-        name = x;
         held = (self_is g h m (aligned k m) both d.there ∙ (same_here g h m (aligned k m) both).self, tt);
         code = moved h (d.n + high nothing) d.n q none c.items;
         end = end;
-        ends = ends_moved h d.r x (item_count is) (0 + item_count is) true sp sp (past_items j is) b
-            (d.n + high nothing + high q) (d.n + high q) end (omega arith) refl (omega (arith, none)) c.ends;
+        ends = by_call x (ap by_name (steady.names x (there_by h d.r x (item_count is) true sp (past_items j is) b
+            (d.n + high nothing + high q) end c.ends)))
+            (ends_moved h d.r x (item_count is) (0 + item_count is) true sp sp (past_items j is) b
+            (d.n + high nothing + high q) (d.n + high q) end (omega arith) refl (omega (arith, none)) c.ends);
         next = d.next;
       }) (record {
         alike = going (perform j (call on_self x is b)) ks m (frame (frame_at h d.x d.n) ∷ g.below) (aligned k m) refl;
         out = refl;
         quiet = peace.quiet;
-      }) (plain_call j x (self_of m) is b (no_splat h (is_some d.loop) (d.r + 1) is items_covered))
-      (ap by_name (steady.names x (there_by h d.r x (item_count is) true sp (past_items j is) b
-      (d.n + high nothing + high q) end c.ends))) (omega arith) peace.calls
+      }) (plain_call j x (self_of m) is b (no_splat h (is_some d.loop) (d.r + 1) is items_covered)) (omega arith)
+      peace.calls).advances
 
   pub do_call_self : (j : ℕ) (x : Name) (is : Items) (d : Doing g h j (call on_self x is absent) ks m.place ls k.lists)
       → Peace h.source h.program (perform j (call on_self x is absent)) ks m
@@ -406,7 +406,7 @@ module _ (g : Ground) (h : Site) (static : Static h) (ks : List Item) (m : sourc
       let low = d.next.low in
       let sp = past_items_code h d.loop (low + 1) y.s is in
       let last = d.n + high (pass_in_registers (within h d.loop) y.s (low + 1) is) in
-      items_on g h static ks m k both steady d.there (Run (give v) (part (receiver j x is b) ∷ ks) m) d.x d.n j
+      (items_on g h static ks m k both steady d.there (Run (give v) (part (receiver j x is b) ∷ ks) m) d.x d.n j
       (by_name (symbol m x)) v [] is b (record {
         low = low;
         own = false;
@@ -417,20 +417,20 @@ module _ (g : Ground) (h : Site) (static : Static h) (ks : List Item) (m : sourc
         row = omega arith;
         room = y.room;
         covered = y.covered;
-        name = x;
         held = (subst (λ (i : ℕ). slot_at k.lists h.list i ≡ V v) (sym y.at) d.stands, tt);
         code = y.code;
         end = d.next.end;
-        ends = ends_moved h low x (item_count is) (0 + item_count is) false sp sp (past_items j is) b last
-            last d.next.end (omega arith) refl refl y.ends;
+        ends = by_call x (ap by_name (steady.names x
+            (there_by h low x (item_count is) false sp (past_items j is) b last d.next.end y.ends)))
+            (ends_moved h low x (item_count is) (0 + item_count is) false sp sp (past_items j is) b last
+            last d.next.end (omega arith) refl refl y.ends);
         next = in_loop g h k.lists ks d.next.end low d.loop d.next.outer d.next.inner d.next.next;
       }) (record {
         alike = going (give v) (part (receiver j x is b) ∷ ks) m (frame (frame_at h d.x d.n) ∷ g.below) (aligned k m) refl;
         out = refl;
         quiet = peace.quiet;
       }) (plain_call j x v is b (no_splat h (is_some d.loop) (low + 1) is y.covered))
-      (ap by_name (steady.names x (there_by h low x (item_count is) false sp (past_items j is) b last d.next.end y.ends)))
-      (omega arith) peace.calls
+      (omega arith) peace.calls).advances
 
   pub give_item : (v : Value) (j : ℕ) (sender : Sending) (recv : Value) (vs : List Value) (is : Items) (b : Maybe)
       (d : GivesIn g h v (part (items j sender recv vs is b) ∷ ks) m.place ls k.lists)
@@ -444,7 +444,7 @@ module _ (g : Ground) (h : Site) (static : Static h) (ks : List Item) (m : sourc
       let last = d.n + high (pass_in_registers (within h d.loop) y.s (d.r + 1) is) in
       let all : length vs + 1 + item_count is ≡ length (vs ++ v ∷ []) + item_count is =
       omega (arith, length-append vs (v ∷ [])) in
-      items_on g h static ks m k both steady d.there (Run (give v) (part (items j sender recv vs is b) ∷ ks) m) d.x d.n j
+      (items_on g h static ks m k both steady d.there (Run (give v) (part (items j sender recv vs is b) ∷ ks) m) d.x d.n j
       sender recv (vs ++ v ∷ []) is b (record {
         low = low;
         own = y.own;
@@ -455,11 +455,10 @@ module _ (g : Ground) (h : Site) (static : Static h) (ks : List Item) (m : sourc
         row = omega (arith, y.at, length-append vs (v ∷ []));
         room = y.room;
         covered = y.covered;
-        name = y.name;
         held = holds_call h k.lists y.own low d.r recv vs v y.held y.at d.stands;
         code = y.code;
         end = d.next.end;
-        ends = ends_moved h low y.name (length vs + 1 + item_count is) (length (vs ++ v ∷ []) + item_count is) y.own sp sp
+        ends = sent_moved h sender low (length vs + 1 + item_count is) (length (vs ++ v ∷ []) + item_count is) y.own sp sp
             (past_items j is) b last last d.next.end all refl refl y.ends;
         next = in_loop g h k.lists ks d.next.end low d.loop d.next.outer d.next.inner d.next.next;
       }) (record {
@@ -467,4 +466,4 @@ module _ (g : Ground) (h : Site) (static : Static h) (ks : List Item) (m : sourc
             refl;
         out = refl;
         quiet = peace.quiet;
-      }) refl y.sending (omega arith) peace.calls
+      }) refl (omega arith) peace.calls).advances

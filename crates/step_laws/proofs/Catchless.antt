@@ -18,7 +18,7 @@ use Rattle.gen_parts.specs.Pieces.{Piece, past, behind, nothing, both, puts, doe
 use Rattle.gen_forms.specs.declared.context.Loop.{Loop}
 use Rattle.gen_forms.specs.declared.calls.Passing.{Passing}
 use Rattle.gen_forms.specs.declared.calls.Passing.TheVariants as passed
-use Rattle.gen_forms.specs.Gen.{write, in_loop, Code, Context, gen, in_turn, others_in_turn, choose, gather, pass_in_registers, gen_receiver, gen_maybe, passing, passed_by, registers_of, called_by, operates, send, symbol, over, loop, range_by, break_by, next_by, return_by, text_entry, gather_pairs, gather_text, ask, told}
+use Rattle.gen_forms.specs.Gen.{write, in_loop, Code, Context, gen, in_turn, others_in_turn, choose, gather, pass_in_registers, gen_receiver, gen_maybe, passing, passed_by, count_operand, registers_of, called_by, operates, send, symbol, over, loop, range_by, break_by, next_by, return_by, text_entry, gather_pairs, gather_text, ask, told}
 use Rattle.step_laws.specs.Plain.{IsPlain, ArePlain, ArePlainItems, ArePlainElements, ArePlainPairs, ArePlainBranches}
 
 unfoldable pub IsBare : Piece → Type 0
@@ -199,7 +199,16 @@ mutual
   bare (form.call form.bare x form.no_items (form.there b)) is c s r = absurd is
   bare (form.call form.bare x (form.plain e is') b) is c s r = absurd is
   bare (form.call form.bare x (form.splat e is') b) is c s r = absurd is
-  bare (form.yield_form is') is c s r = absurd is
+  bare (form.yield_form is') is c s r =
+      let each : Code = λ d t n. pass_in_registers d t n is' in
+      let spread : Code = λ d t n. gather d t n is' in
+      let p = does (op.BlkPush r) in
+      let o = op.Call r (count_operand (passing is')) in
+      let q = passed_by (passing is') each spread c (past s p) r in
+      bare_both p (q ⊕ does o) (bare_puts _)
+      (bare_both q (does o)
+      (bare_passed (passing is') each spread (bare_items is' is.0) (bare_gather is' (elements_of is' is.0)) c (past s p) r)
+      (bare_puts _))
   bare (form.super_form is' b) is c s r = absurd is
   bare (form.function f) is c s r = absurd is
   bare (form.lambda f) is c s r = absurd is

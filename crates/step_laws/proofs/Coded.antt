@@ -5,6 +5,7 @@ use Rattle.std.specs.Prelude.{◌&&◌, slice_get, Some, None}
 use Rattle.std.proofs.lemmas.List.{append-nil}
 use Rattle.std.proofs.lemmas.Option.{get_or_from_slice_get}
 use Rattle.rite_code.specs.Code.{Program, program}
+use Rattle.rite_code.specs.declared.code.Irep.{Irep}
 use Rattle.rite_code.specs.declared.operation.Operation.TheVariants as op
 use Rattle.ir_core.specs.CoreForm as form
 use Rattle.ir_core.specs.CoreForm.{Name, Local, Parameters, CoreForm, Body, form_of}
@@ -52,11 +53,12 @@ use Rattle.eval_laws.proofs.Sources.{program_stands}
 use Rattle.step_laws.proofs.Numbered.{kind_within}
 use Rattle.step_laws.proofs.Found.{both_true}
 use Rattle.step_laws.proofs.Naming.{one_more, names_written, all_known}
-use Rattle.step_laws.proofs.Written.{Written, WrittenAs, AllWritten, nth_written, tops_written, tops_catchless}
+use Rattle.step_laws.proofs.Making.{tops_catchless}
+use Rattle.step_laws.proofs.Written.{Written, WrittenAs, AllWritten, nth_written, of_one, tops_written}
 use Rattle.step_laws.proofs.Topped as topped
 use Rattle.step_laws.proofs.Laid.{first_place}
 use Rattle.step_laws.proofs.Fitting as fitting
-use Rattle.step_laws.proofs.Fitting.{Around, of_main}
+use Rattle.step_laws.proofs.Fitting.{of_main}
 use Rattle.step_laws.proofs.Covering.{Has}
 use Rattle.step_laws.proofs.Coding as coding
 
@@ -70,38 +72,39 @@ fits_main p ls f c = (
 
 -- a method or a block of the source by its number in the code
 method_of : (s : List Body) (c : Program) (n : ℕ) (b : Body) → c.version ≡ 2 → source_body s n ≡ b
-    → Written kind.Method n b (body_at c n) → ((x : Name) → is_among x (tally b).symbols ≡ true → IsThere s x)
-    → BodyCode s c n
-method_of s c n (form.body p ls f) version mine w there =
-    coding.body_coded s c n (record {
-      kind_of = kind.Method;
-      enters = refl;
-      parameters = p;
-      locals = ls;
-      form_of_it = f;
-      slots = refl;
-      version = version;
-      mine = mine;
-      written = w;
-      there = there;
-    })
+    → Written s kind.Method n b (body_at c n) → ((x : Name) → is_among x (tally b).symbols ≡ true → IsThere s x)
+    → coding.Coded s c n
+method_of s c n (form.body p ls f) version mine w there = record {
+  kind_of = kind.Method;
+  enters = refl;
+  parameters = p;
+  locals = ls;
+  form_of_it = f;
+  slots = refl;
+  version = version;
+  mine = mine;
+  written = w;
+  there = there;
+}
 
 block_of : (s : List Body) (c : Program) (n : ℕ) (b : Body) → c.version ≡ 2 → source_body s n ≡ b
-    → Written kind.Block n b (body_at c n) → ((x : Name) → is_among x (tally b).symbols ≡ true → IsThere s x)
-    → ProcCode s c n
-block_of s c n (form.body p ls f) version mine w there =
-    coding.block_coded s c n (record {
-      kind_of = kind.Block;
-      enters = refl;
-      parameters = p;
-      locals = ls;
-      form_of_it = f;
-      slots = refl;
-      version = version;
-      mine = mine;
-      written = w;
-      there = there;
-    }) refl
+    → Written s kind.Block n b (body_at c n) → ((x : Name) → is_among x (tally b).symbols ≡ true → IsThere s x)
+    → (g : coding.Coded s c n) × (g.kind_of ≡ kind.Block)
+block_of s c n (form.body p ls f) version mine w there = (
+  record {
+    kind_of = kind.Block;
+    enters = refl;
+    parameters = p;
+    locals = ls;
+    form_of_it = f;
+    slots = refl;
+    version = version;
+    mine = mine;
+    written = w;
+    there = there;
+  },
+  refl,
+)
 
 module _ (p : Parameters) (ls : List Local) (f : CoreForm) (program_is : IsProgram (form.body p ls f))
     (limits : first_excess (need (form.body p ls f)) ≡ None) (tops : AreTops (form.more f form.none)) where
@@ -164,16 +167,16 @@ module _ (p : Parameters) (ls : List Local) (f : CoreForm) (program_is : IsProgr
 
   -- The other bodies.
 
-  -- what is around a block of the main program: its slots
-  out : Around kind.Block around.scopes
-  out = record { short = (fitting.w kind.Main [] of_main p ls f fits).able.each; few = omega arith }
-
-  written : AllWritten 1 (kinds f) (over in_order f) (q.bodies ++ [])
+  written : AllWritten (source_of b) 1 (kinds f) (over in_order f) (q.bodies ++ [])
   unfolding both nothing
   written =
-      subst (λ (bs : List Body). AllWritten 1 (kinds f) bs (q.bodies ++ [])) (append-nil (over in_order f))
-      (subst (λ (ks : List Kind). AllWritten 1 ks (over in_order f ++ []) (q.bodies ++ [])) (append-nil (kinds f))
-      (tops_written tops t (within_program ls) around (first_spot 0) start out (fits.1, tt) all_formed))
+      subst (λ (is : List Irep). AllWritten (source_of b) 1 (kinds f) (over in_order f) is) (sym (append-nil q.bodies))
+      (of_one (source_of b) f around (first_spot 0) start (tops_written tops (source_of b) t (within_program ls) around
+      (first_spot 0) start (record {
+        short = (fitting.w kind.Main [] of_main p ls f fits).able.each;
+        deep = omega arith;
+        few = omega (arith, within.few);
+      }) (program_stands b program_is, tt) (fits.1, tt) all_formed))
 
   nth_there : (n : ℕ) (x : Name) → n < length (source_of b)
       → is_among x (tally (source_body (source_of b) n)).symbols ≡ true
@@ -182,38 +185,46 @@ module _ (p : Parameters) (ls : List Local) (f : CoreForm) (program_is : IsProgr
   nth_there n x lt e = all_known (source_of b) n (form.body no_parameters [] form.nil) Rows.opening x lt e
 
   nth_at : (j : ℕ) (k : Kind) → slice_get (kinds f) j ≡ Some k
-      → WrittenAs k (suc j) (source_body (source_of b) (suc j)) (body_at code (suc j))
+      → WrittenAs (source_of b) k (suc j) (source_body (source_of b) (suc j)) (body_at code (suc j))
   unfolding coded assembled both puts source_body
   nth_at j k e =
-      subst (λ (n : ℕ). WrittenAs k n (source_body (source_of b) (suc j)) (body_at code (suc j))) (omega arith)
-      (nth_written 1 j (kinds f) (over in_order f) (q.bodies ++ []) k (form.body no_parameters [] form.nil) no_body written e)
+      subst (λ (n : ℕ). WrittenAs (source_of b) k n (source_body (source_of b) (suc j)) (body_at code (suc j))) (omega arith)
+      (nth_written (source_of b) 1 j (kinds f) (over in_order f) (q.bodies ++ []) k (form.body no_parameters [] form.nil)
+      no_body written e)
 
-  methods : (n : ℕ) → IsKind (source_of b) n of_method → BodyCode (source_of b) code n
-  methods zero e = absurd (cc e)
-  methods (suc j) e =
+  coded_method : (n : ℕ) → IsKind (source_of b) n of_method → coding.Coded (source_of b) code n
+  coded_method zero e = absurd (cc e)
+  coded_method (suc j) e =
       method_of (source_of b) code (suc j) (source_body (source_of b) (suc j)) refl refl (nth_at j of_method e)
       (λ x there. nth_there (suc j) x (kind_within b (suc j) of_method e) there)
 
-  blocks : (n : ℕ) → IsKind (source_of b) n of_block → ProcCode (source_of b) code n
-  blocks zero e = absurd (cc e)
-  blocks (suc j) e =
+  coded_block : (n : ℕ) → IsKind (source_of b) n of_block
+      → (g : coding.Coded (source_of b) code n) × (g.kind_of ≡ kind.Block)
+  coded_block zero e = absurd (cc e)
+  coded_block (suc j) e =
       block_of (source_of b) code (suc j) (source_body (source_of b) (suc j)) refl refl (nth_at j of_block e)
       (λ x there. nth_there (suc j) x (kind_within b (suc j) of_block e) there)
 
   -- the code of each block begins with its parameters
-  shapes : topped.Shapes site
+  shapes : topped.Shapes (source_of b) code
   unfolding source_body
   shapes n g e is =
-      coding.begins_with (source_of b) code n (blocks n is).code
+      coding.begins_with (source_of b) code n (coded_block n is).0
       ∙ ap (λ (d : Body). shape_of (parameters_of d))
       (get_or_from_slice_get (source_of b) n g (form.body no_parameters [] form.nil) e)
+
+  methods : (n : ℕ) → IsKind (source_of b) n of_method → BodyCode (source_of b) code n
+  methods n e = coding.body_coded (source_of b) code n (coded_method n e) shapes
+
+  blocks : (n : ℕ) → IsKind (source_of b) n of_block → ProcCode (source_of b) code n
+  blocks n e = let g = coded_block n e in coding.block_coded (source_of b) code n g.0 shapes g.1
 
   -- both sides have the same symbols
   names_are : with_names Rows.opening (all_names (source_of b)) ≡ with_names Rows.opening (all_symbols code.bodies)
   unfolding coded assembled both puts
   names_are =
       one_more p ls f (over in_order f) (q.bodies ++ [])
-      (λ st. names_written 1 (kinds f) (over in_order f) (q.bodies ++ []) written st) Rows.opening
+      (λ st. names_written (source_of b) 1 (kinds f) (over in_order f) (q.bodies ++ []) written st) Rows.opening
 
   has : Has site (named_slots ls) ls t (start + width f)
   unfolding coded assembled both puts source_body
@@ -239,7 +250,7 @@ module _ (p : Parameters) (ls : List Local) (f : CoreForm) (program_is : IsProgr
   covers : Covers site None start (first_spot 0) 1 f
   covers =
       (topped.tops_cover site (named_slots ls) ls t (start + width f) has shapes tops (first_spot 0) start (width f)
-      (within_program ls) (refl, λ e r. refl) refl (program_stands b program_is, tt) (fits.1, tt) all_formed (omega arith) (omega arith, tt) (omega arith) all_stand).0
+      (within_program ls) (within_program ls) (refl, λ e r. refl) refl (program_stands b program_is, tt) (fits.1, tt) all_formed (omega arith) (omega arith, tt) (omega arith) all_stand).0
 
   code_of_it : IsCodeOf (source_of b) code
   unfolding coded assembled both puts high Stands source_body

@@ -1,6 +1,8 @@
--- The code of a method or a block of a program of plain forms within the limits is code of it.
-use Rattle.std.proofs.Common.{◌≡◌, ◌≤◌, ℕ, ◌+◌, List, [], ◌∷◌, ◌++◌, length, map, arith, refl, sym, ap, ◌∙◌, subst, Bool, true, false}
-use Rattle.std.specs.Prelude.{Option, Some, None}
+-- The code of a method or a block of a program within the limits is code of it, where the blocks in it begin with their
+-- parameters.
+use Rattle.std.proofs.Common.{◌≡◌, ◌≤◌, ℕ, ◌+◌, List, [], ◌∷◌, ◌++◌, length, map, arith, refl, sym, ap, ◌∙◌, subst, Bool, true}
+use Rattle.std.specs.Prelude.{◌&&◌, Option, Some, None}
+use Rattle.std.proofs.lemmas.List.{append-nil}
 use Rattle.rite_code.specs.Code.{Program}
 use Rattle.rite_code.specs.declared.code.Irep.{Irep}
 use Rattle.rite_code.specs.Instruction.{Instruction}
@@ -19,9 +21,9 @@ use Rattle.scope_resolver.specs.declared.seek.Search.TheVariants.{Past}
 use Rattle.scope_resolver.specs.Layout.{Slots, Scopes, has_parameters, seen_around, named_slots, block_slot, parameter_slots, slots_of, seek}
 use Rattle.gen_parts.specs.declared.line.Line.TheVariants as line
 use Rattle.gen_parts.specs.declared.line.Catch.{Catch}
-use Rattle.gen_parts.specs.Pieces.{Piece, behind, both, puts, does}
+use Rattle.gen_parts.specs.Pieces.{Piece, behind, nothing, both, puts, does}
 use Rattle.gen_parts.specs.Assembly.{places, entry_by, instruction_before}
-use Rattle.gen_forms.specs.Gen.{Context, gen, first_spot, parameters}
+use Rattle.gen_forms.specs.Gen.{Context, gen, others_in_turn, first_spot, parameters}
 use Rattle.code_laws.proofs.Shares.{Fits, many}
 use Rattle.code_laws.specs.Bound.{AreHeld}
 use Rattle.code_laws.proofs.Binding.{method_knows}
@@ -33,20 +35,21 @@ use Rattle.def_machine.specs.State.{body_at}
 use Rattle.def_machine.specs.Turn.{fetch, shape_by}
 use Rattle.rb_value.specs.declared.value.Value.{Value}
 use Rattle.rb_value.specs.declared.value.Value.TheVariants.{Nil}
-use Rattle.step_laws.specs.Site.{Site, LineAt, Lines, IsThere}
+use Rattle.step_laws.specs.Site.{Site, at_line, LineAt, Lines, IsThere}
 use Rattle.step_laws.specs.Simple.{IsNamedLocal}
-use Rattle.step_laws.specs.Covered.{Covered}
+use Rattle.step_laws.specs.Covers.{Covers}
 use Rattle.step_laws.specs.Bodies.{AreStraight, BodyAt, BodyCode, ProcCode}
 use Rattle.step_laws.specs.Tops.{AreNamed}
 use Rattle.step_laws.proofs.Placed.{high, Stands, high-both, high-puts, moved, left, right, the_line}
 use Rattle.step_laws.proofs.Apart.{apart}
-use Rattle.step_laws.proofs.Catchless.{IsBare, bare}
 use Rattle.step_laws.proofs.Laid.{first_place}
 use Rattle.step_laws.proofs.Bound.{shape_is, shape_is_too}
 use Rattle.step_laws.proofs.Fitting as fitting
 use Rattle.step_laws.proofs.Fitting.{Around}
-use Rattle.step_laws.proofs.Covering.{Has, covered}
+use Rattle.step_laws.proofs.Covering.{Has}
+use Rattle.step_laws.proofs.Making.{tops_catchless}
 use Rattle.step_laws.proofs.Written.{Written}
+use Rattle.step_laws.proofs.Topped as topped
 
 -- Slots of named locals alone: a hidden one is sought past them all.
 abbrev NoneHidden : Slots → Type 0
@@ -111,7 +114,7 @@ pub record Coded (s : Source) (c : Program) (n : ℕ) : Type 0 where
   pub slots : slots_of kind_of (form.body parameters locals form_of_it) ≡ parameter_slots parameters ++ named_slots locals
   pub version : c.version ≡ 2
   pub mine : source_body s n ≡ form.body parameters locals form_of_it
-  pub written : Written kind_of n (form.body parameters locals form_of_it) (body_at c n)
+  pub written : Written s kind_of n (form.body parameters locals form_of_it) (body_at c n)
   pub there : (x : Name) → is_among x (tally (form.body parameters locals form_of_it)).symbols ≡ true → IsThere s x
 
 module _ (s : Source) (c : Program) (n : ℕ) (g : Coded s c n) where
@@ -167,12 +170,8 @@ module _ (s : Source) (c : Program) (n : ℕ) (g : Coded s c n) where
   inner =
       fitting.body_inner g.kind_of g.enters sc out p ls f fits n g.written.within g.written.in_block g.written.formed straight
 
-  no_entries : IsBare code
-  no_entries = bare f g.written.plain around (behind (first_spot n)) first
-
   few : many f ≤ 65535
-  unfolding both puts IsBare
-  few = omega (arith, inner.count, ap length no_entries.2)
+  few = g.written.few
 
   -- what is shown of the body is so of the source's of that number
   of_body : (P : Body → Type 0) → P b → P (source_body s n)
@@ -237,17 +236,39 @@ module _ (s : Source) (c : Program) (n : ℕ) (g : Coded s c n) (activation list
   }
 
   no_catches : (body_at c n).catches ≡ []
-  unfolding both puts IsBare
+  unfolding both puts nothing
   no_catches =
       ap (λ (i : Irep). i.catches) g.written.is
-      ∙ ap (λ (cs : List Catch). map (entry_by (at s c n g)) (cs ++ [])) (no_entries s c n g).0
+      ∙ ap (λ (cs : List Catch). map (entry_by (at s c n g)) cs)
+      (tops_catchless g.written.tops (around s c n g) (behind (first_spot n)) (first s c n g))
 
-  covers : Covered h false (first s c n g) (f s c n g)
-  covers =
-      subst (λ (b : Bool). Covered h b (first s c n g) (f s c n g)) g.written.outside
-      (covered h (ss s c n g) (all_parameters (p s c n g) ++ ls s c n g) (t s c n g)
-      (first s c n g + width (f s c n g)) has (f s c n g) (first s c n g) g.written.inner
-      (g.written.known, g.written.returns) g.written.plain (fits s c n g).1 g.written.closed (omega arith) (omega arith))
+  children_stand : topped.Stands (body_at c n).children (behind (first_spot n))
+      (others_in_turn (around s c n g) (behind (first_spot n)) (first s c n g) (form.more (f s c n g) form.none)).children
+  unfolding both puts nothing behind
+  children_stand = record {
+    before = [];
+    after = [];
+    are = ap (λ (i : Irep). i.children) g.written.is ∙ sym (append-nil ((code s c n g).children ++ []));
+    count = refl;
+  }
+
+  covers : topped.Shapes s c
+      → Covers h None (first s c n g) (behind (first_spot n)) (n + 1) (f s c n g)
+  unfolding behind
+  covers shapes =
+      (topped.tops_cover h (ss s c n g) (all_parameters (p s c n g) ++ ls s c n g) (t s c n g)
+      (first s c n g + width (f s c n g)) has shapes g.written.tops (behind (first_spot n)) (first s c n g)
+      (width (f s c n g)) g.written.inner g.written.within (g.written.known, g.written.returns) g.written.outside
+      (g.written.stands, tt) ((fits s c n g).1, tt) (ap (λ (x : Bool). x && true) g.written.closed) (omega arith)
+      (omega arith, tt) (omega arith) children_stand).0
+
+  enters_there : LineAt h 0 (line.Does (op.Enter (parameters (p s c n g))))
+  enters_there =
+      the_line h 0 (line.Does (op.Enter (parameters (p s c n g))))
+      (left h 0 (does (op.Enter (parameters (p s c n g)))) (code s c n g) front)
+
+  begins_there : at_line h 0 ≡ 0
+  begins_there = first_place (wide s c n g) 0 ((lines s c n g).lines ++ line.Does back ∷ [])
 
   form_stands : Stands h 1 (code s c n g)
   form_stands =
@@ -263,8 +284,8 @@ module _ (s : Source) (c : Program) (n : ℕ) (g : Coded s c n) (activation list
       (the_line h (0 + high (lines s c n g)) (line.Does back)
       (right h 0 (lines s c n g) (does back) all_stand))
 
-  at_run : BodyAt h
-  at_run =
+  at_run : topped.Shapes s c → BodyAt h
+  at_run shapes =
       let registers = ap (λ (i : Irep). i.registers) g.written.is in
       let same = ap length (slots_are s c n g) in
       record {
@@ -274,7 +295,7 @@ module _ (s : Source) (c : Program) (n : ℕ) (g : Coded s c n) (activation list
           room = omega (arith, registers);
           no_catches = no_catches;
         };
-        begins = first_place (wide s c n g) 0 ((lines s c n g).lines ++ line.Does back ∷ []);
+        begins = begins_there;
         straight = of_body s c n g (λ (d : Body). AreStraight (parameters_of d)) g.written.straight;
         around = seen_around g.kind_of (sc s c n g);
         scopes = of_body s c n g (λ (d : Body).
@@ -286,10 +307,10 @@ module _ (s : Source) (c : Program) (n : ℕ) (g : Coded s c n) (activation list
             (λ i. sought_past i 1 (slots_of kind.Method (b s c n g))
             (slots_hidden (p s c n g) (ls s c n g) (f s c n g) g.written.named));
         outside = refl;
-        covered = of_body s c n g (λ (d : Body). Covered h false h.first (form_of d)) covers;
+        covered = of_body s c n g (λ (d : Body).
+            Covers h None h.first (behind (first_spot h.body)) (h.body + 1) (form_of d)) (covers shapes);
         enters = of_body s c n g (λ (d : Body). LineAt h 0 (line.Does (op.Enter (parameters (parameters_of d)))))
-            (the_line h 0 (line.Does (op.Enter (parameters (p s c n g))))
-            (left h 0 (does (op.Enter (parameters (p s c n g)))) (code s c n g) front));
+            enters_there;
         code = of_body s c n g (λ (d : Body). Stands h 1 (gen h.context (behind (first_spot h.body)) h.first (form_of d)))
             form_stands;
         ends = of_body s c n g (λ (d : Body).
@@ -297,26 +318,27 @@ module _ (s : Source) (c : Program) (n : ℕ) (g : Coded s c n) (activation list
             (line.Does (op.Return h.first))) returns_there;
       }
 
-pub body_coded : (s : Source) (c : Program) (n : ℕ) → Coded s c n → BodyCode s c n
-body_coded s c n g = record {
+pub body_coded : (s : Source) (c : Program) (n : ℕ) → Coded s c n → topped.Shapes s c → BodyCode s c n
+body_coded s c n g shapes = record {
   wide = wide s c n g;
   at = at s c n g;
   context = around s c n g;
   first = first s c n g;
-  everywhere = λ activation list self runs. at_run s c n g activation list self runs;
+  everywhere = λ activation list self runs. at_run s c n g activation list self runs shapes;
 }
 
-pub block_coded : (s : Source) (c : Program) (n : ℕ) (g : Coded s c n) → g.kind_of ≡ kind.Block → ProcCode s c n
+pub block_coded : (s : Source) (c : Program) (n : ℕ) (g : Coded s c n) → topped.Shapes s c → g.kind_of ≡ kind.Block
+    → ProcCode s c n
 unfolding body_coded
-block_coded s c n g e = record { code = body_coded s c n g; of_block = e }
+block_coded s c n g shapes e = record { code = body_coded s c n g shapes; of_block = e }
 
 -- the code of a body begins with its parameters
-pub begins_with : (s : Source) (c : Program) (n : ℕ) → BodyCode s c n
+pub begins_with : (s : Source) (c : Program) (n : ℕ) → Coded s c n
     → shape_by (fetch c n 0) ≡ shape_of (parameters_of (source_body s n))
 unfolding instruction_before
-begins_with s c n code =
-    let at = code.everywhere 0 0 Nil main_program in
-    let p = parameters_of (source_body s n) in
-    ap (λ (i : ℕ). shape_by (fetch c n i)) (sym at.begins)
-    ∙ ap (λ (i : Option (Instruction × ℕ)). shape_by i) at.enters.here
-    ∙ shape_is_too p at.straight ∙ sym (shape_is p at.straight)
+begins_with s c n g =
+    let p = g.parameters in
+    ap (λ (i : ℕ). shape_by (fetch c n i)) (sym (begins_there s c n g 0 0 Nil main_program))
+    ∙ ap (λ (i : Option (Instruction × ℕ)). shape_by i) (enters_there s c n g 0 0 Nil main_program).here
+    ∙ shape_is_too p g.written.straight ∙ sym (shape_is p g.written.straight)
+    ∙ ap (λ (d : Body). shape_of (parameters_of d)) (sym g.mine)

@@ -1,6 +1,7 @@
 -- Plain forms of a body within the limits are covered: their registers, locals and tables are there.
-use Rattle.std.proofs.Common.{◌≡◌, ◌≤◌, ◌<◌, ℕ, ◌+◌, ℤ, pos, negsuc, List, [], ◌∷◌, ◌++◌, length, map, get_or, arith, refl, ap, ◌∙◌, subst, Bool, true, false}
-use Rattle.std.specs.Prelude.{codes, ◌&&◌, bytes_eq, position, slice_get, if◌then◌else◌, Option, Some, None}
+use Rattle.std.proofs.Common.{◌≡◌, ◌≤◌, ◌<◌, ℕ, ◌+◌, ℤ, pos, negsuc, List, [], ◌∷◌, ◌++◌, length, map, get_or, arith, refl, sym, ap, ◌∙◌, subst, Bool, true, false}
+use Rattle.std.specs.Prelude.{codes, ◌&&◌, bytes_eq, position, slice_get, if◌then◌else◌, is_some, Option, Some, None}
+use Rattle.std.proofs.lemmas.List.{append-nil}
 use Rattle.std.specs.Ordering.{int_eq}
 use Rattle.rite_code.specs.declared.code.PoolItem.{PoolItem}
 use Rattle.rite_code.specs.declared.code.PoolItem.TheVariants as pool
@@ -291,7 +292,18 @@ module _ (h : Site) (ss : Slots) (ls : List Local) (t : Tally) (registers : ℕ)
     cover (form.call form.bare x form.no_items (form.there b)) r a k is n f low w = absurd is
     cover (form.call form.bare x (form.plain e is') b) r a k is n f low w = absurd is
     cover (form.call form.bare x (form.splat e is') b) r a k is n f low w = absurd is
-    cover (form.yield_form is') r a k is n f low w = absurd is
+    cover (form.yield_form is') r a k is n f low w =
+        let both = both_true (is_some a.method) (are_items a is') f in
+        let ws = 3 ∷ item_widths is' in
+        let wide : r + in_order ws ≤ registers =
+        subst (λ (b : Bool). r + of_call b ws ≤ registers) (none_spread is' is.0) w in
+        let parts = order_within registers r ws wide in
+        let some = order_room registers r ws wide in (
+          room r low (omega (arith, some)),
+          cover_items is' (r + 1) a k is.0 n.1 both.1 (omega (arith, low))
+              (subst (λ (vs : List ℕ). InOrder registers (r + 1) vs) (sym (append-nil (item_widths is'))) parts.1),
+          is.1,
+        )
     cover (form.super_form is' b) r a k is n f low w = absurd is
     cover (form.function g) r a k is n f low w = absurd is
     cover (form.lambda g) r a k is n f low w = absurd is

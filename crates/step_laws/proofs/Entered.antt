@@ -24,9 +24,9 @@ use Rattle.def_machine.specs.Entering.{answer_result, open_frame, enter as enter
 use Rattle.def_machine.specs.Turn.{turn}
 use Rattle.step_laws.specs.Calm.{Quiet, Still}
 use Rattle.step_laws.specs.Bodies.{OpensBody, EntersBody, CallsBodies}
-use Rattle.step_laws.specs.Relation.{Waits, Ground, over_levels, Alike, Advances}
+use Rattle.step_laws.specs.Relation.{Waits, Ground, over_levels, Alike}
 use Rattle.step_laws.proofs.Untouched.{same_activations}
-use Rattle.step_laws.proofs.Matching.{one_turn}
+use Rattle.step_laws.proofs.Matching.{Soon, soon_one}
 use Rattle.step_laws.proofs.Calling.{depth_is, Origin, Worlds, Falls, answered}
 use Rattle.step_laws.proofs.Entering.{enters_body}
 
@@ -107,7 +107,7 @@ pub entered : (s : Source) (p : Program) (c : Config) (ls : List Level) (k : mac
     → turn p (On ls k) ≡ enter_machine p e block gs k'
     → Falls gs ks m' c → length m'.scopes ≡ length m.scopes → Worlds s p (over_levels g gs) m m' k'
     → Waits g.sites g.fiber k'.lists ks m'.place gs → (Still m (go s c) ⊎ EntersBody s p e)
-    → Advances s p c (On ls k)
+    → Soon s p c (On ls k)
 unfolding enter enter_machine
 entered s p c ls k m from (answers a) block ks m' g gs k' goes turns less scopes both waits calls =
     answered s p c ls k m from a.result (settle a.world block None) ks m' g gs k' goes turns less both waits
@@ -121,7 +121,7 @@ entered s p c ls k m from (enters o w) block ks m' g gs k' goes turns less scope
     u : World
     u = settle w block (Some (next_activation w))
 
-    at : (b : Bool) → is_full (depth ks) ≡ b → Advances s p c (On ls k)
+    at : (b : Bool) → is_full (depth ks) ≡ b → Soon s p c (On ls k)
     at true e =
         let goes' = goes ∙ ap (λ (t : Bool). if t then after_result failure.result failure.world ks m'
         else open_body s o ks m' u) e in
@@ -140,7 +140,7 @@ entered s p c ls k m from (enters o w) block ks m' g gs k' goes turns less scope
         by goes' turns' calls
       where
         by : go s c ≡ open_body s o ks m' u → turn p (On ls k) ≡ open_frame p o u gs k'
-            → (Still m (go s c) ⊎ OpensBody s p w o) → Advances s p c (On ls k)
+            → (Still m (go s c) ⊎ OpensBody s p w o) → Soon s p c (On ls k)
         by goes' turns' (inl still) =
             let more = opens m s o ks m' u (subst (Still m) goes' still) in
             absurd (omega (arith, more, scopes))
@@ -167,7 +167,7 @@ entered s p c ls k m from (begins it a w) block ks m' g gs k' goes turns less sc
         else On (machine.iteration (next_activation u) it Nil ∷ gs) (machine.with_world k' (with_activation u a)))
         (ap is_full (sym (depth_is g.sites g.fiber k'.lists ks m'.place gs waits)) ∙ e)
 
-    at : (b : Bool) → is_full (depth ks) ≡ b → Advances s p c (On ls k)
+    at : (b : Bool) → is_full (depth ks) ≡ b → Soon s p c (On ls k)
     at true e =
         let goes' = goes ∙ ap (λ (t : Bool). if t then after_result failure.result failure.world ks m'
         else open_iteration it a ks m' u) e in
@@ -177,7 +177,7 @@ entered s p c ls k m from (begins it a w) block ks m' g gs k' goes turns less sc
         else open_iteration it a ks m' u) e in
         let quiet = subst (Quiet m) goes' from.quiet in
         let all = both (with_activation u a) quiet.1 in
-        one_turn s p c (On ls k) _ from.alike (turned_to false e)
+        soon_one s p c (On ls k) _ from.alike (turned_to false e)
         (subst (λ (d : Config). Alike s p d (On (machine.iteration (next_activation u) it Nil ∷ gs)
         (machine.with_world k' (with_activation u a)))) (sym goes') (record {
           g = over_levels g gs;

@@ -1,7 +1,7 @@
 -- The body of a method or a block is entered: its frame is opened and ENTER binds its arguments, in one transition and
 -- two turns.
-use Rattle.std.proofs.Common.{◌≡◌, ◌⊎◌, inl, inr, ℕ, zero, suc, ◌+◌, ◌-◌, ◌<◌, List, [], ◌∷◌, ◌++◌, refl, sym, ap, ◌∙◌, subst, arith, length, length-append, get_or, Bool}
-use Rattle.std.specs.Prelude.{if◌then◌else◌, is_some, Option, Some, None}
+use Rattle.std.proofs.Common.{◌≡◌, ◌⊎◌, inl, inr, ℕ, zero, suc, ◌+◌, ◌-◌, ◌<◌, List, [], ◌∷◌, ◌++◌, refl, sym, ap, ◌∙◌, subst, arith, length, length-append, get_or}
+use Rattle.std.specs.Prelude.{if◌then◌else◌, Option, Some, None}
 use Rattle.std.proofs.lemmas.List.{get_or_push}
 use Rattle.rb_value.specs.declared.value.Value.{Value}
 use Rattle.def_core.specs.declared.bound.Bound.TheVariants.{Values, Wrong}
@@ -11,6 +11,7 @@ use Rattle.rite_code.specs.Code.{Program}
 use Rattle.rite_code.specs.declared.operation.Operation.TheVariants as op
 use Rattle.ir_core.specs.CoreForm.{Parameters, Body}
 use Rattle.gen_parts.specs.Pieces.{behind}
+use Rattle.gen_forms.specs.declared.context.Loop.{Loop}
 use Rattle.gen_forms.specs.Gen.{first_spot, parameters}
 use Rattle.path_eval.specs.Steps.{times}
 use Rattle.def_core.specs.declared.cause.Cause.{Cause}
@@ -33,30 +34,32 @@ use Rattle.def_machine.specs.Entering.{new_frame, open_frame, first_of as first_
 use Rattle.def_machine.specs.Unwind.{throw, after as after_machine, after_result as after_result_machine}
 use Rattle.def_machine.specs.Turn.{turn, enter_by, block_value as block_value_machine}
 use Rattle.step_laws.specs.Site.{Site, at_line}
-use Rattle.step_laws.specs.Covered.{Covered}
+use Rattle.step_laws.specs.Covers.{Covers}
 use Rattle.step_laws.specs.Calm.{Quiet}
 use Rattle.step_laws.specs.Standing.{Rest, frame_at}
 use Rattle.step_laws.specs.Bodies.{BodyAt, OpensBody}
-use Rattle.step_laws.specs.Relation.{returns, Ground, over_levels, Waits, Same, SiteIs, Both, Running, raised, Alike, Advances}
-use Rattle.step_laws.proofs.Covers.{at_top}
+use Rattle.step_laws.specs.Relation.{returns, Ground, over_levels, Waits, Same, SiteIs, Both, Running, raised, Alike}
 use Rattle.step_laws.proofs.Placed.{line-behind, turned}
 use Rattle.step_laws.proofs.Untouched.{same_activations, below_running}
 use Rattle.step_laws.proofs.Opened.{waits_more, opened}
 use Rattle.step_laws.proofs.Parameters.{set_row}
 use Rattle.step_laws.proofs.Begun.{begun_same, nil_same}
 use Rattle.step_laws.proofs.Bound.{shape_without, shape_is, shape_is_too, Binds, fit, wrong, binds, written_row}
-use Rattle.step_laws.proofs.Matching.{one_turn}
+use Rattle.step_laws.proofs.Matching.{Soon, soon_one}
 use Rattle.step_laws.proofs.Calling.{Origin, Worlds}
 
 -- a transition that is matched by two turns, the first of which shows what stands after it
 pub two_turns : (s : Source) (p : Program) (c : Config) (t u v : State) → shown t ≡ seen c → turn p t ≡ u
-    → shown u ≡ seen (go s c) → turn p u ≡ v → Alike s p (go s c) v → Advances s p c t
+    → shown u ≡ seen (go s c) → turn p u ≡ v → Alike s p (go s c) v → Soon s p c t
 two_turns s p c t u v e one e' two r = record {
-  turns = 2;
-  few = omega arith;
-  related = subst (Alike s p (go s c)) (sym (ap (turn p) one ∙ two)) r;
-  between = between;
-  falls = λ z. absurd (omega arith);
+  advances = record {
+    turns = 2;
+    few = omega arith;
+    related = subst (Alike s p (go s c)) (sym (ap (turn p) one ∙ two)) r;
+    between = between;
+    falls = λ z. absurd (omega arith);
+  };
+  soon = omega arith;
 }
   where
     between : (j : ℕ) → j < 2 → (shown (times j (turn p) t) ≡ seen c) ⊎ (shown (times j (turn p) t) ≡ seen (go s c))
@@ -205,8 +208,8 @@ module _ (s : Source) (p : Program) (c : Config) (ls : List Level) (k : machine.
         loop = d.context.loop;
         s = behind (first_spot o.body);
         here = line-behind (first_spot o.body);
-        covered = at_top d d.context.loop d.first (behind (first_spot o.body)) (o.body + 1) (form_of b)
-            (subst (λ (i : Bool). Covered d i d.first (form_of b)) (sym (ap is_some at.outside)) at.covered);
+        covered = subst (λ (i : Option Loop). Covers d i d.first (behind (first_spot o.body)) (o.body + 1) (form_of b))
+            (sym at.outside) at.covered;
         above = omega arith;
         code = at.code;
         next = (
@@ -221,7 +224,7 @@ module _ (s : Source) (p : Program) (c : Config) (ls : List Level) (k : machine.
     )
 
     begins : SiteIs s p d (m'.scopes ++ scope list ∷ []) (k'.lists ++ registers list ∷ []) (u st)
-        → Advances s p c (On ls k)
+        → Soon s p c (On ls k)
     unfolding shown seen
     begins new =
         two_turns s p c (On ls k) (On (frame (frame_at d x 0) ∷ gs)
@@ -307,10 +310,10 @@ module _ (s : Source) (p : Program) (c : Config) (ls : List Level) (k : machine.
         (same_activations failure.world failure.world refl)
 
     raises_inside : SiteIs s p d (m'.scopes ++ empty ∷ []) (k'.lists ++ fresh ∷ []) failure.world
-        → Advances s p c (On ls k)
+        → Soon s p c (On ls k)
     raises_inside new =
         let run = running new in
-        one_turn s p c (On ls k) (On (frame (frame_at d x 0) ∷ gs) before) from.alike (turns ∙ opened_frame)
+        soon_one s p c (On ls k) (On (frame (frame_at d x 0) ∷ gs) before) from.alike (turns ∙ opened_frame)
         (subst (λ (q : Config). Alike s p q (On (frame (frame_at d x 0) ∷ gs) before)) (sym went_wrong) (raised (record {
           g = over_levels above (frame (frame_at d x 0) ∷ gs);
           e = thrown;
@@ -337,10 +340,10 @@ module _ (s : Source) (p : Program) (c : Config) (ls : List Level) (k : machine.
   block_same (Some i) = refl
 
   -- A transition that opens such a body is matched.
-  pub enters_body : length m'.scopes ≡ length k'.lists → Advances s p c (On ls k)
+  pub enters_body : length m'.scopes ≡ length k'.lists → Soon s p c (On ls k)
   enters_body long = by (binds ps at.straight w.store o.arguments o.binds)
     where
-      by : Binds ps w.store o.arguments o.binds → Advances s p c (On ls k)
+      by : Binds ps w.store o.arguments o.binds → Soon s p c (On ls k)
       by (fit list st right fits) =
           begins list st right fits (site_of (m'.scopes ++ scope list ∷ []) (k'.lists ++ registers list ∷ []) (u st) refl
           (subst (λ (q : Value). Same d (m'.scopes ++ scope list ∷ [])

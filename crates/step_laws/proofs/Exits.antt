@@ -89,10 +89,10 @@ give_end s p v m ls k d =
         let m' : source.Memory = record m { place = o.kept.place; fibers = o.fibers; world = w } in
         let b = switched s p d.g m d.memory m.fibers.others d.memory.fibers.others o q w u d.both.sites (λ n. omega (arith, d.both.apart n)) i
         (same_activations m.world w refl) (ends_same s p d.g m d.memory d.both) in
-        given_on s p conf ls k (going_out (give v) [] m ls k d.out) v o.kept.items m' (ground_in d.g o q.kept) q.kept k'
+        (given_on s p conf ls k (going_out (give v) [] m ls k d.out) v o.kept.items m' (ground_in d.g o q.kept) q.kept k'
         (ap (λ (o : Option (Onward Kept)). end_fiber (give v) o m) left)
         (d.gives ∙ ap (λ (o : Option (Onward (List Level))). end_fiber_machine v o d.memory) right
-        ∙ in_resumer_is v q.kept k' i.some) i.some b i.waits
+        ∙ in_resumer_is v q.kept k' i.some) i.some b i.waits).advances
 
 -- without a resumer the end of the fiber is that of the program
 received_last : (v : Value) (k : machine.Memory) → k.fibers.resumer ≡ None → receive v [] k ≡ Off (Ended k.world.out 0)
@@ -157,20 +157,20 @@ give_activation g h static ks m k both v a place ls d quiet = at d.next.0.by
         let same : close m.world a ≡ m.world =
         ap (close m.world) d.next.0.is ∙ main_closed m.world h.activation (i.runs ∙ main) in
         let none : k.fibers.resumer ≡ None = both.all.fibers.resumer ∙ both.all.fibers.rooted root in
-        given_back h.source h.program conf (frame (frame_at h d.x d.n) ∷ g.below) (aligned k m) m from v ks m' g []
+        (given_back h.source h.program conf (frame (frame_at h d.x d.n) ∷ g.below) (aligned k m) m from v ks m' g []
         (machine.with_world k w) refl
         (turned h d.x d.n op.Stop g.below (aligned k m) l
         ∙ ap (λ (u : World). Off (Ended u.out 0)) (sym same)
-        ∙ sym (received_last v (machine.with_world k w) none)) (omega arith) (back [] bare) last
+        ∙ sym (received_last v (machine.with_world k w) none)) (omega arith) (back [] bare) last).advances
     at (returns l next) =
-        given_back h.source h.program conf (frame (frame_at h d.x d.n) ∷ g.below) (aligned k m) m from v ks m' g g.below
+        (given_back h.source h.program conf (frame (frame_at h d.x d.n) ∷ g.below) (aligned k m) m from v ks m' g g.below
         (machine.with_world k w) refl
         (turned h d.x d.n (op.Return d.r) g.below (aligned k m) l
         ∙ ap (λ (u : Value). throw h.program (Return h.activation u) (frame (frame_at h d.x d.n) ∷ g.below) (aligned k m))
         (ap read d.stands)
         ∙ returned_by h static v d.x d.n g.below (aligned k m)
         ∙ ap (λ (c : ℕ). receive v g.below (machine.with_world k (close m.world c))) (sym d.next.0.is))
-        (falls g.below ks m' conf (omega arith)) (back g.below refl) next
+        (falls g.below ks m' conf (omega arith)) (back g.below refl) next).advances
 
 -- What a throw does.
 
@@ -419,12 +419,12 @@ module _ (s : Source) (p : Program) (m : source.Memory) (ls : List Level) (k : m
   caught_by x a it place ks e g others k' out quiet b waits (Some v) goes turns =
       let conf = Run (travel x) (iteration a it place ∷ ks) m in
       let m' : source.Memory = record m { place = place } in
-      given_back s p conf ls k m (record {
+      (given_back s p conf ls k m (record {
         alike = going_out (travel x) (iteration a it place ∷ ks) m ls k out;
         out = out;
         quiet = quiet;
       }) v ks m' g others k' goes turns (falls others ks m' conf (omega arith))
-      (record { world = b.world; sites = b.sites; fibers = b.fibers; apart = b.apart }) waits
+      (record { world = b.world; sites = b.sites; fibers = b.fibers; apart = b.apart }) waits).advances
 
   -- an iteration is left, or ends by the exception
   pub travel_iteration_on : (x : Exit) (a : ℕ) (it : Iteration) (place : Place) (ks : List Item)

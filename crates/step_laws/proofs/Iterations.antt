@@ -86,9 +86,9 @@ module _ (s : Source) (p : Program) (v : Value) (a : ℕ) (it : Iteration) (plac
     failed c next st goes turns =
         let w = with_store m.world st in
         let x = fail w c in
-        answered s p conf levels (aligned k m) m from x.result x.world (iteration a next place ∷ ks)
+        (answered s p conf levels (aligned k m) m from x.result x.world (iteration a next place ∷ ks)
         (source.with_world m w) g (machine.iteration a next Nil ∷ g.below) (machine.with_world k w) goes turns (omega arith)
-        (stay next) (on next)
+        (stay next) (on next)).advances
 
     -- what the iteration leaves behind where it goes to another fiber
     abbrev left : Iteration → Kept
@@ -116,10 +116,10 @@ module _ (s : Source) (p : Program) (v : Value) (a : ℕ) (it : Iteration) (plac
             → Advances s p conf (On levels (aligned k m))
         on_with v u goes turns =
             let still = subst (Quiet m) goes peace.quiet in
-            given_on s p conf levels (aligned k m) from.alike v o.kept.items (source.with_world (in_fiber m o) u)
+            (given_on s p conf levels (aligned k m) from.alike v o.kept.items (source.with_world (in_fiber m o) u)
             (ground_in g o q.kept) q.kept (machine.with_world (in_fiber_machine k q) u) goes turns i.some
             (switched s p g m (aligned k m) (put_aside m.fibers w (left next)) (put_aside k.fibers w (left_too next)) o q u u
-            both.sites (few next w) i still.1 refl) i.waits
+            both.sites (few next w) i still.1 refl) i.waits).advances
 
         by : (args : List Value) → go s conf ≡ after (one_of (with_store m.world st) args) o.kept.items
             (in_fiber (source.with_world m (with_store m.world st)) o)
@@ -148,7 +148,7 @@ module _ (s : Source) (p : Program) (v : Value) (a : ℕ) (it : Iteration) (plac
         let w = with_store m.world st in
         let alone : (n : ℕ) → uses n [] + uses_in n e.others ≤ 1 = λ n. omega (arith, few_of n) in
         let lighter : waiting d.others ≡ waiting (put_aside m.fibers resuming (left next)) = ap waiting others in
-        entered s p conf levels (aligned k m) m from (enter_proc w b args None) None []
+        (entered s p conf levels (aligned k m) m from (enter_proc w b args None) None []
         (record m { fibers = d; world = w }) (record { sites = g.sites; fiber = d.running; below = [] }) []
         (record k { fibers = e; world = w })
         (goes ∙ ap (λ (r : Resumed Kept). resume_by s r args (iteration a next place ∷ ks) (source.with_world m w)) is)
@@ -159,7 +159,7 @@ module _ (s : Source) (p : Program) (v : Value) (a : ℕ) (it : Iteration) (plac
           fibers = all;
           apart = alone;
         }) refl (then_enters s p w.store.objects (enter_proc w b args None)
-        (λ i. proc_entered s p w i b args None) may)
+        (λ i. proc_entered s p w i b args None) may)).advances
       where
         few_of : (n : ℕ) → uses_in n e.others ≤ 1
         few_of n = subst (λ (fs : List (Fiber (List Level))). uses_in n fs ≤ 1) (sym others_too) (few next resuming n)
@@ -198,14 +198,14 @@ module _ (s : Source) (p : Program) (v : Value) (a : ℕ) (it : Iteration) (plac
         let w = close (with_store m.world st) a in
         let m' : source.Memory = record m { place = place; world = w } in
         let still = subst (Quiet m) goes peace.quiet in
-        given_back s p conf levels (aligned k m) m from u ks m' g g.below (machine.with_world k w) goes turns
-        (falls g.below ks m' conf (omega arith)) (back w still.1) waits
+        (given_back s p conf levels (aligned k m) m from u ks m' g g.below (machine.with_world k w) goes turns
+        (falls g.below ks m' conf (omega arith)) (back w still.1) waits).advances
     planned (fails c) st may goes turns =
         let w = with_store m.world st in
         let x = fail w c in
         let m' : source.Memory = record m { place = place; world = close w a } in
-        answered s p conf levels (aligned k m) m from x.result x.world ks m' g g.below (machine.with_world k (close w a))
-        goes turns (falls g.below ks m' conf (omega arith)) back waits
+        (answered s p conf levels (aligned k m) m from x.result x.world ks m' g g.below (machine.with_world k (close w a))
+        goes turns (falls g.below ks m' conf (omega arith)) back waits).advances
     planned (raises e) st may goes turns =
         let w = close (with_store m.world st) a in
         let still = subst (Quiet m) goes peace.quiet in
@@ -222,16 +222,16 @@ module _ (s : Source) (p : Program) (v : Value) (a : ℕ) (it : Iteration) (plac
         })))
     planned (sends next u x args b public) st may goes turns =
         let w = with_store m.world st in
-        entered s p conf levels (aligned k m) m from (send_by_core w u x args b public) None (iteration a next place ∷ ks)
+        (entered s p conf levels (aligned k m) m from (send_by_core w u x args b public) None (iteration a next place ∷ ks)
         (source.with_world m w) g (machine.iteration a next Nil ∷ g.below) (machine.with_world k w) goes turns (omega arith)
         refl (stay next) (on next) (then_enters s p w.store.objects (send_by_core w u x args b public)
-        (λ i. sent_entered s p w i u x args b public) may)
+        (λ i. sent_entered s p w i u x args b public) may)).advances
     planned (calls next q args b) st may goes turns =
         let w = with_store m.world st in
-        entered s p conf levels (aligned k m) m from (enter_proc w q args b) None (iteration a next place ∷ ks)
+        (entered s p conf levels (aligned k m) m from (enter_proc w q args b) None (iteration a next place ∷ ks)
         (source.with_world m w) g (machine.iteration a next Nil ∷ g.below) (machine.with_world k w) goes turns (omega arith)
         refl (stay next) (on next) (then_enters s p w.store.objects (enter_proc w q args b)
-        (λ i. proc_entered s p w i q args b) may)
+        (λ i. proc_entered s p w i q args b) may)).advances
     planned (writes next bytes) st may goes turns =
         let w = write (with_store m.world st) bytes in
         let still = subst (Quiet m) goes peace.quiet in
@@ -242,9 +242,9 @@ module _ (s : Source) (p : Program) (v : Value) (a : ℕ) (it : Iteration) (plac
     planned (reads next) st may goes turns =
         let w = with_store m.world st in
         let x = read w in
-        answered s p conf levels (aligned k m) m from x.result x.world (iteration a next place ∷ ks)
+        (answered s p conf levels (aligned k m) m from x.result x.world (iteration a next place ∷ ks)
         (source.with_world m w) g (machine.iteration a next Nil ∷ g.below) (machine.with_world k w) goes turns (omega arith)
-        (stay next) (on next)
+        (stay next) (on next)).advances
     planned (resumes next f args) st may goes turns =
         resumed_by next f args st may
         (fibers.resume m.fibers (left next) st f) (fibers.resume k.fibers (left_too next) st f)

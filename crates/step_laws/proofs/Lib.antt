@@ -16,6 +16,7 @@ pub mod Operators
 pub mod Sends
 pub mod Calls
 pub mod Blocks
+pub mod Yields
 pub mod Exits
 pub mod Jumps
 pub mod Returns
@@ -58,6 +59,7 @@ pub mod Covering
 pub mod Laid
 pub mod Fitting
 pub mod Catchless
+pub mod Making
 pub mod Written
 pub mod Topped
 pub mod Naming

@@ -1,5 +1,5 @@
 -- How a transition is matched by no turn, one turn and two, and how a value is given.
-use Rattle.std.proofs.Common.{◌≡◌, ◌⊎◌, ℕ, zero, suc, ◌<◌, List, [], ◌∷◌, refl, sym, ap, ◌∙◌, subst, inl, arith}
+use Rattle.std.proofs.Common.{◌≡◌, ◌⊎◌, ℕ, zero, suc, ◌<◌, ◌≤◌, List, [], ◌∷◌, refl, sym, ap, ◌∙◌, subst, inl, arith}
 use Rattle.std.specs.Prelude.{Option}
 use Rattle.rb_value.specs.declared.value.Value.{Value}
 use Rattle.rb_value.specs.declared.exit.Slot.TheVariants.{V}
@@ -25,29 +25,66 @@ use Rattle.step_laws.proofs.Untouched.{put_only, frame_kept, same_here, written_
 
 -- of any source and code
 
-pub no_turn : (s : Source) (p : Program) (c : Config) (t : State) → measure (go s c) < measure c → Alike s p (go s c) t
-    → Advances s p c t
-no_turn s p c t lt r = record {
-  turns = 0;
-  few = omega arith;
-  related = r;
-  between = λ j l. absurd (omega arith);
-  falls = λ e. lt;
+-- A transition that is matched by no more than two turns.
+pub record Soon (s : Source) (p : Program) (c : Config) (t : State) : Type 0 where
+  pub advances : Advances s p c t
+  pub soon : advances.turns ≤ 2
+
+pub soon_none : (s : Source) (p : Program) (c : Config) (t : State) → measure (go s c) < measure c → Alike s p (go s c) t
+    → Soon s p c t
+soon_none s p c t lt r = record {
+  advances = record {
+    turns = 0;
+    few = omega arith;
+    related = r;
+    between = λ j l. absurd (omega arith);
+    falls = λ e. lt;
+  };
+  soon = omega arith;
 }
 
-pub one_turn : (s : Source) (p : Program) (c : Config) (t u : State) → shown t ≡ seen c → turn p t ≡ u
-    → Alike s p (go s c) u → Advances s p c t
-one_turn s p c t u e one r = record {
-  turns = 1;
-  few = omega arith;
-  related = subst (Alike s p (go s c)) (sym one) r;
-  between = between;
-  falls = λ e. absurd (omega arith);
+pub soon_one : (s : Source) (p : Program) (c : Config) (t u : State) → shown t ≡ seen c → turn p t ≡ u
+    → Alike s p (go s c) u → Soon s p c t
+soon_one s p c t u e one r = record {
+  advances = record {
+    turns = 1;
+    few = omega arith;
+    related = subst (Alike s p (go s c)) (sym one) r;
+    between = between;
+    falls = λ e. absurd (omega arith);
+  };
+  soon = omega arith;
 }
   where
     between : (j : ℕ) → j < 1 → (shown (times j (turn p) t) ≡ seen c) ⊎ (shown (times j (turn p) t) ≡ seen (go s c))
     between zero l = inl e
     between (suc j) l = absurd (omega arith)
+
+pub no_turn : (s : Source) (p : Program) (c : Config) (t : State) → measure (go s c) < measure c → Alike s p (go s c) t
+    → Advances s p c t
+no_turn s p c t lt r = (soon_none s p c t lt r).advances
+
+pub one_turn : (s : Source) (p : Program) (c : Config) (t u : State) → shown t ≡ seen c → turn p t ≡ u
+    → Alike s p (go s c) u → Advances s p c t
+one_turn s p c t u e one r = (soon_one s p c t u e one r).advances
+
+-- and one more from a turn before
+pub one_before : (s : Source) (p : Program) (c : Config) (t u : State) → shown t ≡ seen c → turn p t ≡ u → Soon s p c u
+    → Advances s p c t
+one_before s p c t u e one a = record {
+  turns = suc a.advances.turns;
+  few = omega (arith, a.soon);
+  related = subst (λ (q : State). Alike s p (go s c) (times a.advances.turns (turn p) q)) (sym one) a.advances.related;
+  between = between;
+  falls = λ z. absurd (cc z);
+}
+  where
+    between : (j : ℕ) → j < suc a.advances.turns → (shown (times j (turn p) t) ≡ seen c)
+        ⊎ (shown (times j (turn p) t) ≡ seen (go s c))
+    between zero l = inl e
+    between (suc j) l =
+        subst (λ (q : State). (shown (times j (turn p) q) ≡ seen c) ⊎ (shown (times j (turn p) q) ≡ seen (go s c))) (sym one)
+        (a.advances.between j (omega (arith, l)))
 
 -- of those of a site
 

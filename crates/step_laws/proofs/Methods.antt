@@ -1,12 +1,13 @@
--- The programs with methods and with a block: they are such programs, and their two runs.
+-- The programs with methods and blocks: they are such programs, and their two runs.
 use Rattle.std.proofs.Common.{refl, arith}
 use Rattle.gen_parts.specs.Pieces.{past, behind, nothing, both, puts, makes}
 use Rattle.gen_parts.specs.Assembly.{assembled, instruction_before}
 use Rattle.gen_forms.specs.Open.{coded}
 use Rattle.def_eval.proofs.Running.{run as run_source}
 use Rattle.def_machine.proofs.Running.{run as run_code}
-use Rattle.step_laws.specs.Tops.{IsPlainBlock, IsPlainProgram, no_tops, form_before, method_before, call_before, list_before}
-use Rattle.step_laws.specs.Example.{chooser, IsMethodWitness, teller, visitor, IsBlockWitness}
+use Rattle.ir_core.specs.CoreForm.{form_of, none, more}
+use Rattle.step_laws.specs.Tops.{IsPlainBlock, AreTops, IsPlainProgram, no_tops, form_before, method_before, call_before, list_before}
+use Rattle.step_laws.specs.Example.{chooser, IsMethodWitness, teller, showing, visitor, IsBlockWitness, passer, printer, yielder, IsYieldWitness}
 
 plain : IsPlainProgram chooser
 plain =
@@ -14,13 +15,11 @@ plain =
     (method_before (record {
       straight = record { no_optional = refl; one_rest = omega arith; one_block = omega arith };
       named = (tt, (tt, tt));
-      plain = ((((tt, (tt, tt), refl), tt, tt), tt), (tt, tt));
-    })
+    }) (form_before ((((tt, (tt, tt), refl), tt, tt), tt), (tt, tt)) no_tops)
     (method_before (record {
       straight = record { no_optional = refl; one_rest = omega arith; one_block = omega arith };
       named = (tt, (tt, (tt, tt)));
-      plain = (((tt, (tt, tt)), refl), ((tt, (tt, tt), refl), tt), refl);
-    })
+    }) (form_before (((tt, (tt, tt)), refl), ((tt, (tt, tt), refl), tt), refl) no_tops)
     (form_before ((((tt, (tt, (tt, tt))), refl), tt), refl) no_tops))) no_tops
 
 pub chooses : IsMethodWitness chooser
@@ -37,9 +36,23 @@ told : IsPlainBlock teller
 told = record {
   straight = record { no_optional = refl; one_rest = omega arith; one_block = omega arith };
   named = (tt, (tt, tt));
-  plain = (((tt, (tt, tt), refl), tt), (((tt, tt), refl), tt));
   closed = refl;
 }
+
+told_plain : AreTops (more (form_of teller) none)
+told_plain = form_before (((tt, (tt, tt), refl), tt), (((tt, tt), refl), tt)) no_tops
+
+-- a block in a block
+shown : IsPlainBlock showing
+shown = record {
+  straight = record { no_optional = refl; one_rest = omega arith; one_block = omega arith };
+  named = (tt, tt);
+  closed = refl;
+}
+
+shown_plain : AreTops (more (form_of showing) none)
+shown_plain =
+    call_before (record { receiver = (tt, (tt, tt)); items = tt; few = refl }) told told_plain no_tops
 
 block_plain : IsPlainProgram visitor
 block_plain =
@@ -47,10 +60,9 @@ block_plain =
     (method_before (record {
       straight = record { no_optional = refl; one_rest = omega arith; one_block = omega arith };
       named = (tt, (tt, tt));
-      plain = (tt, (tt, tt), refl);
-    })
-    (call_before (record { receiver = tt; items = (tt, tt); few = refl; block = told })
-    (call_before (record { receiver = (tt, (tt, tt)); items = tt; few = refl; block = told }) no_tops))) no_tops
+    }) (form_before (tt, (tt, tt), refl) no_tops)
+    (call_before (record { receiver = tt; items = (tt, tt); few = refl }) told told_plain
+    (call_before (record { receiver = (tt, tt); items = tt; few = refl }) shown shown_plain no_tops))) no_tops
 
 pub visits : IsBlockWitness visitor
 unfolding coded assembled both puts makes past behind nothing instruction_before run_source run_code
@@ -58,6 +70,45 @@ visits = record {
   program = refl;
   within = refl;
   plain = block_plain;
+  evaluates = refl;
+  runs = refl;
+}
+
+-- a block that yields in a method that yields
+passes : IsPlainBlock passer
+passes = record {
+  straight = record { no_optional = refl; one_rest = omega arith; one_block = omega arith };
+  named = (tt, tt);
+  closed = refl;
+}
+
+prints : IsPlainBlock printer
+prints = record {
+  straight = record { no_optional = refl; one_rest = omega arith; one_block = omega arith };
+  named = (tt, tt);
+  closed = refl;
+}
+
+yielder_plain : IsPlainProgram yielder
+yielder_plain =
+    list_before
+    (method_before (record {
+      straight = record { no_optional = refl; one_rest = omega arith; one_block = omega arith };
+      named = (tt, tt);
+    })
+    (list_before
+    (form_before (tt, refl)
+    (call_before (record { receiver = (tt, tt); items = tt; few = refl }) passes
+    (form_before ((tt, tt), refl) no_tops) no_tops)) no_tops)
+    (call_before (record { receiver = tt; items = (tt, tt); few = refl }) prints
+    (form_before ((tt, tt), refl) no_tops) no_tops)) no_tops
+
+pub hands_on : IsYieldWitness yielder
+unfolding coded assembled both puts makes past behind nothing instruction_before run_source run_code
+hands_on = record {
+  program = refl;
+  within = refl;
+  plain = yielder_plain;
   evaluates = refl;
   runs = refl;
 }

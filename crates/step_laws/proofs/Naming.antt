@@ -7,7 +7,7 @@ use Rattle.ir_core.specs.CoreForm.{Name, Body}
 use Rattle.ir_counts.specs.Counts.{tally}
 use Rattle.def_core.specs.Store.{Store}
 use Rattle.rb_store.specs.Opening.{with_names}
-use Rattle.def_eval.specs.Source.{over, named_in, all_names}
+use Rattle.def_eval.specs.Source.{Source, over, named_in, all_names}
 use Rattle.def_machine.specs.State.{all_symbols}
 use Rattle.step_laws.proofs.Names.{Knows, named_append, knows_named, among_known, same_symbols}
 use Rattle.eval_laws.specs.Kinds.{Kind, of_program, of_block, of_method, of_class}
@@ -26,23 +26,23 @@ one_more p ls f bs is further st =
     ∙ sym (named_append ns (all_symbols is) st)
 
 -- those of the code of a body of the source
-symbols_are : (k : Kind) (n : ℕ) (p : form.Parameters) (ls : List form.Local) (f : form.CoreForm) (i : Irep)
-    → WrittenAs k n (form.body p ls f) i → i.symbols ≡ (tally (form.body p ls f)).symbols
-symbols_are of_program n p ls f i w = absurd w
-symbols_are of_block n p ls f i w = ap (λ (j : Irep). j.symbols) w.is
-symbols_are of_method n p ls f i w = ap (λ (j : Irep). j.symbols) w.is
-symbols_are of_class n p ls f i w = absurd w
+symbols_are : (s : Source) (k : Kind) (n : ℕ) (p : form.Parameters) (ls : List form.Local) (f : form.CoreForm) (i : Irep)
+    → WrittenAs s k n (form.body p ls f) i → i.symbols ≡ (tally (form.body p ls f)).symbols
+symbols_are s of_program n p ls f i w = absurd w
+symbols_are s of_block n p ls f i w = ap (λ (j : Irep). j.symbols) w.is
+symbols_are s of_method n p ls f i w = ap (λ (j : Irep). j.symbols) w.is
+symbols_are s of_class n p ls f i w = absurd w
 
-pub names_written : (n : ℕ) (ks : List Kind) (bs : List Body) (is : List Irep) → AllWritten n ks bs is → (st : Store)
-    → with_names st (all_names bs) ≡ with_names st (all_symbols is)
-names_written n [] [] [] w st = refl
-names_written n [] [] (i ∷ is) w st = absurd w
-names_written n [] (b ∷ bs) is w st = absurd w
-names_written n (k ∷ ks) [] is w st = absurd w
-names_written n (k ∷ ks) (b ∷ bs) [] w st = absurd w
-names_written n (k ∷ ks) (form.body p ls f ∷ bs) (i ∷ is) w st =
-    one_more p ls f bs is (λ (z : Store). names_written (n + 1) ks bs is w.1 z) st
-    ∙ ap (λ (xs : List Name). with_names st (xs ++ all_symbols is)) (sym (symbols_are k n p ls f i w.0))
+pub names_written : (s : Source) (n : ℕ) (ks : List Kind) (bs : List Body) (is : List Irep) → AllWritten s n ks bs is
+    → (st : Store) → with_names st (all_names bs) ≡ with_names st (all_symbols is)
+names_written s n [] [] [] w st = refl
+names_written s n [] [] (i ∷ is) w st = absurd w
+names_written s n [] (b ∷ bs) is w st = absurd w
+names_written s n (k ∷ ks) [] is w st = absurd w
+names_written s n (k ∷ ks) (b ∷ bs) [] w st = absurd w
+names_written s n (k ∷ ks) (form.body p ls f ∷ bs) (i ∷ is) w st =
+    one_more p ls f bs is (λ (z : Store). names_written s (n + 1) ks bs is w.1 z) st
+    ∙ ap (λ (xs : List Name). with_names st (xs ++ all_symbols is)) (sym (symbols_are s k n p ls f i w.0))
 
 -- the symbols of a body
 pub all_known : (bs : List Body) (k : ℕ) (b : Body) (st : Store) (x : Name) → k < length bs

@@ -207,7 +207,7 @@ module _ (g : Ground) (h : Site) (static : Static h) (ks : List Item) (m : sourc
         out = refl;
         quiet = quiet;
       } in
-      given_back h.source h.program conf (frame (frame_at h q.x q.n) ∷ g.below) (aligned k m) m from v ks m' g g.below
+      (given_back h.source h.program conf (frame (frame_at h q.x q.n) ∷ g.below) (aligned k m) m from v ks m' g g.below
       (machine.with_world k w) goes
       (turned h q.x q.n (op.Return q.r) g.below (aligned k m) q.at
       ∙ ap (λ (u : Value). throw h.program (Return h.activation u) (frame (frame_at h q.x q.n) ∷ g.below) (aligned k m))
@@ -215,4 +215,4 @@ module _ (g : Ground) (h : Site) (static : Static h) (ks : List Item) (m : sourc
       ∙ returned_by h static v q.x q.n g.below (aligned k m)
       ∙ ap (λ (c : ℕ). receive v g.below (machine.with_world k (close m.world c))) (sym q.home.0))
       (falls g.below ks m' conf (omega arith))
-      (record { world = b.world; sites = b.sites; fibers = b.fibers; apart = b.apart }) q.home.1
+      (record { world = b.world; sites = b.sites; fibers = b.fibers; apart = b.apart }) q.home.1).advances

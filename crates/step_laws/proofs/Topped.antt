@@ -1,7 +1,9 @@
--- The forms, definitions and calls with a block at the top of a program within the limits are covered.
+-- The forms, definitions and calls with a block at the top of a program within the limits, and of each body in it, are
+-- covered.
 use Rattle.std.proofs.Common.{◌≡◌, ◌≤◌, ℕ, zero, suc, ◌+◌, List, [], ◌∷◌, ◌++◌, length, get_or, arith, refl, sym, ap, ◌∙◌, subst, append_assoc, length-append, Bool, true, false}
 use Rattle.std.specs.Prelude.{◌&&◌, slice_get, Some, None}
 use Rattle.std.proofs.lemmas.List.{append-nil}
+use Rattle.rite_code.specs.Code.{Program}
 use Rattle.rite_code.specs.declared.operation.Operation.TheVariants as op
 use Rattle.ir_core.specs.CoreForm as form
 use Rattle.ir_core.specs.CoreForm.{Name, Local, CoreForm, Body, Forms, Items, Receiver}
@@ -15,7 +17,7 @@ use Rattle.gen_parts.specs.Pieces.{Piece, past, nothing, both, puts, makes, does
 use Rattle.gen_forms.specs.Gen.{Context, gen, gen_receiver, in_turn, others_in_turn}
 use Rattle.code_laws.proofs.Shares.{Noted, Noted_all, Noted_receiver}
 use Rattle.code_laws.proofs.Widths.{Under, InOrder, under_greatest, order_within, order_room, order_left, turn_within}
-use Rattle.def_eval.specs.Source.{span, how_many, parameters_of}
+use Rattle.def_eval.specs.Source.{Source, span, parameters_of}
 use Rattle.def_eval.specs.Scopes.{shape_of}
 use Rattle.eval_laws.specs.Kinds.{IsKind, of_block}
 use Rattle.eval_laws.specs.Standing.{FormStands, FormsStand, past_receiver, past_items}
@@ -24,13 +26,12 @@ use Rattle.def_machine.specs.Turn.{fetch, shape_by}
 use Rattle.step_laws.specs.Site.{Site, within}
 use Rattle.step_laws.specs.Covered.{Covered, CoveredItems}
 use Rattle.step_laws.specs.Covers.{CoveredReceiver, past_items_code, CallsWith, Covers, CoversAll}
-use Rattle.step_laws.specs.Plain.{ArePlainItems}
-use Rattle.step_laws.specs.Tops.{IsPlainReceiver, IsPlainCall, AreTops, no_tops, form_before, method_before, call_before, list_before}
+use Rattle.step_laws.specs.Tops.{IsPlainReceiver, IsPlainCall, IsPlainBlock, AreTops, no_tops, form_before, method_before, call_before, list_before}
 use Rattle.step_laws.proofs.Found.{both_true}
 use Rattle.step_laws.proofs.Covers.{at_top}
-use Rattle.step_laws.proofs.Bodiless.{no_bodies}
 use Rattle.step_laws.proofs.Catchless.{IsBare, bare_items}
-use Rattle.step_laws.proofs.Written.{form_span, method_span, call_span, list_span, bare_receiver, call_made}
+use Rattle.step_laws.proofs.Making.{form_span, method_span, call_span, list_span, tops_span, bare_receiver, call_made, call_number}
+use Rattle.step_laws.proofs.Written.{forms_stand_on}
 use Rattle.step_laws.proofs.Covering.{Has, Agrees, room, named, none_spread, covered_items, covered}
 
 there_at : (xs : List ℕ) (x : ℕ) (ys : List ℕ) (n : ℕ) → length xs ≡ n → get_or (xs ++ x ∷ ys) n 0 ≡ x
@@ -71,28 +72,15 @@ module _ (all : List ℕ) where
     count = omega (arith, length-append t.before p.children, t.count);
   }
 
--- the numbers behind what has no bodies
-receiver_number : (n : ℕ) (e : Receiver) → IsPlainReceiver e → past_receiver n e ≡ n
-receiver_number n (form.to e) is = let none = no_bodies how_many (λ y. refl) refl e is in omega (arith, none)
-receiver_number n form.on_self is = refl
-receiver_number n form.bare is = absurd is
-
-items_number : (n : ℕ) (is : Items) → ArePlainItems is → past_items n is ≡ n
-items_number n form.no_items plain = refl
-items_number n (form.plain e is) plain =
-    let none = no_bodies how_many (λ y. refl) refl e plain.0 in
-    items_number (n + span e) is plain.1 ∙ omega (arith, none)
-items_number n (form.splat e is) plain = absurd plain
-
 items_long : (is : Items) → length (item_widths is) ≡ item_count is
 items_long form.no_items = refl
 items_long (form.plain e is) = let e = items_long is in omega (arith, e)
 items_long (form.splat e is) = let e = items_long is in omega (arith, e)
 
 -- the body of each block of the source begins with its parameters
-abbrev pub Shapes : Site → Type 0
-Shapes h = (n : ℕ) (f : Body) → slice_get h.source n ≡ Some f → IsKind h.source n of_block
-    → shape_by (fetch h.program n 0) ≡ shape_of (parameters_of f)
+abbrev pub Shapes : Source → Program → Type 0
+Shapes s p = (n : ℕ) (f : Body) → slice_get s n ≡ Some f → IsKind s n of_block
+    → shape_by (fetch p n 0) ≡ shape_of (parameters_of f)
 
 module _ (h : Site) (ss : Slots) (ls : List Local) (t : Tally) (registers : ℕ) (has : Has h ss ls t registers) where
   abbrev all : List ℕ
@@ -123,15 +111,16 @@ module _ (h : Site) (ss : Slots) (ls : List Local) (t : Tally) (registers : ℕ)
   receiver_covered form.on_self r a k o is n f low w = tt
   receiver_covered form.bare r a k o is n f low w = absurd is
 
-  calls_with : Shapes h → (s : Spot) (r : ℕ) (a : Around) (e : Receiver) (x : Name) (is : Items) (f : Body)
-      → Agrees h ls a → a.loops ≡ false → IsPlainCall e is f → Noted t (form.call e x is (form.there (form.function f)))
+  calls_with : Shapes h.source h.program → (s : Spot) (r : ℕ) (a z : Around) (e : Receiver) (x : Name) (is : Items)
+      (f : Body) → Agrees h ls a → a.loops ≡ false → IsPlainCall e is → IsPlainBlock f
+      → Noted t (form.call e x is (form.there (form.function f)))
       → is_form a (form.call e x is (form.there (form.function f))) ≡ true → h.first ≤ r
       → r + width (form.call e x is (form.there (form.function f))) ≤ registers
       → Stands all s (gen c s r (form.call e x is (form.there (form.function f)))).children
-      → FormStands h.source a s.body (form.call e x is (form.there (form.function f)))
+      → FormStands h.source z s.body (form.call e x is (form.there (form.function f)))
       → CallsWith h None r s s.body e x is (form.function f)
   unfolding past IsBare
-  calls_with shapes s r a e x is (form.body p ks f) k o m n formed low w stands st =
+  calls_with shapes s r a z e x is (form.body p ks f) k o m block n formed low w stands st =
       let b = form.body p ks f in
       let ws = receiver_width e ∷ (item_widths is ++ width (form.function b) ∷ []) in
       let wide : r + in_order ws ≤ registers =
@@ -142,8 +131,7 @@ module _ (h : Site) (ss : Slots) (ls : List Local) (t : Tally) (registers : ℕ)
       let first = both_true (is_receiver a e) (are_items a is && is_block a b) formed in
       let second = both_true (are_items a is) (is_block a b) first.1 in
       let j = past_items (past_receiver s.body e) is in
-      let same : j ≡ s.body =
-      items_number (past_receiver s.body e) is m.items ∙ receiver_number s.body e m.receiver in
+      let same : j ≡ s.body = call_number s.body e is m in
       let before = past s (gen_receiver c s r e) in
       let sp = past_items_code h None (r + 1) before is in
       let none = ap length (bare_receiver e m.receiver c s r).1 in
@@ -165,30 +153,25 @@ module _ (h : Site) (ss : Slots) (ls : List Local) (t : Tally) (registers : ℕ)
               (omega (arith, some, long, items_long is));
           child = ap (λ (xs : List ℕ). get_or xs sp.child 0) stands.are
               ∙ ap (λ (ns : List ℕ). get_or (stands.before ++ (ns ++ stands.after)) sp.child 0)
-              (call_made c s r e x is b m).children
+              (call_made c s r e x is b m block).children
               ∙ there_at stands.before s.body stands.after sp.child at ∙ sym same;
           shape = shapes j b st.3.0 st.3.4;
         };
       }
 
-  call_covers : Shapes h → (s : Spot) (r : ℕ) (a : Around) (e : Receiver) (x : Name) (is : Items) (f : Body)
-      → Agrees h ls a → a.loops ≡ false → IsPlainCall e is f → Noted t (form.call e x is (form.there (form.function f)))
+  call_covers : Shapes h.source h.program → (s : Spot) (r : ℕ) (a z : Around) (e : Receiver) (x : Name) (is : Items)
+      (f : Body) → Agrees h ls a → a.loops ≡ false → IsPlainCall e is → IsPlainBlock f
+      → Noted t (form.call e x is (form.there (form.function f)))
       → is_form a (form.call e x is (form.there (form.function f))) ≡ true → h.first ≤ r
       → r + width (form.call e x is (form.there (form.function f))) ≤ registers
       → Stands all s (gen c s r (form.call e x is (form.there (form.function f)))).children
-      → FormStands h.source a s.body (form.call e x is (form.there (form.function f)))
+      → FormStands h.source z s.body (form.call e x is (form.there (form.function f)))
       → Covers h None r s s.body (form.call e x is (form.there (form.function f)))
-  call_covers shapes s r a (form.to e) x is f k o m n formed low w stands st =
-      calls_with shapes s r a (form.to e) x is f k o m n formed low w stands st
-  call_covers shapes s r a form.on_self x is f k o m n formed low w stands st =
-      calls_with shapes s r a form.on_self x is f k o m n formed low w stands st
-  call_covers shapes s r a form.bare x is f k o m n formed low w stands st = absurd m.receiver
-
-  -- what stands behind a form, by the number of its bodies
-  behind_stands : (a : Around) (s : Spot) (q : Piece) (e : CoreForm) (es : Forms) → span e ≡ length q.bodies
-      → FormsStand h.source a (s.body + span e) es → FormsStand h.source a (past s q).body es
-  unfolding past
-  behind_stands a s q e es long st = subst (λ (n : ℕ). FormsStand h.source a n es) (omega (arith, long)) st
+  call_covers shapes s r a z (form.to e) x is f k o m block n formed low w stands st =
+      calls_with shapes s r a z (form.to e) x is f k o m block n formed low w stands st
+  call_covers shapes s r a z form.on_self x is f k o m block n formed low w stands st =
+      calls_with shapes s r a z form.on_self x is f k o m block n formed low w stands st
+  call_covers shapes s r a z form.bare x is f k o m block n formed low w stands st = absurd m.receiver
 
   -- what follows has the number behind the bodies of the form
   numbered : (s : Spot) (q : Piece) (e : CoreForm) (es : Forms) (r : ℕ) → span e ≡ length q.bodies
@@ -197,55 +180,59 @@ module _ (h : Site) (ss : Slots) (ls : List Local) (t : Tally) (registers : ℕ)
   numbered s q e es r long covers =
       subst (λ (j : ℕ). CoversAll h None r (past s q) j es) (omega (arith, long)) covers
 
-  pub tops_cover : Shapes h → {es : Forms} → AreTops es → (s : Spot) (r g : ℕ) (a : Around) → Agrees h ls a
-      → a.loops ≡ false → FormsStand h.source a s.body es → Noted_all t es → are_forms a es ≡ true → h.first ≤ r → Under g (widths es) → r + g ≤ registers
-      → Stands all s (others_in_turn c s r es).children → CoversAll h None r s s.body es
+  pub tops_cover : Shapes h.source h.program → {es : Forms} → AreTops es → (s : Spot) (r g : ℕ) (a z : Around)
+      → Agrees h ls a → a.loops ≡ false → FormsStand h.source z s.body es → Noted_all t es → are_forms a es ≡ true
+      → h.first ≤ r → Under g (widths es) → r + g ≤ registers → Stands all s (others_in_turn c s r es).children
+      → CoversAll h None r s s.body es
   unfolding both
-  tops_cover shapes no_tops s r g a k o st n formed low u w stands = tt
-  tops_cover shapes (form_before {e} {es} is tops) s r g a k o st n formed low u w stands =
+  tops_cover shapes no_tops s r g a z k o st n formed low u w stands = tt
+  tops_cover shapes (form_before {e} {es} is tops) s r g a z k o st n formed low u w stands =
       let q = gen c s r e in
       let parts = both_true (is_form a e) (are_forms a es) formed in (
         at_top h None r s s.body e (subst (λ (b : Bool). Covered h b r e) o
             (covered h ss ls t registers has e r a k is n.0 parts.0 low (omega (arith, u.0, w)))),
         numbered s q e es r (form_span e is c s r)
-            (tops_cover shapes tops (past s q) r g a k o (behind_stands a s q e es (form_span e is c s r) st.1) n.1 parts.1
-            low u.1 w (then_stands all s q (others_in_turn c (past s q) r es).children stands)),
+            (tops_cover shapes tops (past s q) r g a z k o
+            (forms_stand_on h.source z s q e es (form_span e is c s r) st.1) n.1 parts.1 low u.1 w
+            (then_stands all s q (others_in_turn c (past s q) r es).children stands)),
       )
-  tops_cover shapes (method_before {x} {f} {es} m tops) s r g a k o st n formed low u w stands =
+  tops_cover shapes (method_before {x} {f} {es} m body tops) s r g a z k o st n formed low u w stands =
       let q = gen c s r (form.define x f) in
       let rest = others_in_turn c (past s q) r es in
-      let parts = both_true (is_form a (form.define x f)) (are_forms a es) formed in (
+      let parts = both_true (is_form a (form.define x f)) (are_forms a es) formed in
+      let long = method_span x f m (λ d v i. tops_span body d v i) c s r in (
         method_covers s r a x f n.0 low (omega (arith, u.0, w)) (first_stands all s q.children rest.children stands),
-        numbered s q (form.define x f) es r (method_span x f m c s r)
-            (tops_cover shapes tops (past s q) r g a k o
-            (behind_stands a s q (form.define x f) es (method_span x f m c s r) st.1) n.1 parts.1 low u.1 w
+        numbered s q (form.define x f) es r long
+            (tops_cover shapes tops (past s q) r g a z k o
+            (forms_stand_on h.source z s q (form.define x f) es long st.1) n.1 parts.1 low u.1 w
             (then_stands all s q rest.children stands)),
       )
-  tops_cover shapes (call_before {e} {x} {is} {f} {es} m tops) s r g a k o st n formed low u w stands =
+  tops_cover shapes (call_before {e} {x} {is} {f} {es} m block body tops) s r g a z k o st n formed low u w stands =
       let whole = form.call e x is (form.there (form.function f)) in
       let q = gen c s r whole in
       let rest = others_in_turn c (past s q) r es in
-      let parts = both_true (is_form a whole) (are_forms a es) formed in (
-        call_covers shapes s r a e x is f k o m n.0 parts.0 low (omega (arith, u.0, w))
+      let parts = both_true (is_form a whole) (are_forms a es) formed in
+      let long = call_span e x is f m block (λ d v i. tops_span body d v i) c s r in (
+        call_covers shapes s r a z e x is f k o m block n.0 parts.0 low (omega (arith, u.0, w))
             (first_stands all s q.children rest.children stands) st.0,
-        numbered s q whole es r (call_span e x is f m c s r)
-            (tops_cover shapes tops (past s q) r g a k o (behind_stands a s q whole es (call_span e x is f m c s r) st.1)
+        numbered s q whole es r long
+            (tops_cover shapes tops (past s q) r g a z k o (forms_stand_on h.source z s q whole es long st.1)
             n.1 parts.1 low u.1 w (then_stands all s q rest.children stands)),
       )
-  tops_cover shapes (list_before {fs} {es} inner tops) s r g a k o st n formed low u w stands =
+  tops_cover shapes (list_before {fs} {es} inner tops) s r g a z k o st n formed low u w stands =
       let q = gen c s r (form.seq fs) in
       let rest = others_in_turn c (past s q) r es in
       let parts = both_true (is_form a (form.seq fs)) (are_forms a es) formed in
       let part = turn_within registers r (widths fs) (omega (arith, u.0, w)) in (
         (
           room h ss ls t registers has r low (omega (arith, part.1)),
-          tops_cover shapes inner s r (greatest (widths fs)) a k o st.0 n.0.1 parts.0 low (under_greatest 0 (widths fs))
+          tops_cover shapes inner s r (greatest (widths fs)) a z k o st.0 n.0.1 parts.0 low (under_greatest 0 (widths fs))
               (omega (arith, part.0))
               (subst (λ (xs : List ℕ). Stands all s xs) (turn_children c s r fs)
               (first_stands all s q.children rest.children stands)),
         ),
         numbered s q (form.seq fs) es r (list_span fs inner c s r)
-            (tops_cover shapes tops (past s q) r g a k o
-            (behind_stands a s q (form.seq fs) es (list_span fs inner c s r) st.1) n.1 parts.1 low u.1 w
+            (tops_cover shapes tops (past s q) r g a z k o
+            (forms_stand_on h.source z s q (form.seq fs) es (list_span fs inner c s r) st.1) n.1 parts.1 low u.1 w
             (then_stands all s q rest.children stands)),
       )

@@ -53,6 +53,7 @@ use Rattle.step_laws.proofs.Definitions.{do_define}
 use Rattle.step_laws.proofs.Returns.{do_return, passes_on, comes_home}
 use Rattle.step_laws.proofs.Loops.{do_while, give_loop_test, give_loop_body}
 use Rattle.step_laws.proofs.Blocks.{do_function, give_block}
+use Rattle.step_laws.proofs.Yields.{do_yield}
 use Rattle.step_laws.proofs.Calls.{do_call_to, do_call_to_with, do_call_self, do_call_self_with, give_receiver, give_item}
 use Rattle.step_laws.proofs.Iterations.{give_iteration}
 use Rattle.step_laws.proofs.Exits.{give_end, give_activation, travel_end, travel_part_on, travel_activation_on, travel_iteration_on}
@@ -105,7 +106,7 @@ module _ (g : Ground) (h : Site) (static : Static h) (ks : List Item) (m : sourc
   form_matched j (form.call form.bare x form.no_items (form.there b)) c d = absurd d.covered
   form_matched j (form.call form.bare x (form.plain e is) b) c d = absurd d.covered
   form_matched j (form.call form.bare x (form.splat e is) b) c d = absurd d.covered
-  form_matched j (form.yield_form is) c d = absurd d.covered
+  form_matched j (form.yield_form is) c d = do_yield g h static ks m ls k both c.0 j is d c.3
   form_matched j (form.super_form is b) c d = absurd d.covered
   form_matched j (form.function f) c d = do_function g h static ks m ls k both j f d c.3.quiet
   form_matched j (form.lambda f) c d = absurd d.covered

@@ -14,7 +14,7 @@ use Rattle.gen_parts.specs.declared.emitter.Held.TheVariants as held
 use Rattle.gen_parts.specs.Pieces.{Piece, past, behind, nothing, ◌⊕◌, jump, jump_not}
 use Rattle.gen_forms.specs.declared.context.Loop.{Loop}
 use Rattle.gen_forms.specs.Gen.{Context, gen, gather, gather_pairs, gather_text, others_in_turn, pass_in_registers, choose, over, operator, return_by, symbol}
-use Rattle.def_calls.specs.Calls.{by_name}
+use Rattle.def_calls.specs.Calls.{Sending, by_name, to_proc}
 use Rattle.def_eval.specs.Configuration.{Action, assign, assign_gvar, leave_method, leave_call, leave_round, Gathering, an_array, Part, operands, receiver, items, block, elements, hash_key, hash_value, pieces, rest, test, chosen, and_then, or_else, loop_test, loop_body, rescued, clause_class, clause_target, clause_body, ensured, Stop, passes, loops, rescues, assigns, retries, ensures}
 use Rattle.def_eval.specs.Scopes.{same_local}
 use Rattle.eval_laws.specs.Standing.{past_items}
@@ -65,6 +65,14 @@ pub data CallEnds (h : Site) (low : ℕ) (x : Name) (count : ℕ) (own : Bool) (
       → Makes h (low + 1 + count) s j f → LineAt h n (line.Does (op.Block (low + 1 + count) s.child))
       → LineAt h (n + 1) (line.Does (block_sender own low (symbol h.context x) count)) → n + 1 + 1 ≡ end
       → CallEnds h low x count own s j b n end
+
+-- What stands behind the items of what is sent so: that of a call by a name, or the call of the block of a method.
+pub data ItemsEnd (h : Site) (k : Sending) (low count : ℕ) (own : Bool) (s : Spot) (j : ℕ) (b : Maybe) (n end : ℕ)
+    : Type 0 where
+  by_call : (name : Name) → k ≡ by_name (number h.source name) → CallEnds h low name count own s j b n end
+      → ItemsEnd h k low count own s j b n end
+  by_yield : k ≡ to_proc → own ≡ false → b ≡ absent → nat_lt 253 count ≡ false → LineAt h n (line.Does (op.Call low count))
+      → n + 1 ≡ end → ItemsEnd h k low count own s j b n end
 
 -- what stands behind a test
 abbrev pub after_test : Context → Spot → ℕ → CoreForm → Branches → CoreForm → Piece
@@ -274,12 +282,10 @@ Behind h l (items j k recv vs is b) low n r end around = record {
   here : s.line ≡ n;
   room : Room h low;
   covered : CoveredItems h (is_some around) (r + 1) is;
-  name : Name;
-  sending : k ≡ by_name (number h.source name);
   held : HoldsCall h l own low recv vs;
   code : Stands h n (pass_in_registers (within h around) s (r + 1) is);
-  ends : CallEnds h low name (length vs + 1 + item_count is) own (past_items_code h around (r + 1) s is) (past_items j is)
-      b (n + high (pass_in_registers (within h around) s (r + 1) is)) end;
+  ends : ItemsEnd h k low (length vs + 1 + item_count is) own (past_items_code h around (r + 1) s is) (past_items j is) b
+      (n + high (pass_in_registers (within h around) s (r + 1) is)) end;
 }
 Behind h l (block k recv vs) low n r end around = record {
   own : Bool;

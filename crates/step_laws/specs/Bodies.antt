@@ -1,6 +1,6 @@
 -- Code of the body of a method or a block none of whose parameters is optional, and what is asked of the bodies that are
 -- entered.
-use Rattle.std.specs.Prelude.{◌≡◌, ◌≤◌, ℕ, ◌+◌, List, [], ◌∷◌, length, Bool, false, Option, Some, None}
+use Rattle.std.specs.Prelude.{◌≡◌, ◌≤◌, ℕ, ◌+◌, List, [], ◌∷◌, length, Bool, Option, Some, None}
 use Rattle.rb_value.specs.declared.value.Value.{Value}
 use Rattle.rb_value.specs.declared.value.ObjId.{ObjId}
 use Rattle.rb_value.specs.declared.value.SymId.{SymId}
@@ -23,7 +23,7 @@ use Rattle.def_calls.specs.Views.{Callable, by_body, by_row, callable_of, kind_i
 use Rattle.def_calls.specs.Calls.{Entry, answers, enters, begins, Opening}
 use Rattle.def_eval.specs.Source.{Source, body_at, form_of, parameters_of}
 use Rattle.step_laws.specs.Site.{Site, at_line, LineAt}
-use Rattle.step_laws.specs.Covered.{Covered}
+use Rattle.step_laws.specs.Covers.{Covers}
 use Rattle.step_laws.specs.Standing.{high, Stands}
 use Rattle.step_laws.specs.Behind.{Static}
 
@@ -50,7 +50,7 @@ pub record BodyAt (h : Site) : Type 0 where
   pub none_hidden : (d : ℕ) → seek (hidden d) (slots_of kind.Method (body_of h)) (Past 1)
       ≡ Past (1 + length (slots_of kind.Method (body_of h)))
   pub outside : h.context.loop ≡ None
-  pub covered : Covered h false h.first (form_of (body_of h))
+  pub covered : Covers h None h.first (behind (first_spot h.body)) (h.body + 1) (form_of (body_of h))
   pub enters : LineAt h 0 (line.Does (op.Enter (parameters (parameters_of (body_of h)))))
   pub code : Stands h 1 (gen h.context (behind (first_spot h.body)) h.first (form_of (body_of h)))
   pub ends : LineAt h (1 + high (gen h.context (behind (first_spot h.body)) h.first (form_of (body_of h))))

@@ -95,7 +95,8 @@ abbrev mutual
   Covered h inside r (call bare x no_items (there b)) = ⊥
   Covered h inside r (call bare x (plain e is) m) = ⊥
   Covered h inside r (call bare x (splat e is) m) = ⊥
-  Covered h inside r (yield_form is) = ⊥
+  Covered h inside r (yield_form is) =
+      Room h r × CoveredItems h inside (r + 1) is × (nat_lt 253 (item_count is) ≡ false)
   Covered h inside r (super_form is m) = ⊥
   Covered h inside r (function f) = ⊥
   Covered h inside r (lambda f) = ⊥

@@ -1,7 +1,7 @@
--- Programs of simple and of plain forms, one with methods and one with a block, and what is shown of them.
+-- Programs of simple and of plain forms, some with methods and blocks, and what is shown of them.
 use Rattle.std.specs.Prelude.{◌≡◌, ℕ, pos, false, List, [], ◌∷◌, codes, None}
 use Rattle.rite_code.specs.Code.{Program, program}
-use Rattle.ir_core.specs.CoreForm.{named, hidden, Local, CoreForm, nil, truth, int, str, sym, local, set_local, gvar, set_gvar, array, hash, text, seq, cond, while_form, call, function, return_form, break_form, define, item, Body, body, plain_body, form_of, absent, there, Forms, more, two, no_items, plain, splat, no_pairs, pair, no_branches, branch, to, on_self}
+use Rattle.ir_core.specs.CoreForm.{named, hidden, Local, CoreForm, nil, truth, int, str, sym, local, set_local, gvar, set_gvar, array, hash, text, seq, cond, while_form, call, yield_form, function, return_form, break_form, define, item, Body, body, plain_body, form_of, absent, there, Forms, more, two, no_items, plain, splat, no_pairs, pair, no_branches, branch, to, on_self}
 use Rattle.ir_core.specs.Program.{IsProgram}
 use Rattle.ir_counts.specs.Counts.{need}
 use Rattle.ir_counts.specs.Limits.{first_excess}
@@ -113,13 +113,16 @@ chooser = plain_body [] (seq (three (define (codes "least") least) (define (code
     (plain (call on_self (codes "after") (plain (int (pos 3)) (plain (int (pos 1)) (plain (int (pos 2)) no_items))) absent)
     no_items) absent)))
 
--- it is a program of plain forms and methods within the limits, and both sides end with the line 3
-pub record IsMethodWitness (b : Body) : Type 0 where
+-- it is a program of plain forms, methods and blocks within the limits, and both sides end with that output
+pub record Prints (b : Body) (out : List ℕ) : Type 0 where
   pub program : IsProgram b
   pub within : first_excess (need b) ≡ None
   pub plain : IsPlainProgram b
-  pub evaluates : evaluation (source_of b) [] 100 ≡ Over (Ended (codes "3\n") 0)
-  pub runs : machine (code_of b) [] 100 ≡ Over (Ended (codes "3\n") 0)
+  pub evaluates : evaluation (source_of b) [] 200 ≡ Over (Ended out 0)
+  pub runs : machine (code_of b) [] 200 ≡ Over (Ended out 0)
+
+abbrev pub IsMethodWitness : Body → Type 0
+IsMethodWitness b = Prints b (codes "3\n")
 
 -- def hand(i, &h)
 --   h.call(i)
@@ -128,9 +131,11 @@ pub record IsMethodWitness (b : Body) : Type 0 where
 --   a = i + 1
 --   puts a
 -- end
--- [4, 5].each do |i|
---   a = i + 1
---   puts a
+-- [4].each do |i|
+--   [i, 5].each do |i|
+--     a = i + 1
+--     puts a
+--   end
 -- end
 abbrev pub teller : Body
 teller =
@@ -143,16 +148,47 @@ hand =
     body (record { required = i ∷ []; optional = []; rest = []; post = []; block = h ∷ [] }) []
     (on (local h) (codes "call") (local i))
 
+abbrev pub showing : Body
+showing =
+    body (record { required = i ∷ []; optional = []; rest = []; post = []; block = [] }) []
+    (call (to (array (plain (local i) (plain (int (pos 5)) no_items)))) (codes "each") no_items (there (function teller)))
+
 abbrev pub visitor : Body
 visitor = plain_body [] (seq (three (define (codes "hand") hand)
     (call on_self (codes "hand") (plain (int (pos 3)) no_items) (there (function teller)))
-    (call (to (array (plain (int (pos 4)) (plain (int (pos 5)) no_items)))) (codes "each") no_items
-    (there (function teller)))))
+    (call (to (array (plain (int (pos 4)) no_items))) (codes "each") no_items (there (function showing)))))
 
--- it is a program of plain forms, a method and blocks within the limits, and both sides end with the lines 4, 5 and 6
-pub record IsBlockWitness (b : Body) : Type 0 where
-  pub program : IsProgram b
-  pub within : first_excess (need b) ≡ None
-  pub plain : IsPlainProgram b
-  pub evaluates : evaluation (source_of b) [] 200 ≡ Over (Ended (codes "4\n5\n6\n") 0)
-  pub runs : machine (code_of b) [] 200 ≡ Over (Ended (codes "4\n5\n6\n") 0)
+abbrev pub IsBlockWitness : Body → Type 0
+IsBlockWitness b = Prints b (codes "4\n5\n6\n")
+
+-- def pass(i)
+--   yield
+--   [i].each do |a|
+--     yield a
+--   end
+-- end
+-- pass(2) do |i|
+--   puts i
+-- end
+abbrev pub passer : Body
+passer =
+    body (record { required = a ∷ []; optional = []; rest = []; post = []; block = [] }) []
+    (yield_form (plain (local a) no_items))
+
+abbrev pub pass : Body
+pass =
+    body (record { required = i ∷ []; optional = []; rest = []; post = []; block = [] }) []
+    (seq (two (yield_form no_items)
+    (call (to (array (plain (local i) no_items))) (codes "each") no_items (there (function passer)))))
+
+abbrev pub printer : Body
+printer =
+    body (record { required = i ∷ []; optional = []; rest = []; post = []; block = [] }) []
+    (call on_self (codes "puts") (plain (local i) no_items) absent)
+
+abbrev pub yielder : Body
+yielder = plain_body [] (seq (two (define (codes "pass") pass)
+    (call on_self (codes "pass") (plain (int (pos 2)) no_items) (there (function printer)))))
+
+abbrev pub IsYieldWitness : Body → Type 0
+IsYieldWitness b = Prints b (codes "\n2\n")

@@ -38,7 +38,7 @@ abbrev mutual
   size (or_form a b) = 3 + size a
   size (while_form first t b) = 1
   size (call r x is b) = 5 + size_receiver r + size_items is + size_block b
-  size (yield_form is) = 1
+  size (yield_form is) = 1 + size_items is
   size (super_form is b) = 1
   size (function f) = 1
   size (lambda f) = 1

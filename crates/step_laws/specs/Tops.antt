@@ -1,10 +1,10 @@
--- What stands at the top of a program of plain forms: such forms, definitions of methods without optional parameters
--- whose forms are plain, calls with a block of that sort, and lists of these.
-use Rattle.std.specs.Prelude.{◌≡◌, true, false, nat_lt, List, [], ◌∷◌, ◌++◌}
+-- What stands at the top of a program of plain forms, and of the body of a method or a block in it: such forms,
+-- definitions of methods without optional parameters, calls with a block of that sort, and lists of these.
+use Rattle.std.specs.Prelude.{◌≡◌, true, false, nat_lt, List, [], ◌∷◌, ◌++◌, Some}
 use Rattle.ir_counts.specs.Tables.{item_count}
 use Rattle.ir_core.specs.CoreForm.{Name, Local, CoreForm, seq, call, function, define, Body, there, Forms, none, more, Items, Receiver, to, on_self, bare, form_of}
-use Rattle.ir_core.specs.Program.{all_parameters, within_class, is_form}
-use Rattle.def_eval.specs.Source.{parameters_of, locals_of}
+use Rattle.ir_core.specs.Program.{Around, all_parameters, within_class, is_form}
+use Rattle.def_eval.specs.Source.{no_parameters, parameters_of, locals_of}
 use Rattle.step_laws.specs.Simple.{IsNamedLocal}
 use Rattle.step_laws.specs.Plain.{IsPlain, ArePlainItems}
 use Rattle.step_laws.specs.Bodies.{AreStraight}
@@ -17,36 +17,38 @@ AreNamed (x ∷ xs) = IsNamedLocal x × AreNamed xs
 pub record IsPlainMethod (b : Body) : Type 0 where
   pub straight : AreStraight (parameters_of b)
   pub named : AreNamed (all_parameters (parameters_of b) ++ locals_of b)
-  pub plain : IsPlain (form_of b)
 
--- The body of a block: none of its parameters is optional, its form is plain, and it is closed: it names its own locals
--- alone, has no return, no break or next but those of its loops, and no yield.
+-- inside of a body that names its own locals alone, where nothing but a loop may be left
+abbrev pub within_closed : List Local → Around
+within_closed ls = record (within_class ls) { method = Some no_parameters }
+
+-- The body of a block is so too, and it is closed: it names its own locals alone, has no return, and no break or next but
+-- those of its loops.
 pub record IsPlainBlock (b : Body) : Type 0 where
   pub straight : AreStraight (parameters_of b)
   pub named : AreNamed (all_parameters (parameters_of b) ++ locals_of b)
-  pub plain : IsPlain (form_of b)
-  pub closed : is_form (within_class (all_parameters (parameters_of b) ++ locals_of b)) (form_of b) ≡ true
+  pub closed : is_form (within_closed (all_parameters (parameters_of b) ++ locals_of b)) (form_of b) ≡ true
 
--- a call of a value or of self with plain items and such a block
+-- a call of a value or of self with plain items and a block
 abbrev pub IsPlainReceiver : Receiver → Type 0
 IsPlainReceiver (to e) = IsPlain e
 IsPlainReceiver on_self = Unit {0}
 IsPlainReceiver bare = ⊥
 
-pub record IsPlainCall (r : Receiver) (is : Items) (f : Body) : Type 0 where
+pub record IsPlainCall (r : Receiver) (is : Items) : Type 0 where
   pub receiver : IsPlainReceiver r
   pub items : ArePlainItems is
   pub few : nat_lt 253 (item_count is) ≡ false
-  pub block : IsPlainBlock f
 
 pub data AreTops : Forms → Type 0 where
   no_tops : AreTops none
   form_before : {e : CoreForm} {es : Forms} → IsPlain e → AreTops es → AreTops (more e es)
-  method_before : {x : Name} {f : Body} {es : Forms} → IsPlainMethod f → AreTops es → AreTops (more (define x f) es)
-  call_before : {e : Receiver} {x : Name} {is : Items} {f : Body} {es : Forms} → IsPlainCall e is f → AreTops es
-      → AreTops (more (call e x is (there (function f))) es)
+  method_before : {x : Name} {f : Body} {es : Forms} → IsPlainMethod f → AreTops (more (form_of f) none) → AreTops es
+      → AreTops (more (define x f) es)
+  call_before : {e : Receiver} {x : Name} {is : Items} {f : Body} {es : Forms} → IsPlainCall e is → IsPlainBlock f
+      → AreTops (more (form_of f) none) → AreTops es → AreTops (more (call e x is (there (function f))) es)
   list_before : {fs es : Forms} → AreTops fs → AreTops es → AreTops (more (seq fs) es)
 
--- a program of plain forms, of methods of plain forms, and of calls with blocks of plain forms
+-- a program of plain forms, of methods and of calls with blocks, in which the same stands
 abbrev pub IsPlainProgram : Body → Type 0
 IsPlainProgram b = AreTops (more (form_of b) none)

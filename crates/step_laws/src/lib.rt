@@ -4,10 +4,11 @@
 //! - `specs::Covered`: the forms whose code is followed: nil, true, false, self, integers, strings, symbols, variables and
 //!   constants with their assignments, locals, Arrays with splats, Hashes, Ranges, texts, sequences, branches, `and` and
 //!   `or`, loops with break and next, `return`, elements of multiple assignments, `defined?`, other names of methods,
-//!   calls of a name alone, calls of a value and of self with plain items and no block. Operators are calls by look-up and
-//!   row, and `puts` is the iteration that it is, plan by plan.
+//!   calls of a name alone, calls of a value and of self with plain items and no block, `yield` with plain items.
+//!   Operators are calls by look-up and row, and `puts` is the iteration that it is, plan by plan.
 //! - `specs::Plain`: the same as a condition on a form alone
-//! - `specs::Tops`: programs of such forms, of methods of such forms and of calls with blocks of such forms
+//! - `specs::Tops`: programs of such forms, of methods, and of calls with blocks that name their own locals alone, at the
+//!   top of which and of each body in them the same stands
 //! - `specs::Simple`: those over nil, true, false and integers, with operators and `puts`, whose evaluation calls no body
 //! - `specs::Covers`: what defines a method, block literals and calls with them besides, at the top of a body or in a
 //!   sequence there
@@ -48,7 +49,7 @@ ghost use Rattle.step_laws.specs.Relation.{Alike, Shared};
 ghost use Rattle.step_laws.specs.Simple.{IsSimple};
 ghost use Rattle.step_laws.specs.Tops.{IsPlainProgram};
 ghost use Rattle.step_laws.specs.Implements.{IsCodeOf, Implements};
-ghost use Rattle.step_laws.specs.Example.{countdown, gatherer, chooser, visitor, IsWitness, IsPlainWitness, IsMethodWitness, IsBlockWitness};
+ghost use Rattle.step_laws.specs.Example.{countdown, gatherer, chooser, visitor, yielder, IsWitness, IsPlainWitness, IsMethodWitness, IsBlockWitness, IsYieldWitness};
 
 /// From a configuration and a state that are alike a transition is matched by few turns, after which they are alike again;
 /// what waits below the running frame, and in other fibers, may be anything that is alike. Both begin alike.
@@ -86,9 +87,9 @@ pub fn simple_code_implements()
         → Implements s p input }
 {}
 
-/// The code that gen_forms gives for a program of plain forms, of methods of such forms without optional parameters, and of
-/// calls with blocks of that sort that name no locals but their own, within the limits is code of it, its methods and its
-/// blocks. Its evaluation enters no other bodies, and the code implements it for every input.
+/// The code that gen_forms gives for a program within the limits is code of it, its methods and its blocks, where at its
+/// top and at that of each body stand plain forms, methods without optional parameters, and calls with blocks of that sort
+/// that name no locals but their own. Its evaluation enters no other bodies, and the code implements it for every input.
 #[tactic(auto, using(crate::proofs::Coded::program_is_code, crate::proofs::Coded::program_implements))]
 pub fn plain_programs_are_implemented()
     ensures coded { (b : Body) → IsProgram b → first_excess (need b) ≡ None → IsPlainProgram b
@@ -127,9 +128,16 @@ pub fn a_program_calls_methods()
     ensures { IsMethodWitness chooser }
 {}
 
-/// There is one that hands a block, which has a local of its own, to a method that calls it, and one to `each` of an Array;
-/// both sides come to the same end.
+/// There is one that hands a block, which has a local of its own, to a method that calls it, and to `each` of an Array in
+/// another block; both sides come to the same end.
 #[tactic(auto, using(crate::proofs::Methods::visits))]
 pub fn a_program_visits_each()
     ensures { IsBlockWitness visitor }
+{}
+
+/// There is one whose method calls its block, with no argument and out of a block of its own; both sides come to the same
+/// end.
+#[tactic(auto, using(crate::proofs::Methods::hands_on))]
+pub fn a_program_yields()
+    ensures { IsYieldWitness yielder }
 {}
