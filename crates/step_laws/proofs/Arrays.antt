@@ -1,6 +1,6 @@
 -- Array literals: the Array is there before its elements, and gets each of them, or those of a splat.
 use Rattle.std.proofs.Common.{◌≡◌, ℕ, ◌+◌, List, [], ◌∷◌, refl, sym, ap, ◌∙◌, subst, arith, Bool, true, false}
-use Rattle.std.specs.Prelude.{is_some, codes, Option, Some}
+use Rattle.std.specs.Prelude.{codes, Option, Some}
 use Rattle.rb_value.specs.declared.value.Value.{Value}
 use Rattle.rb_value.specs.declared.value.Value.TheVariants.{Obj}
 use Rattle.rb_value.specs.declared.value.ObjId.{ObjId}
@@ -42,7 +42,7 @@ use Rattle.step_laws.proofs.Gathered.{kept}
 -- an item of the literal is about to be done
 item_on : (g : Ground) (h : Site) (j : ℕ) (id : ObjId) (spread : Bool) (e : CoreForm) (is : Items) (ks : List Item)
     (m : source.Memory) (k : machine.Memory) (x : Rest) (n low end : ℕ) (loop : Option Loop) (s : Spot)
-    → Common g h m k → m.place ≡ place_in h → Room h low → Covered h (is_some loop) (low + 1) e → CoveredElements h (is_some loop) (low + 1) is
+    → Common g h m k → m.place ≡ place_in h → Room h low → Covered h (low + 1) e → CoveredElements h (low + 1) is
     → s.line ≡ n
     → Stands h n ((gen (within h loop) s (low + 1) e ⊕ does (push spread low))
     ⊕ gather (within h loop) (past s (gen (within h loop) s (low + 1) e ⊕ does (push spread low))) low is)
@@ -99,7 +99,7 @@ item_on g h j id spread e is ks m k x n low end loop s both there room covered o
 -- The next element is about to be done, or the Array is given.
 on_with : (g : Ground) (h : Site) (j : ℕ) (id : ObjId) (is : Items) (ks : List Item) (m : source.Memory) (k : machine.Memory)
     (x : Rest) (n low end : ℕ) (loop : Option Loop) (s : Spot) → Common g h m k → m.place ≡ place_in h → Room h low
-    → CoveredElements h (is_some loop) (low + 1) is → s.line ≡ n → Stands h n (gather (within h loop) s low is)
+    → CoveredElements h (low + 1) is → s.line ≡ n → Stands h n (gather (within h loop) s low is)
     → n + high (gather (within h loop) s low is) ≡ end → slot_at k.lists h.list low ≡ V (Obj id)
     → InFrame g h k.lists ks end low loop → Related h (next_element h.source j new_array id is ks m) (state_at g h x n k)
 on_with g h j id no_items ks m k x n low end loop s both there room covered here code ends held next =

@@ -1,6 +1,6 @@
 -- Branches: conditions, `and` and `or`.
 use Rattle.std.proofs.Common.{◌≡◌, ℕ, ◌+◌, ◌<◌, ◌≤◌, List, ◌∷◌, refl, sym, ap, ◌∙◌, subst, arith, Bool, true, false}
-use Rattle.std.specs.Prelude.{is_some, pos, ◌-ℤ◌, if◌then◌else◌, Option}
+use Rattle.std.specs.Prelude.{pos, ◌-ℤ◌, if◌then◌else◌, Option}
 use Rattle.rb_value.specs.declared.value.Value.{Value}
 use Rattle.rb_value.specs.declared.exit.Slot.{Slot}
 use Rattle.rb_value.specs.declared.exit.Slot.TheVariants.{V}
@@ -154,7 +154,7 @@ module _ (g : Ground) (h : Site) (static : Static h) (ks : List Item) (m : sourc
     (k : machine.Memory) (both : Common g h m (aligned k m)) where
   -- the branches that are left, at line n
   branches : (x : Rest) (n r : ℕ) (loop : Option Loop) (s : Spot) (j : ℕ) (bs : Branches) (o : CoreForm)
-      → m.place ≡ place_in h → s.line ≡ n → CoveredBranches h (is_some loop) r bs × Covered h (is_some loop) r o → h.first ≤ r
+      → m.place ≡ place_in h → s.line ≡ n → CoveredBranches h r bs × Covered h r o → h.first ≤ r
       → Stands h n (chosen_code (within h loop) s r bs (λ d t i. gen d t i o))
       → InFrame g h k.lists ks (n + high (chosen_code (within h loop) s r bs (λ d t i. gen d t i o))) r loop
       → Related h (next_branch j bs o ks m) (state_at g h x n (aligned k m))
@@ -387,7 +387,7 @@ module _ (g : Ground) (h : Site) (static : Static h) (ks : List Item) (m : sourc
 
   -- the second operand is done, or the value of the first is that of the whole
   second : (x : Rest) (v : Value) (n r end : ℕ) (loop : Option Loop) (s : Spot) (j : ℕ) (e : CoreForm) (l : ℕ → Line)
-      → m.place ≡ place_in h → s.line ≡ n → Covered h (is_some loop) r e → h.first ≤ r
+      → m.place ≡ place_in h → s.line ≡ n → Covered h r e → h.first ≤ r
       → Guarded h n r end (within h loop) s e l → InFrame g h k.lists ks end r loop
       → Related h (Run (perform j e) ks m) (state_at g h x (n + 1) (aligned k m))
   second x v n r end loop s j e l there here covered above q next = (

@@ -1,6 +1,6 @@
 -- Calls of a value and of self, by the parts of their code.
 use Rattle.std.proofs.Common.{◌≡◌, ℕ, ◌+◌, List, [], ◌∷◌, ◌++◌, refl, sym, ap, ◌∙◌, subst, arith, length, length-append, Bool, true, false, true≢false}
-use Rattle.std.specs.Prelude.{is_some, if◌then◌else◌, Option, Some, None, nat_lt}
+use Rattle.std.specs.Prelude.{if◌then◌else◌, Option, Some, None, nat_lt}
 use Rattle.rb_value.specs.declared.value.Value.{Value}
 use Rattle.rb_value.specs.declared.exit.Slot.TheVariants.{V}
 use Rattle.rite_code.specs.declared.operation.Operation.{Operation}
@@ -41,15 +41,15 @@ use Rattle.step_laws.proofs.Literals.{aligned, self_is}
 use Rattle.step_laws.proofs.Definitions.{made_line, high_made}
 use Rattle.step_laws.proofs.Sends.{ends_moved, sent_moved, items_on}
 
-pub no_splat : (h : Site) (inside : Bool) (r : ℕ) (is : Items) → CoveredItems h inside r is → has_splats is ≡ false
-no_splat h inside r no_items c = refl
-no_splat h inside r (plain e is) c = no_splat h inside (r + 1) is c.1
-no_splat h inside r (splat e is) c = absurd c
+pub no_splat : (h : Site) (r : ℕ) (is : Items) → CoveredItems h r is → has_splats is ≡ false
+no_splat h r no_items c = refl
+no_splat h r (plain e is) c = no_splat h (r + 1) is c.1
+no_splat h r (splat e is) c = absurd c
 
-pub none_spread : (h : Site) (inside : Bool) (r : ℕ) (is : Items) → CoveredItems h inside r is → has_splat is ≡ false
-none_spread h inside r no_items c = refl
-none_spread h inside r (plain e is) c = none_spread h inside (r + 1) is c.1
-none_spread h inside r (splat e is) c = absurd c
+pub none_spread : (h : Site) (r : ℕ) (is : Items) → CoveredItems h r is → has_splat is ≡ false
+none_spread h r no_items c = refl
+none_spread h r (plain e is) c = none_spread h (r + 1) is c.1
+none_spread h r (splat e is) c = absurd c
 
 pub passing_is : (is : Items) → has_splat is ≡ false → nat_lt 253 (item_count is) ≡ false
     → passing is ≡ passed.InRegisters (item_count is)
@@ -150,7 +150,7 @@ operator_is is x r o true e f = (f, one_item is e)
 operator_is is x r o false e f = absurd (cc f)
 
 module _ (h : Site) (n r : ℕ) (loop : Option Loop) (s : Spot) (x : Name) (is : Items)
-    (covered : CoveredItems h (is_some loop) (r + 1) is) (few : nat_lt 253 (item_count is) ≡ false) where
+    (covered : CoveredItems h (r + 1) is) (few : nat_lt 253 (item_count is) ≡ false) where
   abbrev each : Code
   each = λ d t i. pass_in_registers d t i is
 
@@ -165,7 +165,7 @@ module _ (h : Site) (n r : ℕ) (loop : Option Loop) (s : Spot) (x : Name) (is :
       (send false e g r (entry_of h.context x)) (within h loop) s r
 
   abbrev passes_few : passing is ≡ passed.InRegisters (item_count is)
-  passes_few = passing_is is (none_spread h (is_some loop) (r + 1) is covered) few
+  passes_few = passing_is is (none_spread h (r + 1) is covered) few
 
   value_called : (j : ℕ) (e : CoreForm) (o : Option Operation) → operation_of absent (to e) x is r ≡ o → IsNamed h x o
       → Stands h n (whole (to e) o (passing is))
@@ -269,8 +269,8 @@ module _ (g : Ground) (h : Site) (static : Static h) (ks : List Item) (m : sourc
     (k : machine.Memory) (both : Common g h m (aligned k m)) (steady : IsSteady h.source m.world) where
   -- the receiver is done first
   receiver_first : (j : ℕ) (e : CoreForm) (x : Name) (is : Items) (b : Maybe)
-      (d : Doing g h j (call (to e) x is b) ks m.place ls k.lists) → Room h d.r → Covered h (is_some d.loop) d.r e
-      → CoveredItems h (is_some d.loop) (d.r + 1) is
+      (d : Doing g h j (call (to e) x is b) ks m.place ls k.lists) → Room h d.r → Covered h d.r e
+      → CoveredItems h (d.r + 1) is
       → Called h d.n d.r d.loop d.s (gen (within h d.loop) d.s d.r e) false x is (j + span e) b
       (d.n + high (gen (within h d.loop) d.s d.r (call (to e) x is b)))
       → Step h (Run (perform j (call (to e) x is b)) ks m) (state_at g h d.x d.n (aligned k m))
@@ -342,7 +342,7 @@ module _ (g : Ground) (h : Site) (static : Static h) (ks : List Item) (m : sourc
 
   -- the items of a call of self
   self_items : (j : ℕ) (x : Name) (is : Items) (b : Maybe) (d : Doing g h j (call on_self x is b) ks m.place ls k.lists)
-      → Room h d.r → CoveredItems h (is_some d.loop) (d.r + 1) is
+      → Room h d.r → CoveredItems h (d.r + 1) is
       → Called h d.n d.r d.loop d.s nothing true x is j b
       (d.n + high (gen (within h d.loop) d.s d.r (call on_self x is b)))
       → Peace h.source h.program (perform j (call on_self x is b)) ks m
@@ -376,7 +376,7 @@ module _ (g : Ground) (h : Site) (static : Static h) (ks : List Item) (m : sourc
         alike = going (perform j (call on_self x is b)) ks m (frame (frame_at h d.x d.n) ∷ g.below) (aligned k m) refl;
         out = refl;
         quiet = peace.quiet;
-      }) (plain_call j x (self_of m) is b (no_splat h (is_some d.loop) (d.r + 1) is items_covered)) (omega arith)
+      }) (plain_call j x (self_of m) is b (no_splat h (d.r + 1) is items_covered)) (omega arith)
       peace.calls).advances
 
   pub do_call_self : (j : ℕ) (x : Name) (is : Items) (d : Doing g h j (call on_self x is absent) ks m.place ls k.lists)
@@ -429,7 +429,7 @@ module _ (g : Ground) (h : Site) (static : Static h) (ks : List Item) (m : sourc
         alike = going (give v) (part (receiver j x is b) ∷ ks) m (frame (frame_at h d.x d.n) ∷ g.below) (aligned k m) refl;
         out = refl;
         quiet = peace.quiet;
-      }) (plain_call j x v is b (no_splat h (is_some d.loop) (low + 1) is y.covered))
+      }) (plain_call j x v is b (no_splat h (low + 1) is y.covered))
       (omega arith) peace.calls).advances
 
   pub give_item : (v : Value) (j : ℕ) (sender : Sending) (recv : Value) (vs : List Value) (is : Items) (b : Maybe)

@@ -250,7 +250,7 @@ module _ (p : Parameters) (ls : List Local) (f : CoreForm) (program_is : IsProgr
   covers : Covers site None start (first_spot 0) 1 f
   covers =
       (topped.tops_cover site (named_slots ls) ls t (start + width f) has shapes tops (first_spot 0) start (width f)
-      (within_program ls) (within_program ls) (refl, λ e r. refl) refl (program_stands b program_is, tt) (fits.1, tt) all_formed (omega arith) (omega arith, tt) (omega arith) all_stand).0
+      (within_program ls) (within_program ls) refl (program_stands b program_is, tt) (fits.1, tt) all_formed (omega arith) (omega arith, tt) (omega arith) all_stand).0
 
   code_of_it : IsCodeOf (source_of b) code
   unfolding coded assembled both puts high Stands source_body

@@ -258,8 +258,7 @@ module _ (s : Source) (c : Program) (n : ℕ) (g : Coded s c n) (activation list
   covers shapes =
       (topped.tops_cover h (ss s c n g) (all_parameters (p s c n g) ++ ls s c n g) (t s c n g)
       (first s c n g + width (f s c n g)) has shapes g.written.tops (behind (first_spot n)) (first s c n g)
-      (width (f s c n g)) g.written.inner g.written.within (g.written.known, g.written.returns) g.written.outside
-      (g.written.stands, tt) ((fits s c n g).1, tt) (ap (λ (x : Bool). x && true) g.written.closed) (omega arith)
+      (width (f s c n g)) g.written.inner g.written.within g.written.known (g.written.stands, tt) ((fits s c n g).1, tt) (ap (λ (x : Bool). x && true) g.written.closed) (omega arith)
       (omega arith, tt) (omega arith) children_stand).0
 
   enters_there : LineAt h 0 (line.Does (op.Enter (parameters (p s c n g))))

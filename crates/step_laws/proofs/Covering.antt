@@ -6,7 +6,6 @@ use Rattle.std.specs.Ordering.{int_eq}
 use Rattle.rite_code.specs.declared.code.PoolItem.{PoolItem}
 use Rattle.rite_code.specs.declared.code.PoolItem.TheVariants as pool
 use Rattle.rite_code.specs.declared.operation.Operation.{Operation}
-use Rattle.rite_code.specs.declared.operation.Operation.TheVariants as op
 use Rattle.text_set.specs.Sets.{is_among}
 use Rattle.rb_syntax.specs.declared.core_form.DefinedKind.{DefinedKind}
 use Rattle.rb_syntax.specs.declared.core_form.DefinedKind.TheVariants as asks
@@ -20,7 +19,7 @@ use Rattle.scope_resolver.specs.declared.place.Place.{Place}
 use Rattle.scope_resolver.specs.declared.seek.Search.{Search}
 use Rattle.scope_resolver.specs.declared.seek.Search.TheVariants.{Found, Past}
 use Rattle.scope_resolver.specs.Layout.{Slots, Scopes, innermost_count, seek, place_at, place_from, place_or_self, place_of}
-use Rattle.gen_forms.specs.Gen.{place_or, is_within, integer_entry, text_entry, symbol, operates, return_by}
+use Rattle.gen_forms.specs.Gen.{place_or, is_within, integer_entry, text_entry, symbol, operates}
 use Rattle.code_laws.specs.Bound.{AreHeld}
 use Rattle.code_laws.proofs.Shares.{Numbered, Adds, Noted, Noted_all, Noted_items, Noted_pairs, Noted_branches}
 use Rattle.code_laws.proofs.Widths.{Under, InOrder, under_left, under_right, under_greatest, order_within, order_room, into_within, turn_within}
@@ -45,9 +44,6 @@ pub record Has (h : Site) (ss : Slots) (ls : List Local) (t : Tally) (size : ℕ
   pub first : 1 + length ss + t.hidden ≤ h.first
   pub there : (x : Name) → is_among x t.symbols ≡ true → IsThere h.source x
 
--- the known locals are those, and where there may be a return it ends the body
-abbrev pub Agrees : Site → List Local → Around → Type 0
-Agrees h ls a = (a.known ≡ ls) × (a.returns ≡ true → (r : ℕ) → return_by h.context.kind_of r ≡ op.Return r)
 
 -- what is found in the first slots is so whatever is around them
 first_found : (ss : Slots) (around : Scopes) (x : Name) (r : ℕ)
@@ -150,8 +146,8 @@ module _ (h : Site) (ss : Slots) (ls : List Local) (t : Tally) (registers : ℕ)
   none_spread (form.splat e is') is = absurd is
 
   mutual
-    cover : (e : CoreForm) (r : ℕ) (a : Around) → Agrees h ls a → IsPlain e → Noted t e → is_form a e ≡ true
-        → h.first ≤ r → r + width e ≤ registers → Covered h a.loops r e
+    cover : (e : CoreForm) (r : ℕ) (a : Around) → a.known ≡ ls → IsPlain e → Noted t e → is_form a e ≡ true
+        → h.first ≤ r → r + width e ≤ registers → Covered h r e
     cover form.nil r a k is n f low w = room r low (omega (arith, w))
     cover form.truth r a k is n f low w = room r low (omega (arith, w))
     cover form.falsehood r a k is n f low w = room r low (omega (arith, w))
@@ -159,14 +155,14 @@ module _ (h : Site) (ss : Slots) (ls : List Local) (t : Tally) (registers : ℕ)
     cover (form.int z) r a k is n f low w = (room r low (omega (arith, w)), pooled z n.integer)
     cover (form.str x) r a k is n f low w = (room r low (omega (arith, w)), texted x n.text)
     cover (form.sym x) r a k is n f low w = (room r low (omega (arith, w)), named x n.name)
-    cover (form.local x) r a k is n f low w = (room r low (omega (arith, w)), known x is (subst (λ (xs : List Local). is_known x xs ≡ true) k.0 f) n.hidden)
+    cover (form.local x) r a k is n f low w = (room r low (omega (arith, w)), known x is (subst (λ (xs : List Local). is_known x xs ≡ true) k f) n.hidden)
     cover (form.own x) r a k is n f low w = absurd is
     cover form.exception r a k is n f low w = absurd is
     cover (form.set_local x e) r a k is n f low w =
         let both = both_true (is_known x a.known) (is_form a e) f in
         let part = order_within registers r (width e ∷ []) w in (
           cover e r a k is.0 n.1 both.1 low part.0,
-          known x is.1 (subst (λ (xs : List Local). is_known x xs ≡ true) k.0 both.0) n.0.hidden,
+          known x is.1 (subst (λ (xs : List Local). is_known x xs ≡ true) k both.0) n.0.hidden,
         )
     cover (form.ivar x) r a k is n f low w = (room r low (omega (arith, w)), named x n.name)
     cover (form.set_ivar x e) r a k is n f low w =
@@ -311,15 +307,15 @@ module _ (h : Site) (ss : Slots) (ls : List Local) (t : Tally) (registers : ℕ)
     cover (form.return_form e) r a k is n f low w =
         let both = both_true a.returns (is_form a e) f in
         let part = order_within registers r (width e ∷ []) w in
-        (k.1 both.0 r, cover e r a k is n.1 both.1 low part.0)
+        cover e r a k is n.1 both.1 low part.0
     cover (form.break_form e) r a k is n f low w =
         let both = both_true a.loops (is_form a e) f in
         let part = order_within registers r (width e ∷ []) w in
-        (both.0, cover e r a k is n.1 both.1 low part.0)
+        cover e r a k is n.1 both.1 low part.0
     cover (form.next_form e) r a k is n f low w =
         let both = both_true a.loops (is_form a e) f in
         let part = order_within registers r (width e ∷ []) w in
-        (both.0, cover e r a k is n.1 both.1 low part.0)
+        cover e r a k is n.1 both.1 low part.0
     cover form.retry r a k is n f low w = absurd is
     cover (form.define x g) r a k is n f low w = absurd is
     cover (form.define_on e x g) r a k is n f low w = absurd is
@@ -348,8 +344,8 @@ module _ (h : Site) (ss : Slots) (ls : List Local) (t : Tally) (registers : ℕ)
         let some = order_room registers r (width e ∷ []) w in
         (room r low (omega (arith, some)), cover e r a k is.0 n.1 f low part.0, is.1)
 
-    cover_forms : (es : Forms) (r g : ℕ) (a : Around) → Agrees h ls a → ArePlain es → Noted_all t es
-        → are_forms a es ≡ true → h.first ≤ r → Under g (widths es) → r + 2 + g ≤ registers → CoveredForms h a.loops r es
+    cover_forms : (es : Forms) (r g : ℕ) (a : Around) → a.known ≡ ls → ArePlain es → Noted_all t es
+        → are_forms a es ≡ true → h.first ≤ r → Under g (widths es) → r + 2 + g ≤ registers → CoveredForms h r es
     cover_forms form.none r g a k is n f low u w = tt
     cover_forms (form.more e es) r g a k is n f low u w =
         let both = both_true (is_form a e) (are_forms a es) f in (
@@ -357,8 +353,8 @@ module _ (h : Site) (ss : Slots) (ls : List Local) (t : Tally) (registers : ℕ)
           cover_forms es r g a k is.1 n.1 both.1 low u.1 w,
         )
 
-    cover_items : (is' : Items) (r : ℕ) (a : Around) → Agrees h ls a → ArePlainItems is' → Noted_items t is'
-        → are_items a is' ≡ true → h.first ≤ r → InOrder registers r (item_widths is' ++ []) → CoveredItems h a.loops r is'
+    cover_items : (is' : Items) (r : ℕ) (a : Around) → a.known ≡ ls → ArePlainItems is' → Noted_items t is'
+        → are_items a is' ≡ true → h.first ≤ r → InOrder registers r (item_widths is' ++ []) → CoveredItems h r is'
     cover_items form.no_items r a k is n f low w = tt
     cover_items (form.plain e is') r a k is n f low w =
         let both = both_true (is_form a e) (are_items a is') f in (
@@ -367,9 +363,9 @@ module _ (h : Site) (ss : Slots) (ls : List Local) (t : Tally) (registers : ℕ)
         )
     cover_items (form.splat e is') r a k is n f low w = absurd is
 
-    cover_elements : (is' : Items) (r g : ℕ) (a : Around) → Agrees h ls a → ArePlainElements is' → Noted_items t is'
+    cover_elements : (is' : Items) (r g : ℕ) (a : Around) → a.known ≡ ls → ArePlainElements is' → Noted_items t is'
         → are_items a is' ≡ true → h.first ≤ r → Under g (item_widths is') → r + g ≤ registers
-        → CoveredElements h a.loops r is'
+        → CoveredElements h r is'
     cover_elements form.no_items r g a k is n f low u w = tt
     cover_elements (form.plain e is') r g a k is n f low u w =
         let both = both_true (is_form a e) (are_items a is') f in (
@@ -382,9 +378,9 @@ module _ (h : Site) (ss : Slots) (ls : List Local) (t : Tally) (registers : ℕ)
           cover_elements is' r g a k is.1 n.1 both.1 low u.1 w,
         )
 
-    cover_pairs : (ps : Pairs) (r g : ℕ) (a : Around) → Agrees h ls a → ArePlainPairs ps → Noted_pairs t ps
+    cover_pairs : (ps : Pairs) (r g : ℕ) (a : Around) → a.known ≡ ls → ArePlainPairs ps → Noted_pairs t ps
         → are_pairs a ps ≡ true → h.first ≤ r → Under g (pair_widths ps) → r + 2 + g ≤ registers
-        → CoveredPairs h a.loops r ps
+        → CoveredPairs h r ps
     cover_pairs form.no_pairs r g a k is n f low u w = tt
     cover_pairs (form.pair b c ps) r g a k is n f low u w =
         let first = both_true (is_form a b) (is_form a c && are_pairs a ps) f in
@@ -394,9 +390,9 @@ module _ (h : Site) (ss : Slots) (ls : List Local) (t : Tally) (registers : ℕ)
           cover_pairs ps r g a k is.2 n.2 second.1 low u.1 w,
         )
 
-    cover_branches : (bs : Branches) (r g : ℕ) (a : Around) → Agrees h ls a → ArePlainBranches bs
+    cover_branches : (bs : Branches) (r g : ℕ) (a : Around) → a.known ≡ ls → ArePlainBranches bs
         → Noted_branches t bs → are_branches a bs ≡ true → h.first ≤ r → Under g (branch_widths bs)
-        → r + 2 + g ≤ registers → CoveredBranches h a.loops r bs
+        → r + 2 + g ≤ registers → CoveredBranches h r bs
     cover_branches form.no_branches r g a k is n f low u w = tt
     cover_branches (form.branch b c bs) r g a k is n f low u w =
         let first = both_true (is_form a b) (is_form a c && are_branches a bs) f in
@@ -406,10 +402,10 @@ module _ (h : Site) (ss : Slots) (ls : List Local) (t : Tally) (registers : ℕ)
           cover_branches bs r g a k is.2 n.2 second.1 low u.1 w,
         )
 
-  pub covered_items : (is' : Items) (r : ℕ) (a : Around) → Agrees h ls a → ArePlainItems is' → Noted_items t is'
-      → are_items a is' ≡ true → h.first ≤ r → InOrder registers r (item_widths is' ++ []) → CoveredItems h a.loops r is'
+  pub covered_items : (is' : Items) (r : ℕ) (a : Around) → a.known ≡ ls → ArePlainItems is' → Noted_items t is'
+      → are_items a is' ≡ true → h.first ≤ r → InOrder registers r (item_widths is' ++ []) → CoveredItems h r is'
   covered_items is' r a k is n f low w = cover_items is' r a k is n f low w
 
-  pub covered : (e : CoreForm) (r : ℕ) (a : Around) → Agrees h ls a → IsPlain e → Noted t e → is_form a e ≡ true
-      → h.first ≤ r → r + width e ≤ registers → Covered h a.loops r e
+  pub covered : (e : CoreForm) (r : ℕ) (a : Around) → a.known ≡ ls → IsPlain e → Noted t e → is_form a e ≡ true
+      → h.first ≤ r → r + width e ≤ registers → Covered h r e
   covered e r a k is n f low w = cover e r a k is n f low w

@@ -1,6 +1,6 @@
 -- Forms that are covered wherever they stand.
 use Rattle.std.proofs.Common.{ℕ, ◌+◌}
-use Rattle.std.specs.Prelude.{is_some, Option}
+use Rattle.std.specs.Prelude.{Option}
 use Rattle.ir_core.specs.CoreForm.{CoreForm, nil, truth, falsehood, self_ref, int, str, sym, local, own, exception, set_local, ivar, set_ivar, gvar, set_gvar, constant, top_constant, in_constant, set_constant, set_in_constant, array, hash, range, text, intern, seq, cond, and_form, or_form, while_form, call, yield_form, super_form, function, lambda, begin_form, return_form, break_form, next_form, retry, define, define_on, class_form, module_form, singleton_class, alias_form, undef_form, defined, item, rest_of, tail_of, absent, there, Forms, none, more, no_items, plain, splat, to, on_self, bare}
 use Rattle.gen_parts.specs.declared.emitter.Spot.{Spot}
 use Rattle.gen_parts.specs.Pieces.{past}
@@ -12,7 +12,7 @@ use Rattle.step_laws.specs.Covered.{Covered, CoveredForms}
 use Rattle.step_laws.specs.Covers.{Covers, CoversAll}
 
 mutual
-  pub at_top : (h : Site) (o : Option Loop) (r : ℕ) (s : Spot) (j : ℕ) (e : CoreForm) → Covered h (is_some o) r e
+  pub at_top : (h : Site) (o : Option Loop) (r : ℕ) (s : Spot) (j : ℕ) (e : CoreForm) → Covered h r e
       → Covers h o r s j e
   at_top h loop r spot j nil c = c
   at_top h loop r spot j truth c = c
@@ -74,7 +74,7 @@ mutual
   at_top h loop r spot j (rest_of e from post) c = c
   at_top h loop r spot j (tail_of e from count) c = c
 
-  pub all_top : (h : Site) (o : Option Loop) (r : ℕ) (s : Spot) (j : ℕ) (es : Forms) → CoveredForms h (is_some o) r es
+  pub all_top : (h : Site) (o : Option Loop) (r : ℕ) (s : Spot) (j : ℕ) (es : Forms) → CoveredForms h r es
       → CoversAll h o r s j es
   all_top h loop r spot j none c = tt
   all_top h loop r spot j (more e es) c =

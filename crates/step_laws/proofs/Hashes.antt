@@ -1,6 +1,6 @@
 -- Hash literals: the Hash is there before its pairs, and gets each of them once its key and its value are there.
 use Rattle.std.proofs.Common.{◌≡◌, ℕ, ◌+◌, ◌<◌, List, [], ◌∷◌, refl, sym, ap, ◌∙◌, subst, arith}
-use Rattle.std.specs.Prelude.{is_some, codes, Option, Some}
+use Rattle.std.specs.Prelude.{codes, Option, Some}
 use Rattle.rb_value.specs.declared.value.Value.{Value}
 use Rattle.rb_value.specs.declared.value.Value.TheVariants.{Obj}
 use Rattle.rb_value.specs.declared.value.ObjId.{ObjId}
@@ -47,7 +47,7 @@ use Rattle.step_laws.proofs.Gathered.{kept}
 -- The next key is about to be done, or the Hash is given.
 on_with : (g : Ground) (h : Site) (j : ℕ) (id : ObjId) (ps : Pairs) (ks : List Item) (m : source.Memory) (k : machine.Memory)
     (x : Rest) (n low end : ℕ) (loop : Option Loop) (s : Spot) → Common g h m k → m.place ≡ place_in h → Room h low
-    → CoveredPairs h (is_some loop) low ps → s.line ≡ n → Stands h n (gather_pairs (within h loop) s low ps)
+    → CoveredPairs h low ps → s.line ≡ n → Stands h n (gather_pairs (within h loop) s low ps)
     → n + high (gather_pairs (within h loop) s low ps) ≡ end → slot_at k.lists h.list low ≡ V (Obj id)
     → InFrame g h k.lists ks end low loop → Related h (next_pair j id ps ks m) (state_at g h x n k)
 on_with g h j id no_pairs ks m k x n low end loop s both there room covered here code ends held next =

@@ -1,8 +1,8 @@
 -- Breaks and nexts in a loop: to the loop part by part, and there to its end or to its next round.
-use Rattle.std.proofs.Common.{◌≡◌, ◌⊎◌, inl, inr, ℕ, ◌+◌, ◌<◌, List, [], ◌∷◌, ◌++◌, refl, sym, ap, ◌∙◌, subst, arith, length, reverse, Bool, true, true≢false}
+use Rattle.std.proofs.Common.{◌≡◌, ◌⊎◌, inl, inr, ℕ, ◌+◌, ◌<◌, List, [], ◌∷◌, ◌++◌, refl, sym, ap, ◌∙◌, subst, arith, length, reverse, Bool, true}
 use Rattle.std.proofs.lemmas.Bool.{eq-eqb}
 use Rattle.std.specs.List.{filter}
-use Rattle.std.specs.Prelude.{pos, ◌-ℤ◌, ◌||◌, is_some, unwrap_or, if◌then◌else◌, Option, Some, None}
+use Rattle.std.specs.Prelude.{pos, ◌-ℤ◌, ◌||◌, unwrap_or, if◌then◌else◌, Option, Some, None}
 use Rattle.rb_value.specs.declared.value.Value.{Value}
 use Rattle.rb_value.specs.declared.exit.Exit.TheVariants.{Jump}
 use Rattle.rb_value.specs.declared.exit.Slot.{Slot}
@@ -29,9 +29,10 @@ use Rattle.def_machine.specs.Unwind.{covers, covering, handler, at_frame, unwind
 use Rattle.def_machine.specs.Turn.{target as led_to, turn, act_at}
 use Rattle.step_laws.specs.Site.{Site, within, place_in, at_line, LineAt, Room}
 use Rattle.step_laws.specs.Measure.{measure}
+use Rattle.step_laws.specs.Far.{breaks_far}
 use Rattle.step_laws.proofs.Covers.{at_top}
 use Rattle.step_laws.proofs.Placed.{high, high-puts, Stands, moved, left, right, the_line, Rest, frame_at, turned, leads, jumped}
-use Rattle.step_laws.specs.Behind.{Static, LoopAt, BreakBehind, NextBehind, breaks, begins_round}
+use Rattle.step_laws.specs.Behind.{Static, LoopAt, BreakBehind, NextBehind, breaks, begins_round, ends_body, goes_far}
 use Rattle.step_laws.specs.Relation.{Ground, uses, InFrame, Common, Doing, GivesIn, LoopWay, WayBy, Way, LeavesTo, to_end, to_round, leaping, Related, Step}
 use Rattle.step_laws.proofs.Registers.{slot_same, keeps_above}
 use Rattle.step_laws.proofs.Untouched.{put_only, frame_kept, same_here, written_here}
@@ -39,6 +40,7 @@ use Rattle.step_laws.proofs.Matching.{by_none, by_one, by_two, going, state_at, 
 use Rattle.step_laws.proofs.Literals.{aligned}
 use Rattle.step_laws.proofs.Loops.{at_test}
 use Rattle.step_laws.proofs.Exits.{weight_pos}
+use Rattle.step_laws.proofs.Leaving.{begins_last}
 
 -- A jump through ensure parts leaves the frame where it is, since the body has none.
 left_to : (g : Ground) (h : Site) → Static h → (x : Rest) (n to : ℕ) (k : machine.Memory) → LineAt h n (line.Leave to)
@@ -188,7 +190,18 @@ module _ (g : Ground) (h : Site) (static : Static h) (ks : List Item) (m : sourc
     where
       by : (o : Option Loop) → d.loop ≡ o
           → Step h (Run (perform j (break_form e)) ks m) (state_at g h d.x d.n (aligned k m))
-      by None is = absurd (true≢false (sym d.covered.0 ∙ ap (λ (o : Option Loop). is_some o) is))
+      by None is =
+          begins_last g h ks m ls k both j (break_form e) e leave_call d refl (omega arith) d.covered (op.Break d.r)
+          (subst (λ (o : Option Loop). Stands h d.n (gen (within h d.loop) d.s d.r e ⊕ break_by o d.r)) is d.code)
+          (λ n l. goes_far (record {
+            at = refl;
+            by = breaks_far;
+            action = refl;
+            first = refl;
+            last = refl;
+            outside = is;
+            leaves = l;
+          }))
       by (Some target) is =
           let p = gen (within h d.loop) d.s d.r e in
           let move = does (op.Move target.value d.r) in
@@ -209,7 +222,7 @@ module _ (g : Ground) (h : Site) (static : Static h) (ks : List Item) (m : sourc
               loop = d.loop;
               s = d.s;
               here = d.here;
-              covered = at_top h d.loop d.r d.s j e d.covered.1;
+              covered = at_top h d.loop d.r d.s j e d.covered;
               above = d.above;
               code = left h d.n p (move ⊕ out) code;
               next = record {
@@ -282,7 +295,17 @@ module _ (g : Ground) (h : Site) (static : Static h) (ks : List Item) (m : sourc
     where
       by : (o : Option Loop) → d.loop ≡ o
           → Step h (Run (perform j (next_form e)) ks m) (state_at g h d.x d.n (aligned k m))
-      by None is = absurd (true≢false (sym d.covered.0 ∙ ap (λ (o : Option Loop). is_some o) is))
+      by None is =
+          begins_last g h ks m ls k both j (next_form e) e leave_round d refl (omega arith) d.covered (op.Return d.r)
+          (subst (λ (o : Option Loop). Stands h d.n (gen (within h d.loop) d.s d.r e ⊕ next_by o d.r)) is d.code)
+          (λ n l. ends_body (record {
+            at = refl;
+            action = refl;
+            first = refl;
+            last = refl;
+            outside = is;
+            returns = l;
+          }))
       by (Some target) is =
           let p = gen (within h d.loop) d.s d.r e in
           let out = leave target.round in
@@ -300,7 +323,7 @@ module _ (g : Ground) (h : Site) (static : Static h) (ks : List Item) (m : sourc
               loop = d.loop;
               s = d.s;
               here = d.here;
-              covered = at_top h d.loop d.r d.s j e d.covered.1;
+              covered = at_top h d.loop d.r d.s j e d.covered;
               above = d.above;
               code = left h d.n p out code;
               next = record {

@@ -16,7 +16,11 @@ pub mod Operators
 pub mod Sends
 pub mod Calls
 pub mod Blocks
+pub mod Failing
 pub mod Yields
+pub mod Leaving
+pub mod Far
+pub mod Outward
 pub mod Exits
 pub mod Jumps
 pub mod Returns

@@ -1,6 +1,6 @@
 -- Loops.
 use Rattle.std.proofs.Common.{◌≡◌, ◌⊎◌, ℕ, ◌+◌, List, ◌∷◌, refl, sym, ap, ◌∙◌, subst, inl, inr, arith, Bool, true, false}
-use Rattle.std.specs.Prelude.{is_some, if◌then◌else◌, Option, Some}
+use Rattle.std.specs.Prelude.{if◌then◌else◌, Option, Some}
 use Rattle.rb_value.specs.declared.value.Value.{Value}
 use Rattle.rb_value.specs.declared.value.Value.TheVariants.{Nil}
 use Rattle.rb_value.specs.declared.exit.Slot.TheVariants.{V}
@@ -40,7 +40,7 @@ pub record Entered (first : Bool) (h : Site) (n r : ℕ) (t b : CoreForm) (end :
   pub enters : LineAt h n (line.Jump (entry first loop))
 
 module _ (h : Site) (n r end : ℕ) (o : Option Loop) (s : Spot) (t b : CoreForm) (here : s.line ≡ n) (room : Room h r)
-    (covers : Covered h true r t × Covered h true r b) where
+    (covers : Covered h r t × Covered h r b) where
   -- the jump out of the loop leads to its end
   leads : (at out to : ℕ) → at ≡ out → to ≡ end → LineAt h at (line.Jump to) → LineAt h out (line.Jump end)
   leads at out to e f l = subst (λ (i : ℕ). LineAt h i (line.Jump end)) e (subst (λ (i : ℕ). LineAt h at (line.Jump i)) f l)
@@ -211,11 +211,6 @@ module _ (h : Site) (n r end : ℕ) (o : Option Loop) (s : Spot) (t b : CoreForm
 
 module _ (g : Ground) (h : Site) (static : Static h) (ks : List Item) (m : source.Memory) (ls : List Level)
     (k : machine.Memory) (both : Common g h m (aligned k m)) where
-  -- the loop is around its parts
-  in_loop_covered : (o : Option Loop) (target : Loop) (r : ℕ) (e : CoreForm) → o ≡ Some target → Covered h true r e
-      → Covered h (is_some o) r e
-  in_loop_covered o target r e is c = subst (λ (i : Option Loop). Covered h (is_some i) r e) (sym is) c
-
   -- the test is about to be done, and the body
   pub at_test : (x : Rest) (r end : ℕ) (outer : Option Loop) (j : ℕ) (t b : CoreForm) (l : LoopAt h r t b end)
       → m.place ≡ place_in h → InFrame g h k.lists ks end r outer
@@ -233,7 +228,7 @@ module _ (g : Ground) (h : Site) (static : Static h) (ks : List Item) (m : sourc
       loop = l.loop;
       s = l.test_spot;
       here = refl;
-      covered = at_top h l.loop r l.test_spot j t (in_loop_covered l.loop l.target r t l.is l.test_covered);
+      covered = at_top h l.loop r l.test_spot j t l.test_covered;
       above = l.room.above;
       code = l.test;
       next = record {
@@ -265,7 +260,7 @@ module _ (g : Ground) (h : Site) (static : Static h) (ks : List Item) (m : sourc
       loop = l.loop;
       s = l.body_spot;
       here = refl;
-      covered = at_top h l.loop r l.body_spot i b (in_loop_covered l.loop l.target r b l.is l.body_covered);
+      covered = at_top h l.loop r l.body_spot i b l.body_covered;
       above = l.room.above;
       code = l.body;
       next = record {

@@ -7,7 +7,7 @@ use Rattle.def_eval.proofs.Running.{run as run_source}
 use Rattle.def_machine.proofs.Running.{run as run_code}
 use Rattle.ir_core.specs.CoreForm.{form_of, none, more}
 use Rattle.step_laws.specs.Tops.{IsPlainBlock, AreTops, IsPlainProgram, no_tops, form_before, method_before, call_before, list_before}
-use Rattle.step_laws.specs.Example.{chooser, IsMethodWitness, teller, showing, visitor, IsBlockWitness, passer, printer, yielder, IsYieldWitness}
+use Rattle.step_laws.specs.Example.{chooser, IsMethodWitness, teller, showing, visitor, IsBlockWitness, passer, printer, yielder, IsYieldWitness, finder, stopper, seeker, IsExitWitness}
 
 plain : IsPlainProgram chooser
 plain =
@@ -109,6 +109,44 @@ hands_on = record {
   program = refl;
   within = refl;
   plain = yielder_plain;
+  evaluates = refl;
+  runs = refl;
+}
+
+-- blocks that a next, a return and a break leave
+finds : IsPlainBlock finder
+finds = record {
+  straight = record { no_optional = refl; one_rest = omega arith; one_block = omega arith };
+  named = (tt, tt);
+  closed = refl;
+}
+
+stops : IsPlainBlock stopper
+stops = record {
+  straight = record { no_optional = refl; one_rest = omega arith; one_block = omega arith };
+  named = (tt, tt);
+  closed = refl;
+}
+
+seeker_plain : IsPlainProgram seeker
+seeker_plain =
+    list_before
+    (method_before (record {
+      straight = record { no_optional = refl; one_rest = omega arith; one_block = omega arith };
+      named = tt;
+    })
+    (call_before (record { receiver = (tt, (tt, (tt, tt))); items = tt; few = refl }) finds
+    (form_before ((((tt, (tt, tt), refl), tt, tt), tt), (tt, tt)) no_tops) no_tops)
+    (form_before (((tt, refl), tt), refl)
+    (call_before (record { receiver = (tt, (tt, tt)); items = tt; few = refl }) stops
+    (form_before (((tt, tt), refl), (tt, tt)) no_tops) no_tops))) no_tops
+
+pub seeks : IsExitWitness seeker
+unfolding coded assembled both puts makes past behind nothing instruction_before run_source run_code
+seeks = record {
+  program = refl;
+  within = refl;
+  plain = seeker_plain;
   evaluates = refl;
   runs = refl;
 }

@@ -14,13 +14,14 @@ use Rattle.def_machine.specs.State as machine
 use Rattle.def_machine.specs.State.{Level}
 use Rattle.step_laws.specs.Site.{Site}
 use Rattle.step_laws.specs.Calm.{IsSteady, Quiet}
-use Rattle.step_laws.specs.Behind.{Static, OperandBehind, to_local, to_global, strict, breaks, begins_round, leaves_body}
+use Rattle.step_laws.specs.Behind.{Static, OperandBehind, to_local, to_global, strict, breaks, begins_round, leaves_body, ends_body, goes_far}
 use Rattle.step_laws.specs.Relation.{Ground, Common, Doing, GivesIn, Step}
 use Rattle.step_laws.proofs.Matching.{state_at}
 use Rattle.step_laws.proofs.Literals.{aligned}
 use Rattle.step_laws.proofs.Locals.{give_local}
 use Rattle.step_laws.proofs.Globals.{give_global}
-use Rattle.step_laws.proofs.Returns.{give_return}
+use Rattle.step_laws.proofs.Returns.{give_return, give_round}
+use Rattle.step_laws.proofs.Far.{give_far}
 use Rattle.step_laws.proofs.Jumps.{give_break, give_next}
 use Rattle.step_laws.proofs.Strict.{one_operand, two_operands, give_strict}
 
@@ -114,4 +115,6 @@ module _ (g : Ground) (h : Site) (static : Static h) (j : ℕ) (ks : List Item) 
       by (breaks b) = give_break g h static ks m ls k both v i a vs es d b
       by (begins_round b) = give_next g h static ks m ls k both v i a vs es d b
       by (leaves_body b) = give_return g h static ks m ls k both v i a vs es d b
+      by (ends_body b) = give_round g h static ks m ls k both v i a vs es d b
+      by (goes_far b) = give_far g h static ks m ls k both v i a vs es d b quiet
       by (strict b) = give_strict g h static ks m ls k both steady d.there v i a vs es d b quiet

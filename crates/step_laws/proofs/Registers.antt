@@ -15,7 +15,7 @@ use Rattle.def_eval.specs.Scopes.{same_local, value_in, put_value, no_scope, sco
 use Rattle.def_machine.specs.State.{Registers, no_registers, body_at, list_at, slot_at, value_at, put}
 use Rattle.scope_laws.specs.Numbers.{parents, outers}
 use Rattle.step_laws.specs.Site.{Site, place_in, register, Known}
-use Rattle.step_laws.specs.Behind.{Static, Holds, HoldsCall, OperandBehind, Behind, to_local, to_global, strict, breaks, begins_round, leaves_body}
+use Rattle.step_laws.specs.Behind.{Static, Holds, HoldsCall, OperandBehind, Behind, to_local, to_global, strict, breaks, begins_round, leaves_body, ends_body, goes_far}
 use Rattle.step_laws.specs.Relation.{Inside, IsOwn, Owned, Same}
 
 pub list_same : (l : List Registers) (n i : ℕ) (v : Slot) → n < length l
@@ -100,6 +100,8 @@ operand_kept h l l' a vs es low n r end around k above (to_global b) = to_global
 operand_kept h l l' a vs es low n r end around k above (breaks b) = breaks b
 operand_kept h l l' a vs es low n r end around k above (begins_round b) = begins_round b
 operand_kept h l l' a vs es low n r end around k above (leaves_body b) = leaves_body b
+operand_kept h l l' a vs es low n r end around k above (ends_body b) = ends_body b
+operand_kept h l l' a vs es low n r end around k above (goes_far b) = goes_far b
 operand_kept h l l' a vs es low n r end around k above (strict b) = strict (record {
   row = b.row;
   held = holds_kept h l l' r low vs k above (omega (arith, b.row)) b.held;

@@ -1,7 +1,7 @@
 -- Returns: to the end of the activation part by part, and there to what waits below.
-use Rattle.std.proofs.Common.{◌≡◌, ℕ, ◌+◌, ◌<◌, List, [], ◌∷◌, ◌++◌, refl, sym, ap, ◌∙◌, subst, arith, Bool, true}
+use Rattle.std.proofs.Common.{◌≡◌, ℕ, ◌+◌, ◌<◌, List, [], ◌∷◌, ◌++◌, refl, sym, ap, ◌∙◌, subst, arith, Bool, true, false}
 use Rattle.std.proofs.lemmas.Bool.{eq-eqb}
-use Rattle.std.specs.Prelude.{◌||◌, if◌then◌else◌, Option, Some}
+use Rattle.std.specs.Prelude.{if◌then◌else◌, Some}
 use Rattle.rb_value.specs.declared.value.Value.{Value}
 use Rattle.rb_value.specs.declared.exit.Exit.TheVariants.{Return}
 use Rattle.rb_value.specs.declared.exit.Slot.TheVariants.{V}
@@ -9,59 +9,39 @@ use Rattle.rb_value.specs.Slot.{read}
 use Rattle.def_core.specs.declared.cause.Cause.TheVariants as cause
 use Rattle.rite_code.specs.declared.operation.Operation.{Operation}
 use Rattle.rite_code.specs.declared.operation.Operation.TheVariants as op
-use Rattle.ir_core.specs.CoreForm.{CoreForm, return_form, Forms}
+use Rattle.ir_core.specs.CoreForm.{CoreForm, return_form, Forms, none}
+use Rattle.scope_resolver.specs.declared.body_kind.BodyKind.{BodyKind}
+use Rattle.scope_resolver.specs.declared.body_kind.BodyKind.TheVariants as kind
 use Rattle.gen_parts.specs.declared.line.Line.TheVariants as line
 use Rattle.gen_parts.specs.Pieces.{does, ◌⊕◌}
-use Rattle.gen_forms.specs.declared.context.Loop.{Loop}
-use Rattle.gen_forms.specs.Gen.{gen}
+use Rattle.gen_forms.specs.Gen.{gen, return_by}
 use Rattle.def_calls.specs.World.{Answer, activation_at, fail}
 use Rattle.def_calls.specs.Calls.{close}
 use Rattle.def_eval.specs.Configuration as source
-use Rattle.def_eval.specs.Configuration.{Place, Exit, return, Action, leave_method, Part, operands, Stop, passes, loops, rescues, assigns, retries, ensures, stop_of, Item, part, activation, iteration, ensuring, perform, give, travel, Config, Run}
+use Rattle.def_eval.specs.Configuration.{Place, Exit, return, next, Action, leave_method, leave_round, Part, operands, Stop, passes, loops, rescues, assigns, retries, ensures, stop_of, Item, part, activation, perform, give, travel, Config, Run}
 use Rattle.def_eval.specs.Entering.{after}
-use Rattle.def_eval.specs.Forms.{is_under_way, leave_to, next_operand, finish, do_form}
+use Rattle.def_eval.specs.Forms.{leave_to, next_operand, finish, do_form}
 use Rattle.def_eval.specs.Giving.{returned, give_part, do_give}
-use Rattle.def_eval.specs.Exits.{travel_part, reach, do_travel}
+use Rattle.def_eval.specs.Exits.{travel_part, travel_activation, reach, do_travel}
 use Rattle.def_eval.specs.Transition.{go}
 use Rattle.def_machine.specs.State as machine
-use Rattle.def_machine.specs.State.{Registers, Level, frame, slot_at}
+use Rattle.def_machine.specs.State.{Level, frame, slot_at}
 use Rattle.def_machine.specs.Unwind.{receive, throw}
 use Rattle.step_laws.specs.Site.{Site, within, LineAt}
 use Rattle.step_laws.specs.Calm.{Quiet}
 use Rattle.step_laws.specs.Measure.{measure}
-use Rattle.step_laws.proofs.Covers.{at_top}
-use Rattle.step_laws.proofs.Placed.{high, Stands, left, right, the_line, Rest, frame_at, turned}
-use Rattle.step_laws.specs.Behind.{Static, ReturnBehind, leaves_body}
-use Rattle.step_laws.specs.Relation.{Ground, Waits, InFrame, IsPassed, Common, Doing, GivesIn, Home, returning, Related, Step}
-use Rattle.step_laws.proofs.Untouched.{leaves_end, grown}
+use Rattle.step_laws.specs.Far.{returns_far, home_exit}
+use Rattle.step_laws.proofs.Placed.{high, Stands, Rest, frame_at, turned}
+use Rattle.step_laws.specs.Behind.{Static, OperandBehind, ReturnBehind, RoundBehind, leaves_body, goes_far}
+use Rattle.step_laws.specs.Relation.{Ground, IsPassed, IsLeft, Common, Doing, GivesIn, Home, returning, Related, Step}
+use Rattle.step_laws.proofs.Untouched.{grown}
 use Rattle.step_laws.proofs.Matching.{by_none, going, state_at}
 use Rattle.step_laws.proofs.Calling.{From, passed, falls, given_back}
 use Rattle.step_laws.proofs.Literals.{aligned}
 use Rattle.step_laws.proofs.Exits.{weight_pos, returned_by}
+use Rattle.step_laws.proofs.Leaving.{home_of, under_way, begins_last}
 
--- down to the end of the activation
-home_of : (g : Ground) (h : Site) (l : List Registers) (ks : List Item) (n r : ℕ) (around : Option Loop)
-    → InFrame g h l ks n r around → Home g h l ks
-home_of g h l [] n r around a = absurd a
-home_of g h l (part p ∷ ks) n r around a =
-    (passed h l p a.low n r a.end around a.behind, home_of g h l ks a.end a.low a.outer a.next)
-home_of g h l (activation c p ∷ ks) n r around a = (
-  a.0.is,
-  leaves_end h g.fiber g.below (λ q js. Waits g.sites g.fiber l js q g.below) g.sites l (λ q js w. w) p ks n r a.0.by,
-)
-home_of g h l (iteration c it p ∷ ks) n r around a = absurd a
-home_of g h l (ensuring o ∷ ks) n r around a = absurd a
-
-under_way : (g : Ground) (h : Site) (l : List Registers) (ks : List Item) → Home g h l ks
-    → is_under_way ks h.activation ≡ true
-under_way g h l [] w = absurd w
-under_way g h l (part p ∷ ks) w = under_way g h l ks w.1
-under_way g h l (activation a p ∷ ks) w =
-    ap (λ (b : Bool). b || is_under_way ks h.activation) (eq-eqb h.activation a (sym w.0))
-under_way g h l (iteration a it p ∷ ks) w = absurd w
-under_way g h l (ensuring o ∷ ks) w = absurd w
-
--- a return passes a part
+-- A return passes a part, and a next one that is no loop.
 return_passes : (a : ℕ) (v : Value) (p : Stop) (ks : List Item) (m : source.Memory) → IsPassed p
     → travel_part (return a v) p ks m ≡ Run (travel (return a v)) ks m
 return_passes a v passes ks m g = refl
@@ -71,50 +51,52 @@ return_passes a v (assigns e r) ks m g = refl
 return_passes a v (retries r) ks m g = refl
 return_passes a v (ensures n e) ks m g = absurd g
 
+home_passes : (round : Bool) (a : ℕ) (v : Value) (p : Stop) (ks : List Item) (m : source.Memory) → IsLeft round p
+    → travel_part (home_exit round a v) p ks m ≡ Run (travel (home_exit round a v)) ks m
+home_passes false a v p ks m g = return_passes a v p ks m g
+home_passes true a v p ks m g = ap (λ (o : Stop). travel_part (next v) o ks m) g
+
 module _ (g : Ground) (h : Site) (static : Static h) (ks : List Item) (m : source.Memory) (ls : List Level)
     (k : machine.Memory) (both : Common g h m (aligned k m)) where
   pub do_return : (j : ℕ) (e : CoreForm) (d : Doing g h j (return_form e) ks m.place ls k.lists)
       → Step h (Run (perform j (return_form e)) ks m) (state_at g h d.x d.n (aligned k m))
   unfolding do_form
-  do_return j e d =
-      let p = gen (within h d.loop) d.s d.r e in
-      let out = does (op.Return d.r) in
-      let code = subst (λ (o : Operation). Stands h d.n (p ⊕ does o)) d.covered.0 d.code in
-      by_none h (Run (perform j (return_form e)) ks m) (state_at g h d.x d.n (aligned k m)) (omega arith) (
-        g,
-        h,
-        both,
-        record {
-          x = d.x;
-          n = d.n;
-          r = d.r;
-          is = refl;
-          there = d.there;
-          loop = d.loop;
-          s = d.s;
-          here = d.here;
-          covered = at_top h d.loop d.r d.s j e d.covered.1;
-          above = d.above;
-          code = left h d.n p out code;
-          next = record {
-            low = d.r;
-            end = d.n + high (gen (within h d.loop) d.s d.r (return_form e));
-            above = d.above;
-            below = omega arith;
-            behind = leaves_body (record {
-              at = refl;
-              action = refl;
-              first = refl;
-              last = refl;
-              own = d.covered.0;
-              returns = the_line h (d.n + high p) (line.Does (op.Return d.r)) (right h d.n p out code);
-            });
-            outer = d.loop;
-            inner = refl;
-            next = d.next;
-          };
-        },
-      )
+  do_return j e d = by h.context.kind_of refl
+    where
+      done : (o : Operation) → return_by h.context.kind_of d.r ≡ o
+          → ((n : ℕ) → LineAt h n (line.Does o)
+          → OperandBehind h k.lists leave_method [] none d.r n d.r
+          (d.n + high (gen (within h d.loop) d.s d.r (return_form e))) d.loop)
+          → Step h (Run (perform j (return_form e)) ks m) (state_at g h d.x d.n (aligned k m))
+      done o is behind =
+          begins_last g h ks m ls k both j (return_form e) e leave_method d refl (omega arith) d.covered o
+          (subst (λ (q : Operation). Stands h d.n (gen (within h d.loop) d.s d.r e ⊕ does q)) is d.code) behind
+
+      ends : return_by h.context.kind_of d.r ≡ op.Return d.r
+          → Step h (Run (perform j (return_form e)) ks m) (state_at g h d.x d.n (aligned k m))
+      ends is = done (op.Return d.r) is (λ n l. leaves_body (record {
+        at = refl;
+        action = refl;
+        first = refl;
+        last = refl;
+        own = is;
+        returns = l;
+      }))
+
+      by : (q : BodyKind) → h.context.kind_of ≡ q
+          → Step h (Run (perform j (return_form e)) ks m) (state_at g h d.x d.n (aligned k m))
+      by kind.Main is = ends (ap (λ (q : BodyKind). return_by q d.r) is)
+      by kind.Method is = ends (ap (λ (q : BodyKind). return_by q d.r) is)
+      by kind.Class is = ends (ap (λ (q : BodyKind). return_by q d.r) is)
+      by kind.Block is = done (op.ReturnBlk d.r) (ap (λ (q : BodyKind). return_by q d.r) is) (λ n l. goes_far (record {
+        at = refl;
+        by = returns_far;
+        action = refl;
+        first = refl;
+        last = refl;
+        outside = tt;
+        leaves = l;
+      }))
 
   pub give_return : (v : Value) (j : ℕ) (a : Action) (vs : List Value) (es : Forms)
       (d : GivesIn g h v (part (operands j a vs es) ∷ ks) m.place ls k.lists)
@@ -123,7 +105,7 @@ module _ (g : Ground) (h : Site) (static : Static h) (ks : List Item) (m : sourc
   unfolding do_give give_part finish
   give_return v j a vs es d b =
       let c = Run (give v) (part (operands j a vs es) ∷ ks) m in
-      let home = home_of g h k.lists ks d.next.end d.next.low d.next.outer d.next.next in
+      let home = home_of g h k.lists false ks d.next.end d.next.low d.next.outer (λ t. absurd (cc t)) d.next.next in
       let failure : Answer = fail m.world cause.UnexpectedReturn in
       let goes : go h.source c ≡ Run (travel (return h.activation v)) ks m =
       ap (λ (x : Action). next_operand h.source j x (vs ++ v ∷ []) es ks m) b.action
@@ -132,7 +114,7 @@ module _ (g : Ground) (h : Site) (static : Static h) (ks : List Item) (m : sourc
       ∙ ap (λ (p : Place). leave_to return failure v ks m (Some (activation_at m.world p.activation).home)) d.there
       ∙ ap (λ (i : ℕ). leave_to return failure v ks m (Some i)) ((both.all.sites.each h both.site).home d.next.low b.own)
       ∙ ap (λ (t : Bool). if t then Run (travel (return h.activation v)) ks m else after failure ks m)
-      (under_way g h k.lists ks home) in
+      (under_way g h k.lists false ks home) in
       by_none h c (state_at g h d.x d.n (aligned k m))
       (subst (λ (q : Config). measure q < measure c) (sym goes) (omega arith))
       (subst (λ (q : Config). Related h q (state_at g h d.x d.n (aligned k m))) (sym goes) (returning (record {
@@ -144,10 +126,41 @@ module _ (g : Ground) (h : Site) (static : Static h) (ks : List Item) (m : sourc
         r = d.next.low;
         is = refl;
         value = v;
+        round = false;
         exit = refl;
         at = b.returns;
         stands = subst (λ (i : ℕ). slot_at k.lists h.list i ≡ V v) (sym b.at) d.stands;
         home = home;
+      })))
+
+  -- a next that is out of its loops
+  pub give_round : (v : Value) (j : ℕ) (a : Action) (vs : List Value) (es : Forms)
+      (d : GivesIn g h v (part (operands j a vs es) ∷ ks) m.place ls k.lists)
+      → RoundBehind h a vs es d.next.low d.n d.r d.loop
+      → Step h (Run (give v) (part (operands j a vs es) ∷ ks) m) (state_at g h d.x d.n (aligned k m))
+  unfolding do_give give_part finish
+  give_round v j a vs es d b =
+      let c = Run (give v) (part (operands j a vs es) ∷ ks) m in
+      let goes : go h.source c ≡ Run (travel (next v)) ks m =
+      ap (λ (x : Action). next_operand h.source j x (vs ++ v ∷ []) es ks m) b.action
+      ∙ ap (λ (us : List Value). next_operand h.source j leave_round (us ++ v ∷ []) es ks m) b.first
+      ∙ ap (λ (fs : Forms). next_operand h.source j leave_round (v ∷ []) fs ks m) b.last in
+      by_none h c (state_at g h d.x d.n (aligned k m))
+      (subst (λ (q : Config). measure q < measure c) (sym goes) (omega arith))
+      (subst (λ (q : Config). Related h q (state_at g h d.x d.n (aligned k m))) (sym goes) (returning (record {
+        g = g;
+        h = h;
+        both = both;
+        x = d.x;
+        n = d.n;
+        r = d.next.low;
+        is = refl;
+        value = v;
+        round = true;
+        exit = refl;
+        at = b.returns;
+        stands = subst (λ (i : ℕ). slot_at k.lists h.list i ≡ V v) (sym b.at) d.stands;
+        home = home_of g h k.lists true ks d.next.end d.next.low d.next.outer (λ t. d.next.inner ∙ b.outside) d.next.next;
       })))
 
   -- the frame that runs stands at the return
@@ -156,10 +169,11 @@ module _ (g : Ground) (h : Site) (static : Static h) (ks : List Item) (m : sourc
     pub n : ℕ
     pub r : ℕ
     pub value : Value
-    pub exit : e ≡ return h.activation value
+    pub round : Bool
+    pub exit : e ≡ home_exit round h.activation value
     pub at : LineAt h n (line.Does (op.Return r))
     pub stands : slot_at k.lists h.list r ≡ V value
-    pub home : Home g h k.lists is
+    pub home : Home g h k.lists round is
 
   -- a part is passed
   pub passes_on : (e : Exit) (p : Part) (q : Homing e (part p ∷ ks))
@@ -167,9 +181,9 @@ module _ (g : Ground) (h : Site) (static : Static h) (ks : List Item) (m : sourc
   unfolding do_travel
   passes_on e p q =
       let conf = Run (travel e) (part p ∷ ks) m in
-      let goes : go h.source conf ≡ Run (travel (return h.activation q.value)) ks m =
+      let goes : go h.source conf ≡ Run (travel (home_exit q.round h.activation q.value)) ks m =
       ap (λ (y : Exit). go h.source (Run (travel y) (part p ∷ ks) m)) q.exit
-      ∙ return_passes h.activation q.value (stop_of p) ks m q.home.0 in
+      ∙ home_passes q.round h.activation q.value (stop_of p) ks m q.home.0 in
       by_none h conf (state_at g h q.x q.n (aligned k m))
       (subst (λ (z : Config). measure z < measure conf) (sym goes) (omega (arith, weight_pos p)))
       (subst (λ (z : Config). Related h z (state_at g h q.x q.n (aligned k m))) (sym goes) (returning (record {
@@ -181,6 +195,7 @@ module _ (g : Ground) (h : Site) (static : Static h) (ks : List Item) (m : sourc
         r = q.r;
         is = refl;
         value = q.value;
+        round = q.round;
         exit = refl;
         at = q.at;
         stands = q.stands;
@@ -198,8 +213,7 @@ module _ (g : Ground) (h : Site) (static : Static h) (ks : List Item) (m : sourc
       let w = close m.world a in
       let m' : source.Memory = record m { place = place; world = w } in
       let goes : go h.source conf ≡ Run (give v) ks m' =
-      ap (λ (y : Exit). go h.source (Run (travel y) (activation a place ∷ ks) m)) q.exit
-      ∙ ap (λ (t : Bool). reach t (return h.activation v) v ks (returned m a place)) (eq-eqb a h.activation q.home.0) in
+      ap (λ (y : Exit). go h.source (Run (travel y) (activation a place ∷ ks) m)) q.exit ∙ ends q.round in
       let still = subst (Quiet m) goes quiet in
       let b = grown g m (aligned k m) both.all place w still.1 in
       let from : From h conf (frame (frame_at h q.x q.n) ∷ g.below) (aligned k m) m = record {
@@ -216,3 +230,10 @@ module _ (g : Ground) (h : Site) (static : Static h) (ks : List Item) (m : sourc
       ∙ ap (λ (c : ℕ). receive v g.below (machine.with_world k (close m.world c))) (sym q.home.0))
       (falls g.below ks m' conf (omega arith))
       (record { world = b.world; sites = b.sites; fibers = b.fibers; apart = b.apart }) q.home.1).advances
+    where
+      ends : (round : Bool) → travel_activation (home_exit round h.activation q.value) a ks (returned m a place)
+          ≡ Run (give q.value) ks (returned m a place)
+      ends false =
+          ap (λ (t : Bool). reach t (return h.activation q.value) q.value ks (returned m a place))
+          (eq-eqb a h.activation q.home.0)
+      ends true = refl

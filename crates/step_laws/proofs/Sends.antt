@@ -1,6 +1,6 @@
 -- Calls: the receiver, the items one after the other, and the call.
 use Rattle.std.proofs.Common.{◌≡◌, ◌⊎◌, ℕ, ◌+◌, ◌<◌, List, [], ◌∷◌, refl, sym, ap, ◌∙◌, subst, arith, length, Bool, true, false}
-use Rattle.std.specs.Prelude.{is_some, if◌then◌else◌, Option, None, nat_lt}
+use Rattle.std.specs.Prelude.{if◌then◌else◌, Option, None, nat_lt}
 use Rattle.rb_value.specs.declared.value.Value.{Value}
 use Rattle.rb_value.specs.declared.value.ObjId.{ObjId}
 use Rattle.rb_value.specs.declared.exit.Slot.TheVariants.{V}
@@ -63,7 +63,7 @@ pub record CallSite (g : Ground) (h : Site) (l : List Registers) (sender : Sendi
   pub r : ℕ
   pub row : low + 1 + length vs ≡ r
   pub room : Room h low
-  pub covered : CoveredItems h (is_some loop) r is
+  pub covered : CoveredItems h r is
   pub held : HoldsCall h l own low recv vs
   pub code : Stands h n (pass_in_registers (within h loop) s r is)
   pub end : ℕ

@@ -1,6 +1,6 @@
 -- Strict forms: the operands from left to right, and then an outcome of their values.
 use Rattle.std.proofs.Common.{◌≡◌, ℕ, zero, suc, ◌+◌, ◌<◌, List, [], ◌∷◌, ◌++◌, refl, sym, ap, ◌∙◌, subst, arith, length, length-append, get_or, true, false}
-use Rattle.std.specs.Prelude.{is_some, codes, unwrap_or, Option, Some}
+use Rattle.std.specs.Prelude.{codes, unwrap_or, Option, Some}
 use Rattle.rb_value.specs.declared.value.Value.{Value}
 use Rattle.rb_value.specs.declared.value.Value.TheVariants.{Nil}
 use Rattle.rb_value.specs.declared.value.SymId.{SymId}
@@ -310,7 +310,7 @@ module _ (g : Ground) (h : Site) (static : Static h) (ks : List Item) (m : sourc
   -- a form of one operand and of two begins with its first
   pub one_operand : (c : Config) (x : Rest) (n r j : ℕ) (loop : Option Loop) (s : Spot) (e : CoreForm) (a : Action)
       (o : Operation) → go h.source c ≡ Run (perform j e) (part (operands (j + span e) a [] none) ∷ ks) m
-      → 2 + size e + burden ks m < measure c → s.line ≡ n → Covered h (is_some loop) r e → Room h r → strict_op h r a ≡ Some o
+      → 2 + size e + burden ks m < measure c → s.line ≡ n → Covered h r e → Room h r → strict_op h r a ≡ Some o
       → IsReady h a → arity a ≡ 1 → Stands h n (gen (within h loop) s r e ⊕ does o)
       → InFrame g h k.lists ks (n + high (gen (within h loop) s r e ⊕ does o)) r loop
       → Step h c (state_at g h x n (aligned k m))
@@ -364,7 +364,7 @@ module _ (g : Ground) (h : Site) (static : Static h) (ks : List Item) (m : sourc
 
   pub two_operands : (c : Config) (x : Rest) (n r j : ℕ) (loop : Option Loop) (s : Spot) (e f : CoreForm) (a : Action)
       (o : Operation) → go h.source c ≡ Run (perform j e) (part (operands (j + span e) a [] (more f none)) ∷ ks) m
-      → 5 + size e + size f + burden ks m < measure c → s.line ≡ n → Covered h (is_some loop) r e → Covered h (is_some loop) (r + 1) f → Room h r
+      → 5 + size e + size f + burden ks m < measure c → s.line ≡ n → Covered h r e → Covered h (r + 1) f → Room h r
       → strict_op h r a ≡ Some o → IsReady h a → arity a ≡ 2
       → Stands h n ((gen (within h loop) s r e ⊕ gen (within h loop) (past s (gen (within h loop) s r e)) (r + 1) f) ⊕ does o)
       → InFrame g h k.lists ks (n + high ((gen (within h loop) s r e

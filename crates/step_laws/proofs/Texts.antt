@@ -1,6 +1,6 @@
 -- Texts: the String is there before its pieces, and gets the bytes of each of them.
 use Rattle.std.proofs.Common.{◌≡◌, ℕ, ◌+◌, List, [], ◌∷◌, refl, sym, ap, ◌∙◌, subst, arith}
-use Rattle.std.specs.Prelude.{is_some, codes, Option, Some}
+use Rattle.std.specs.Prelude.{codes, Option, Some}
 use Rattle.rb_value.specs.declared.value.Value.{Value}
 use Rattle.rb_value.specs.declared.value.Value.TheVariants.{Obj}
 use Rattle.rb_value.specs.declared.value.ObjId.{ObjId}
@@ -41,7 +41,7 @@ use Rattle.step_laws.proofs.Gathered.{kept}
 -- The next piece is about to be done, or the String is given.
 on_with : (g : Ground) (h : Site) (j : ℕ) (id : ObjId) (es : Forms) (ks : List Item) (m : source.Memory) (k : machine.Memory)
     (x : Rest) (n low end : ℕ) (loop : Option Loop) (s : Spot) → Common g h m k → m.place ≡ place_in h → Room h low
-    → CoveredForms h (is_some loop) (low + 1) es → s.line ≡ n → Stands h n (gather_text (within h loop) s low es)
+    → CoveredForms h (low + 1) es → s.line ≡ n → Stands h n (gather_text (within h loop) s low es)
     → n + high (gather_text (within h loop) s low es) ≡ end → slot_at k.lists h.list low ≡ V (Obj id)
     → InFrame g h k.lists ks end low loop → Related h (next_piece j id es ks m) (state_at g h x n k)
 on_with g h j id none ks m k x n low end loop s both there room covered here code ends held next =

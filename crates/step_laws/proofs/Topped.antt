@@ -1,6 +1,6 @@
 -- The forms, definitions and calls with a block at the top of a program within the limits, and of each body in it, are
 -- covered.
-use Rattle.std.proofs.Common.{◌≡◌, ◌≤◌, ℕ, zero, suc, ◌+◌, List, [], ◌∷◌, ◌++◌, length, get_or, arith, refl, sym, ap, ◌∙◌, subst, append_assoc, length-append, Bool, true, false}
+use Rattle.std.proofs.Common.{◌≡◌, ◌≤◌, ℕ, zero, suc, ◌+◌, List, [], ◌∷◌, ◌++◌, length, get_or, arith, refl, sym, ap, ◌∙◌, subst, append_assoc, length-append, Bool, true}
 use Rattle.std.specs.Prelude.{◌&&◌, slice_get, Some, None}
 use Rattle.std.proofs.lemmas.List.{append-nil}
 use Rattle.rite_code.specs.Code.{Program}
@@ -24,7 +24,6 @@ use Rattle.eval_laws.specs.Standing.{FormStands, FormsStand, past_receiver, past
 use Rattle.def_machine.specs.State.{body_at}
 use Rattle.def_machine.specs.Turn.{fetch, shape_by}
 use Rattle.step_laws.specs.Site.{Site, within}
-use Rattle.step_laws.specs.Covered.{Covered, CoveredItems}
 use Rattle.step_laws.specs.Covers.{CoveredReceiver, past_items_code, CallsWith, Covers, CoversAll}
 use Rattle.step_laws.specs.Tops.{IsPlainReceiver, IsPlainCall, IsPlainBlock, AreTops, no_tops, form_before, method_before, call_before, list_before}
 use Rattle.step_laws.proofs.Found.{both_true}
@@ -32,7 +31,7 @@ use Rattle.step_laws.proofs.Covers.{at_top}
 use Rattle.step_laws.proofs.Catchless.{IsBare, bare_items}
 use Rattle.step_laws.proofs.Making.{form_span, method_span, call_span, list_span, tops_span, bare_receiver, call_made, call_number}
 use Rattle.step_laws.proofs.Written.{forms_stand_on}
-use Rattle.step_laws.proofs.Covering.{Has, Agrees, room, named, none_spread, covered_items, covered}
+use Rattle.step_laws.proofs.Covering.{Has, room, named, none_spread, covered_items, covered}
 
 there_at : (xs : List ℕ) (x : ℕ) (ys : List ℕ) (n : ℕ) → length xs ≡ n → get_or (xs ++ x ∷ ys) n 0 ≡ x
 there_at [] x ys zero e = refl
@@ -103,16 +102,15 @@ module _ (h : Site) (ss : Slots) (ls : List Local) (t : Tally) (registers : ℕ)
         ∙ there_at stands.before k stands.after (past s (does (op.TClass r))).child at ∙ omega arith;
   }
 
-  receiver_covered : (e : Receiver) (r : ℕ) (a : Around) → Agrees h ls a → a.loops ≡ false → IsPlainReceiver e
+  receiver_covered : (e : Receiver) (r : ℕ) (a : Around) → a.known ≡ ls → IsPlainReceiver e
       → Noted_receiver t e → is_receiver a e ≡ true → h.first ≤ r → r + receiver_width e ≤ registers
-      → CoveredReceiver h false r e
-  receiver_covered (form.to e) r a k o is n f low w =
-      subst (λ (b : Bool). Covered h b r e) o (covered h ss ls t registers has e r a k is n f low w)
-  receiver_covered form.on_self r a k o is n f low w = tt
-  receiver_covered form.bare r a k o is n f low w = absurd is
+      → CoveredReceiver h r e
+  receiver_covered (form.to e) r a k is n f low w = covered h ss ls t registers has e r a k is n f low w
+  receiver_covered form.on_self r a k is n f low w = tt
+  receiver_covered form.bare r a k is n f low w = absurd is
 
   calls_with : Shapes h.source h.program → (s : Spot) (r : ℕ) (a z : Around) (e : Receiver) (x : Name) (is : Items)
-      (f : Body) → Agrees h ls a → a.loops ≡ false → IsPlainCall e is → IsPlainBlock f
+      (f : Body) → a.known ≡ ls → IsPlainCall e is → IsPlainBlock f
       → Noted t (form.call e x is (form.there (form.function f)))
       → is_form a (form.call e x is (form.there (form.function f))) ≡ true → h.first ≤ r
       → r + width (form.call e x is (form.there (form.function f))) ≤ registers
@@ -120,7 +118,7 @@ module _ (h : Site) (ss : Slots) (ls : List Local) (t : Tally) (registers : ℕ)
       → FormStands h.source z s.body (form.call e x is (form.there (form.function f)))
       → CallsWith h None r s s.body e x is (form.function f)
   unfolding past IsBare
-  calls_with shapes s r a z e x is (form.body p ks f) k o m block n formed low w stands st =
+  calls_with shapes s r a z e x is (form.body p ks f) k m block n formed low w stands st =
       let b = form.body p ks f in
       let ws = receiver_width e ∷ (item_widths is ++ width (form.function b) ∷ []) in
       let wide : r + in_order ws ≤ registers =
@@ -141,11 +139,10 @@ module _ (h : Site) (ss : Slots) (ls : List Local) (t : Tally) (registers : ℕ)
         f = b;
         literal = refl;
         room = room h ss ls t registers has r low (omega (arith, some));
-        receiver = receiver_covered e r a k o m.receiver n.1 first.0 low order.0;
-        items = subst (λ (z : Bool). CoveredItems h z (r + 1) is) o
-            (covered_items h ss ls t registers has is (r + 1) a k m.items n.2 second.0 (omega (arith, low))
+        receiver = receiver_covered e r a k m.receiver n.1 first.0 low order.0;
+        items = covered_items h ss ls t registers has is (r + 1) a k m.items n.2 second.0 (omega (arith, low))
             (subst (λ (vs : List ℕ). InOrder registers (r + 1) vs) (sym (append-nil (item_widths is)))
-            (order_left registers (r + 1) (item_widths is) (width (form.function b) ∷ []) order.1)));
+            (order_left registers (r + 1) (item_widths is) (width (form.function b) ∷ []) order.1));
         few = m.few;
         named = named h ss ls t registers has x n.0.name;
         made = record {
@@ -160,18 +157,18 @@ module _ (h : Site) (ss : Slots) (ls : List Local) (t : Tally) (registers : ℕ)
       }
 
   call_covers : Shapes h.source h.program → (s : Spot) (r : ℕ) (a z : Around) (e : Receiver) (x : Name) (is : Items)
-      (f : Body) → Agrees h ls a → a.loops ≡ false → IsPlainCall e is → IsPlainBlock f
+      (f : Body) → a.known ≡ ls → IsPlainCall e is → IsPlainBlock f
       → Noted t (form.call e x is (form.there (form.function f)))
       → is_form a (form.call e x is (form.there (form.function f))) ≡ true → h.first ≤ r
       → r + width (form.call e x is (form.there (form.function f))) ≤ registers
       → Stands all s (gen c s r (form.call e x is (form.there (form.function f)))).children
       → FormStands h.source z s.body (form.call e x is (form.there (form.function f)))
       → Covers h None r s s.body (form.call e x is (form.there (form.function f)))
-  call_covers shapes s r a z (form.to e) x is f k o m block n formed low w stands st =
-      calls_with shapes s r a z (form.to e) x is f k o m block n formed low w stands st
-  call_covers shapes s r a z form.on_self x is f k o m block n formed low w stands st =
-      calls_with shapes s r a z form.on_self x is f k o m block n formed low w stands st
-  call_covers shapes s r a z form.bare x is f k o m block n formed low w stands st = absurd m.receiver
+  call_covers shapes s r a z (form.to e) x is f k m block n formed low w stands st =
+      calls_with shapes s r a z (form.to e) x is f k m block n formed low w stands st
+  call_covers shapes s r a z form.on_self x is f k m block n formed low w stands st =
+      calls_with shapes s r a z form.on_self x is f k m block n formed low w stands st
+  call_covers shapes s r a z form.bare x is f k m block n formed low w stands st = absurd m.receiver
 
   -- what follows has the number behind the bodies of the form
   numbered : (s : Spot) (q : Piece) (e : CoreForm) (es : Forms) (r : ℕ) → span e ≡ length q.bodies
@@ -181,58 +178,58 @@ module _ (h : Site) (ss : Slots) (ls : List Local) (t : Tally) (registers : ℕ)
       subst (λ (j : ℕ). CoversAll h None r (past s q) j es) (omega (arith, long)) covers
 
   pub tops_cover : Shapes h.source h.program → {es : Forms} → AreTops es → (s : Spot) (r g : ℕ) (a z : Around)
-      → Agrees h ls a → a.loops ≡ false → FormsStand h.source z s.body es → Noted_all t es → are_forms a es ≡ true
+      → a.known ≡ ls → FormsStand h.source z s.body es → Noted_all t es → are_forms a es ≡ true
       → h.first ≤ r → Under g (widths es) → r + g ≤ registers → Stands all s (others_in_turn c s r es).children
       → CoversAll h None r s s.body es
   unfolding both
-  tops_cover shapes no_tops s r g a z k o st n formed low u w stands = tt
-  tops_cover shapes (form_before {e} {es} is tops) s r g a z k o st n formed low u w stands =
+  tops_cover shapes no_tops s r g a z k st n formed low u w stands = tt
+  tops_cover shapes (form_before {e} {es} is tops) s r g a z k st n formed low u w stands =
       let q = gen c s r e in
       let parts = both_true (is_form a e) (are_forms a es) formed in (
-        at_top h None r s s.body e (subst (λ (b : Bool). Covered h b r e) o
-            (covered h ss ls t registers has e r a k is n.0 parts.0 low (omega (arith, u.0, w)))),
+        at_top h None r s s.body e
+            (covered h ss ls t registers has e r a k is n.0 parts.0 low (omega (arith, u.0, w))),
         numbered s q e es r (form_span e is c s r)
-            (tops_cover shapes tops (past s q) r g a z k o
+            (tops_cover shapes tops (past s q) r g a z k
             (forms_stand_on h.source z s q e es (form_span e is c s r) st.1) n.1 parts.1 low u.1 w
             (then_stands all s q (others_in_turn c (past s q) r es).children stands)),
       )
-  tops_cover shapes (method_before {x} {f} {es} m body tops) s r g a z k o st n formed low u w stands =
+  tops_cover shapes (method_before {x} {f} {es} m body tops) s r g a z k st n formed low u w stands =
       let q = gen c s r (form.define x f) in
       let rest = others_in_turn c (past s q) r es in
       let parts = both_true (is_form a (form.define x f)) (are_forms a es) formed in
       let long = method_span x f m (λ d v i. tops_span body d v i) c s r in (
         method_covers s r a x f n.0 low (omega (arith, u.0, w)) (first_stands all s q.children rest.children stands),
         numbered s q (form.define x f) es r long
-            (tops_cover shapes tops (past s q) r g a z k o
+            (tops_cover shapes tops (past s q) r g a z k
             (forms_stand_on h.source z s q (form.define x f) es long st.1) n.1 parts.1 low u.1 w
             (then_stands all s q rest.children stands)),
       )
-  tops_cover shapes (call_before {e} {x} {is} {f} {es} m block body tops) s r g a z k o st n formed low u w stands =
+  tops_cover shapes (call_before {e} {x} {is} {f} {es} m block body tops) s r g a z k st n formed low u w stands =
       let whole = form.call e x is (form.there (form.function f)) in
       let q = gen c s r whole in
       let rest = others_in_turn c (past s q) r es in
       let parts = both_true (is_form a whole) (are_forms a es) formed in
       let long = call_span e x is f m block (λ d v i. tops_span body d v i) c s r in (
-        call_covers shapes s r a z e x is f k o m block n.0 parts.0 low (omega (arith, u.0, w))
+        call_covers shapes s r a z e x is f k m block n.0 parts.0 low (omega (arith, u.0, w))
             (first_stands all s q.children rest.children stands) st.0,
         numbered s q whole es r long
-            (tops_cover shapes tops (past s q) r g a z k o (forms_stand_on h.source z s q whole es long st.1)
+            (tops_cover shapes tops (past s q) r g a z k (forms_stand_on h.source z s q whole es long st.1)
             n.1 parts.1 low u.1 w (then_stands all s q rest.children stands)),
       )
-  tops_cover shapes (list_before {fs} {es} inner tops) s r g a z k o st n formed low u w stands =
+  tops_cover shapes (list_before {fs} {es} inner tops) s r g a z k st n formed low u w stands =
       let q = gen c s r (form.seq fs) in
       let rest = others_in_turn c (past s q) r es in
       let parts = both_true (is_form a (form.seq fs)) (are_forms a es) formed in
       let part = turn_within registers r (widths fs) (omega (arith, u.0, w)) in (
         (
           room h ss ls t registers has r low (omega (arith, part.1)),
-          tops_cover shapes inner s r (greatest (widths fs)) a z k o st.0 n.0.1 parts.0 low (under_greatest 0 (widths fs))
+          tops_cover shapes inner s r (greatest (widths fs)) a z k st.0 n.0.1 parts.0 low (under_greatest 0 (widths fs))
               (omega (arith, part.0))
               (subst (λ (xs : List ℕ). Stands all s xs) (turn_children c s r fs)
               (first_stands all s q.children rest.children stands)),
         ),
         numbered s q (form.seq fs) es r (list_span fs inner c s r)
-            (tops_cover shapes tops (past s q) r g a z k o
+            (tops_cover shapes tops (past s q) r g a z k
             (forms_stand_on h.source z s q (form.seq fs) es (list_span fs inner c s r) st.1) n.1 parts.1 low u.1 w
             (then_stands all s q rest.children stands)),
       )

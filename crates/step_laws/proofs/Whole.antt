@@ -32,7 +32,7 @@ use Rattle.step_laws.specs.Calm.{IsCalm, StaysCalm}
 use Rattle.step_laws.specs.Measure.{measure}
 use Rattle.step_laws.specs.Implements.{main_site, IsCodeOf, Implements}
 use Rattle.step_laws.specs.Behind.{Static}
-use Rattle.step_laws.specs.Relation.{Same, Common, Doing, GivesIn, raised, leaping, returning, Step, stops, Ground, SiteIs, SitesAre, Both, Running, Alike, Advances, Shared, Throwing, Leaps, GoesHome, Travels}
+use Rattle.step_laws.specs.Relation.{Same, Common, Doing, GivesIn, raised, leaping, returning, going_far, Step, stops, Ground, SiteIs, SitesAre, Both, Running, Alike, Advances, Shared, Throwing, Leaps, GoesHome, GoesFar, Travels}
 use Rattle.step_laws.proofs.Placed.{high, Stands, Rest, frame_at}
 use Rattle.step_laws.proofs.Matching.{state_at}
 use Rattle.step_laws.proofs.Literals.{aligned, do_nil, do_truth, do_falsehood, do_self, do_int}
@@ -51,6 +51,7 @@ use Rattle.step_laws.proofs.Branches.{do_cond, give_test, give_chosen, do_and, d
 use Rattle.step_laws.proofs.Jumps.{do_break, do_next, leap_on}
 use Rattle.step_laws.proofs.Definitions.{do_define}
 use Rattle.step_laws.proofs.Returns.{do_return, passes_on, comes_home}
+use Rattle.step_laws.proofs.Outward.{far_at_end, far_at_part, far_at_activation, far_at_iteration}
 use Rattle.step_laws.proofs.Loops.{do_while, give_loop_test, give_loop_body}
 use Rattle.step_laws.proofs.Blocks.{do_function, give_block}
 use Rattle.step_laws.proofs.Yields.{do_yield}
@@ -220,6 +221,7 @@ returned_on s p x (part q ∷ ks) m ls k z calm =
       n = z.n;
       r = z.r;
       value = z.value;
+      round = z.round;
       exit = z.exit;
       at = z.at;
       stands = z.stands;
@@ -233,6 +235,7 @@ returned_on s p x (activation a q ∷ ks) m ls k z calm =
       n = z.n;
       r = z.r;
       value = z.value;
+      round = z.round;
       exit = z.exit;
       at = z.at;
       stands = z.stands;
@@ -241,12 +244,22 @@ returned_on s p x (activation a q ∷ ks) m ls k z calm =
 returned_on s p x (iteration a it q ∷ ks) m ls k z calm = absurd z.home
 returned_on s p x (ensuring y ∷ ks) m ls k z calm = absurd z.home
 
+far_on : (s : Source) (p : Program) (x : Exit) (ks : List Item) (m : source.Memory) (ls : List Level)
+    (k : machine.Memory) → GoesFar s p x ks m ls k → IsCalm s p (Run (travel x) ks m)
+    → Advances s p (Run (travel x) ks m) (On ls k)
+far_on s p x [] m ls k z calm = far_at_end s p m ls k x z
+far_on s p x (part q ∷ ks) m ls k z calm = far_at_part s p m ls k x q ks z
+far_on s p x (activation a q ∷ ks) m ls k z calm = far_at_activation s p m ls k x a q ks z calm.3.quiet
+far_on s p x (iteration a it q ∷ ks) m ls k z calm = far_at_iteration s p m ls k x a it q ks z calm.2 calm.3.quiet
+far_on s p x (ensuring y ∷ ks) m ls k z calm = absurd z.leaving
+
 travel_on : (s : Source) (p : Program) (x : Exit) (ks : List Item) (m : source.Memory) (ls : List Level)
     (k : machine.Memory) → Travels s p x ks m ls k → IsCalm s p (Run (travel x) ks m)
     → Advances s p (Run (travel x) ks m) (On ls k)
 travel_on s p x ks m ls k (raised z) calm = thrown_on s p x ks m ls k z calm
 travel_on s p x ks m ls k (leaping z) calm = leapt_on s p x ks m ls k z calm
 travel_on s p x ks m ls k (returning z) calm = returned_on s p x ks m ls k z calm
+travel_on s p x ks m ls k (going_far z) calm = far_on s p x ks m ls k z calm
 
 matched : (s : Source) (p : Program) (c : Config) (t : State) → Alike s p c t → IsCalm s p c → over (seen c) ≡ false
     → Advances s p c t
@@ -292,6 +305,7 @@ alike s p (Run (give v) (ensuring x ∷ ks) m) (On ls k) r = absurd r
 alike s p (Run (travel x) ks m) (On ls k) (raised r) = ap Going r.out
 alike s p (Run (travel x) ks m) (On ls k) (leaping r) = ap (λ (w : World). Going w.out) r.both.all.world
 alike s p (Run (travel x) ks m) (On ls k) (returning r) = ap (λ (w : World). Going w.out) r.both.all.world
+alike s p (Run (travel x) ks m) (On ls k) (going_far r) = ap Going r.out
 
 ended : (s : Source) (c : Config) → over (seen c) ≡ true → go s c ≡ c
 unfolding seen

@@ -1,6 +1,6 @@
 -- The bodies that the code of a program of plain forms, methods and blocks makes are those of its source, number by
 -- number.
-use Rattle.std.proofs.Common.{◌≡◌, ◌≤◌, ℕ, zero, suc, ◌+◌, List, [], ◌∷◌, ◌++◌, length, get_or, arith, refl, sym, ap, ◌∙◌, subst, true, false}
+use Rattle.std.proofs.Common.{◌≡◌, ◌≤◌, ℕ, zero, suc, ◌+◌, List, [], ◌∷◌, ◌++◌, length, get_or, arith, refl, sym, ap, ◌∙◌, subst, true}
 use Rattle.std.specs.Prelude.{◌&&◌, slice_get, unwrap_or, Bool, Option, Some}
 use Rattle.std.proofs.lemmas.List.{append-nil}
 use Rattle.rite_code.specs.declared.code.Irep.{Irep}
@@ -16,7 +16,7 @@ use Rattle.scope_resolver.specs.declared.body_kind.BodyKind.TheVariants as kind
 use Rattle.scope_resolver.specs.Layout.{Scopes, seen_around}
 use Rattle.gen_parts.specs.declared.emitter.Spot.{Spot}
 use Rattle.gen_parts.specs.Pieces.{Piece, past, behind, nothing, both, puts, makes, does}
-use Rattle.gen_forms.specs.Gen.{Context, gen, others_in_turn, first_spot, first_register, opening, return_by}
+use Rattle.gen_forms.specs.Gen.{Context, gen, others_in_turn, first_spot, first_register, opening}
 use Rattle.code_laws.proofs.Shares.{Noted, Noted_all, Fits, many, many_all, many_body}
 use Rattle.code_laws.proofs.Operating.{AreShort}
 use Rattle.def_eval.specs.Source.{Source, over, over_body, over_forms, over_items, how_many, in_order, span, parameters_of, locals_of}
@@ -33,7 +33,7 @@ use Rattle.step_laws.proofs.Catchless.{IsBare, bare}
 use Rattle.step_laws.proofs.Making.{body_irep, inner_bodies, code_of_method, turn_bodies, form_span, method_span, call_made, none_in_receiver, call_span, call_number, tops_span, list_span, form_many, method_many, call_many, tops_many}
 
 -- A body of a method or a block of the source, and its body in the code. Its form is one within what is around it, and
--- within its own locals, where there is no return but that of a method.
+-- within its own locals.
 pub record Written (s : Source) (k : BodyKind) (n : ℕ) (b : Body) (i : Irep) : Type 0 where
   pub around : Scopes
   pub out : Around k around
@@ -45,8 +45,6 @@ pub record Written (s : Source) (k : BodyKind) (n : ℕ) (b : Body) (i : Irep) :
   pub stands : FormStands s within (n + 1) (form_of b)
   pub inner : program.Around
   pub known : inner.known ≡ all_parameters (parameters_of b) ++ locals_of b
-  pub outside : inner.loops ≡ false
-  pub returns : inner.returns ≡ true → (r : ℕ) → return_by k r ≡ op.Return r
   pub closed : is_form inner (form_of b) ≡ true
   pub straight : AreStraight (parameters_of b)
   pub named : AreNamed (all_parameters (parameters_of b) ++ locals_of b)
@@ -176,8 +174,6 @@ method_written src t a c s r x (form.body p ls f) m tops made few st n h =
         stands = st.1.2;
         inner = within_method p ls;
         known = refl;
-        outside = refl;
-        returns = λ e i. refl;
         closed = formed;
         straight = m.straight;
         named = m.named;
@@ -249,8 +245,6 @@ call_written src t a c s r e x is (form.body p ls f) m block tops made short dee
         stands = st.2;
         inner = within_closed (all_parameters p ++ ls);
         known = refl;
-        outside = refl;
-        returns = λ i. absurd (cc i);
         closed = block.closed;
         straight = block.straight;
         named = block.named;

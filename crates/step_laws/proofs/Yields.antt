@@ -1,6 +1,6 @@
 -- A call of the block of a method: it stands in a register before the items, or there is none.
-use Rattle.std.proofs.Common.{◌≡◌, ℕ, ◌+◌, List, [], ◌∷◌, refl, sym, ap, ◌∙◌, subst, arith, ◌<◌, Bool, false}
-use Rattle.std.specs.Prelude.{is_some, if◌then◌else◌, Option, Some, None}
+use Rattle.std.proofs.Common.{◌≡◌, ℕ, ◌+◌, List, [], ◌∷◌, refl, sym, ap, ◌∙◌, subst, arith, Bool, false}
+use Rattle.std.specs.Prelude.{if◌then◌else◌, Option, Some, None}
 use Rattle.rb_value.specs.declared.value.Value.TheVariants.{Obj}
 use Rattle.rb_value.specs.declared.value.ObjId.{ObjId}
 use Rattle.rb_value.specs.declared.exit.Slot.TheVariants.{V}
@@ -14,13 +14,11 @@ use Rattle.gen_forms.specs.declared.calls.Passing.{Passing}
 use Rattle.gen_forms.specs.declared.calls.Passing.TheVariants as passed
 use Rattle.gen_forms.specs.Gen.{Code, gen, gather, pass_in_registers, passing, passed_by, count_operand}
 use Rattle.def_core.specs.declared.cause.Cause.TheVariants as cause
-use Rattle.def_core.specs.Changes.{fails as failures}
-use Rattle.def_core.specs.Store.{next_number}
-use Rattle.def_calls.specs.World.{fail, activation_at}
+use Rattle.def_calls.specs.World.{activation_at}
 use Rattle.def_calls.specs.Calls.{to_proc}
 use Rattle.eval_laws.specs.Standing.{past_items}
 use Rattle.def_eval.specs.Configuration as source
-use Rattle.def_eval.specs.Configuration.{Place, arguments_of, raise, Item, perform, travel, Config, Run}
+use Rattle.def_eval.specs.Configuration.{Place, arguments_of, Item, perform, Config, Run}
 use Rattle.def_eval.specs.Forms.{next_item, gather as gather_all, do_yield as yields_in, do_form}
 use Rattle.def_eval.specs.Transition.{go}
 use Rattle.def_machine.specs.State as machine
@@ -28,15 +26,14 @@ use Rattle.def_machine.specs.State.{Level, frame}
 use Rattle.def_machine.specs.Turn.{turn, block_of_home}
 use Rattle.step_laws.specs.Site.{Site, within, at_line, LineAt}
 use Rattle.step_laws.specs.Covers.{past_items_code}
-use Rattle.step_laws.specs.Calm.{IsSteady, Quiet, Peace}
-use Rattle.step_laws.specs.Measure.{measure}
+use Rattle.step_laws.specs.Calm.{IsSteady, Peace}
 use Rattle.step_laws.specs.Behind.{Static, by_yield}
-use Rattle.step_laws.specs.Relation.{Ground, over_levels, InFrame, Common, Doing, raised, Related, Step}
+use Rattle.step_laws.specs.Relation.{Ground, InFrame, Common, Doing, Step}
 use Rattle.step_laws.proofs.Placed.{high, high-both, high-puts, line-past, Stands, moved, left, right, the_line, frame_at, turned}
 use Rattle.step_laws.proofs.Registers.{slot_same, keeps_above}
-use Rattle.step_laws.proofs.Untouched.{put_only, frame_kept, grown, same_here, written_here, below_running}
-use Rattle.step_laws.proofs.Matching.{one_before, by_none, going, state_at, written}
-use Rattle.step_laws.proofs.Calling.{leaves_frame}
+use Rattle.step_laws.proofs.Untouched.{put_only, frame_kept, same_here, written_here}
+use Rattle.step_laws.proofs.Matching.{one_before, going, state_at, written}
+use Rattle.step_laws.proofs.Failing.{fails_here}
 use Rattle.step_laws.proofs.Literals.{aligned}
 use Rattle.step_laws.proofs.Calls.{no_splat, none_spread, passing_is}
 use Rattle.step_laws.proofs.Sends.{sent_moved, items_on}
@@ -95,7 +92,7 @@ module _ (g : Ground) (h : Site) (static : Static h) (ks : List Item) (m : sourc
     whole p = does (op.BlkPush d.r) ⊕ passed_by p each spread (within h d.loop) s d.r ⊕ does (op.Call d.r (count_operand p))
 
     few : passing is ≡ passed.InRegisters (item_count is)
-    few = passing_is is (none_spread h (is_some d.loop) (d.r + 1) is d.covered.1) d.covered.2
+    few = passing_is is (none_spread h (d.r + 1) is d.covered.1) d.covered.2
 
     parts : YieldParts h d.n d.r (item_count is) items_code (whole (passed.InRegisters (item_count is)))
     parts = yield_parts h d.n d.r (item_count is) items_code (subst (λ (p : Passing). Stands h d.n (whole p)) few d.code)
@@ -118,27 +115,13 @@ module _ (g : Ground) (h : Site) (static : Static h) (ks : List Item) (m : sourc
 
     -- without a block both sides raise
     fails : block_here ≡ None → Step h conf (state_at g h d.x d.n (aligned k m))
-    unfolding fail failures
     fails e =
-        let a = fail m.world cause.NoBlockToYield in
-        let x = next_number (failures m.world.store cause.NoBlockToYield).store in
-        let goes : go h.source conf ≡ Run (travel (raise x)) ks (source.with_world m a.world) = goes_by None e in
-        let quiet = subst (Quiet m) goes peace.quiet in
-        let f = frame_at h d.x d.n in
-        by_none h conf (state_at g h d.x d.n (aligned k m))
-        (subst (λ (c : Config). measure c < measure conf) (sym goes) (omega arith))
-        (subst (λ (c : Config). Related h c (state_at g h d.x d.n (aligned k m))) (sym goes) (raised (record {
-          g = over_levels g (frame f ∷ g.below);
-          e = x;
-          exception = refl;
-          memory = machine.with_world k a.world;
-          throws = turns_by None e;
-          out = sym quiet.0;
-          both = grown (over_levels g (frame f ∷ g.below)) m (aligned k m)
-              (below_running g h m (aligned k m) both f refl) m.place a.world quiet.1;
-          leaving = leaves_frame g h k.lists ks (d.n + high (gen (within h d.loop) d.s d.r (yield_form is))) d.r d.loop d.x
-              d.n both.site d.next;
-        })))
+        fails_here g h ks m k both conf d.x d.n d.r (record {
+          alike = going (perform j (yield_form is)) ks m (frame (frame_at h d.x d.n) ∷ g.below) (aligned k m) refl;
+          out = refl;
+          quiet = peace.quiet;
+        }) (omega arith) cause.NoBlockToYield (goes_by None e) (turns_by None e)
+        (d.n + high (gen (within h d.loop) d.s d.r (yield_form is))) d.r d.loop d.next
 
     -- with one it is called
     calls : (p : ObjId) → block_here ≡ Some p → Step h conf (state_at g h d.x d.n (aligned k m))
@@ -153,7 +136,7 @@ module _ (g : Ground) (h : Site) (static : Static h) (ks : List Item) (m : sourc
         let last = d.n + 1 + high items_code in
         let goes : go h.source conf ≡ next_item h.source j to_proc v [] is absent ks m =
         goes_by (Some p) e ∙ ap (λ (t : Bool). if t then gather_all h.source j (arguments_of to_proc v absent) is ks m
-        else next_item h.source j to_proc v [] is absent ks m) (no_splat h (is_some d.loop) (r + 1) is d.covered.1) in
+        else next_item h.source j to_proc v [] is absent ks m) (no_splat h (r + 1) is d.covered.1) in
         let next : InFrame g h k'.lists ks end r d.loop =
         frame_kept g h k.lists k'.lists ks end r d.loop (keeps_above h k.lists r r (V v) c.present (omega arith))
         (put_only k.lists h.list r v) (omega (arith, both.free)) d.next in

@@ -1,5 +1,5 @@
 -- The code behind each part of a form that waits for its value, and the registers that hold what it keeps.
-use Rattle.std.specs.Prelude.{◌≡◌, ◌≢◌, ◌⊎◌, ◌<◌, ◌≤◌, ℕ, ◌+◌, List, [], ◌∷◌, length, Bool, true, false, nat_lt, is_some, Option, Some}
+use Rattle.std.specs.Prelude.{◌≡◌, ◌≢◌, ◌⊎◌, ◌<◌, ◌≤◌, ℕ, ◌+◌, List, [], ◌∷◌, length, Bool, true, false, nat_lt, Option, Some, None}
 use Rattle.rb_value.specs.declared.value.Value.{Value}
 use Rattle.rb_value.specs.declared.value.Value.TheVariants.{Obj}
 use Rattle.rb_value.specs.declared.value.ObjId.{ObjId}
@@ -21,6 +21,7 @@ use Rattle.eval_laws.specs.Standing.{past_items}
 use Rattle.def_machine.specs.State.{Registers, body_at, slot_at}
 use Rattle.step_laws.specs.Site.{Site, within, LineAt, Room, register, Known, IsThere, Named, number}
 use Rattle.step_laws.specs.Strict.{strict_op, IsReady, arity}
+use Rattle.step_laws.specs.Far.{Far, returns_far, breaks_far, action_of, leaving_op}
 use Rattle.step_laws.specs.Covered.{Covered, CoveredForms, CoveredItems, CoveredElements, CoveredPairs, CoveredBranches}
 use Rattle.step_laws.specs.Covers.{Makes, past_items_code, CoversAll}
 use Rattle.step_laws.specs.Standing.{high, Stands}
@@ -93,8 +94,8 @@ pub record LoopAt (h : Site) (r : ℕ) (t b : CoreForm) (end : ℕ) : Type 0 whe
   pub test_spot : Spot
   pub body_spot : Spot
   pub room : Room h r
-  pub test_covered : Covered h true r t
-  pub body_covered : Covered h true r b
+  pub test_covered : Covered h r t
+  pub body_covered : Covered h r b
   pub test : Stands h test_spot.line (gen (within h loop) test_spot r t)
   pub body : Stands h body_spot.line (gen (within h loop) body_spot r b)
   pub out : ℕ
@@ -138,10 +139,10 @@ abbrev pub rest_code : Context → Spot → ℕ → Forms → Piece
 rest_code c s r none = nothing
 rest_code c s r (more e es) = gen c s r e
 
-abbrev pub CoveredRest : Site → Bool → ℕ → Forms → Type 0
-CoveredRest h inside r none = Unit {0}
-CoveredRest h inside r (more e none) = Covered h inside r e
-CoveredRest h inside r (more e (more f es)) = ⊥
+abbrev pub CoveredRest : Site → ℕ → Forms → Type 0
+CoveredRest h r none = Unit {0}
+CoveredRest h r (more e none) = Covered h r e
+CoveredRest h r (more e (more f es)) = ⊥
 
 abbrev pub how_many : Forms → ℕ
 how_many none = 0
@@ -155,7 +156,7 @@ pub record StrictBehind (h : Site) (l : List Registers) (a : Action) (vs : List 
   pub s : Spot
   pub here : s.line ≡ n
   pub room : Room h low
-  pub covered : CoveredRest h (is_some around) (r + 1) es
+  pub covered : CoveredRest h (r + 1) es
   pub o : Operation
   pub by : strict_op h low a ≡ Some o
   pub ready : IsReady h a
@@ -193,6 +194,32 @@ pub record ReturnBehind (h : Site) (a : Action) (vs : List Value) (es : Forms) (
   pub own : return_by h.context.kind_of low ≡ op.Return low
   pub returns : LineAt h n (line.Does (op.Return low))
 
+-- that of a next that is out of its loops is the value of the body
+pub record RoundBehind (h : Site) (a : Action) (vs : List Value) (es : Forms) (low n r : ℕ) (around : Option Loop) : Type 0
+  where
+    pub at : low ≡ r
+    pub action : a ≡ leave_round
+    pub first : vs ≡ []
+    pub last : es ≡ none
+    pub outside : around ≡ None
+    pub returns : LineAt h n (line.Does (op.Return low))
+
+-- a break out of the loops of a body
+abbrev pub IsOut : Far → Option Loop → Type 0
+IsOut returns_far around = Unit {0}
+IsOut breaks_far around = around ≡ None
+
+-- the value goes to an activation further out
+pub record FarBehind (h : Site) (a : Action) (vs : List Value) (es : Forms) (low n r : ℕ) (around : Option Loop) : Type 0
+  where
+    pub at : low ≡ r
+    pub by : Far
+    pub action : a ≡ action_of by
+    pub first : vs ≡ []
+    pub last : es ≡ none
+    pub outside : IsOut by around
+    pub leaves : LineAt h n (line.Does (leaving_op by low))
+
 pub data OperandBehind (h : Site) (l : List Registers) (a : Action) (vs : List Value) (es : Forms) (low n r end : ℕ)
     (around : Option Loop) : Type 0 where
   to_local : LocalBehind h a vs es low n r end → OperandBehind h l a vs es low n r end around
@@ -201,6 +228,8 @@ pub data OperandBehind (h : Site) (l : List Registers) (a : Action) (vs : List V
   breaks : BreakBehind h a vs es low n r around → OperandBehind h l a vs es low n r end around
   begins_round : NextBehind h a vs es n around → OperandBehind h l a vs es low n r end around
   leaves_body : ReturnBehind h a vs es low n r → OperandBehind h l a vs es low n r end around
+  ends_body : RoundBehind h a vs es low n r around → OperandBehind h l a vs es low n r end around
+  goes_far : FarBehind h a vs es low n r around → OperandBehind h l a vs es low n r end around
 
 -- Arrays, Hashes and Strings: the object stands in register low, and gets what is awaited behind it.
 
@@ -216,7 +245,7 @@ pub record ElementBehind (h : Site) (l : List Registers) (g : Gathering) (id : O
   pub s : Spot
   pub here : s.line ≡ n + 1
   pub room : Room h low
-  pub covered : CoveredElements h (is_some around) (low + 1) is
+  pub covered : CoveredElements h (low + 1) is
   pub pushes : LineAt h n (line.Does (push spread low))
   pub code : Stands h (n + 1) (gather (within h around) s low is)
   pub ends : n + 1 + high (gather (within h around) s low is) ≡ end
@@ -229,7 +258,7 @@ pub record KeyBehind (h : Site) (l : List Registers) (id : ObjId) (e : CoreForm)
   pub s : Spot
   pub here : s.line ≡ n
   pub room : Room h low
-  pub covered : Covered h (is_some around) (low + 1 + 1) e × CoveredPairs h (is_some around) low ps
+  pub covered : Covered h (low + 1 + 1) e × CoveredPairs h low ps
   pub value : Stands h n (gen (within h around) s (low + 1 + 1) e)
   pub next : Spot
   pub next_line : next.line ≡ n + high (gen (within h around) s (low + 1 + 1) e) + 1
@@ -245,7 +274,7 @@ pub record PairBehind (h : Site) (l : List Registers) (id : ObjId) (u : Value) (
     pub s : Spot
     pub here : s.line ≡ n + 1
     pub room : Room h low
-    pub covered : CoveredPairs h (is_some around) low ps
+    pub covered : CoveredPairs h low ps
     pub puts : LineAt h n (line.Does (op.HashAdd low 1))
     pub code : Stands h (n + 1) (gather_pairs (within h around) s low ps)
     pub ends : n + 1 + high (gather_pairs (within h around) s low ps) ≡ end
@@ -256,7 +285,7 @@ pub record PieceBehind (h : Site) (l : List Registers) (id : ObjId) (es : Forms)
   pub s : Spot
   pub here : s.line ≡ n + 1
   pub room : Room h low
-  pub covered : CoveredForms h (is_some around) (low + 1) es
+  pub covered : CoveredForms h (low + 1) es
   pub adds : LineAt h n (line.Does (op.StrCat low))
   pub code : Stands h (n + 1) (gather_text (within h around) s low es)
   pub ends : n + 1 + high (gather_text (within h around) s low es) ≡ end
@@ -270,7 +299,7 @@ Behind h l (receiver j x is b) low n r end around = record {
   s : Spot;
   here : s.line ≡ n;
   room : Room h low;
-  covered : CoveredItems h (is_some around) (low + 1) is;
+  covered : CoveredItems h (low + 1) is;
   code : Stands h n (pass_in_registers (within h around) s (low + 1) is);
   ends : CallEnds h low x (item_count is) false (past_items_code h around (low + 1) s is) (past_items j is) b
       (n + high (pass_in_registers (within h around) s (low + 1) is)) end;
@@ -281,7 +310,7 @@ Behind h l (items j k recv vs is b) low n r end around = record {
   s : Spot;
   here : s.line ≡ n;
   room : Room h low;
-  covered : CoveredItems h (is_some around) (r + 1) is;
+  covered : CoveredItems h (r + 1) is;
   held : HoldsCall h l own low recv vs;
   code : Stands h n (pass_in_registers (within h around) s (r + 1) is);
   ends : ItemsEnd h k low (length vs + 1 + item_count is) own (past_items_code h around (r + 1) s is) (past_items j is) b
@@ -315,7 +344,7 @@ Behind h l (test j b bs o) low n r end around = record {
   at : low ≡ r;
   s : Spot;
   here : s.line ≡ n;
-  covered : Covered h (is_some around) low b × CoveredBranches h (is_some around) low bs × Covered h (is_some around) low o;
+  covered : Covered h low b × CoveredBranches h low bs × Covered h low o;
   code : Stands h n (after_test (within h around) s low b bs o);
   ends : n + high (after_test (within h around) s low b bs o) ≡ end;
 }
@@ -324,7 +353,7 @@ Behind h l (and_then j e) low n r end around = record {
   at : low ≡ r;
   s : Spot;
   here : s.line ≡ n;
-  covered : Covered h (is_some around) low e;
+  covered : Covered h low e;
   code : Stands h n (over (held.JumpNot low) s (λ t. gen (within h around) t low e));
   ends : n + high (over (held.JumpNot low) s (λ t. gen (within h around) t low e)) ≡ end;
 }
@@ -332,7 +361,7 @@ Behind h l (or_else j e) low n r end around = record {
   at : low ≡ r;
   s : Spot;
   here : s.line ≡ n;
-  covered : Covered h (is_some around) low e;
+  covered : Covered h low e;
   code : Stands h n (over (held.JumpIf low) s (λ t. gen (within h around) t low e));
   ends : n + high (over (held.JumpIf low) s (λ t. gen (within h around) t low e)) ≡ end;
 }

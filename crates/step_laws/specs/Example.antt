@@ -1,7 +1,7 @@
 -- Programs of simple and of plain forms, some with methods and blocks, and what is shown of them.
 use Rattle.std.specs.Prelude.{◌≡◌, ℕ, pos, false, List, [], ◌∷◌, codes, None}
 use Rattle.rite_code.specs.Code.{Program, program}
-use Rattle.ir_core.specs.CoreForm.{named, hidden, Local, CoreForm, nil, truth, int, str, sym, local, set_local, gvar, set_gvar, array, hash, text, seq, cond, while_form, call, yield_form, function, return_form, break_form, define, item, Body, body, plain_body, form_of, absent, there, Forms, more, two, no_items, plain, splat, no_pairs, pair, no_branches, branch, to, on_self}
+use Rattle.ir_core.specs.CoreForm.{named, hidden, Local, CoreForm, nil, truth, int, str, sym, local, set_local, gvar, set_gvar, array, hash, text, seq, cond, while_form, call, yield_form, function, return_form, break_form, next_form, define, item, Body, body, plain_body, form_of, absent, there, Forms, more, two, no_items, plain, splat, no_pairs, pair, no_branches, branch, to, on_self}
 use Rattle.ir_core.specs.Program.{IsProgram}
 use Rattle.ir_counts.specs.Counts.{need}
 use Rattle.ir_counts.specs.Limits.{first_excess}
@@ -192,3 +192,39 @@ yielder = plain_body [] (seq (two (define (codes "pass") pass)
 
 abbrev pub IsYieldWitness : Body → Type 0
 IsYieldWitness b = Prints b (codes "\n2\n")
+
+-- def seek
+--   [1, 2, 3].each do |i|
+--     next if i < 2
+--     return i
+--   end
+-- end
+-- puts seek()
+-- [4, 5].each do |i|
+--   puts i
+--   break
+-- end
+abbrev pub finder : Body
+finder =
+    body (record { required = i ∷ []; optional = []; rest = []; post = []; block = [] }) []
+    (seq (two (cond (branch (on (local i) (codes "<") (int (pos 2))) (next_form nil) no_branches) nil)
+    (return_form (local i))))
+
+abbrev pub stopper : Body
+stopper =
+    body (record { required = i ∷ []; optional = []; rest = []; post = []; block = [] }) []
+    (seq (two (call on_self (codes "puts") (plain (local i) no_items) absent) (break_form nil)))
+
+abbrev pub seek : Body
+seek =
+    plain_body [] (call (to (array (plain (int (pos 1)) (plain (int (pos 2)) (plain (int (pos 3)) no_items))))) (codes "each")
+    no_items (there (function finder)))
+
+abbrev pub seeker : Body
+seeker = plain_body [] (seq (three (define (codes "seek") seek)
+    (call on_self (codes "puts") (plain (call on_self (codes "seek") no_items absent) no_items) absent)
+    (call (to (array (plain (int (pos 4)) (plain (int (pos 5)) no_items)))) (codes "each") no_items
+    (there (function stopper)))))
+
+abbrev pub IsExitWitness : Body → Type 0
+IsExitWitness b = Prints b (codes "2\n4\n")

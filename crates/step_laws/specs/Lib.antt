@@ -6,6 +6,7 @@ pub mod Calm
 pub mod Simple
 pub mod Plain
 pub mod Measure
+pub mod Far
 pub mod Standing
 pub mod Behind
 pub mod Bodies

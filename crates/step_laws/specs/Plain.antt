@@ -1,7 +1,7 @@
 -- Forms without bodies: literals, variables and constants, their assignments, Arrays, Hashes, Ranges, texts, sequences,
--- branches, loops with break and next, returns, elements of multiple assignments, `defined?`, other names of methods and methods
--- that are undefined, calls of a name alone, and calls of a value, of self and of the block of a method (`yield`) with plain
--- items and no block, no more of them than go into registers.
+-- branches, loops, exits out of them and of bodies, elements of multiple assignments, `defined?`, other names of
+-- methods and methods that are undefined, calls of a name alone, and calls of a value, of self and of the block of a
+-- method (`yield`) with plain items and no block, no more of them than go into registers.
 use Rattle.std.specs.Prelude.{◌≡◌, false, nat_lt}
 use Rattle.rb_syntax.specs.declared.core_form.DefinedKind.{DefinedKind}
 use Rattle.rb_syntax.specs.declared.core_form.DefinedKind.TheVariants as asks

@@ -1,6 +1,6 @@
 -- When a configuration of the evaluation and a state of the machine are alike: the fiber that runs, whose focus goes
 -- with its frame or its iteration, all that waits below, each other fiber, and each scope with its list of registers.
-use Rattle.std.specs.Prelude.{◌≡◌, ◌⊎◌, ◌<◌, ◌≤◌, ℕ, ◌+◌, List, [], ◌∷◌, length, true, Option, Some, None, is_some, unwrap_or, nat_eq, if◌then◌else◌, slice_get}
+use Rattle.std.specs.Prelude.{◌≡◌, ◌⊎◌, ◌<◌, ◌≤◌, ℕ, ◌+◌, List, [], ◌∷◌, length, Bool, true, false, Option, Some, None, is_some, unwrap_or, nat_eq, if◌then◌else◌, slice_get}
 use Rattle.rb_value.specs.declared.value.Value.{Value}
 use Rattle.rb_value.specs.declared.value.Value.TheVariants.{Nil}
 use Rattle.rb_value.specs.declared.value.ObjId.{ObjId}
@@ -20,8 +20,9 @@ use Rattle.def_calls.specs.Fibers.{Fibers}
 use Rattle.def_calls.specs.Fibers as fibers
 use Rattle.def_eval.specs.Source.{Source}
 use Rattle.def_eval.specs.Configuration as source
-use Rattle.def_eval.specs.Configuration.{Place, Scope, Exit, raise, return, leave_loop, next, Stop, passes, loops, rescues, assigns, retries, ensures, stop_of, Item, part, activation, iteration, ensuring, Kept, Focus, perform, give, travel, Config, Run, Halt, seen}
+use Rattle.def_eval.specs.Configuration.{Place, Scope, Exit, raise, leave_loop, next, Stop, passes, loops, rescues, assigns, retries, ensures, stop_of, Item, part, activation, iteration, ensuring, Kept, Focus, perform, give, travel, Config, Run, Halt, seen}
 use Rattle.def_eval.specs.Scopes.{value_in, scope_at}
+use Rattle.def_eval.specs.Forms.{is_under_way}
 use Rattle.def_eval.specs.Transition.{go}
 use Rattle.def_machine.specs.State as machine
 use Rattle.def_machine.specs.State.{Registers, Frame, Level, frame, State, On, Off, Stuck, body_at, list_at, slot_at, value_at, shown}
@@ -32,6 +33,7 @@ use Rattle.step_laws.specs.Site.{Site, within, place_in, at_line, LineAt, Room, 
 use Rattle.step_laws.specs.Covers.{Covers}
 use Rattle.step_laws.specs.Calm.{StaysCalm}
 use Rattle.step_laws.specs.Measure.{measure}
+use Rattle.step_laws.specs.Far.{Far, exit_to, thrown_to, home_exit}
 use Rattle.step_laws.specs.Standing.{high, Stands, Rest, frame_at}
 use Rattle.step_laws.specs.Behind.{Static, LoopAt, Behind, IsAround}
 
@@ -359,13 +361,18 @@ pub record Leaps (s : Source) (p : Program) (e : Exit) (ks : List Item) (m : sou
   pub by : LeavesTo h k.lists e n target
   pub way : Way g h k.lists ks target
 
--- The parts that a return passes, down to the end of its activation, and what waits below.
-abbrev pub Home : Ground → Site → List Registers → List Item → Type 0
-Home g h l [] = ⊥
-Home g h l (part k ∷ ks) = IsPassed (stop_of k) × Home g h l ks
-Home g h l (activation a place ∷ ks) = (a ≡ h.activation) × Waits g.sites g.fiber l ks place g.below
-Home g h l (iteration a it place ∷ ks) = ⊥
-Home g h l (ensuring o ∷ ks) = ⊥
+-- parts that a return passes, and a next that is out of its loops
+abbrev pub IsLeft : Bool → Stop → Type 0
+IsLeft false o = IsPassed o
+IsLeft true o = o ≡ passes
+
+-- The parts that a return or a next passes, down to the end of its activation, and what waits below.
+abbrev pub Home : Ground → Site → List Registers → Bool → List Item → Type 0
+Home g h l round [] = ⊥
+Home g h l round (part k ∷ ks) = IsLeft round (stop_of k) × Home g h l round ks
+Home g h l round (activation a place ∷ ks) = (a ≡ h.activation) × Waits g.sites g.fiber l ks place g.below
+Home g h l round (iteration a it place ∷ ks) = ⊥
+Home g h l round (ensuring o ∷ ks) = ⊥
 
 -- The frame stands at the return, with the value in its register.
 pub record GoesHome (s : Source) (p : Program) (e : Exit) (ks : List Item) (m : source.Memory) (ls : List Level)
@@ -378,16 +385,33 @@ pub record GoesHome (s : Source) (p : Program) (e : Exit) (ks : List Item) (m : 
   pub r : ℕ
   pub is : ls ≡ frame (frame_at h x n) ∷ g.below
   pub value : Value
-  pub exit : e ≡ return h.activation value
+  pub round : Bool
+  pub exit : e ≡ home_exit round h.activation value
   pub at : LineAt h n (line.Does (op.Return r))
   pub stands : slot_at k.lists h.list r ≡ V value
-  pub home : Home g h k.lists ks
+  pub home : Home g h k.lists round ks
+
+-- The next turn throws the exit to an activation that is under way from the levels below.
+pub record GoesFar (s : Source) (p : Program) (x : Exit) (ks : List Item) (m : source.Memory) (ls : List Level)
+    (k : machine.Memory) : Type 0 where
+  pub g : Ground
+  pub by : Far
+  pub to : ℕ
+  pub value : Value
+  pub exit : x ≡ exit_to by to value
+  pub memory : machine.Memory
+  pub throws : turn p (On ls k) ≡ throw p (thrown_to by to value) g.below memory
+  pub out : k.world.out ≡ m.world.out
+  pub both : Both s p g m memory
+  pub leaving : Leaving g.sites g.fiber memory.lists ks g.below
+  pub under_way : is_under_way ks to ≡ true
 
 pub data Travels (s : Source) (p : Program) (x : Exit) (ks : List Item) (m : source.Memory) (ls : List Level)
     (k : machine.Memory) : Type 0 where
   raised : Throwing s p x ks m ls k → Travels s p x ks m ls k
   leaping : Leaps s p x ks m ls k → Travels s p x ks m ls k
   returning : GoesHome s p x ks m ls k → Travels s p x ks m ls k
+  going_far : GoesFar s p x ks m ls k → Travels s p x ks m ls k
 
 abbrev pub Agree : Source → Program → Focus → List Item → source.Memory → List Level → machine.Memory → Type 0
 Agree s p (perform j e) ks m ls k =

@@ -3,7 +3,7 @@
 use Rattle.std.specs.Prelude.{◌≡◌, true, false, nat_lt, List, [], ◌∷◌, ◌++◌, Some}
 use Rattle.ir_counts.specs.Tables.{item_count}
 use Rattle.ir_core.specs.CoreForm.{Name, Local, CoreForm, seq, call, function, define, Body, there, Forms, none, more, Items, Receiver, to, on_self, bare, form_of}
-use Rattle.ir_core.specs.Program.{Around, all_parameters, within_class, is_form}
+use Rattle.ir_core.specs.Program.{Around, all_parameters, within_program, is_form}
 use Rattle.def_eval.specs.Source.{no_parameters, parameters_of, locals_of}
 use Rattle.step_laws.specs.Simple.{IsNamedLocal}
 use Rattle.step_laws.specs.Plain.{IsPlain, ArePlainItems}
@@ -18,12 +18,11 @@ pub record IsPlainMethod (b : Body) : Type 0 where
   pub straight : AreStraight (parameters_of b)
   pub named : AreNamed (all_parameters (parameters_of b) ++ locals_of b)
 
--- inside of a body that names its own locals alone, where nothing but a loop may be left
+-- inside of a block that names its own locals alone
 abbrev pub within_closed : List Local → Around
-within_closed ls = record (within_class ls) { method = Some no_parameters }
+within_closed ls = record (within_program ls) { loops = true; method = Some no_parameters }
 
--- The body of a block is so too, and it is closed: it names its own locals alone, has no return, and no break or next but
--- those of its loops.
+-- the body of a block is so too, and it names its own locals alone
 pub record IsPlainBlock (b : Body) : Type 0 where
   pub straight : AreStraight (parameters_of b)
   pub named : AreNamed (all_parameters (parameters_of b) ++ locals_of b)

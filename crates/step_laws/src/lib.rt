@@ -3,7 +3,7 @@
 //!
 //! - `specs::Covered`: the forms whose code is followed: nil, true, false, self, integers, strings, symbols, variables and
 //!   constants with their assignments, locals, Arrays with splats, Hashes, Ranges, texts, sequences, branches, `and` and
-//!   `or`, loops with break and next, `return`, elements of multiple assignments, `defined?`, other names of methods,
+//!   `or`, loops, `break`, `next`, `return`, elements of multiple assignments, `defined?`, other names of methods,
 //!   calls of a name alone, calls of a value and of self with plain items and no block, `yield` with plain items.
 //!   Operators are calls by look-up and row, and `puts` is the iteration that it is, plan by plan.
 //! - `specs::Plain`: the same as a condition on a form alone
@@ -49,7 +49,7 @@ ghost use Rattle.step_laws.specs.Relation.{Alike, Shared};
 ghost use Rattle.step_laws.specs.Simple.{IsSimple};
 ghost use Rattle.step_laws.specs.Tops.{IsPlainProgram};
 ghost use Rattle.step_laws.specs.Implements.{IsCodeOf, Implements};
-ghost use Rattle.step_laws.specs.Example.{countdown, gatherer, chooser, visitor, yielder, IsWitness, IsPlainWitness, IsMethodWitness, IsBlockWitness, IsYieldWitness};
+ghost use Rattle.step_laws.specs.Example.{countdown, gatherer, chooser, visitor, yielder, seeker, IsWitness, IsPlainWitness, IsMethodWitness, IsBlockWitness, IsYieldWitness, IsExitWitness};
 
 /// From a configuration and a state that are alike a transition is matched by few turns, after which they are alike again;
 /// what waits below the running frame, and in other fibers, may be anything that is alike. Both begin alike.
@@ -140,4 +140,11 @@ pub fn a_program_visits_each()
 #[tactic(auto, using(crate::proofs::Methods::hands_on))]
 pub fn a_program_yields()
     ensures { IsYieldWitness yielder }
+{}
+
+/// There is one whose blocks are left by a next, by a return out of the method around, and by a break; both sides come to
+/// the same end.
+#[tactic(auto, using(crate::proofs::Methods::seeks))]
+pub fn a_program_leaves_blocks()
+    ensures { IsExitWitness seeker }
 {}
