@@ -158,14 +158,17 @@ module _ (d : Site) (m : BodyAt d) (args : List Value) (blk : Option ObjId)
       ap read (row_at first_slots 1 (length args) (args ++ block_value blk ∷ []) (omega (arith, row_long)) enough)
       ∙ get_or_push args (block_value blk) Nil (length args) refl
 
+  empty_slot : (i : ℕ) → 2 + length args ≤ i → get_or slots i (V Nil) ≡ V Nil
+  empty_slot i le =
+      row_past first_slots 1 i (args ++ block_value blk ∷ []) (omega (arith, row_long, le))
+      ∙ get_or-set_other (replicate count (V Nil)) 0 i (V d.self) (V Nil) (omega (arith, le)) ∙ nil_at count i
+
   others : (i : ℕ) → 2 + length args ≤ i → value i ≡ Nil
-  others i le =
-      ap read (row_past first_slots 1 i (args ++ block_value blk ∷ []) (omega (arith, row_long, le))
-      ∙ get_or-set_other (replicate count (V Nil)) 0 i (V d.self) (V Nil) (omega (arith, le)) ∙ nil_at count i)
+  others i le = ap read (empty_slot i le)
 
   lined : Lined (slots_of kind.Method (body_of d)) 1 value
       (first_variables (parameters_of (body_of d)) (locals_of (body_of d)) args blk)
-  lined = lined_variables (body_of d) args blk value m.straight.one_block right argument the_block others
+  lined = lined_variables (body_of d) args blk value m.single.one_block right argument the_block others
 
   -- what a local reads as, and its register
   alike : (x : Local) → Known d x
@@ -201,6 +204,15 @@ module _ (d : Site) (m : BodyAt d) (args : List Value) (blk : Option ObjId)
       its (hidden h) k = tt
       its (pattern q) k = tt
       its rest k = tt
+
+  -- the first register of its form has nil
+  pub begun_nil : (l : List Registers) (outer : Option ℕ) → d.list ≡ length l
+      → slot_at (l ++ (record { outer = outer; slots = slots }) ∷ []) d.list d.first ≡ V Nil
+  unfolding slot_at
+  begun_nil l outer e =
+      ap (λ (q : Registers). get_or q.slots d.first (V Nil))
+      (get_or_push l (record { outer = outer; slots = slots }) no_registers d.list (sym e))
+      ∙ empty_slot d.first (omega (arith, right, slots_enough (body_of d), m.low))
 
   -- The scope and the list with which the body begins.
   pub begun_same : (cs : List Scope) (l : List Registers) (around outer : Option ℕ) → d.list ≡ length l
@@ -280,7 +292,7 @@ nil_own d m c e = inr (λ x k. its x k)
     its (named x) k = ap (λ (vs : List (Local × Value)). is_some (value_in vs (named x))) e
         ∙ ap is_some (found_slot d m (λ i. Nil)
         (first_variables (parameters_of (body_of d)) (locals_of (body_of d)) [] None)
-        (lined_nothing (body_of d) m.straight.one_block) x k)
+        (lined_nothing (body_of d) m.single.one_block) x k)
     its (hidden h) k = tt
     its (pattern q) k = tt
     its rest k = tt

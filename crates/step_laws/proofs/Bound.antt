@@ -1,4 +1,4 @@
--- What ENTER binds in the code of a body none of whose parameters is optional, and the registers that it writes.
+-- What ENTER binds in the code of a body, and the registers that it writes.
 use Rattle.std.proofs.Common.{◌≡◌, ℕ, ◌+◌, ◌-◌, ◌≤◌, List, [], ◌∷◌, ◌++◌, refl, ap, ◌∙◌, arith, length, length-append, set, replicate, Bool, true, false}
 use Rattle.std.specs.Prelude.{if◌then◌else◌, take, drop}
 use Rattle.std.proofs.lemmas.List.{length-take, length-drop, length-replicate, get_or_push}
@@ -20,119 +20,106 @@ use Rattle.def_eval.specs.Scopes.{is_there, shape_of, all_of}
 use Rattle.def_machine.specs.State as machine
 use Rattle.def_machine.specs.State.{Registers, no_registers, Frame, list_at, put}
 use Rattle.def_machine.specs.Turn.{write_row, shape_of as shape_of_machine}
-use Rattle.step_laws.specs.Bodies.{AreStraight}
 use Rattle.step_laws.proofs.Parameters.{set_row}
 
--- the shape of parameters none of which is optional
-abbrev straight : ℕ → Bool → ℕ → Shape
-straight n t k = record { required = n; optional = 0; rest = t; post = k }
-
-abbrev pub shape_without : Parameters → Shape
-shape_without p = straight (length p.required) (is_there p.rest) (length p.post)
-
-pub shape_is : (p : Parameters) → AreStraight p → shape_of p ≡ shape_without p
-shape_is p a = ap (λ (xs : List Local). shape_of (record p { optional = xs })) a.no_optional
+abbrev shape : ℕ → ℕ → Bool → ℕ → Shape
+shape n o t k = record { required = n; optional = o; rest = t; post = k }
 
 there_too : (xs : List Local) → is_there_in_code xs ≡ is_there xs
 there_too [] = refl
 there_too (x ∷ xs) = refl
 
-pub shape_is_too : (p : Parameters) → AreStraight p → shape_of_machine (parameters p) ≡ shape_without p
-shape_is_too p a =
-    ap (λ (xs : List Local). shape_of_machine (parameters (record p { optional = xs }))) a.no_optional
-    ∙ ap (λ (t : Bool). straight (length p.required) t (length p.post)) (there_too p.rest)
+-- the code has the shape of the source
+pub shape_is_too : (p : Parameters) → shape_of_machine (parameters p) ≡ shape_of p
+shape_is_too p =
+    ap (λ (t : Bool). shape (length p.required) (length p.optional) t (length p.post)) (there_too p.rest)
 
--- As many values are bound as there are parameters, the rest in a new Array; or there are too many or too few.
+-- As many values are bound as there are parameters, the rest in a new Array, where so many of the optional ones are given;
+-- or there are too many or too few.
 pub data Binds (p : Parameters) (st : Store) (args : List Value) (k : BindKind) : Type 0 where
-  fit : (list : List Value) (after : Store) → length list ≡ length (all_of p)
-      → bind st (shape_without p) args k ≡ record { bound = Values list 0; store = after } → Binds p st args k
-  wrong : (n : ℕ) → bind st (shape_without p) args k ≡ record { bound = Wrong n; store = st } → Binds p st args k
+  fit : (list : List Value) (given : ℕ) (after : Store) → length list ≡ length (all_of p) → given ≤ length p.optional
+      → bind st (shape_of p) args k ≡ record { bound = Values list given; store = after } → Binds p st args k
+  wrong : (n : ℕ) → bind st (shape_of p) args k ≡ record { bound = Wrong n; store = st } → Binds p st args k
 
-enough_without : (n k l : ℕ) → fits (straight n false k) l ≡ true → n + k ≤ l
-enough_without n k l e = grind (arith, nat_tests)
+enough_without : (n o k l : ℕ) → fits (shape n o false k) l ≡ true → n + k ≤ l
+enough_without n o k l e = grind (arith, nat_tests)
 
-enough_with : (n k l : ℕ) → fits (straight n true k) l ≡ true → n + k ≤ l
-enough_with n k l e = grind (arith, nat_tests)
+enough_with : (n o k l : ℕ) → fits (shape n o true k) l ≡ true → n + k ≤ l
+enough_with n o k l e = grind (arith, nat_tests)
 
-none_filled : (n k l : ℕ) (t : Bool) → filled (straight n t k) l ≡ 0
-none_filled n k l t = omega arith
+few_filled : (n o k l : ℕ) (t : Bool) → filled (shape n o t k) l ≤ o
+few_filled n o k l t = omega arith
 
-values_long : (n k : ℕ) (t : Bool) (us args : List Value) → n + k ≤ length args
-    → length (values (straight n t k) us args) ≡ n + length us + k
-values_long n k t us args le =
-    let none = none_filled n k (length args) t in
-    let i : ℕ = filled (straight n t k) (length args) in
+values_long : (n o k : ℕ) (t : Bool) (us args : List Value) → n + k ≤ length args
+    → length (values (shape n o t k) us args) ≡ n + o + length us + k
+values_long n o k t us args le =
+    let i : ℕ = filled (shape n o t k) (length args) in
     let first : List Value = take (n + i) args in
-    let missing : List Value = replicate (0 - i) Nil in
+    let missing : List Value = replicate (o - i) Nil in
     let last : List Value = drop (length args - k) args in
     omega (
       arith,
-      none,
       le,
       length-append ((first ++ missing) ++ us) last,
       length-append (first ++ missing) us,
       length-append first missing,
       length-take (n + i) args,
-      length-replicate (0 - i) Nil,
+      length-replicate (o - i) Nil,
       length-drop (length args - k) args,
     )
 
-record Fit (n : ℕ) (rs : List Local) (k : ℕ) (st : Store) (args : List Value) : Type 0 where
+record Fit (n o : ℕ) (rs : List Local) (k : ℕ) (st : Store) (args : List Value) : Type 0 where
   list : List Value
   after : Store
-  long : length list ≡ n + length rs + k
-  is : bind_fitting st (straight n (is_there rs) k) args (is_there rs) ≡ record { bound = Values list 0; store = after }
+  long : length list ≡ n + o + length rs + k
+  is : bind_fitting st (shape n o (is_there rs) k) args (is_there rs)
+      ≡ record { bound = Values list (filled (shape n o (is_there rs) k) (length args)); store = after }
 
-fit_by : (n : ℕ) (rs : List Local) (k : ℕ) (st : Store) (args : List Value) → length rs ≤ 1
-    → fits (straight n (is_there rs) k) (length args) ≡ true → Fit n rs k st args
-fit_by n [] k st args few e = record {
-  list = values (straight n false k) [] args;
+fit_by : (n o : ℕ) (rs : List Local) (k : ℕ) (st : Store) (args : List Value) → length rs ≤ 1
+    → fits (shape n o (is_there rs) k) (length args) ≡ true → Fit n o rs k st args
+fit_by n o [] k st args few e = record {
+  list = values (shape n o false k) [] args;
   after = st;
-  long = values_long n k false [] args (enough_without n k (length args) e);
-  is = ap (λ (i : ℕ). record { bound = Values (values (straight n false k) [] args) i; store = st })
-      (none_filled n k (length args) false);
+  long = values_long n o k false [] args (enough_without n o k (length args) e);
+  is = refl;
 }
-fit_by n (x ∷ []) k st args few e =
-    let all : List Value = values (straight n true k) (Obj (next_number st) ∷ []) args in
-    let new : Store =
-    with_object st (fresh (core class.Array) (kind.Array (remaining (straight n true k) args))) in
-    record {
-      list = all;
-      after = new;
-      long = values_long n k true (Obj (next_number st) ∷ []) args (enough_with n k (length args) e);
-      is = ap (λ (i : ℕ). record { bound = Values all i; store = new }) (none_filled n k (length args) true);
-    }
-fit_by n (x ∷ y ∷ rs) k st args few e = absurd (omega (arith, few))
+fit_by n o (x ∷ []) k st args few e = record {
+  list = values (shape n o true k) (Obj (next_number st) ∷ []) args;
+  after = with_object st (fresh (core class.Array) (kind.Array (remaining (shape n o true k) args)));
+  long = values_long n o k true (Obj (next_number st) ∷ []) args (enough_with n o k (length args) e);
+  is = refl;
+}
+fit_by n o (x ∷ y ∷ rs) k st args few e = absurd (omega (arith, few))
 
-all_long : (p : Parameters) → AreStraight p → length (all_of p) ≡ length p.required + length p.rest + length p.post
-all_long p a =
-    let none = ap length a.no_optional in
+all_long : (p : Parameters)
+    → length (all_of p) ≡ length p.required + length p.optional + length p.rest + length p.post
+all_long p =
     omega (
       arith,
-      none,
       length-append ((p.required ++ p.optional) ++ p.rest) p.post,
       length-append (p.required ++ p.optional) p.rest,
       length-append p.required p.optional,
     )
 
 -- what is bound: a Proc takes as many as it wants
-abbrev given : Parameters → Store → List Value → BindKind → List Value
-given p st args k = arguments st.objects (shape_without p) k args
+abbrev given_to : Parameters → Store → List Value → BindKind → List Value
+given_to p st args k = arguments st.objects (shape_of p) k args
 
-pub binds : (p : Parameters) → AreStraight p → (st : Store) (args : List Value) (k : BindKind) → Binds p st args k
+pub binds : (p : Parameters) → length p.rest ≤ 1 → (st : Store) (args : List Value) (k : BindKind) → Binds p st args k
 unfolding bind
-binds p a st args k = at (fits (shape_without p) (length (given p st args k))) refl
+binds p one_rest st args k = at (fits (shape_of p) (length (given_to p st args k))) refl
   where
-    at : (b : Bool) → fits (shape_without p) (length (given p st args k)) ≡ b → Binds p st args k
+    at : (b : Bool) → fits (shape_of p) (length (given_to p st args k)) ≡ b → Binds p st args k
     at true e =
-        let f = fit_by (length p.required) p.rest (length p.post) st (given p st args k) a.one_rest e in
-        fit f.list f.after (omega (arith, f.long, all_long p a))
-        (ap (λ (b : Bool). if b then bind_fitting st (shape_without p) (given p st args k) (is_there p.rest)
-        else record { bound = Wrong (length (given p st args k)); store = st }) e ∙ f.is)
+        let f = fit_by (length p.required) (length p.optional) p.rest (length p.post) st (given_to p st args k) one_rest e in
+        fit f.list (filled (shape_of p) (length (given_to p st args k))) f.after (omega (arith, f.long, all_long p))
+        (few_filled (length p.required) (length p.optional) (length p.post) (length (given_to p st args k)) (is_there p.rest))
+        (ap (λ (b : Bool). if b then bind_fitting st (shape_of p) (given_to p st args k) (is_there p.rest)
+        else record { bound = Wrong (length (given_to p st args k)); store = st }) e ∙ f.is)
     at false e =
-        wrong (length (given p st args k))
-        (ap (λ (b : Bool). if b then bind_fitting st (shape_without p) (given p st args k) (is_there p.rest)
-        else record { bound = Wrong (length (given p st args k)); store = st }) e)
+        wrong (length (given_to p st args k))
+        (ap (λ (b : Bool). if b then bind_fitting st (shape_of p) (given_to p st args k) (is_there p.rest)
+        else record { bound = Wrong (length (given_to p st args k)); store = st }) e)
 
 -- A row of values is written to the last list of registers.
 

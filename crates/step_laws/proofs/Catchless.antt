@@ -32,7 +32,7 @@ bare_both p q e f = (
   ap (λ (bs : List Irep). bs ++ q.bodies) e.2 ∙ f.2,
 )
 
-bare_puts : (l : Line) → IsBare (puts l)
+pub bare_puts : (l : Line) → IsBare (puts l)
 unfolding IsBare puts
 bare_puts l = (refl, refl, refl)
 

@@ -1,6 +1,6 @@
 -- The code of a method or a block of a program within the limits is code of it, where the blocks in it begin with their
 -- parameters.
-use Rattle.std.proofs.Common.{◌≡◌, ◌≤◌, ℕ, ◌+◌, List, [], ◌∷◌, ◌++◌, length, map, arith, refl, sym, ap, ◌∙◌, subst, Bool, true}
+use Rattle.std.proofs.Common.{◌≡◌, ◌≤◌, ℕ, ◌+◌, List, [], ◌∷◌, ◌++◌, length, map, arith, refl, sym, ap, ◌∙◌, subst, Bool, true, ◌⊎◌}
 use Rattle.std.specs.Prelude.{◌&&◌, Option, Some, None}
 use Rattle.std.proofs.lemmas.List.{append-nil}
 use Rattle.rite_code.specs.Code.{Program}
@@ -21,9 +21,10 @@ use Rattle.scope_resolver.specs.declared.seek.Search.TheVariants.{Past}
 use Rattle.scope_resolver.specs.Layout.{Slots, Scopes, has_parameters, seen_around, named_slots, block_slot, parameter_slots, slots_of, seek}
 use Rattle.gen_parts.specs.declared.line.Line.TheVariants as line
 use Rattle.gen_parts.specs.declared.line.Catch.{Catch}
-use Rattle.gen_parts.specs.Pieces.{Piece, behind, nothing, both, puts, does}
+use Rattle.gen_parts.specs.declared.emitter.Spot.{Spot}
+use Rattle.gen_parts.specs.Pieces.{Piece, nothing, both, puts, does}
 use Rattle.gen_parts.specs.Assembly.{places, entry_by, instruction_before}
-use Rattle.gen_forms.specs.Gen.{Context, gen, others_in_turn, first_spot, parameters}
+use Rattle.gen_forms.specs.Gen.{Context, gen, others_in_turn, parameters}
 use Rattle.code_laws.proofs.Shares.{Fits, many}
 use Rattle.code_laws.specs.Bound.{AreHeld}
 use Rattle.code_laws.proofs.Binding.{method_knows}
@@ -31,6 +32,7 @@ use Rattle.code_laws.proofs.Entering.{Inner}
 use Rattle.def_eval.specs.Source.{Source, body_at as source_body, parameters_of}
 use Rattle.def_calls.specs.World.{Runs, main_program}
 use Rattle.def_eval.specs.Scopes.{shape_of}
+use Rattle.eval_laws.specs.Standing.{FormStands}
 use Rattle.def_machine.specs.State.{body_at}
 use Rattle.def_machine.specs.Turn.{fetch, shape_by}
 use Rattle.rb_value.specs.declared.value.Value.{Value}
@@ -38,16 +40,17 @@ use Rattle.rb_value.specs.declared.value.Value.TheVariants.{Nil}
 use Rattle.step_laws.specs.Site.{Site, at_line, LineAt, Lines, IsThere}
 use Rattle.step_laws.specs.Simple.{IsNamedLocal}
 use Rattle.step_laws.specs.Covers.{Covers}
-use Rattle.step_laws.specs.Bodies.{AreStraight, BodyAt, BodyCode, ProcCode}
+use Rattle.step_laws.specs.Bodies.{AreSingle, FormAt, DefaultsAt, BodyAt, BodyCode, ProcCode}
 use Rattle.step_laws.specs.Tops.{AreNamed}
 use Rattle.step_laws.proofs.Placed.{high, Stands, high-both, high-puts, moved, left, right, the_line}
 use Rattle.step_laws.proofs.Apart.{apart}
 use Rattle.step_laws.proofs.Laid.{first_place}
-use Rattle.step_laws.proofs.Bound.{shape_is, shape_is_too}
+use Rattle.step_laws.proofs.Bound.{shape_is_too}
 use Rattle.step_laws.proofs.Fitting as fitting
 use Rattle.step_laws.proofs.Fitting.{Around}
 use Rattle.step_laws.proofs.Covering.{Has}
-use Rattle.step_laws.proofs.Making.{tops_catchless}
+use Rattle.step_laws.proofs.Making.{form_by, form_spot, spot_body, spot_child, SameTables, tables_of, tops_catchless}
+use Rattle.step_laws.proofs.Fronts.{front_of}
 use Rattle.step_laws.proofs.Written.{Written}
 use Rattle.step_laws.proofs.Topped as topped
 
@@ -145,8 +148,11 @@ module _ (s : Source) (c : Program) (n : ℕ) (g : Coded s c n) where
   abbrev ss : Slots
   ss = slots_of g.kind_of b
 
-  abbrev straight : p.optional ≡ []
-  straight = g.written.straight.no_optional
+  abbrev optional : ℕ
+  optional = length p.optional
+
+  abbrev spot : Spot
+  spot = form_spot n optional
 
   abbrev first : ℕ
   first = fitting.start g.kind_of sc out p ls f fits
@@ -158,17 +164,23 @@ module _ (s : Source) (c : Program) (n : ℕ) (g : Coded s c n) where
   wide = fitting.wide g.kind_of sc out p ls f fits
 
   abbrev code : Piece
-  code = gen around (behind (first_spot n)) first f
+  code = gen around spot first f
+
+  abbrev whole : Piece
+  whole = form_by optional f around n first
 
   abbrev lines : Piece
-  lines = both (does (op.Enter (parameters p))) code
+  lines = both (does (op.Enter (parameters p))) whole
+
+  tables : SameTables whole code
+  tables = tables_of p.optional f around n first g.written.defaults
 
   abbrev at : List ℕ
   at = places wide 0 (lines.lines ++ line.Does (op.Return first) ∷ [])
 
   abbrev inner : Inner g.kind_of sc p ls f fits out.short n lines
   inner =
-      fitting.body_inner g.kind_of g.enters sc out p ls f fits n g.written.within g.written.in_block g.written.formed straight
+      fitting.body_inner g.kind_of g.enters sc out p ls f fits n g.written.within g.written.in_block g.written.formed g.written.defaults
 
   few : many f ≤ 65535
   few = g.written.few
@@ -207,9 +219,9 @@ module _ (s : Source) (c : Program) (n : ℕ) (g : Coded s c n) (activation list
       fitting.lines_placed g.kind_of (sc s c n g) (out s c n g) (p s c n g) (ls s c n g) (f s c n g) (fits s c n g) n
       (lines s c n g) (inner s c n g) back
       (fitting.body_ready g.kind_of g.enters (sc s c n g) (out s c n g) (p s c n g) (ls s c n g) (f s c n g) (fits s c n g) n
-      g.written.within g.written.in_block g.written.formed (straight s c n g))
+      g.written.within g.written.in_block g.written.formed g.written.defaults)
       (fitting.body_entered g.kind_of g.enters (sc s c n g) (out s c n g) (p s c n g) (ls s c n g) (f s c n g)
-      (fits s c n g) n g.written.within g.written.in_block g.written.formed (straight s c n g))
+      (fits s c n g) n g.written.within g.written.in_block g.written.formed g.written.defaults)
       (few s c n g) h g.version (ap (λ (i : Irep). i.code) g.written.is) refl refl
 
   all_stand : Stands h 0 (both (lines s c n g) (does back))
@@ -224,7 +236,7 @@ module _ (s : Source) (c : Program) (n : ℕ) (g : Coded s c n) (activation list
     around = seen_around g.kind_of (sc s c n g);
     scopes = refl;
     held = subst (λ (z : Slots). AreHeld (z ∷ []) (all_parameters (p s c n g) ++ ls s c n g)) (sym (slots_are s c n g))
-        (method_knows (p s c n g) (ls s c n g) (f s c n g) [] g.written.straight.one_block).0;
+        (method_knows (p s c n g) (ls s c n g) (f s c n g) [] g.written.single.one_block).0;
     symbols = refl;
     integers = refl;
     texts = refl;
@@ -239,47 +251,51 @@ module _ (s : Source) (c : Program) (n : ℕ) (g : Coded s c n) (activation list
   unfolding both puts nothing
   no_catches =
       ap (λ (i : Irep). i.catches) g.written.is
+      ∙ ap (λ (cs : List Catch). map (entry_by (at s c n g)) (cs ++ [])) (tables s c n g).catches
       ∙ ap (λ (cs : List Catch). map (entry_by (at s c n g)) cs)
-      (tops_catchless g.written.tops (around s c n g) (behind (first_spot n)) (first s c n g))
+      (tops_catchless g.written.tops (around s c n g) (spot s c n g) (first s c n g))
 
-  children_stand : topped.Stands (body_at c n).children (behind (first_spot n))
-      (others_in_turn (around s c n g) (behind (first_spot n)) (first s c n g) (form.more (f s c n g) form.none)).children
-  unfolding both puts nothing behind
+  children_stand : topped.Stands (body_at c n).children (spot s c n g)
+      (others_in_turn (around s c n g) (spot s c n g) (first s c n g) (form.more (f s c n g) form.none)).children
+  unfolding both puts nothing
   children_stand = record {
     before = [];
     after = [];
-    are = ap (λ (i : Irep). i.children) g.written.is ∙ sym (append-nil ((code s c n g).children ++ []));
-    count = refl;
+    are = ap (λ (i : Irep). i.children) g.written.is ∙ ap (λ (ns : List ℕ). ns ++ []) (tables s c n g).children
+        ∙ sym (append-nil ((code s c n g).children ++ []));
+    count = sym (spot_child n (optional s c n g));
   }
 
-  covers : topped.Shapes s c
-      → Covers h None (first s c n g) (behind (first_spot n)) (n + 1) (f s c n g)
-  unfolding behind
+  covers : topped.Shapes s c → Covers h None (first s c n g) (spot s c n g) (n + 1) (f s c n g)
   covers shapes =
+      let number = spot_body n (optional s c n g) in
+      subst (λ (i : ℕ). Covers h None (first s c n g) (spot s c n g) i (f s c n g)) number
       (topped.tops_cover h (ss s c n g) (all_parameters (p s c n g) ++ ls s c n g) (t s c n g)
-      (first s c n g + width (f s c n g)) has shapes g.written.tops (behind (first_spot n)) (first s c n g)
-      (width (f s c n g)) g.written.inner g.written.within g.written.known (g.written.stands, tt) ((fits s c n g).1, tt) (ap (λ (x : Bool). x && true) g.written.closed) (omega arith)
+      (first s c n g + width (f s c n g)) has shapes g.written.tops (spot s c n g) (first s c n g)
+      (width (f s c n g)) g.written.inner g.written.within g.written.known
+      (subst (λ (i : ℕ). FormStands s g.written.within i (f s c n g)) (sym number) g.written.stands, tt)
+      ((fits s c n g).1, tt) (ap (λ (x : Bool). x && true) g.written.closed) (omega arith)
       (omega arith, tt) (omega arith) children_stand).0
 
   enters_there : LineAt h 0 (line.Does (op.Enter (parameters (p s c n g))))
   enters_there =
       the_line h 0 (line.Does (op.Enter (parameters (p s c n g))))
-      (left h 0 (does (op.Enter (parameters (p s c n g)))) (code s c n g) front)
+      (left h 0 (does (op.Enter (parameters (p s c n g)))) (whole s c n g) front)
 
   begins_there : at_line h 0 ≡ 0
   begins_there = first_place (wide s c n g) 0 ((lines s c n g).lines ++ line.Does back ∷ [])
 
-  form_stands : Stands h 1 (code s c n g)
+  form_stands : Stands h 1 (whole s c n g)
   form_stands =
       let enter = line.Does (op.Enter (parameters (p s c n g))) in
-      moved h (0 + high (puts enter)) 1 (code s c n g) (omega (arith, high-puts enter))
-      (right h 0 (puts enter) (code s c n g) front)
+      moved h (0 + high (puts enter)) 1 (whole s c n g) (omega (arith, high-puts enter))
+      (right h 0 (puts enter) (whole s c n g) front)
 
-  returns_there : LineAt h (1 + high (code s c n g)) (line.Does back)
+  returns_there : LineAt h (1 + high (whole s c n g)) (line.Does back)
   returns_there =
       let enter = line.Does (op.Enter (parameters (p s c n g))) in
       subst (λ (i : ℕ). LineAt h i (line.Does back))
-      (omega (arith, high-both (puts enter) (code s c n g), high-puts enter))
+      (omega (arith, high-both (puts enter) (whole s c n g), high-puts enter))
       (the_line h (0 + high (lines s c n g)) (line.Does back)
       (right h 0 (lines s c n g) (does back) all_stand))
 
@@ -295,7 +311,8 @@ module _ (s : Source) (c : Program) (n : ℕ) (g : Coded s c n) (activation list
           no_catches = no_catches;
         };
         begins = begins_there;
-        straight = of_body s c n g (λ (d : Body). AreStraight (parameters_of d)) g.written.straight;
+        single = of_body s c n g (λ (d : Body). AreSingle (parameters_of d))
+            g.written.single;
         around = seen_around g.kind_of (sc s c n g);
         scopes = of_body s c n g (λ (d : Body).
             h.context.scopes ≡ slots_of kind.Method d ∷ seen_around g.kind_of (sc s c n g))
@@ -306,15 +323,16 @@ module _ (s : Source) (c : Program) (n : ℕ) (g : Coded s c n) (activation list
             (λ i. sought_past i 1 (slots_of kind.Method (b s c n g))
             (slots_hidden (p s c n g) (ls s c n g) (f s c n g) g.written.named));
         outside = refl;
-        covered = of_body s c n g (λ (d : Body).
-            Covers h None h.first (behind (first_spot h.body)) (h.body + 1) (form_of d)) (covers shapes);
         enters = of_body s c n g (λ (d : Body). LineAt h 0 (line.Does (op.Enter (parameters (parameters_of d)))))
             enters_there;
-        code = of_body s c n g (λ (d : Body). Stands h 1 (gen h.context (behind (first_spot h.body)) h.first (form_of d)))
-            form_stands;
-        ends = of_body s c n g (λ (d : Body).
-            LineAt h (1 + high (gen h.context (behind (first_spot h.body)) h.first (form_of d)))
-            (line.Does (op.Return h.first))) returns_there;
+        form = of_body s c n g (λ (d : Body). FormAt h (length (parameters_of d).optional) (form_of d)
+            ⊎ DefaultsAt h (length (parameters_of d).optional) (form_of d))
+            (front_of h (f s c n g) (p s c n g).optional (record {
+              defaults = g.written.defaults;
+              covered = covers shapes;
+              stands = form_stands;
+              ends = returns_there;
+            }));
       }
 
 pub body_coded : (s : Source) (c : Program) (n : ℕ) → Coded s c n → topped.Shapes s c → BodyCode s c n
@@ -339,5 +357,5 @@ begins_with s c n g =
     let p = g.parameters in
     ap (λ (i : ℕ). shape_by (fetch c n i)) (sym (begins_there s c n g 0 0 Nil main_program))
     ∙ ap (λ (i : Option (Instruction × ℕ)). shape_by i) (enters_there s c n g 0 0 Nil main_program).here
-    ∙ shape_is_too p g.written.straight ∙ sym (shape_is p g.written.straight)
+    ∙ shape_is_too p
     ∙ ap (λ (d : Body). shape_of (parameters_of d)) (sym g.mine)

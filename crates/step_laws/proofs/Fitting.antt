@@ -1,6 +1,5 @@
--- The lines of the code of a body stand where they are placed: those of a main program, and those of a method or a
--- block none of whose parameters is optional.
-use Rattle.std.proofs.Common.{◌≡◌, ◌≤◌, ◌<◌, ℕ, ◌+◌, ◌*◌, List, [], ◌∷◌, ◌++◌, length, get_or, arith, refl, sym, ap, ◌∙◌, subst, length-append, Bool, true, false, nat_lt}
+-- The lines of the code of a body stand where they are placed: those of a main program, and those of a method or a block.
+use Rattle.std.proofs.Common.{◌≡◌, ◌≤◌, ◌<◌, ℕ, zero, suc, ◌+◌, ◌*◌, List, [], ◌∷◌, ◌++◌, length, get_or, arith, refl, sym, ap, ◌∙◌, subst, length-append, Bool, true, false, nat_lt}
 use Rattle.std.specs.Prelude.{◌||◌}
 use Rattle.std.proofs.lemmas.Bool.{ltb-false}
 use Rattle.rite_code.specs.Spelling.{encodings}
@@ -8,7 +7,7 @@ use Rattle.rite_code.specs.declared.operation.Operation.{Operation}
 use Rattle.rite_code.specs.declared.operation.Operation.TheVariants as op
 use Rattle.ir_core.specs.CoreForm as form
 use Rattle.ir_core.specs.CoreForm.{Local, Parameters, CoreForm, Body}
-use Rattle.ir_core.specs.Program.{is_form}
+use Rattle.ir_core.specs.Program.{has_defaults, is_form}
 use Rattle.ir_core.specs.Program as program
 use Rattle.ir_walk.specs.Walk.{walked}
 use Rattle.ir_walk.specs.declared.extent.Extent.TheVariants as extent
@@ -19,18 +18,19 @@ use Rattle.scope_resolver.specs.declared.body_kind.BodyKind.TheVariants as kind
 use Rattle.scope_resolver.specs.Layout.{Scopes, has_parameters, seen_around, slots_of}
 use Rattle.gen_parts.specs.declared.line.Line.{Line}
 use Rattle.gen_parts.specs.declared.line.Line.TheVariants as line
-use Rattle.gen_parts.specs.Pieces.{Piece, behind, both, puts, does}
+use Rattle.gen_parts.specs.declared.emitter.Spot.{Spot}
+use Rattle.gen_parts.specs.Pieces.{Piece, behind, both, does}
 use Rattle.gen_parts.specs.Assembly.{places, place_of, instructions}
-use Rattle.gen_forms.specs.Gen.{Context, gen, first_spot, opening, layout, parameters}
-use Rattle.code_laws.proofs.Serves.{IsFew}
-use Rattle.code_laws.proofs.Wells.{Entered, weights}
+use Rattle.gen_forms.specs.Gen.{Code, Context, gen, with_jumps, by_defaults, ahead, first_spot, opening, layout, parameters}
+use Rattle.code_laws.proofs.Serves.{Room as Bounds, IsFew}
+use Rattle.code_laws.proofs.Wells.{FineLines, JumpsFollow, Entered, weights}
 use Rattle.code_laws.proofs.Shares.{Fits, cost, many}
 use Rattle.code_laws.proofs.Sums.{tallied_bytes, cost_is}
-use Rattle.code_laws.proofs.Lines.{Own, tall, lower, lines_append, weights_append}
+use Rattle.code_laws.proofs.Lines.{Own, tall, lines_append, weights_append}
 use Rattle.code_laws.proofs.Operating.{AreShort, Site as Room, Ready, own}
 use Rattle.code_laws.proofs.Bodied.{first, site}
 use Rattle.code_laws.proofs.Sending.{stop_ready, return_ready}
-use Rattle.code_laws.proofs.Entering.{no_inside, opened, Inner, inner_straight, inner_entered}
+use Rattle.code_laws.proofs.Entering.{no_inside, opened, Jumping, jumping_well, defaults_well, defaults_follow, Inner, inner_straight, inner_entered}
 use Rattle.code_laws.proofs.Forms.{gen_well}
 use Rattle.code_laws.proofs.Wides.{width_some}
 use Rattle.code_laws.proofs.Assembled.{AllFit, sizes, sizes_weights, place_most}
@@ -176,59 +176,84 @@ module _ (p : Parameters) (ls : List Local) (f : CoreForm) (fits : Fits (form.bo
       main_inner.entered (main_ready.serve, tt)
 
 -- A method, or a block.
-abbrev optional_in : Operation → ℕ
-optional_in (op.Enter q) = q.optional
-optional_in o = 0
 
-abbrev optional_of : Line → ℕ
-optional_of (line.Does o) = optional_in o
-optional_of l = 0
+follows_more : (n : ℕ) (ls ks : List Line) → JumpsFollow n ls → JumpsFollow n (ls ++ ks)
+follows_more zero ls ks h = tt
+follows_more (suc n) [] ks h = absurd h
+follows_more (suc n) (l ∷ ls) ks h = (h.0, follows_more n ls ks h.1)
+
+entered_more : (b : Bool) (locals : ℕ) (m : Bounds) (e : ℕ) (ls ks : List Line) → Entered b locals m e ls
+    → FineLines m e ks → Entered b locals m e (ls ++ ks)
+entered_more false locals m e ls ks h f = lines_append m e ls ks h f
+entered_more true locals m e [] ks h f = absurd h
+entered_more true locals m e (l ∷ ls) ks h f = (
+  record {
+    parameters = h.0.parameters;
+    is = h.0.is;
+    count = h.0.count;
+    spare = h.0.spare;
+    fit = h.0.fit;
+    follow = λ some. follows_more (h.0.parameters.optional + 1) ls ks (h.0.follow some);
+  },
+  lines_append m e ls ks h.1 f,
+)
 
 module _ (k : BodyKind) (enters : has_parameters k ≡ true) (sc : Scopes) (out : Around k sc) (p : Parameters)
     (ls : List Local) (f : CoreForm) (fits : Fits (form.body p ls f)) (n : ℕ) (a : program.Around)
-    (in_block : a.loops ≡ true → k ≡ kind.Block) (formed : is_form a f ≡ true) (straight : p.optional ≡ []) where
+    (in_block : a.loops ≡ true → k ≡ kind.Block) (formed : is_form a f ≡ true)
+    (defaults : has_defaults p.optional f ≡ true) where
+  abbrev o : ℕ
+  o = length p.optional
+
+  abbrev room : Room
+  room = w k sc out p ls f fits
+
+  abbrev begins : ℕ
+  begins = start k sc out p ls f fits
+
+  abbrev straight : Code
+  straight = λ d u m. gen d u m f
+
+  abbrev jumping : Code
+  jumping = λ d u m. with_jumps d u m (o + 1) f
+
   abbrev pub body_form : Piece
-  body_form = gen (around k sc out p ls f fits) (behind (first_spot n)) (start k sc out p ls f fits) f
+  body_form = by_defaults o straight jumping (around k sc out p ls f fits) (behind (first_spot n)) begins
 
   abbrev pub body_lines : Piece
   body_lines = both (does (op.Enter (parameters p))) body_form
 
-  never_optional : 0 < length p.optional → ⊥
-  never_optional some = absurd (omega (arith, some, ap length straight))
+  form_well : (s : Spot) → Own (own room) s (gen (around k sc out p ls f fits) s begins f) (cost f) (many f)
+  form_well s =
+      gen_well f room a no_inside s begins (opened room a.loops s in_block (omega arith)) fits.1 formed (omega arith)
 
-  body_well : Own (own (w k sc out p ls f fits)) (behind (first_spot n)) body_form (cost f) (many f)
-  body_well =
-      gen_well f (w k sc out p ls f fits) a no_inside (behind (first_spot n)) (start k sc out p ls f fits)
-      (opened (w k sc out p ls f fits) a.loops (behind (first_spot n)) in_block (omega arith)) fits.1 formed (omega arith)
+  jumps_well : (os : List Local) (e : CoreForm) → has_defaults os e ≡ true
+      → ((s : Spot) → Own (own room) s (gen (around k sc out p ls f fits) s begins e) (cost e) (many e)) → 0 < length os
+      → Jumping (own room) (behind (first_spot n))
+      (with_jumps (around k sc out p ls f fits) (behind (first_spot n)) begins (length os + 1) e) (length os + 1)
+      (6 * (length os + 1) + cost e) (many e)
+  jumps_well [] e d well some = absurd (omega (arith, some))
+  jumps_well (x ∷ os) (form.seq es) d well some =
+      jumping_well (own room) es (around k sc out p ls f fits) (behind (first_spot n)) begins (length (x ∷ os) + 1)
+      (cost (form.seq es)) (many (form.seq es)) (well (ahead (behind (first_spot n)) (length (x ∷ os) + 1)))
+  jumps_well (x ∷ os) e d well some = absurd (cc d)
+
+  all_jumps : 0 < o → Jumping (own room) (behind (first_spot n))
+      (jumping (around k sc out p ls f fits) (behind (first_spot n)) begins) (o + 1) (6 * (o + 1) + cost f) (many f)
+  all_jumps some = jumps_well p.optional f defaults form_well some
 
   pub body_inner : Inner k sc p ls f fits out.short n body_lines
   body_inner =
       inner_entered k sc p ls f fits out.short n body_form enters
-      (lower (own (w k sc out p ls f fits)) ((behind (first_spot n)).line + tall body_form) (behind (first_spot n))
-      body_form (cost f) (6 * (length p.optional + 1) + cost f) (many f) (many f) (omega arith) refl body_well)
-      (λ some. absurd (never_optional some))
+      (defaults_well (own room) o (cost f) (many f) straight jumping (around k sc out p ls f fits) (behind (first_spot n))
+      begins (λ z. form_well (behind (first_spot n))) all_jumps)
+      (defaults_follow (own room) o (cost f) (many f) straight jumping (around k sc out p ls f fits) (behind (first_spot n))
+      begins all_jumps)
 
-  pub body_ready : Ready (own (w k sc out p ls f fits)) (op.Return (start k sc out p ls f fits)) 4
-  body_ready =
-      return_ready (w k sc out p ls f fits) (start k sc out p ls f fits) (omega (arith, width_some f))
+  pub body_ready : Ready (own room) (op.Return begins) 4
+  body_ready = return_ready room begins (omega (arith, width_some f))
 
-  pub body_entered : IsEntered k sc out p ls f fits body_lines (op.Return (start k sc out p ls f fits))
-  unfolding both puts
+  pub body_entered : IsEntered k sc out p ls f fits body_lines (op.Return begins)
   body_entered =
-      let locals = 1 + length (slots_of k (form.body p ls f)) in
-      let i = subst (λ (b : Bool). Entered b locals (own (w k sc out p ls f fits)) (tall body_lines) body_lines.lines) enters
-      body_inner.entered in
-      let none : length p.optional ≡ i.0.parameters.optional = ap optional_of i.0.is in
-      subst (λ (b : Bool). Entered b locals (own (w k sc out p ls f fits)) (tall body_lines)
-      (body_lines.lines ++ line.Does (op.Return (start k sc out p ls f fits)) ∷ [])) (sym enters) (
-        record {
-          parameters = i.0.parameters;
-          is = i.0.is;
-          count = i.0.count;
-          spare = i.0.spare;
-          fit = i.0.fit;
-          follow = λ some. absurd (never_optional (omega (arith, some, none)));
-        },
-        lines_append (own (w k sc out p ls f fits)) (tall body_lines) body_form.lines
-            (line.Does (op.Return (start k sc out p ls f fits)) ∷ []) i.1 (body_ready.serve, tt),
-      )
+      entered_more (has_parameters k) (1 + length (slots_of k (form.body p ls f))) (own room) (tall body_lines)
+      body_lines.lines (line.Does (op.Return begins) ∷ []) body_inner.entered (body_ready.serve, tt)

@@ -39,6 +39,7 @@ pub mod Opened
 pub mod Parameters
 pub mod Bound
 pub mod Begun
+pub mod Defaults
 pub mod Entering
 pub mod Called
 pub mod Entered
@@ -67,6 +68,7 @@ pub mod Making
 pub mod Written
 pub mod Topped
 pub mod Naming
+pub mod Fronts
 pub mod Coding
 pub mod Steady
 pub mod Alone

@@ -25,10 +25,10 @@ use Rattle.step_laws.proofs.Untouched.{put_only, frame_kept, same_here, written_
 
 -- of any source and code
 
--- A transition that is matched by no more than two turns.
+-- A transition that is matched by no more than three turns.
 pub record Soon (s : Source) (p : Program) (c : Config) (t : State) : Type 0 where
   pub advances : Advances s p c t
-  pub soon : advances.turns ≤ 2
+  pub soon : advances.turns ≤ 3
 
 pub soon_none : (s : Source) (p : Program) (c : Config) (t : State) → measure (go s c) < measure c → Alike s p (go s c) t
     → Soon s p c t

@@ -7,17 +7,19 @@ use Rattle.def_eval.proofs.Running.{run as run_source}
 use Rattle.def_machine.proofs.Running.{run as run_code}
 use Rattle.ir_core.specs.CoreForm.{form_of, none, more}
 use Rattle.step_laws.specs.Tops.{IsPlainBlock, AreTops, IsPlainProgram, no_tops, form_before, method_before, call_before, list_before}
-use Rattle.step_laws.specs.Example.{chooser, IsMethodWitness, teller, showing, visitor, IsBlockWitness, passer, printer, yielder, IsYieldWitness, finder, stopper, seeker, IsExitWitness}
+use Rattle.step_laws.specs.Example.{chooser, IsMethodWitness, teller, showing, visitor, IsBlockWitness, passer, printer, yielder, IsYieldWitness, finder, stopper, seeker, IsExitWitness, defaulter, IsDefaultWitness}
 
 plain : IsPlainProgram chooser
 plain =
     list_before
     (method_before (record {
-      straight = record { no_optional = refl; one_rest = omega arith; one_block = omega arith };
+      single = record { one_rest = omega arith; one_block = omega arith };
+      defaults = refl;
       named = (tt, (tt, tt));
     }) (form_before ((((tt, (tt, tt), refl), tt, tt), tt), (tt, tt)) no_tops)
     (method_before (record {
-      straight = record { no_optional = refl; one_rest = omega arith; one_block = omega arith };
+      single = record { one_rest = omega arith; one_block = omega arith };
+      defaults = refl;
       named = (tt, (tt, (tt, tt)));
     }) (form_before (((tt, (tt, tt)), refl), ((tt, (tt, tt), refl), tt), refl) no_tops)
     (form_before ((((tt, (tt, (tt, tt))), refl), tt), refl) no_tops))) no_tops
@@ -34,7 +36,8 @@ chooses = record {
 
 told : IsPlainBlock teller
 told = record {
-  straight = record { no_optional = refl; one_rest = omega arith; one_block = omega arith };
+  single = record { one_rest = omega arith; one_block = omega arith };
+  defaults = refl;
   named = (tt, (tt, tt));
   closed = refl;
 }
@@ -45,7 +48,8 @@ told_plain = form_before (((tt, (tt, tt), refl), tt), (((tt, tt), refl), tt)) no
 -- a block in a block
 shown : IsPlainBlock showing
 shown = record {
-  straight = record { no_optional = refl; one_rest = omega arith; one_block = omega arith };
+  single = record { one_rest = omega arith; one_block = omega arith };
+  defaults = refl;
   named = (tt, tt);
   closed = refl;
 }
@@ -58,7 +62,8 @@ block_plain : IsPlainProgram visitor
 block_plain =
     list_before
     (method_before (record {
-      straight = record { no_optional = refl; one_rest = omega arith; one_block = omega arith };
+      single = record { one_rest = omega arith; one_block = omega arith };
+      defaults = refl;
       named = (tt, (tt, tt));
     }) (form_before (tt, (tt, tt), refl) no_tops)
     (call_before (record { receiver = tt; items = (tt, tt); few = refl }) told told_plain
@@ -77,14 +82,16 @@ visits = record {
 -- a block that yields in a method that yields
 passes : IsPlainBlock passer
 passes = record {
-  straight = record { no_optional = refl; one_rest = omega arith; one_block = omega arith };
+  single = record { one_rest = omega arith; one_block = omega arith };
+  defaults = refl;
   named = (tt, tt);
   closed = refl;
 }
 
 prints : IsPlainBlock printer
 prints = record {
-  straight = record { no_optional = refl; one_rest = omega arith; one_block = omega arith };
+  single = record { one_rest = omega arith; one_block = omega arith };
+  defaults = refl;
   named = (tt, tt);
   closed = refl;
 }
@@ -93,7 +100,8 @@ yielder_plain : IsPlainProgram yielder
 yielder_plain =
     list_before
     (method_before (record {
-      straight = record { no_optional = refl; one_rest = omega arith; one_block = omega arith };
+      single = record { one_rest = omega arith; one_block = omega arith };
+      defaults = refl;
       named = (tt, tt);
     })
     (list_before
@@ -116,14 +124,16 @@ hands_on = record {
 -- blocks that a next, a return and a break leave
 finds : IsPlainBlock finder
 finds = record {
-  straight = record { no_optional = refl; one_rest = omega arith; one_block = omega arith };
+  single = record { one_rest = omega arith; one_block = omega arith };
+  defaults = refl;
   named = (tt, tt);
   closed = refl;
 }
 
 stops : IsPlainBlock stopper
 stops = record {
-  straight = record { no_optional = refl; one_rest = omega arith; one_block = omega arith };
+  single = record { one_rest = omega arith; one_block = omega arith };
+  defaults = refl;
   named = (tt, tt);
   closed = refl;
 }
@@ -132,7 +142,8 @@ seeker_plain : IsPlainProgram seeker
 seeker_plain =
     list_before
     (method_before (record {
-      straight = record { no_optional = refl; one_rest = omega arith; one_block = omega arith };
+      single = record { one_rest = omega arith; one_block = omega arith };
+      defaults = refl;
       named = tt;
     })
     (call_before (record { receiver = (tt, (tt, (tt, tt))); items = tt; few = refl }) finds
@@ -147,6 +158,28 @@ seeks = record {
   program = refl;
   within = refl;
   plain = seeker_plain;
+  evaluates = refl;
+  runs = refl;
+}
+
+-- a method whose second parameter is optional
+defaulter_plain : IsPlainProgram defaulter
+defaulter_plain =
+    list_before
+    (method_before (record {
+      single = record { one_rest = omega arith; one_block = omega arith };
+      defaults = refl;
+      named = (tt, (tt, tt));
+    }) (form_before ((tt, tt), ((tt, (tt, tt), refl), tt)) no_tops)
+    (form_before ((((tt, tt), refl), tt), refl)
+    (form_before ((((tt, (tt, tt)), refl), tt), refl) no_tops))) no_tops
+
+pub takes_defaults : IsDefaultWitness defaulter
+unfolding coded assembled both puts makes past behind nothing instruction_before run_source run_code
+takes_defaults = record {
+  program = refl;
+  within = refl;
+  plain = defaulter_plain;
   evaluates = refl;
   runs = refl;
 }

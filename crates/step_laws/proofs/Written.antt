@@ -15,13 +15,13 @@ use Rattle.scope_resolver.specs.declared.body_kind.BodyKind.{BodyKind}
 use Rattle.scope_resolver.specs.declared.body_kind.BodyKind.TheVariants as kind
 use Rattle.scope_resolver.specs.Layout.{Scopes, seen_around}
 use Rattle.gen_parts.specs.declared.emitter.Spot.{Spot}
-use Rattle.gen_parts.specs.Pieces.{Piece, past, behind, nothing, both, puts, makes, does}
-use Rattle.gen_forms.specs.Gen.{Context, gen, others_in_turn, first_spot, first_register, opening}
+use Rattle.gen_parts.specs.Pieces.{Piece, past, nothing, both, puts, makes, does}
+use Rattle.gen_forms.specs.Gen.{Context, gen, others_in_turn, first_register, opening}
 use Rattle.code_laws.proofs.Shares.{Noted, Noted_all, Fits, many, many_all, many_body}
 use Rattle.code_laws.proofs.Operating.{AreShort}
 use Rattle.def_eval.specs.Source.{Source, over, over_body, over_forms, over_items, how_many, in_order, span, parameters_of, locals_of}
 use Rattle.step_laws.specs.Plain.{IsPlain, ArePlainItems}
-use Rattle.step_laws.specs.Bodies.{AreStraight}
+use Rattle.step_laws.specs.Bodies.{AreSingle}
 use Rattle.step_laws.specs.Tops.{AreNamed, within_closed, IsPlainMethod, IsPlainBlock, IsPlainReceiver, IsPlainCall, AreTops, no_tops, form_before, method_before, call_before, list_before}
 use Rattle.step_laws.proofs.Found.{both_true}
 use Rattle.eval_laws.specs.Kinds.{Kind, of_program, of_block, of_method, of_class, kinds, kinds_body, kinds_forms, kinds_items, kinds_receiver}
@@ -30,7 +30,7 @@ use Rattle.eval_laws.proofs.Sizes.{size}
 use Rattle.step_laws.proofs.Bodiless.{no_bodies, none_in_items}
 use Rattle.step_laws.proofs.Fitting.{Around, none_around, w as body_room}
 use Rattle.step_laws.proofs.Catchless.{IsBare, bare}
-use Rattle.step_laws.proofs.Making.{body_irep, inner_bodies, code_of_method, turn_bodies, form_span, method_span, call_made, none_in_receiver, call_span, call_number, tops_span, list_span, form_many, method_many, call_many, tops_many}
+use Rattle.step_laws.proofs.Making.{form_spot, spot_body, body_irep, inner_bodies, code_of_method, turn_bodies, form_span, method_span, call_made, none_in_receiver, call_span, call_number, tops_span, list_span, form_many, method_many, call_many, tops_many}
 
 -- A body of a method or a block of the source, and its body in the code. Its form is one within what is around it, and
 -- within its own locals.
@@ -46,7 +46,8 @@ pub record Written (s : Source) (k : BodyKind) (n : ℕ) (b : Body) (i : Irep) :
   pub inner : program.Around
   pub known : inner.known ≡ all_parameters (parameters_of b) ++ locals_of b
   pub closed : is_form inner (form_of b) ≡ true
-  pub straight : AreStraight (parameters_of b)
+  pub single : AreSingle (parameters_of b)
+  pub defaults : has_defaults (parameters_of b).optional (form_of b) ≡ true
   pub named : AreNamed (all_parameters (parameters_of b) ++ locals_of b)
   pub tops : AreTops (form.more (form_of b) form.none)
   pub is : i ≡ body_irep k around n b
@@ -126,17 +127,20 @@ inner_written : (src : Source) (k : BodyKind) (sc : Scopes) (out : Around k sc) 
     (ls : List Local) (f : CoreForm) → Fits (form.body p ls f) → (a : program.Around) → length (seen_around k sc) ≤ n
     → n + (1 + many f) ≤ 65536 → FormStands src a (n + 1) f → is_form a f ≡ true → AllMade src (form.more f form.none)
     → AllWritten src (n + 1) (kinds f) (over in_order f) (inner_bodies k sc n (form.body p ls f))
-unfolding behind
 inner_written src k sc out n p ls f fits a deep few st formed made =
     let b = form.body p ls f in
     let t = tally b in
     let c = opening k b sc t in
     let r = first_register k b t in
-    of_one src f c (behind (first_spot n)) r (made t a c (behind (first_spot n)) r (record {
+    let sp = form_spot n (length p.optional) in
+    let number = spot_body n (length p.optional) in
+    subst (λ (i : ℕ). AllWritten src i (kinds f) (over in_order f) (inner_bodies k sc n b)) number
+    (of_one src f c sp r (made t a c sp r (record {
       short = (body_room k sc out p ls f fits).able.each;
-      deep = omega (arith, deep);
-      few = omega (arith, few);
-    }) (st, tt) (fits.1, tt) (ap (λ (x : Bool). x && true) formed))
+      deep = omega (arith, deep, number);
+      few = omega (arith, few, number);
+    }) (subst (λ (i : ℕ). FormStands src a i f) (sym number) st, tt) (fits.1, tt)
+    (ap (λ (x : Bool). x && true) formed)))
 
 -- a plain form has no bodies of any kind
 empty : (ks : List Kind) → length ks ≡ 0 → ks ≡ []
@@ -175,7 +179,8 @@ method_written src t a c s r x (form.body p ls f) m tops made few st n h =
         inner = within_method p ls;
         known = refl;
         closed = formed;
-        straight = m.straight;
+        single = m.single;
+        defaults = m.defaults;
         named = m.named;
         tops = tops;
         is = refl;
@@ -246,7 +251,8 @@ call_written src t a c s r e x is (form.body p ls f) m block tops made short dee
         inner = within_closed (all_parameters p ++ ls);
         known = refl;
         closed = block.closed;
-        straight = block.straight;
+        single = block.single;
+        defaults = block.defaults;
         named = block.named;
         tops = tops;
         is = refl;

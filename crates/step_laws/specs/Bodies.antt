@@ -1,6 +1,5 @@
--- Code of the body of a method or a block none of whose parameters is optional, and what is asked of the bodies that are
--- entered.
-use Rattle.std.specs.Prelude.{◌≡◌, ◌≤◌, ℕ, ◌+◌, List, [], ◌∷◌, length, Bool, Option, Some, None}
+-- Code of the body of a method or a block, and what is asked of the bodies that are entered.
+use Rattle.std.specs.Prelude.{◌≡◌, ◌⊎◌, ◌≤◌, ℕ, zero, suc, ◌+◌, List, ◌∷◌, length, Bool, Option, Some, None}
 use Rattle.rb_value.specs.declared.value.Value.{Value}
 use Rattle.rb_value.specs.declared.value.ObjId.{ObjId}
 use Rattle.rb_value.specs.declared.value.SymId.{SymId}
@@ -11,19 +10,20 @@ use Rattle.rb_value.specs.Object.{Object}
 use Rattle.def_core.specs.Find.{entry_of}
 use Rattle.rite_code.specs.Code.{Program}
 use Rattle.rite_code.specs.declared.operation.Operation.TheVariants as op
-use Rattle.ir_core.specs.CoreForm.{hidden, Body, Parameters}
+use Rattle.ir_core.specs.CoreForm.{hidden, CoreForm, seq, Forms, none, more, Body, Parameters}
 use Rattle.scope_resolver.specs.declared.body_kind.BodyKind.TheVariants as kind
 use Rattle.scope_resolver.specs.declared.seek.Search.TheVariants.{Past}
 use Rattle.scope_resolver.specs.Layout.{Scopes, slots_of, seek}
 use Rattle.gen_parts.specs.declared.line.Line.TheVariants as line
-use Rattle.gen_parts.specs.Pieces.{behind}
-use Rattle.gen_forms.specs.Gen.{Context, gen, first_spot, parameters, return_by}
+use Rattle.gen_parts.specs.declared.emitter.Spot.{Spot}
+use Rattle.gen_parts.specs.Pieces.{past, behind}
+use Rattle.gen_forms.specs.Gen.{Context, gen, others_in_turn, first_spot, ahead, parameters, return_by}
 use Rattle.def_calls.specs.World.{World, Runs, next_activation}
 use Rattle.def_calls.specs.Views.{Callable, by_body, by_row, callable_of, kind_in}
 use Rattle.def_calls.specs.Calls.{Entry, answers, enters, begins, Opening}
 use Rattle.def_eval.specs.Source.{Source, body_at, form_of, parameters_of}
-use Rattle.step_laws.specs.Site.{Site, at_line, LineAt}
-use Rattle.step_laws.specs.Covers.{Covers}
+use Rattle.step_laws.specs.Site.{Site, at_line, LineAt, Room}
+use Rattle.step_laws.specs.Covers.{Covers, CoversAll}
 use Rattle.step_laws.specs.Standing.{high, Stands}
 use Rattle.step_laws.specs.Behind.{Static}
 
@@ -31,17 +31,47 @@ use Rattle.step_laws.specs.Behind.{Static}
 abbrev pub body_of : Site → Body
 body_of h = body_at h.source h.body
 
--- none of them is optional
-pub record AreStraight (p : Parameters) : Type 0 where
-  pub no_optional : p.optional ≡ []
+-- one parameter for the rest of the arguments at most, and one for the block
+pub record AreSingle (p : Parameters) : Type 0 where
   pub one_rest : length p.rest ≤ 1
   pub one_block : length p.block ≤ 1
+
+-- Where none of its parameters is optional the code of the form stands behind ENTER, and the return of its value.
+pub record FormAt (h : Site) (optional : ℕ) (f : CoreForm) : Type 0 where
+  pub none_optional : optional ≡ 0
+  pub covered : Covers h None h.first (behind (first_spot h.body)) (h.body + 1) f
+  pub code : Stands h 1 (gen h.context (behind (first_spot h.body)) h.first f)
+  pub ends : LineAt h (1 + high (gen h.context (behind (first_spot h.body)) h.first f)) (line.Does (op.Return h.first))
+
+-- Else the form is a list that begins with the defaults, in the order of the parameters, behind jumps to each of them and
+-- to what follows them.
+
+-- where the form of that number in a list begins
+abbrev pub start_of : Site → Spot → ℕ → Forms → ℕ
+start_of h s zero es = s.line
+start_of h s (suc i) none = s.line
+start_of h s (suc i) (more e es) = start_of h (past s (gen h.context s h.first e)) i es
+
+abbrev pub behind_jumps : Site → ℕ → Spot
+behind_jumps h optional = ahead (behind (first_spot h.body)) (optional + 1)
+
+pub record DefaultsAt (h : Site) (optional : ℕ) (f : CoreForm) : Type 0 where
+  pub e : CoreForm
+  pub es : Forms
+  pub is : f ≡ seq (more e es)
+  pub room : Room h h.first
+  pub covered : CoversAll h None h.first (behind_jumps h optional) (h.body + 1) (more e es)
+  pub jumps : (i : ℕ) → i ≤ optional
+      → LineAt h (1 + i) (line.Jump (start_of h (behind_jumps h optional) i (more e es)))
+  pub code : Stands h (2 + optional) (others_in_turn h.context (behind_jumps h optional) h.first (more e es))
+  pub ends : LineAt h (2 + optional + high (others_in_turn h.context (behind_jumps h optional) h.first (more e es)))
+      (line.Does (op.Return h.first))
 
 -- ENTER, the code of the form, and the return of its value.
 pub record BodyAt (h : Site) : Type 0 where
   pub static : Static h
   pub begins : at_line h 0 ≡ 0
-  pub straight : AreStraight (parameters_of (body_of h))
+  pub single : AreSingle (parameters_of (body_of h))
   -- the slots of its parameters and locals, and those that it sees around it
   pub around : Scopes
   pub scopes : h.context.scopes ≡ slots_of kind.Method (body_of h) ∷ around
@@ -50,11 +80,9 @@ pub record BodyAt (h : Site) : Type 0 where
   pub none_hidden : (d : ℕ) → seek (hidden d) (slots_of kind.Method (body_of h)) (Past 1)
       ≡ Past (1 + length (slots_of kind.Method (body_of h)))
   pub outside : h.context.loop ≡ None
-  pub covered : Covers h None h.first (behind (first_spot h.body)) (h.body + 1) (form_of (body_of h))
   pub enters : LineAt h 0 (line.Does (op.Enter (parameters (parameters_of (body_of h)))))
-  pub code : Stands h 1 (gen h.context (behind (first_spot h.body)) h.first (form_of (body_of h)))
-  pub ends : LineAt h (1 + high (gen h.context (behind (first_spot h.body)) h.first (form_of (body_of h))))
-      (line.Does (op.Return h.first))
+  pub form : FormAt h (length (parameters_of (body_of h)).optional) (form_of (body_of h))
+      ⊎ DefaultsAt h (length (parameters_of (body_of h)).optional) (form_of (body_of h))
 
 -- so it is in every run of the body
 pub record BodyCode (s : Source) (p : Program) (b : ℕ) : Type 0 where

@@ -228,3 +228,24 @@ seeker = plain_body [] (seq (three (define (codes "seek") seek)
 
 abbrev pub IsExitWitness : Body → Type 0
 IsExitWitness b = Prints b (codes "2\n4\n")
+
+-- def add(a, i = 2)
+--   a + i
+-- end
+-- puts add(1)
+-- puts add(1, 5)
+abbrev pub adder : Body
+adder =
+    body (record { required = a ∷ []; optional = i ∷ []; rest = []; post = []; block = [] }) []
+    (seq (two (set_local i (int (pos 2))) (on (local a) (codes "+") (local i))))
+
+abbrev pub shown : CoreForm → CoreForm
+shown e = call on_self (codes "puts") (plain e no_items) absent
+
+abbrev pub defaulter : Body
+defaulter = plain_body [] (seq (three (define (codes "add") adder)
+    (shown (call on_self (codes "add") (plain (int (pos 1)) no_items) absent))
+    (shown (call on_self (codes "add") (plain (int (pos 1)) (plain (int (pos 5)) no_items)) absent))))
+
+abbrev pub IsDefaultWitness : Body → Type 0
+IsDefaultWitness b = Prints b (codes "3\n6\n")

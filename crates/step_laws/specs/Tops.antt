@@ -1,21 +1,22 @@
 -- What stands at the top of a program of plain forms, and of the body of a method or a block in it: such forms,
--- definitions of methods without optional parameters, calls with a block of that sort, and lists of these.
+-- definitions of methods, calls with a block, and lists of these.
 use Rattle.std.specs.Prelude.{◌≡◌, true, false, nat_lt, List, [], ◌∷◌, ◌++◌, Some}
 use Rattle.ir_counts.specs.Tables.{item_count}
 use Rattle.ir_core.specs.CoreForm.{Name, Local, CoreForm, seq, call, function, define, Body, there, Forms, none, more, Items, Receiver, to, on_self, bare, form_of}
-use Rattle.ir_core.specs.Program.{Around, all_parameters, within_program, is_form}
+use Rattle.ir_core.specs.Program.{Around, all_parameters, within_program, has_defaults, is_form}
 use Rattle.def_eval.specs.Source.{no_parameters, parameters_of, locals_of}
 use Rattle.step_laws.specs.Simple.{IsNamedLocal}
 use Rattle.step_laws.specs.Plain.{IsPlain, ArePlainItems}
-use Rattle.step_laws.specs.Bodies.{AreStraight}
+use Rattle.step_laws.specs.Bodies.{AreSingle}
 
 abbrev pub AreNamed : List Local → Type 0
 AreNamed [] = Unit {0}
 AreNamed (x ∷ xs) = IsNamedLocal x × AreNamed xs
 
--- the body of a method: none of its parameters is optional, and these and its locals are those of the source
+-- the body of a method: its parameters and its locals are those of the source, and it begins with the defaults
 pub record IsPlainMethod (b : Body) : Type 0 where
-  pub straight : AreStraight (parameters_of b)
+  pub single : AreSingle (parameters_of b)
+  pub defaults : has_defaults (parameters_of b).optional (form_of b) ≡ true
   pub named : AreNamed (all_parameters (parameters_of b) ++ locals_of b)
 
 -- inside of a block that names its own locals alone
@@ -24,7 +25,8 @@ within_closed ls = record (within_program ls) { loops = true; method = Some no_p
 
 -- the body of a block is so too, and it names its own locals alone
 pub record IsPlainBlock (b : Body) : Type 0 where
-  pub straight : AreStraight (parameters_of b)
+  pub single : AreSingle (parameters_of b)
+  pub defaults : has_defaults (parameters_of b).optional (form_of b) ≡ true
   pub named : AreNamed (all_parameters (parameters_of b) ++ locals_of b)
   pub closed : is_form (within_closed (all_parameters (parameters_of b) ++ locals_of b)) (form_of b) ≡ true
 

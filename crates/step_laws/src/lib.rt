@@ -12,8 +12,7 @@
 //! - `specs::Simple`: those over nil, true, false and integers, with operators and `puts`, whose evaluation calls no body
 //! - `specs::Covers`: what defines a method, block literals and calls with them besides, at the top of a body or in a
 //!   sequence there
-//! - `specs::Bodies`: code of the body of a method or a block without optional parameters, and a store whose methods and
-//!   Procs have such code
+//! - `specs::Bodies`: code of the body of a method or a block, and a store whose methods and Procs have such code
 //! - `specs::Calm`: what is asked of an evaluation otherwise: it calls no bodies of the source but those with such code
 //! - `specs::Peaceful`: what of this isn't so of every program
 //! - `specs::Implements`: code of a source, and what it means that code implements a source
@@ -49,7 +48,7 @@ ghost use Rattle.step_laws.specs.Relation.{Alike, Shared};
 ghost use Rattle.step_laws.specs.Simple.{IsSimple};
 ghost use Rattle.step_laws.specs.Tops.{IsPlainProgram};
 ghost use Rattle.step_laws.specs.Implements.{IsCodeOf, Implements};
-ghost use Rattle.step_laws.specs.Example.{countdown, gatherer, chooser, visitor, yielder, seeker, IsWitness, IsPlainWitness, IsMethodWitness, IsBlockWitness, IsYieldWitness, IsExitWitness};
+ghost use Rattle.step_laws.specs.Example.{countdown, gatherer, chooser, visitor, yielder, seeker, defaulter, IsWitness, IsPlainWitness, IsMethodWitness, IsBlockWitness, IsYieldWitness, IsExitWitness, IsDefaultWitness};
 
 /// From a configuration and a state that are alike a transition is matched by few turns, after which they are alike again;
 /// what waits below the running frame, and in other fibers, may be anything that is alike. Both begin alike.
@@ -88,8 +87,8 @@ pub fn simple_code_implements()
 {}
 
 /// The code that gen_forms gives for a program within the limits is code of it, its methods and its blocks, where at its
-/// top and at that of each body stand plain forms, methods without optional parameters, and calls with blocks of that sort
-/// that name no locals but their own. Its evaluation enters no other bodies, and the code implements it for every input.
+/// top and at that of each body stand plain forms, methods, and calls with blocks that name no locals but their own. Its
+/// evaluation enters no other bodies, and the code implements it for every input.
 #[tactic(auto, using(crate::proofs::Coded::program_is_code, crate::proofs::Coded::program_implements))]
 pub fn plain_programs_are_implemented()
     ensures coded { (b : Body) → IsProgram b → first_excess (need b) ≡ None → IsPlainProgram b
@@ -147,4 +146,11 @@ pub fn a_program_yields()
 #[tactic(auto, using(crate::proofs::Methods::seeks))]
 pub fn a_program_leaves_blocks()
     ensures { IsExitWitness seeker }
+{}
+
+/// There is one whose method has an optional parameter, that is called with a value for it and without; both sides come to
+/// the same end.
+#[tactic(auto, using(crate::proofs::Methods::takes_defaults))]
+pub fn a_program_has_defaults()
+    ensures { IsDefaultWitness defaulter }
 {}
