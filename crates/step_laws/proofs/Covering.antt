@@ -44,7 +44,6 @@ pub record Has (h : Site) (ss : Slots) (ls : List Local) (t : Tally) (size : ℕ
   pub first : 1 + length ss + t.hidden ≤ h.first
   pub there : (x : Name) → is_among x t.symbols ≡ true → IsThere h.source x
 
-
 -- what is found in the first slots is so whatever is around them
 first_found : (ss : Slots) (around : Scopes) (x : Name) (r : ℕ)
     → place_of (ss ∷ []) (form.named x) ≡ record { levels = 0; register = r } → 1 ≤ r
@@ -60,7 +59,7 @@ module _ (h : Site) (ss : Slots) (ls : List Local) (t : Tally) (registers : ℕ)
   pub room : (r : ℕ) → h.first ≤ r → r < registers → Room h r
   room r low high = record { within = omega (arith, high, has.registers); above = low }
 
-  known : (x : Local) → IsScoped x → is_known x ls ≡ true → hidden_by x ≤ t.hidden → Known h x
+  pub known : (x : Local) → IsScoped x → is_known x ls ≡ true → hidden_by x ≤ t.hidden → Known h x
   known (form.named x) is e few =
       let l = local_there x ss (has.held (form.named x) tt e) in
       let place : place_of h.context.scopes (form.named x) ≡ record { levels = 0; register = l.place } =

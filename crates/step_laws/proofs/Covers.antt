@@ -24,11 +24,11 @@ mutual
   at_top h loop r spot j (local x) c = c
   at_top h loop r spot j (own x) c = c
   at_top h loop r spot j exception c = c
-  at_top h loop r spot j (set_local x e) c = c
+  at_top h loop r spot j (set_local x e) c = (at_top h loop r spot j e c.0, c.1)
   at_top h loop r spot j (ivar x) c = c
   at_top h loop r spot j (set_ivar x e) c = c
   at_top h loop r spot j (gvar x) c = c
-  at_top h loop r spot j (set_gvar x e) c = c
+  at_top h loop r spot j (set_gvar x e) c = (at_top h loop r spot j e c.0, c.1)
   at_top h loop r spot j (constant x) c = c
   at_top h loop r spot j (top_constant x) c = c
   at_top h loop r spot j (in_constant e x) c = c
@@ -57,9 +57,9 @@ mutual
   at_top h loop r spot j (function f) c = absurd c
   at_top h loop r spot j (lambda f) c = c
   at_top h loop r spot j (begin_form b cs o e) c = c
-  at_top h loop r spot j (return_form e) c = c
-  at_top h loop r spot j (break_form e) c = c
-  at_top h loop r spot j (next_form e) c = c
+  at_top h loop r spot j (return_form e) c = at_top h loop r spot j e c
+  at_top h loop r spot j (break_form e) c = at_top h loop r spot j e c
+  at_top h loop r spot j (next_form e) c = at_top h loop r spot j e c
   at_top h loop r spot j retry c = c
   at_top h loop r spot j (define x f) c = absurd c
   at_top h loop r spot j (define_on e x f) c = c

@@ -30,7 +30,6 @@ use Rattle.def_machine.specs.Turn.{target as led_to, turn, act_at}
 use Rattle.step_laws.specs.Site.{Site, within, place_in, at_line, LineAt, Room}
 use Rattle.step_laws.specs.Measure.{measure}
 use Rattle.step_laws.specs.Far.{breaks_far}
-use Rattle.step_laws.proofs.Covers.{at_top}
 use Rattle.step_laws.proofs.Placed.{high, high-puts, Stands, moved, left, right, the_line, Rest, frame_at, turned, leads, jumped}
 use Rattle.step_laws.specs.Behind.{Static, LoopAt, BreakBehind, NextBehind, breaks, begins_round, ends_body, goes_far}
 use Rattle.step_laws.specs.Relation.{Ground, uses, InFrame, Common, Doing, GivesIn, LoopWay, WayBy, Way, LeavesTo, to_end, to_round, leaping, Related, Step}
@@ -222,7 +221,7 @@ module _ (g : Ground) (h : Site) (static : Static h) (ks : List Item) (m : sourc
               loop = d.loop;
               s = d.s;
               here = d.here;
-              covered = at_top h d.loop d.r d.s j e d.covered;
+              covered = d.covered;
               above = d.above;
               code = left h d.n p (move ⊕ out) code;
               next = record {
@@ -323,7 +322,7 @@ module _ (g : Ground) (h : Site) (static : Static h) (ks : List Item) (m : sourc
               loop = d.loop;
               s = d.s;
               here = d.here;
-              covered = at_top h d.loop d.r d.s j e d.covered;
+              covered = d.covered;
               above = d.above;
               code = left h d.n p out code;
               next = record {

@@ -16,11 +16,10 @@ use Rattle.def_eval.specs.Transition.{go}
 use Rattle.def_machine.specs.State as machine
 use Rattle.def_machine.specs.State.{Registers, Level}
 use Rattle.step_laws.specs.Site.{Site, within, LineAt}
-use Rattle.step_laws.specs.Covered.{Covered}
+use Rattle.step_laws.specs.Covers.{Covers}
 use Rattle.step_laws.specs.Measure.{size, measure}
 use Rattle.step_laws.specs.Behind.{OperandBehind, Behind, IsAround}
 use Rattle.step_laws.specs.Relation.{Waits, Ground, InFrame, IsLeft, Common, Doing, Home, Related, Step}
-use Rattle.step_laws.proofs.Covers.{at_top}
 use Rattle.step_laws.proofs.Placed.{high, Stands, left, right, the_line}
 use Rattle.step_laws.proofs.Untouched.{leaves_end}
 use Rattle.step_laws.proofs.Matching.{by_none, state_at}
@@ -95,7 +94,7 @@ module _ (g : Ground) (h : Site) (ks : List Item) (m : source.Memory) (ls : List
     (both : Common g h m (aligned k m)) where
   pub begins_last : (j : ℕ) (f e : CoreForm) (a : Action) (d : Doing g h j f ks m.place ls k.lists)
       → go h.source (Run (perform j f) ks m) ≡ Run (perform j e) (part (operands (j + span e) a [] none) ∷ ks) m
-      → 2 + size e ≤ size f → Covered h d.r e → (o : Operation)
+      → 2 + size e ≤ size f → Covers h d.loop d.r d.s j e → (o : Operation)
       → Stands h d.n (gen (within h d.loop) d.s d.r e ⊕ does o)
       → ((n : ℕ) → LineAt h n (line.Does o)
       → OperandBehind h k.lists a [] none d.r n d.r (d.n + high (gen (within h d.loop) d.s d.r f)) d.loop)
@@ -117,7 +116,7 @@ module _ (g : Ground) (h : Site) (ks : List Item) (m : source.Memory) (ls : List
           loop = d.loop;
           s = d.s;
           here = d.here;
-          covered = at_top h d.loop d.r d.s j e covered;
+          covered = covered;
           above = d.above;
           code = left h d.n p (does o) code;
           next = record {

@@ -21,7 +21,6 @@ use Rattle.def_machine.specs.State as machine
 use Rattle.def_machine.specs.State.{Level, frame, slot_at, value_at}
 use Rattle.def_machine.specs.Turn.{act}
 use Rattle.step_laws.specs.Site.{Site, within, at_line, LineAt, register, Known}
-use Rattle.step_laws.proofs.Covers.{at_top}
 use Rattle.step_laws.proofs.Placed.{high, high-puts, heights, left, right, the_line, frame_at, turned}
 use Rattle.step_laws.specs.Behind.{Static, LocalBehind, to_local}
 use Rattle.step_laws.specs.Relation.{Ground, InFrame, Common, Doing, GivesIn, Related, Step}
@@ -79,7 +78,7 @@ module _ (g : Ground) (h : Site) (static : Static h) (ks : List Item) (m : sourc
           loop = d.loop;
           s = d.s;
           here = d.here;
-          covered = at_top h d.loop d.r d.s j e d.covered.0;
+          covered = d.covered.0;
           above = d.above;
           code = left h d.n p (does o) d.code;
           next = record {

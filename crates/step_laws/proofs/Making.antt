@@ -1,5 +1,5 @@
 -- The bodies that the code of a method or a block makes, and how many they are.
-use Rattle.std.proofs.Common.{◌≡◌, ◌≤◌, ℕ, zero, suc, ◌+◌, List, [], ◌∷◌, ◌++◌, length, arith, refl, ap, ◌∙◌, length-append, true}
+use Rattle.std.proofs.Common.{◌≡◌, ◌≤◌, ℕ, zero, suc, ◌+◌, List, [], ◌∷◌, ◌++◌, length, arith, refl, sym, ap, ◌∙◌, length-append, true}
 use Rattle.std.proofs.lemmas.List.{append-nil}
 use Rattle.rite_code.specs.declared.code.Irep.{Irep}
 use Rattle.rite_code.specs.declared.operation.Operation.TheVariants as op
@@ -9,17 +9,17 @@ use Rattle.ir_core.specs.Program.{has_defaults}
 use Rattle.ir_counts.specs.Counts.{tally}
 use Rattle.scope_resolver.specs.declared.body_kind.BodyKind.{BodyKind}
 use Rattle.scope_resolver.specs.declared.body_kind.BodyKind.TheVariants as kind
-use Rattle.scope_resolver.specs.Layout.{Scopes}
+use Rattle.scope_resolver.specs.Layout.{Scopes, place_of}
 use Rattle.gen_parts.specs.declared.line.Catch.{Catch}
 use Rattle.gen_parts.specs.declared.emitter.Spot.{Spot}
 use Rattle.gen_parts.specs.Pieces.{Piece, past, behind, jump, nothing, both, puts, makes, does, ◌⊕◌}
 use Rattle.gen_parts.specs.Assembly.{assembled}
-use Rattle.gen_forms.specs.Gen.{Context, ahead, starts, jumps_to, gen, in_turn, others_in_turn, with_jumps, by_defaults, first_spot, first_register, opening, layout, parameters, pool_of, body_code, Code, gen_receiver, pass_in_registers, gather, passing, passed_by}
+use Rattle.gen_forms.specs.Gen.{Context, write, return_by, ahead, starts, jumps_to, gen, in_turn, others_in_turn, with_jumps, by_defaults, first_spot, first_register, opening, layout, parameters, pool_of, body_code, Code, gen_receiver, pass_in_registers, gather, passing, passed_by}
 use Rattle.code_laws.proofs.Shares.{many, many_all, many_body}
 use Rattle.code_laws.proofs.Bodywise.{body_of}
 use Rattle.def_eval.specs.Source.{Gathered, over_body, over_receiver, how_many, span, span_forms}
 use Rattle.step_laws.specs.Plain.{IsPlain, ArePlainItems}
-use Rattle.step_laws.specs.Tops.{IsPlainMethod, IsPlainBlock, IsPlainReceiver, IsPlainCall, AreTops, no_tops, form_before, method_before, call_before, list_before}
+use Rattle.step_laws.specs.Tops.{IsPlainMethod, IsPlainBlock, IsPlainReceiver, IsPlainCall, IsLast, assigns_it, returns_it, AreTops, no_tops, form_before, method_before, call_before, value_before, list_before}
 use Rattle.eval_laws.specs.Standing.{past_receiver, past_items}
 use Rattle.step_laws.proofs.Bodiless.{no_bodies, none_in_items}
 use Rattle.step_laws.proofs.Catchless.{IsBare, Bare, bare_both, bare_puts, bare_nothing, bare_passed, bare_items, bare_gather, elements_of, bare}
@@ -221,6 +221,32 @@ items_number n (form.splat e is) plain = absurd plain
 pub call_number : (n : ℕ) (e : Receiver) (is : Items) → IsPlainCall e is → past_items (past_receiver n e) is ≡ n
 call_number n e is m = items_number (past_receiver n e) is m.items ∙ receiver_number n e m.receiver
 
+-- what takes the value of a form makes what that makes
+ends_bare : (p q : Piece) → IsBare q → SameTables (p ⊕ q) p
+unfolding IsBare both
+ends_bare p q is = record {
+  catches = ap (λ (cs : List Catch). p.catches ++ cs) is.0 ∙ append-nil p.catches;
+  children = ap (λ (ns : List ℕ). p.children ++ ns) is.1 ∙ append-nil p.children;
+  bodies = ap (λ (bs : List Irep). p.bodies ++ bs) is.2 ∙ append-nil p.bodies;
+}
+
+pub last_tables : {f e : CoreForm} → IsLast f e → (c : Context) (s : Spot) (r : ℕ)
+    → SameTables (gen c s r f) (gen c s r e)
+last_tables (assigns_it {x} {e} is) c s r = ends_bare (gen c s r e) (does (write r (place_of c.scopes x))) (bare_puts _)
+last_tables (returns_it {e}) c s r = ends_bare (gen c s r e) (does (return_by c.kind_of r)) (bare_puts _)
+
+one_long : (e : CoreForm) (c : Context) (s : Spot) (r : ℕ)
+    → length (others_in_turn c s r (form.more e form.none)).bodies ≡ length (gen c s r e).bodies
+unfolding both nothing
+one_long e c s r = ap length (append-nil (gen c s r e).bodies)
+
+pub last_span : {f e : CoreForm} → IsLast f e → SpanOf (form.more e form.none) → (c : Context) (s : Spot) (r : ℕ)
+    → span f ≡ length (gen c s r f).bodies
+last_span (assigns_it {x} {e} is) each c s r =
+    omega (arith, each c s r, one_long e c s r, ap length (last_tables (assigns_it {x = x} {e = e} is) c s r).bodies)
+last_span (returns_it {e}) each c s r =
+    omega (arith, each c s r, one_long e c s r, ap length (last_tables (returns_it {e = e}) c s r).bodies)
+
 more_span : (e : CoreForm) (es : Forms) (p q : Piece) → span e ≡ length p.bodies → span_forms es ≡ length q.bodies
     → span_forms (form.more e es) ≡ length (both p q).bodies
 unfolding both
@@ -241,6 +267,10 @@ tops_span (call_before {e} {x} {is} {f} {es} m block body tops) c s r =
     let q = gen c s r (form.call e x is (form.there (form.function f))) in
     more_span (form.call e x is (form.there (form.function f))) es q (others_in_turn c (past s q) r es)
     (call_span e x is f m block (λ d t i. tops_span body d t i) c s r) (tops_span tops c (past s q) r)
+tops_span (value_before {f} {e} {es} is inner tops) c s r =
+    let q = gen c s r f in
+    more_span f es q (others_in_turn c (past s q) r es) (last_span is (λ d t i. tops_span inner d t i) c s r)
+    (tops_span tops c (past s q) r)
 tops_span (list_before {fs} {es} inner tops) c s r =
     let q = gen c s r (form.seq fs) in
     more_span (form.seq fs) es q (others_in_turn c (past s q) r es)
@@ -288,6 +318,15 @@ pub call_many : (e : Receiver) (x : Name) (is : Items) (f : Body) → IsPlainCal
 call_many e x is f m block each c s r =
     omega (arith, inner_many kind.Block c.scopes s.body f each, ap length (call_made c s r e x is f m block).bodies)
 
+pub last_many : {f e : CoreForm} → IsLast f e
+    → ((c : Context) (s : Spot) (r : ℕ)
+    → length (others_in_turn c s r (form.more e form.none)).bodies ≤ many_all (form.more e form.none))
+    → (c : Context) (s : Spot) (r : ℕ) → length (gen c s r f).bodies ≤ many f
+last_many (assigns_it {x} {e} is) each c s r =
+    omega (arith, each c s r, one_long e c s r, ap length (last_tables (assigns_it {x = x} {e = e} is) c s r).bodies)
+last_many (returns_it {e}) each c s r =
+    omega (arith, each c s r, one_long e c s r, ap length (last_tables (returns_it {e = e}) c s r).bodies)
+
 more_many : (e : CoreForm) (es : Forms) (p q : Piece) → length p.bodies ≤ many e → length q.bodies ≤ many_all es
     → length (both p q).bodies ≤ many_all (form.more e es)
 unfolding both
@@ -308,6 +347,10 @@ tops_many (call_before {e} {x} {is} {f} {es} m block body tops) c s r =
     let q = gen c s r (form.call e x is (form.there (form.function f))) in
     more_many (form.call e x is (form.there (form.function f))) es q (others_in_turn c (past s q) r es)
     (call_many e x is f m block (λ d t i. tops_many body d t i) c s r) (tops_many tops c (past s q) r)
+tops_many (value_before {f} {e} {es} is inner tops) c s r =
+    let q = gen c s r f in
+    more_many f es q (others_in_turn c (past s q) r es) (last_many is (λ d t i. tops_many inner d t i) c s r)
+    (tops_many tops c (past s q) r)
 tops_many (list_before {fs} {es} inner tops) c s r =
     let q = gen c s r (form.seq fs) in
     more_many (form.seq fs) es q (others_in_turn c (past s q) r es)
@@ -333,6 +376,11 @@ tops_catchless (method_before {x} {f} {es} m body tops) c s r =
 tops_catchless (call_before {e} {x} {is} {f} {es} m block body tops) c s r =
     let q = gen c s r (form.call e x is (form.there (form.function f))) in
     ap (λ (cs : List Catch). cs ++ (others_in_turn c (past s q) r es).catches) (call_made c s r e x is f m block).catches
+    ∙ tops_catchless tops c (past s q) r
+tops_catchless (value_before {f} {e} {es} is inner tops) c s r =
+    let q = gen c s r f in
+    ap (λ (cs : List Catch). cs ++ (others_in_turn c (past s q) r es).catches)
+    ((last_tables is c s r).catches ∙ sym (append-nil (gen c s r e).catches) ∙ tops_catchless inner c s r)
     ∙ tops_catchless tops c (past s q) r
 tops_catchless (list_before {fs} {es} inner tops) c s r =
     let q = gen c s r (form.seq fs) in

@@ -6,8 +6,8 @@ use Rattle.gen_forms.specs.Open.{coded}
 use Rattle.def_eval.proofs.Running.{run as run_source}
 use Rattle.def_machine.proofs.Running.{run as run_code}
 use Rattle.ir_core.specs.CoreForm.{form_of, none, more}
-use Rattle.step_laws.specs.Tops.{IsPlainBlock, AreTops, IsPlainProgram, no_tops, form_before, method_before, call_before, list_before}
-use Rattle.step_laws.specs.Example.{chooser, IsMethodWitness, teller, showing, visitor, IsBlockWitness, passer, printer, yielder, IsYieldWitness, finder, stopper, seeker, IsExitWitness, defaulter, IsDefaultWitness}
+use Rattle.step_laws.specs.Tops.{IsPlainBlock, AreTops, IsPlainProgram, returns_it, assigns_it, no_tops, form_before, method_before, call_before, value_before, list_before}
+use Rattle.step_laws.specs.Example.{chooser, IsMethodWitness, teller, showing, visitor, IsBlockWitness, passer, printer, yielder, IsYieldWitness, finder, stopper, seeker, IsExitWitness, defaulter, IsDefaultWitness, doubler, keeper, IsValueWitness}
 
 plain : IsPlainProgram chooser
 plain =
@@ -180,6 +180,42 @@ takes_defaults = record {
   program = refl;
   within = refl;
   plain = defaulter_plain;
+  evaluates = refl;
+  runs = refl;
+}
+
+-- what calls with blocks give is assigned and returned
+doubles : IsPlainBlock doubler
+doubles = record {
+  single = record { one_rest = omega arith; one_block = omega arith };
+  defaults = refl;
+  named = (tt, tt);
+  closed = refl;
+}
+
+doubles_plain : AreTops (more (form_of doubler) none)
+doubles_plain = form_before (tt, (tt, tt), refl) no_tops
+
+keeper_plain : IsPlainProgram keeper
+keeper_plain =
+    list_before
+    (method_before (record {
+      single = record { one_rest = omega arith; one_block = omega arith };
+      defaults = refl;
+      named = (tt, tt);
+    })
+    (value_before returns_it
+    (call_before (record { receiver = (tt, tt); items = tt; few = refl }) doubles doubles_plain no_tops) no_tops)
+    (value_before (assigns_it tt)
+    (call_before (record { receiver = (tt, tt); items = tt; few = refl }) doubles doubles_plain no_tops)
+    (form_before ((tt, (((tt, tt), refl), tt)), refl) no_tops))) no_tops
+
+pub keeps_values : IsValueWitness keeper
+unfolding coded assembled both puts makes past behind nothing instruction_before run_source run_code
+keeps_values = record {
+  program = refl;
+  within = refl;
+  plain = keeper_plain;
   evaluates = refl;
   runs = refl;
 }

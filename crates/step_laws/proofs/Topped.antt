@@ -7,7 +7,7 @@ use Rattle.rite_code.specs.Code.{Program}
 use Rattle.rite_code.specs.declared.operation.Operation.TheVariants as op
 use Rattle.ir_core.specs.CoreForm as form
 use Rattle.ir_core.specs.CoreForm.{Name, Local, CoreForm, Body, Forms, Items, Receiver}
-use Rattle.ir_core.specs.Program.{Around, is_form, are_forms, are_items, is_receiver, is_block}
+use Rattle.ir_core.specs.Program.{Around, is_known, is_form, are_forms, are_items, is_receiver, is_block}
 use Rattle.ir_walk.specs.Width.{greatest, in_order, of_call, width, widths, item_widths, receiver_width}
 use Rattle.ir_counts.specs.Tables.{item_count}
 use Rattle.ir_counts.specs.declared.tally.Tally.{Tally}
@@ -25,13 +25,13 @@ use Rattle.def_machine.specs.State.{body_at}
 use Rattle.def_machine.specs.Turn.{fetch, shape_by}
 use Rattle.step_laws.specs.Site.{Site, within}
 use Rattle.step_laws.specs.Covers.{CoveredReceiver, past_items_code, CallsWith, Covers, CoversAll}
-use Rattle.step_laws.specs.Tops.{IsPlainReceiver, IsPlainCall, IsPlainBlock, AreTops, no_tops, form_before, method_before, call_before, list_before}
+use Rattle.step_laws.specs.Tops.{IsPlainReceiver, IsPlainCall, IsPlainBlock, IsLast, assigns_it, returns_it, AreTops, no_tops, form_before, method_before, call_before, value_before, list_before}
 use Rattle.step_laws.proofs.Found.{both_true}
 use Rattle.step_laws.proofs.Covers.{at_top}
 use Rattle.step_laws.proofs.Catchless.{IsBare, bare_items}
-use Rattle.step_laws.proofs.Making.{form_span, method_span, call_span, list_span, tops_span, bare_receiver, call_made, call_number}
-use Rattle.step_laws.proofs.Written.{forms_stand_on}
-use Rattle.step_laws.proofs.Covering.{Has, room, named, none_spread, covered_items, covered}
+use Rattle.step_laws.proofs.Making.{last_tables, last_span, form_span, method_span, call_span, list_span, tops_span, bare_receiver, call_made, call_number}
+use Rattle.step_laws.proofs.Written.{last_stands, last_noted, last_formed, forms_stand_on}
+use Rattle.step_laws.proofs.Covering.{Has, room, known, named, none_spread, covered_items, covered}
 
 there_at : (xs : List ℕ) (x : ℕ) (ys : List ℕ) (n : ℕ) → length xs ≡ n → get_or (xs ++ x ∷ ys) n 0 ≡ x
 there_at [] x ys zero e = refl
@@ -177,6 +177,26 @@ module _ (h : Site) (ss : Slots) (ls : List Local) (t : Tally) (registers : ℕ)
   numbered s q e es r long covers =
       subst (λ (j : ℕ). CoversAll h None r (past s q) j es) (omega (arith, long)) covers
 
+  -- what takes the value of a form is covered where that is
+  last_covers : {f e : CoreForm} → IsLast f e → (s : Spot) (r : ℕ) (a : Around) → a.known ≡ ls → Noted t f
+      → is_form a f ≡ true → Covers h None r s s.body e → Covers h None r s s.body f
+  last_covers (assigns_it {x} {e} is) s r a k n formed covers =
+      let both = both_true (is_known x a.known) (is_form a e) formed in (
+        covers,
+        known h ss ls t registers has x is (subst (λ (xs : List Local). is_known x xs ≡ true) k both.0) n.0.hidden,
+      )
+  last_covers (returns_it {e}) s r a k n formed covers = covers
+
+  last_width : {f e : CoreForm} → IsLast f e → (r : ℕ) → r + width f ≤ registers → r + width e ≤ registers
+  last_width (assigns_it {x} {e} is) r w = (order_within registers r (width e ∷ []) w).0
+  last_width (returns_it {e}) r w = (order_within registers r (width e ∷ []) w).0
+
+  -- the children of a list of one are those of the form
+  one_stands : (e : CoreForm) (s : Spot) (r : ℕ) → Stands all s (gen c s r e).children
+      → Stands all s (others_in_turn c s r (form.more e form.none)).children
+  unfolding both nothing
+  one_stands e s r st = subst (λ (xs : List ℕ). Stands all s xs) (sym (append-nil (gen c s r e).children)) st
+
   pub tops_cover : Shapes h.source h.program → {es : Forms} → AreTops es → (s : Spot) (r g : ℕ) (a z : Around)
       → a.known ≡ ls → FormsStand h.source z s.body es → Noted_all t es → are_forms a es ≡ true
       → h.first ≤ r → Under g (widths es) → r + g ≤ registers → Stands all s (others_in_turn c s r es).children
@@ -215,6 +235,21 @@ module _ (h : Site) (ss : Slots) (ls : List Local) (t : Tally) (registers : ℕ)
         numbered s q whole es r long
             (tops_cover shapes tops (past s q) r g a z k (forms_stand_on h.source z s q whole es long st.1)
             n.1 parts.1 low u.1 w (then_stands all s q rest.children stands)),
+      )
+  tops_cover shapes (value_before {f} {e} {es} is inner tops) s r g a z k st n formed low u w stands =
+      let q = gen c s r f in
+      let rest = others_in_turn c (past s q) r es in
+      let parts = both_true (is_form a f) (are_forms a es) formed in
+      let long = last_span is (λ d v i. tops_span inner d v i) c s r in (
+        last_covers is s r a k n.0 parts.0 (tops_cover shapes inner s r (width e) a z k
+            (last_stands is h.source z s.body st.0, tt) (last_noted is t n.0, tt)
+            (ap (λ (x : Bool). x && true) (last_formed is a parts.0)) low (omega arith, tt)
+            (last_width is r (omega (arith, u.0, w)))
+            (one_stands e s r (subst (λ (xs : List ℕ). Stands all s xs) (last_tables is c s r).children
+            (first_stands all s q.children rest.children stands)))).0,
+        numbered s q f es r long
+            (tops_cover shapes tops (past s q) r g a z k (forms_stand_on h.source z s q f es long st.1) n.1 parts.1 low u.1 w
+            (then_stands all s q rest.children stands)),
       )
   tops_cover shapes (list_before {fs} {es} inner tops) s r g a z k st n formed low u w stands =
       let q = gen c s r (form.seq fs) in

@@ -8,7 +8,7 @@ use Rattle.rite_code.specs.declared.operation.Operation.TheVariants as op
 use Rattle.ir_core.specs.CoreForm as form
 use Rattle.ir_core.specs.CoreForm.{Name, Local, CoreForm, Body, Forms, Items, Receiver, form_of}
 use Rattle.ir_core.specs.Program as program
-use Rattle.ir_core.specs.Program.{all_parameters, within_block, within_method, has_defaults, is_form, are_forms, are_items, is_receiver, is_block}
+use Rattle.ir_core.specs.Program.{is_known, all_parameters, within_block, within_method, has_defaults, is_form, are_forms, are_items, is_receiver, is_block}
 use Rattle.ir_counts.specs.declared.tally.Tally.{Tally}
 use Rattle.ir_counts.specs.Counts.{tally}
 use Rattle.scope_resolver.specs.declared.body_kind.BodyKind.{BodyKind}
@@ -22,7 +22,7 @@ use Rattle.code_laws.proofs.Operating.{AreShort}
 use Rattle.def_eval.specs.Source.{Source, over, over_body, over_forms, over_items, how_many, in_order, span, parameters_of, locals_of}
 use Rattle.step_laws.specs.Plain.{IsPlain, ArePlainItems}
 use Rattle.step_laws.specs.Bodies.{AreSingle}
-use Rattle.step_laws.specs.Tops.{AreNamed, within_closed, IsPlainMethod, IsPlainBlock, IsPlainReceiver, IsPlainCall, AreTops, no_tops, form_before, method_before, call_before, list_before}
+use Rattle.step_laws.specs.Tops.{AreNamed, within_closed, IsPlainMethod, IsPlainBlock, IsPlainReceiver, IsPlainCall, IsLast, assigns_it, returns_it, AreTops, no_tops, form_before, method_before, call_before, value_before, list_before}
 use Rattle.step_laws.proofs.Found.{both_true}
 use Rattle.eval_laws.specs.Kinds.{Kind, of_program, of_block, of_method, of_class, kinds, kinds_body, kinds_forms, kinds_items, kinds_receiver}
 use Rattle.eval_laws.specs.Standing.{FormStands, FormsStand, BlockStands}
@@ -30,7 +30,7 @@ use Rattle.eval_laws.proofs.Sizes.{size}
 use Rattle.step_laws.proofs.Bodiless.{no_bodies, none_in_items}
 use Rattle.step_laws.proofs.Fitting.{Around, none_around, w as body_room}
 use Rattle.step_laws.proofs.Catchless.{IsBare, bare}
-use Rattle.step_laws.proofs.Making.{form_spot, spot_body, body_irep, inner_bodies, code_of_method, turn_bodies, form_span, method_span, call_made, none_in_receiver, call_span, call_number, tops_span, list_span, form_many, method_many, call_many, tops_many}
+use Rattle.step_laws.proofs.Making.{last_tables, last_span, last_many, form_spot, spot_body, body_irep, inner_bodies, code_of_method, turn_bodies, form_span, method_span, call_made, none_in_receiver, call_span, call_number, tops_span, list_span, form_many, method_many, call_many, tops_many}
 
 -- A body of a method or a block of the source, and its body in the code. Its form is one within what is around it, and
 -- within its own locals.
@@ -260,6 +260,35 @@ call_written src t a c s r e x is (form.body p ls f) m block tops made short dee
       inner_written src kind.Block c.scopes out s.body p ls f n.3.1 (within_block a p ls) deep few st.2 formed made,
     )))
 
+-- What is shown of the form whose value is taken is so of what takes it.
+
+last_many_of : {f e : CoreForm} → IsLast f e → many_all (form.more e form.none) ≤ many f
+last_many_of (assigns_it {x} {e} is) = omega arith
+last_many_of (returns_it {e}) = omega arith
+
+pub last_stands : {f e : CoreForm} → IsLast f e → (src : Source) (a : program.Around) (n : ℕ) → FormStands src a n f
+    → FormStands src a n e
+last_stands (assigns_it is) src a n st = st.1
+last_stands returns_it src a n st = st
+
+pub last_noted : {f e : CoreForm} → IsLast f e → (t : Tally) → Noted t f → Noted t e
+last_noted (assigns_it is) t n = n.1
+last_noted returns_it t n = n.1
+
+pub last_formed : {f e : CoreForm} → IsLast f e → (a : program.Around) → is_form a f ≡ true → is_form a e ≡ true
+last_formed (assigns_it {x} {e} is) a h = (both_true (is_known x a.known) (is_form a e) h).1
+last_formed (returns_it {e}) a h = (both_true a.returns (is_form a e) h).1
+
+last_written : {f e : CoreForm} → IsLast f e → (src : Source) (c : Context) (s : Spot) (r : ℕ)
+    → AllWritten src s.body (kinds e) (over in_order e) (gen c s r e).bodies
+    → AllWritten src s.body (kinds f) (over in_order f) (gen c s r f).bodies
+last_written (assigns_it {x} {e} is) src c s r all =
+    subst (λ (bs : List Irep). AllWritten src s.body (kinds e) (over in_order e) bs)
+    (sym (last_tables (assigns_it {x = x} {e = e} is) c s r).bodies) all
+last_written (returns_it {e}) src c s r all =
+    subst (λ (bs : List Irep). AllWritten src s.body (kinds e) (over in_order e) bs)
+    (sym (last_tables (returns_it {e = e}) c s r).bodies) all
+
 -- what follows a form reaches no further
 reaches_on : (c : Context) (s : Spot) (q : Piece) (e : CoreForm) (es : Forms) → length q.bodies ≤ many e
     → Reaches c s (form.more e es) → Reaches c (past s q) es
@@ -310,6 +339,18 @@ tops_written (call_before {e} {x} {is} {f} {es} m block body tops) src t a c s r
     (reaches_on c s q whole es (call_many e x is f m block (λ d v i. tops_many body d v i) c s r) w)
     (forms_stand_on src a s q whole es (call_span e x is f m block (λ d v i. tops_span body d v i) c s r) st.1) n.1
     parts.1)
+tops_written (value_before {f} {e} {es} is inner tops) src t a c s r w st n h =
+    let q = gen c s r f in
+    let parts = both_true (is_form a f) (are_forms a es) h in
+    let few = last_many_of is in
+    both_written src s.body (past s q).body (kinds f) (kinds_forms es) (over in_order f) (over_forms in_order es) q.bodies
+    (others_in_turn c (past s q) r es).bodies
+    (last_written is src c s r (of_one src e c s r (tops_written inner src t a c s r
+    (record { short = w.short; deep = w.deep; few = omega (arith, w.few, few) }) (last_stands is src a s.body st.0, tt)
+    (last_noted is t n.0, tt) (ap (λ (x : Bool). x && true) (last_formed is a parts.0))))) refl
+    (tops_written tops src t a c (past s q) r
+    (reaches_on c s q f es (last_many is (λ d v i. tops_many inner d v i) c s r) w)
+    (forms_stand_on src a s q f es (last_span is (λ d v i. tops_span inner d v i) c s r) st.1) n.1 parts.1)
 tops_written (list_before {fs} {es} inner tops) src t a c s r w st n h =
     let q = gen c s r (form.seq fs) in
     let parts = both_true (is_form a (form.seq fs)) (are_forms a es) h in

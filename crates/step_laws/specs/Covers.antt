@@ -1,5 +1,6 @@
 -- The forms whose code is followed where a spot of it and the number of their first body are known: what defines a
--- method, block literals and calls with them, at the top of a body or in a sequence there, besides the covered ones.
+-- method, block literals and calls with them, at the top of a body or in a sequence there, or as what is assigned there or
+-- leaves it, besides the covered ones.
 use Rattle.std.specs.Prelude.{◌≡◌, ℕ, ◌+◌, get_or, false, nat_lt, Option}
 use Rattle.rite_code.specs.declared.operation.Operation.TheVariants as op
 use Rattle.ir_counts.specs.Tables.{item_count}
@@ -13,7 +14,7 @@ use Rattle.def_eval.specs.Scopes.{shape_of}
 use Rattle.def_machine.specs.State.{body_at}
 use Rattle.def_machine.specs.Turn.{fetch, shape_by}
 use Rattle.eval_laws.specs.Standing.{past_receiver, past_items}
-use Rattle.step_laws.specs.Site.{Site, within, Room, Named}
+use Rattle.step_laws.specs.Site.{Site, within, Room, Known, Named}
 use Rattle.step_laws.specs.Covered.{Covered, CoveredItems}
 
 -- the body of a method is the child of its definition
@@ -65,11 +66,11 @@ abbrev mutual
   Covers h loop r spot j (local x) = Covered h r (local x)
   Covers h loop r spot j (own x) = Covered h r (own x)
   Covers h loop r spot j exception = Covered h r exception
-  Covers h loop r spot j (set_local x e) = Covered h r (set_local x e)
+  Covers h loop r spot j (set_local x e) = Covers h loop r spot j e × Known h x
   Covers h loop r spot j (ivar x) = Covered h r (ivar x)
   Covers h loop r spot j (set_ivar x e) = Covered h r (set_ivar x e)
   Covers h loop r spot j (gvar x) = Covered h r (gvar x)
-  Covers h loop r spot j (set_gvar x e) = Covered h r (set_gvar x e)
+  Covers h loop r spot j (set_gvar x e) = Covers h loop r spot j e × Named h x
   Covers h loop r spot j (constant x) = Covered h r (constant x)
   Covers h loop r spot j (top_constant x) = Covered h r (top_constant x)
   Covers h loop r spot j (in_constant e x) = Covered h r (in_constant e x)
@@ -98,9 +99,9 @@ abbrev mutual
   Covers h loop r spot j (function f) = Makes h r spot j f
   Covers h loop r spot j (lambda f) = Covered h r (lambda f)
   Covers h loop r spot j (begin_form b cs o e) = Covered h r (begin_form b cs o e)
-  Covers h loop r spot j (return_form e) = Covered h r (return_form e)
-  Covers h loop r spot j (break_form e) = Covered h r (break_form e)
-  Covers h loop r spot j (next_form e) = Covered h r (next_form e)
+  Covers h loop r spot j (return_form e) = Covers h loop r spot j e
+  Covers h loop r spot j (break_form e) = Covers h loop r spot j e
+  Covers h loop r spot j (next_form e) = Covers h loop r spot j e
   Covers h loop r spot j retry = Covered h r retry
   Covers h loop r spot j (define x f) = Defines h loop r spot j x f
   Covers h loop r spot j (define_on e x f) = Covered h r (define_on e x f)

@@ -118,8 +118,8 @@ pub record Prints (b : Body) (out : List ℕ) : Type 0 where
   pub program : IsProgram b
   pub within : first_excess (need b) ≡ None
   pub plain : IsPlainProgram b
-  pub evaluates : evaluation (source_of b) [] 200 ≡ Over (Ended out 0)
-  pub runs : machine (code_of b) [] 200 ≡ Over (Ended out 0)
+  pub evaluates : evaluation (source_of b) [] 400 ≡ Over (Ended out 0)
+  pub runs : machine (code_of b) [] 400 ≡ Over (Ended out 0)
 
 abbrev pub IsMethodWitness : Body → Type 0
 IsMethodWitness b = Prints b (codes "3\n")
@@ -249,3 +249,34 @@ defaulter = plain_body [] (seq (three (define (codes "add") adder)
 
 abbrev pub IsDefaultWitness : Body → Type 0
 IsDefaultWitness b = Prints b (codes "3\n6\n")
+
+-- def alone(i)
+--   return [i].each do |i|
+--     i + i
+--   end
+-- end
+-- a = [1].each do |i|
+--   i + i
+-- end
+-- puts a, alone(4)
+abbrev pub doubler : Body
+doubler =
+    body (record { required = i ∷ []; optional = []; rest = []; post = []; block = [] }) []
+    (on (local i) (codes "+") (local i))
+
+abbrev pub walked : CoreForm → CoreForm
+walked e = call (to (array (plain e no_items))) (codes "each") no_items (there (function doubler))
+
+abbrev pub one_alone : Body
+one_alone =
+    body (record { required = i ∷ []; optional = []; rest = []; post = []; block = [] }) []
+    (return_form (walked (local i)))
+
+abbrev pub keeper : Body
+keeper = plain_body (a ∷ []) (seq (three (define (codes "alone") one_alone)
+    (set_local a (walked (int (pos 1))))
+    (call on_self (codes "puts") (plain (local a)
+    (plain (call on_self (codes "alone") (plain (int (pos 4)) no_items) absent) no_items)) absent)))
+
+abbrev pub IsValueWitness : Body → Type 0
+IsValueWitness b = Prints b (codes "1\n4\n")

@@ -1,10 +1,11 @@
 -- What stands at the top of a program of plain forms, and of the body of a method or a block in it: such forms,
--- definitions of methods, calls with a block, and lists of these.
+-- definitions of methods, calls with a block, what assigns or returns the value of one, and lists of these.
 use Rattle.std.specs.Prelude.{◌≡◌, true, false, nat_lt, List, [], ◌∷◌, ◌++◌, Some}
 use Rattle.ir_counts.specs.Tables.{item_count}
-use Rattle.ir_core.specs.CoreForm.{Name, Local, CoreForm, seq, call, function, define, Body, there, Forms, none, more, Items, Receiver, to, on_self, bare, form_of}
+use Rattle.ir_core.specs.CoreForm.{Name, Local, CoreForm, set_local, seq, call, function, return_form, define, Body, there, Forms, none, more, Items, Receiver, to, on_self, bare, form_of}
 use Rattle.ir_core.specs.Program.{Around, all_parameters, within_program, has_defaults, is_form}
 use Rattle.def_eval.specs.Source.{no_parameters, parameters_of, locals_of}
+use Rattle.step_laws.specs.Site.{IsScoped}
 use Rattle.step_laws.specs.Simple.{IsNamedLocal}
 use Rattle.step_laws.specs.Plain.{IsPlain, ArePlainItems}
 use Rattle.step_laws.specs.Bodies.{AreSingle}
@@ -41,6 +42,11 @@ pub record IsPlainCall (r : Receiver) (is : Items) : Type 0 where
   pub items : ArePlainItems is
   pub few : nat_lt 253 (item_count is) ≡ false
 
+-- forms that assign a local the value of that form, or give it as that of the method
+pub data IsLast : CoreForm → CoreForm → Type 0 where
+  assigns_it : {x : Local} {e : CoreForm} → IsScoped x → IsLast (set_local x e) e
+  returns_it : {e : CoreForm} → IsLast (return_form e) e
+
 pub data AreTops : Forms → Type 0 where
   no_tops : AreTops none
   form_before : {e : CoreForm} {es : Forms} → IsPlain e → AreTops es → AreTops (more e es)
@@ -48,6 +54,7 @@ pub data AreTops : Forms → Type 0 where
       → AreTops (more (define x f) es)
   call_before : {e : Receiver} {x : Name} {is : Items} {f : Body} {es : Forms} → IsPlainCall e is → IsPlainBlock f
       → AreTops (more (form_of f) none) → AreTops es → AreTops (more (call e x is (there (function f))) es)
+  value_before : {f e : CoreForm} {es : Forms} → IsLast f e → AreTops (more e none) → AreTops es → AreTops (more f es)
   list_before : {fs es : Forms} → AreTops fs → AreTops es → AreTops (more (seq fs) es)
 
 -- a program of plain forms, of methods and of calls with blocks, in which the same stands

@@ -10,8 +10,8 @@
 //! - `specs::Tops`: programs of such forms, of methods, and of calls with blocks that name their own locals alone, at the
 //!   top of which and of each body in them the same stands
 //! - `specs::Simple`: those over nil, true, false and integers, with operators and `puts`, whose evaluation calls no body
-//! - `specs::Covers`: what defines a method, block literals and calls with them besides, at the top of a body or in a
-//!   sequence there
+//! - `specs::Covers`: what defines a method, block literals and calls with them besides, at the top of a body, in a
+//!   sequence there, or as what is assigned to a local or leaves a body
 //! - `specs::Bodies`: code of the body of a method or a block, and a store whose methods and Procs have such code
 //! - `specs::Calm`: what is asked of an evaluation otherwise: it calls no bodies of the source but those with such code
 //! - `specs::Peaceful`: what of this isn't so of every program
@@ -48,7 +48,7 @@ ghost use Rattle.step_laws.specs.Relation.{Alike, Shared};
 ghost use Rattle.step_laws.specs.Simple.{IsSimple};
 ghost use Rattle.step_laws.specs.Tops.{IsPlainProgram};
 ghost use Rattle.step_laws.specs.Implements.{IsCodeOf, Implements};
-ghost use Rattle.step_laws.specs.Example.{countdown, gatherer, chooser, visitor, yielder, seeker, defaulter, IsWitness, IsPlainWitness, IsMethodWitness, IsBlockWitness, IsYieldWitness, IsExitWitness, IsDefaultWitness};
+ghost use Rattle.step_laws.specs.Example.{countdown, gatherer, chooser, visitor, yielder, seeker, defaulter, keeper, IsWitness, IsPlainWitness, IsMethodWitness, IsBlockWitness, IsYieldWitness, IsExitWitness, IsDefaultWitness, IsValueWitness};
 
 /// From a configuration and a state that are alike a transition is matched by few turns, after which they are alike again;
 /// what waits below the running frame, and in other fibers, may be anything that is alike. Both begin alike.
@@ -87,8 +87,8 @@ pub fn simple_code_implements()
 {}
 
 /// The code that gen_forms gives for a program within the limits is code of it, its methods and its blocks, where at its
-/// top and at that of each body stand plain forms, methods, and calls with blocks that name no locals but their own. Its
-/// evaluation enters no other bodies, and the code implements it for every input.
+/// top and at that of each body stand plain forms, methods, calls with blocks that name no locals but their own, and what
+/// assigns or returns the value of one. Its evaluation enters no other bodies, and the code implements it for every input.
 #[tactic(auto, using(crate::proofs::Coded::program_is_code, crate::proofs::Coded::program_implements))]
 pub fn plain_programs_are_implemented()
     ensures coded { (b : Body) → IsProgram b → first_excess (need b) ≡ None → IsPlainProgram b
@@ -153,4 +153,11 @@ pub fn a_program_leaves_blocks()
 #[tactic(auto, using(crate::proofs::Methods::takes_defaults))]
 pub fn a_program_has_defaults()
     ensures { IsDefaultWitness defaulter }
+{}
+
+/// There is one that assigns what a call with a block gives, and a method of which returns it; both sides come to the same
+/// end.
+#[tactic(auto, using(crate::proofs::Methods::keeps_values))]
+pub fn a_program_keeps_values()
+    ensures { IsValueWitness keeper }
 {}
