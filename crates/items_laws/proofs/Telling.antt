@@ -15,15 +15,16 @@ use Rattle.run_rows.specs.Calls.{inspection}
 use Rattle.run_rows.specs.declared.row.KernelRow.TheVariants as kernel
 use Rattle.run_rows.specs.declared.row.StarRow.TheVariants as row
 use Rattle.core_iter.specs.declared.iteration.Iteration.TheVariants as state
-use Rattle.core_iter.specs.Rows.{GoesOn}
+use Rattle.core_iter.specs.Rows.{GoesOn, Starts}
 use Rattle.core_iter.specs.Sending.{ask}
 use Rattle.core_iter.specs.Stage.{Stage, own}
 use Rattle.core_iter.specs.Telling as telling
 use Rattle.core_iter.specs.Telling.{is_it, other_object}
-use Rattle.items_laws.specs.Run.{Turn, Runs, Gives}
+use Rattle.items_laws.specs.Run.{Turn, Runs, Gives, waiting}
 use Rattle.items_laws.specs.Output.{IsAsked}
-use Rattle.items_laws.specs.Raised.{IsInspected, IsTold, by_its_object, by_itself}
+use Rattle.items_laws.specs.Raised.{IsInspected, IsTold, IsUntold, by_its_object, by_itself, in_its_objects, in_its_text}
 use Rattle.items_laws.proofs.Course.{given, refused}
+use Rattle.items_laws.proofs.Cut.{dead}
 use Rattle.items_laws.proofs.Inversion.{not_given}
 use Rattle.items_laws.proofs.Speaking.{asked_so, stepped}
 
@@ -178,3 +179,63 @@ inspect_told held after recv v block ts run =
     let k = told_if true held recv (with_shown recv) (shown recv) (inspects recv) ts v after run.first
     (an_exception held.store.objects recv) run.starts run.runs in
     record { said = k.said; last = k.last; told = k.told; value = k.value; left = k.leaves }
+
+-- Where one that is asked never answers.
+
+untold_further : (may : Bool) (held : Held) (e : Value) (left : Held → Value → Held) (result : Held → Value → Value)
+    (m : Teller may e left result) (t : Turn) (ts : List Turn) (last p : Planned Stage) (s : Stage)
+    → waiting last.plan ≡ Some s → IsAsked (codes "to_s") held e t.wanted → again may t.held e t.answer ≡ true
+    → p ≡ ask t.held m.second t.answer (codes "to_s") → Runs p ts last → IsUntold may held e (t ∷ ts) last
+untold_further may held e left result m t [] last p s waits asks is comes runs =
+    in_its_objects t last asks is (asked_so (codes "to_s") t.held m.second t.answer last (sym runs ∙ comes))
+untold_further may held e left result m t (u ∷ ts) last p s waits asks is comes runs =
+    let k = stepped (ask t.held m.second t.answer (codes "to_s")) p m.second u ts last comes refl runs in
+    absurd (dead k.next last ts s (ap (λ (q : Planned Stage). waiting q.plan) (m.told u.held u.answer k.next k.goes)) waits
+    k.runs)
+
+untold_by : (may : Bool) (held : Held) (e : Value) (left : Held → Value → Held) (result : Held → Value → Value)
+    (m : Teller may e left result) (t : Turn) (ts : List Turn) (last p : Planned Stage) (s : Stage) (c : Bool)
+    → waiting last.plan ≡ Some s → IsAsked (codes "to_s") held e t.wanted → again may t.held e t.answer ≡ c
+    → p ≡ heard_by (again may t.held e t.answer) t.held t.answer m.second left result → Runs p ts last
+    → IsUntold may held e (t ∷ ts) last
+untold_by may held e left result m t ts last p s true waits asks is comes runs =
+    untold_further may held e left result m t ts last p s waits asks is
+    (comes ∙ ap (λ (c : Bool). heard_by c t.held t.answer m.second left result) is) runs
+untold_by may held e left result m t ts last p s false waits asks is comes runs =
+    absurd (dead p last ts s (ap (λ (q : Planned Stage). waiting q.plan)
+    (comes ∙ ap (λ (c : Bool). heard_by c t.held t.answer m.second left result) is)) waits runs)
+
+untold_of : (may : Bool) (held : Held) (e : Value) (left : Held → Value → Held) (result : Held → Value → Value)
+    (m : Teller may e left result) (ts : List Turn) (last p : Planned Stage) (s : Stage) → waiting last.plan ≡ Some s
+    → p ≡ ask held m.first e (codes "to_s") → Runs p ts last → IsUntold may held e ts last
+untold_of may held e left result m [] last p s waits comes runs =
+    in_its_text last (asked_so (codes "to_s") held m.first e last (sym runs ∙ comes))
+untold_of may held e left result m (t ∷ ts) last p s waits comes runs =
+    let k = stepped (ask held m.first e (codes "to_s")) p m.first t ts last comes refl runs in
+    untold_by may held e left result m t ts last k.next s (again may t.held e t.answer) waits
+    (asked_so (codes "to_s") held m.first e t.wanted k.wanted) refl (m.heard t.held t.answer k.next k.goes) k.runs
+
+untold_if : (may : Bool) (held : Held) (e : Value) (left : Held → Value → Held) (result : Held → Value → Value)
+    (m : Teller may e left result) (ts : List Turn) (last p : Planned Stage) (s : Stage) (o : Option ObjId)
+    → waiting last.plan ≡ Some s → p ≡ wanted held class.Exception e o (λ x. ask held m.first e (codes "to_s"))
+    → Runs p ts last → IsUntold may held e ts last
+untold_if may held e left result m ts last p s None waits comes runs =
+    absurd (dead p last ts s (ap (λ (q : Planned Stage). waiting q.plan) comes) waits runs)
+untold_if may held e left result m ts last p s (Some x) waits comes runs =
+    untold_of may held e left result m ts last p s waits comes runs
+
+pub message_untold : (held : Held) (recv : Value) (block : Option ObjId) (ts : List Turn) (first last : Planned Stage)
+    (s : Stage) → Starts (row.Kernel kernel.Message) held recv [] block first → Runs first ts last
+    → waiting last.plan ≡ Some s → IsUntold (is_some (other_object held.store recv)) held recv ts last
+message_untold held recv block ts first last s starts runs waits =
+    let other = other_object held.store recv in
+    untold_if (is_some other) held recv as_it_is as_said (messages recv other) ts last first s
+    (an_exception held.store.objects recv) waits
+    (starts ∙ ap (λ (s : Stage). telling.ask_message held s recv) (first_is recv other)) runs
+
+pub inspect_untold : (held : Held) (recv : Value) (block : Option ObjId) (ts : List Turn) (first last : Planned Stage)
+    (s : Stage) → Starts (row.Kernel kernel.InspectException) held recv [] block first → Runs first ts last
+    → waiting last.plan ≡ Some s → IsUntold true held recv ts last
+inspect_untold held recv block ts first last s starts runs waits =
+    untold_if true held recv (with_shown recv) (shown recv) (inspects recv) ts last first s
+    (an_exception held.store.objects recv) waits starts runs

@@ -70,6 +70,13 @@ pub data IsTold (may : Bool) (held : Held) (e : Value) : List Turn → Value →
       → (may && is_it (other_object t.held.store e) t.answer) ≡ true
       → IsAsked (codes "to_s") t.held t.answer u.wanted → IsTold may held e (t ∷ u ∷ []) u.answer u.held
 
+-- The same where the last one that is asked never answers.
+pub data IsUntold (may : Bool) (held : Held) (e : Value) : List Turn → Planned Stage → Type 0 where
+  in_its_text : (last : Planned Stage) → IsAsked (codes "to_s") held e last → IsUntold may held e [] last
+  in_its_objects : (t : Turn) (last : Planned Stage) → IsAsked (codes "to_s") held e t.wanted
+      → (may && is_it (other_object t.held.store e) t.answer) ≡ true → IsAsked (codes "to_s") t.held t.answer last
+      → IsUntold may held e (t ∷ []) last
+
 -- a new String of the name of its class and of what is said
 pub record IsInspected (held : Held) (e : Value) (ts : List Turn) (v : Value) (after : Held) : Type 0 where
   pub said : Value

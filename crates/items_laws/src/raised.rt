@@ -1,6 +1,6 @@
 //! What exceptions are raised, and what they tell of themselves.
 
-ghost use Rattle.std.specs.Prelude.{◌≡◌, List, [], ◌∷◌, is_some, Option, Some};
+ghost use Rattle.std.specs.Prelude.{◌≡◌, List, [], ◌∷◌, is_some, true, Option, Some};
 ghost use Rattle.rb_value.specs.declared.value.Value.{Value};
 ghost use Rattle.rb_value.specs.declared.value.Value.TheVariants.{Nil, Obj};
 ghost use Rattle.rb_value.specs.declared.value.ObjId.{ObjId};
@@ -12,11 +12,14 @@ ghost use Rattle.def_core.specs.Store.{core, next_number};
 ghost use Rattle.rb_store.specs.Held.{Held};
 ghost use Rattle.heap.specs.Made.{with_exception};
 ghost use Rattle.heap.specs.Reading.{sort_of_value};
+ghost use Rattle.def_plans.specs.Plan.{Planned};
 ghost use Rattle.run_rows.specs.declared.row.KernelRow.TheVariants as kernel;
 ghost use Rattle.run_rows.specs.declared.row.StarRow.TheVariants as row;
+ghost use Rattle.core_iter.specs.Rows.{Starts};
+ghost use Rattle.core_iter.specs.Stage.{Stage};
 ghost use Rattle.core_iter.specs.Telling.{other_object};
-ghost use Rattle.items_laws.specs.Run.{Turn, Gives};
-ghost use Rattle.items_laws.specs.Raised.{AtOnce, IsAgain, IsAnswered, IsInspected, IsMade, IsRefused, IsTold, Throws};
+ghost use Rattle.items_laws.specs.Run.{Turn, Runs, Gives, waiting};
+ghost use Rattle.items_laws.specs.Raised.{AtOnce, IsAgain, IsAnswered, IsInspected, IsMade, IsRefused, IsTold, IsUntold, Throws};
 
 /// `raise` gives no value. Of an exception it raises that, or, where a message follows, a copy that has this one; of a String
 /// a new RuntimeError with that message; of a class what `new` of it answers to the arguments that follow, which is an
@@ -52,4 +55,14 @@ pub fn exceptions_are_told()
         → IsTold (is_some (other_object held.store recv)) held recv ts v after }
     ensures inspect { (held after : Held) (recv v : Value) (block : Option ObjId) (ts : List Turn)
         → Gives (row.Kernel kernel.InspectException) held recv [] block ts v after → IsInspected held recv ts v after }
+{}
+
+/// The same where what is asked never answers: the exception, or then that object, and nothing else was asked before.
+pub fn exceptions_are_untold()
+    ensures message { (held : Held) (recv : Value) (block : Option ObjId) (ts : List Turn) (first last : Planned Stage)
+        (s : Stage) → Starts (row.Kernel kernel.Message) held recv [] block first → Runs first ts last
+        → waiting last.plan ≡ Some s → IsUntold (is_some (other_object held.store recv)) held recv ts last }
+    ensures inspect { (held : Held) (recv : Value) (block : Option ObjId) (ts : List Turn) (first last : Planned Stage)
+        (s : Stage) → Starts (row.Kernel kernel.InspectException) held recv [] block first → Runs first ts last
+        → waiting last.plan ≡ Some s → IsUntold true held recv ts last }
 {}
