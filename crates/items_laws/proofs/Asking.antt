@@ -19,7 +19,7 @@ use Rattle.iter_items.specs.declared.wish.Wish.{Wish}
 use Rattle.iter_items.specs.declared.wish.Wish.TheVariants as wish
 use Rattle.iter_items.specs.Asking.{Wished, wishes, with_item, with_source, ask_of, asked as asked_of, visited, visited_by, is_backwards}
 use Rattle.iter_items.specs.Hearing.{Heard, heard, onward}
-use Rattle.iter_items.specs.Driving.{Ends, IsLeft, ends, WantsOf, HearsOf, Hears, Comes, stops, raises_at_once, goes_on, at_site, planned, sent, Begins, begins, at_once, is_count, same_value}
+use Rattle.iter_items.specs.Driving.{Ends, IsLeft, ends, WantsOf, HearsOf, Hears, Comes, stops, raises_at_once, goes_on, at_site, planned, sent, Begins, begins, is_count, same_value}
 use Rattle.iter_items.specs.Moved.{as_moved}
 use Rattle.iter_items.specs.Sources.{next, previous}
 use Rattle.iter_items.specs.Stage as over_items

@@ -28,7 +28,7 @@ use Rattle.items_laws.proofs.Course.{given}
 use Rattle.items_laws.proofs.Walks.{Walk, as_left, Walks, Called, Done, Goes, walks, one_same}
 use Rattle.items_laws.proofs.Small.{none_some, some_none}
 
-abbrev over_bytes : Walk Count
+abbrev pub over_bytes : Walk Count
 over_bytes = record {
   fits = λ c. Unit {0};
   as_state = λ c. state.Counting c;
@@ -38,7 +38,7 @@ over_bytes = record {
   ending = λ c. c.gives;
 }
 
-bytes_go : Goes over_bytes
+pub bytes_go : Goes over_bytes
 bytes_go = record {
   goes = λ h c a p fit e. e;
   beats = λ h c fit. tt;
@@ -55,7 +55,7 @@ abbrev beat_if : Held → Value → ObjId → ℕ → ℕ → Bool → Beaten Co
 beat_if held recv b n last c =
     counting.beat_by held (from_byte recv b n last) (if c then None else Some (pos n))
 
-abbrev text_with : Held → ℕ → Held
+abbrev pub text_with : Held → ℕ → Held
 text_with held n = with_new held (core class.String) (kind.String (n ∷ []))
 
 -- a byte is shown, and the next one comes
@@ -119,7 +119,7 @@ one_text held recv b n last t ts r after within call asked rest = record {
   result = rest.result;
 }
 
-abbrev ByteRest : List Turn → Value → Held → Type 0
+abbrev pub ByteRest : List Turn → Value → Held → Type 0
 ByteRest ts r after = (held : Held) (recv : Value) (b : ObjId) (n last : ℕ) → last < 256
     → Walks over_bytes ts held (from_byte recv b n last) r after → HandsOnBytes held n last b ts recv r after
 
@@ -140,7 +140,7 @@ byte_turn t ts r after held recv b n last false small past is rest k =
     (rest t.held recv b (n + 1) last small
     (subst (λ (x : Beaten Count). Walks over_bytes ts t.held x.state r after) seen k.rest))
 
-byte_course : (ts : List Turn) (r : Value) (after : Held) → ByteRest ts r after
+pub byte_course : (ts : List Turn) (r : Value) (after : Held) → ByteRest ts r after
 byte_course [] r after = λ held recv b n last small d.
     byte_end held recv b n last r after (nat_lt last n) small refl refl d
 byte_course (t ∷ ts) r after = λ held recv b n last small k.
@@ -157,7 +157,7 @@ bytes_each held after recv v a z b ts small is run =
 
 -- without the last end
 
-one_less : (z : ℕ) → pos (suc z) -ℤ pos 1 ≡ pos z
+pub one_less : (z : ℕ) → pos (suc z) -ℤ pos 1 ≡ pos z
 one_less z = ap (λ (c : Bool). cond c (negsuc (1 - suc (suc z))) (pos (suc z - 1))) (above z)
     ∙ ap (λ (n : ℕ). pos n) (same z)
   where

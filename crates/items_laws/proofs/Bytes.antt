@@ -23,7 +23,7 @@ use Rattle.items_laws.proofs.Reading.{counted}
 use Rattle.items_laws.proofs.Walks.{Walk, as_left, Walks, Called, Done, Goes, plan_at, walks, one_same}
 use Rattle.items_laws.proofs.Small.{from_first, none_some, some_none, sum_zero, sum_more}
 
-abbrev over_bytes : Walk ByteWalk
+abbrev pub over_bytes : Walk ByteWalk
 over_bytes = record {
   fits = λ w. Unit {0};
   as_state = λ w. state.Bytes w;
@@ -33,7 +33,7 @@ over_bytes = record {
   ending = λ w. Obj w.string;
 }
 
-bytes_go : Goes over_bytes
+pub bytes_go : Goes over_bytes
 bytes_go = record { goes = λ h w a p f e. e; beats = λ h w f. tt; later = λ h w a f. tt }
 
 abbrev byte_at : Held → ByteWalk → Option ℕ
@@ -75,7 +75,7 @@ one_byte held s b n x t ts r after there call asked rest = record {
   result = rest.result;
 }
 
-abbrev ByteRest : List Turn → Value → Held → Type 0
+abbrev pub ByteRest : List Turn → Value → Held → Type 0
 ByteRest ts r after = (held : Held) (w : ByteWalk) → w.place + length ts < 2 ^ 64 → Walks over_bytes ts held w r after
     → HandsBytes held w.string w.block w.place ts r after
 
@@ -95,7 +95,7 @@ byte_turn t ts r after held w (Some x) there rest less c =
     (c.asked ∙ ap (λ (o : Option ℕ). (strings.byte_by held w o).held) there)
     (subst (λ (n : ℕ). HandsBytes t.held w.string w.block n ts r after) one more)
 
-byte_course : (ts : List Turn) (r : Value) (after : Held) → ByteRest ts r after
+pub byte_course : (ts : List Turn) (r : Value) (after : Held) → ByteRest ts r after
 byte_course [] r after = λ held w less d. byte_end held w r after (byte_at held w) refl d
 byte_course (t ∷ ts) r after = λ held w less c.
     byte_turn t ts r after held w (byte_at held w) refl (byte_course ts r after) less c

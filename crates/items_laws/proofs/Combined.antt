@@ -1,6 +1,6 @@
 -- `inject` by the name of a method.
-use Rattle.std.proofs.Common.{◌≡◌, refl, ap, subst, ◌∙◌, List, [], ◌∷◌, ◌++◌}
-use Rattle.std.specs.Prelude.{pos, Bool, true, false, ◌&&◌, Option, Some, None, Result, Ok}
+use Rattle.std.proofs.Common.{◌≡◌, refl, ap, subst, ◌∙◌, List, [], ◌∷◌}
+use Rattle.std.specs.Prelude.{pos, Bool, false, ◌&&◌, Option, Some, None, Result, Ok}
 use Rattle.rb_value.specs.declared.value.Value.{Value}
 use Rattle.rb_value.specs.declared.value.Value.TheVariants.{Int}
 use Rattle.rb_value.specs.declared.value.ObjId.{ObjId}

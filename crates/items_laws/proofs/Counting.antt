@@ -64,17 +64,17 @@ due_is c z d there past = ap (λ (o : Option ℤ). counting.due_by c o) there �
     by_past false past = rw past refl
 
 -- one that is past is over
-past_over : (last by z : ℤ) → is_past last by z ≡ true → is_over last by z ≡ true
+pub past_over : (last by z : ℤ) → is_past last by z ≡ true → is_over last by z ≡ true
 past_over last by z past = over_by (fits z)
   where
     over_by : (f : Bool) → (if f then is_past last by z else true) ≡ true
     over_by true = past
     over_by false = refl
 
-unfit_over : (last by z : ℤ) → fits z ≡ false → is_over last by z ≡ true
+pub unfit_over : (last by z : ℤ) → fits z ≡ false → is_over last by z ≡ true
 unfit_over last by z unfit = rw unfit refl
 
-none_before : (last by z : ℤ) (zs : List ℤ) → is_past last by z ≡ false → any_past last by zs ≡ false
+pub none_before : (last by z : ℤ) (zs : List ℤ) → is_past last by z ≡ false → any_past last by zs ≡ false
     → any_past last by (z ∷ zs) ≡ false
 none_before last by z zs before none = rw before none
 

@@ -215,7 +215,7 @@ cut_step g m single ts last stage waits rest = λ held v p comes runs.
     by_item g m single ts last stage waits rest held v (pass_of g.task held v.source).item k.wish k.visit k.later p refl
     (subst (λ (a : Wished). WantsOf a k.wish k.visit k.later) (m.asks held v) k.wants) k.comes runs
 
-cut_course : (g : Shape) (m : Method g) → Single g → (ts : List Turn) (last : Planned Stage) (stage : Stage)
+pub cut_course : (g : Shape) (m : Method g) → Single g → (ts : List Turn) (last : Planned Stage) (stage : Stage)
     → waiting last.plan ≡ Some stage → Recursion g ts last
 cut_course g m single [] last stage waits =
     cut_step g m single [] last stage waits (λ t us e. absurd (not_cons t us (sym e)))

@@ -1,12 +1,11 @@
 -- Numbers that a block is called with, where it never answers the last call.
-use Rattle.std.proofs.Common.{◌≡◌, refl, sym, ap, subst, ◌∙◌, List, [], ◌∷◌, ◌++◌, length}
+use Rattle.std.proofs.Common.{◌≡◌, refl, ap, subst, ◌∙◌, List, [], ◌∷◌, ◌++◌}
 use Rattle.std.specs.Prelude.{ℤ, ◌+ℤ◌, map, Bool, true, false, if◌then◌else◌, Option, Some, None}
 use Rattle.rb_value.specs.declared.value.Value.{Value}
 use Rattle.rb_value.specs.declared.value.Value.TheVariants.{Int}
 use Rattle.rb_value.specs.declared.value.ObjId.{ObjId}
 use Rattle.rb_integer.specs.Exact.{fits}
 use Rattle.rb_store.specs.Held.{Held}
-use Rattle.core_calls.specs.Passing.{args_of}
 use Rattle.def_plans.specs.Plan.{Planned}
 use Rattle.core_iter.specs.declared.counting.Count.{Count}
 use Rattle.core_iter.specs.Counting as counting
@@ -14,7 +13,7 @@ use Rattle.core_iter.specs.Sending.{with_one}
 use Rattle.core_iter.specs.Stage.{Stage}
 use Rattle.items_laws.specs.Run.{Turn, Runs, waiting}
 use Rattle.items_laws.specs.Items.{call_of, calls_of}
-use Rattle.items_laws.specs.Numbers.{numbers_from, is_past}
+use Rattle.items_laws.specs.Numbers.{is_past}
 use Rattle.items_laws.specs.Cut.{CutsOff}
 use Rattle.items_laws.proofs.Counting.{counting_up, counting_goes, counted_on, due_is, number_called, no_call}
 use Rattle.items_laws.proofs.CutWalks.{CutEnd, CutWalks, cut_walks}

@@ -1,6 +1,6 @@
 -- Iterations that call their block again and again, and are left while it is called.
 use Rattle.std.proofs.Common.{◌≡◌, refl, sym, ap, subst, ◌∙◌, List, [], ◌∷◌, ◌++◌}
-use Rattle.std.specs.Prelude.{map, slice_get, Option, Some, None}
+use Rattle.std.specs.Prelude.{map, Option, Some, None}
 use Rattle.rb_value.specs.declared.value.Value.{Value}
 use Rattle.rb_value.specs.declared.value.ObjId.{ObjId}
 use Rattle.rb_value.specs.declared.core_class.CoreClass.TheVariants as class
@@ -16,10 +16,10 @@ use Rattle.run_rows.specs.declared.row.StarRow.TheVariants as row
 use Rattle.run_rows.specs.declared.row.VisitRow.TheVariants as visit
 use Rattle.core_iter.specs.declared.visiting.Visit.{Visit}
 use Rattle.core_iter.specs.Rows.{Starts}
-use Rattle.core_iter.specs.Sending.{beat_or, call_beat, with_one}
+use Rattle.core_iter.specs.Sending.{beat_or}
 use Rattle.core_iter.specs.Stage.{Stage, own}
 use Rattle.core_iter.specs.Visiting as visiting
-use Rattle.items_laws.specs.Run.{Turn, Leads, Runs, waiting}
+use Rattle.items_laws.specs.Run.{Turn, Runs, waiting}
 use Rattle.items_laws.specs.Items.{Passing, call_of, calls_of}
 use Rattle.items_laws.specs.Lists.{alone}
 use Rattle.items_laws.specs.Cut.{Cut}

@@ -1,5 +1,5 @@
 -- `any?`, `all?` and `none?` without a block, of any items.
-use Rattle.std.proofs.Common.{◌≡◌, ℕ, zero, suc, refl, sym, ap, subst, ◌∙◌, List, [], ◌∷◌}
+use Rattle.std.proofs.Common.{◌≡◌, ℕ, zero, suc, refl, subst, ◌∙◌, List, []}
 use Rattle.std.specs.Prelude.{not, Bool, true, false, Option, Some, None}
 use Rattle.rb_value.specs.declared.value.Value.{Value}
 use Rattle.rb_value.specs.Value.{is_true, truth}
@@ -15,29 +15,29 @@ use Rattle.iter_items.specs.Asking.{Wished, asked, after as after_item, decides,
 use Rattle.iter_items.specs.Checks.{arguments}
 use Rattle.iter_items.specs.Driving.{Begins, WantsBy, WantsOf, visit_of}
 use Rattle.iter_items.specs.Moved.{as_moved}
-use Rattle.iter_items.specs.Sources.{Passed, next, left}
+use Rattle.iter_items.specs.Sources.{next, left}
 use Rattle.iter_items.specs.Stage as over_items
 use Rattle.core_iter.specs.Stage.{items}
 use Rattle.items_laws.specs.Run.{Turn, Runs}
 use Rattle.items_laws.specs.Items.{IsRunBy}
 use Rattle.items_laws.specs.Lists.{any_of, is_untrue}
 use Rattle.items_laws.specs.Decided.{Decides}
-use Rattle.items_laws.proofs.Begun.{Started, begun_by}
+use Rattle.items_laws.proofs.Begun.{begun_by}
 use Rattle.items_laws.proofs.Course.{ended}
 use Rattle.items_laws.proofs.Inversion.{begun, comes_of}
 use Rattle.items_laws.proofs.Outright.{answer_of, any_is, all_is, none_is}
 
-abbrev asking : Task → Source → Visit → Visit
+abbrev pub asking : Task → Source → Visit → Visit
 asking t s v = record v { task = t; block = None; source = s }
 
-abbrev told_of : Task → List Value → Value
+abbrev pub told_of : Task → List Value → Value
 told_of t xs = answer_of t (any_of (decides t) xs)
 
 -- what is told by so many of the next items, and how many are made for that
-record Tells (x : Wished) (t : Task) (n : ℕ) (held : Held) (s : Source) : Type 0 where
-  wish_is : x.wish ≡ Some (wish.Ends (told_of t (taken n held s).items))
-  made : ℕ
-  same : x.held ≡ (taken made held s).held
+pub record Tells (x : Wished) (t : Task) (n : ℕ) (held : Held) (s : Source) : Type 0 where
+  pub wish_is : x.wish ≡ Some (wish.Ends (told_of t (taken n held s).items))
+  pub made : ℕ
+  pub same : x.held ≡ (taken made held s).held
 
 -- the same by the next item, where there is one
 
@@ -72,7 +72,7 @@ by_next : (t : Task) (n : ℕ) (held : Held) (s : Source) (v : Visit) (o : Optio
 by_next t n held s v None rest = record { wish_is = refl; made = 0; same = refl }
 by_next t n held s v (Some x) rest = found t n held s v x (decides t x) refl rest
 
-tells_so : (t : Task) (n : ℕ) (held : Held) (s : Source) (v : Visit)
+pub tells_so : (t : Task) (n : ℕ) (held : Held) (s : Source) (v : Visit)
     → Tells (tested_from n held (asking t s v)) t n held s
 tells_so t zero held s v = record { wish_is = refl; made = 0; same = refl }
 tells_so t (suc n) held s v =
@@ -81,7 +81,7 @@ tells_so t (suc n) held s v =
 
 -- a run of such a method
 
-abbrev first_visit : Task → Value → Source → Visit
+abbrev pub first_visit : Task → Value → Source → Visit
 first_visit t recv s = visit_of t recv s None (arguments None None 0) None
 
 decided_so : (t : Task) (result : List Value → Value) (held : Held) (recv : Value) (s : Source) (ts : List Turn) (v : Value)

@@ -30,7 +30,7 @@ use Rattle.items_laws.proofs.Reading.{counted}
 use Rattle.items_laws.proofs.Walks.{Walk, Walks, Called, Done, Goes, walks, call_in}
 use Rattle.items_laws.proofs.Small.{from_first, none_some, some_none}
 
-abbrev dropping : Walk PairWalk
+abbrev pub dropping : Walk PairWalk
 dropping = record {
   fits = λ w. w.row ≡ visit.DeletePairs;
   as_state = λ w. state.Pairs w;
@@ -42,9 +42,9 @@ dropping = record {
 
 -- Behind an answer the walk is as it was, but for how many pairs are gone.
 
-record Counted (w u : PairWalk) : Type 0 where
-  gone : ℕ
-  same : u ≡ record w { deleted = gone }
+pub record Counted (w u : PairWalk) : Type 0 where
+  pub gone : ℕ
+  pub same : u ≡ record w { deleted = gone }
 
 as_before : (w : PairWalk) → Counted w w
 as_before w = record { gone = w.deleted; same = refl }
@@ -62,18 +62,18 @@ by_counted held w None = as_before w
 by_counted held w (Some i) =
     under_counted held w (pairs_of.key_of_pair held.store w.hash (w.place - w.deleted) i.shown)
 
-left_counted : (held : Held) (w : PairWalk) (c : Bool) → Counted w (pairs_of.left_behind held w c).walk
+pub left_counted : (held : Held) (w : PairWalk) (c : Bool) → Counted w (pairs_of.left_behind held w c).walk
 left_counted held w true = by_counted held w (slice_get w.pairs w.place)
 left_counted held w false = as_before w
 
 row_behind : (w u : PairWalk) → Counted w u → w.row ≡ visit.DeletePairs → u.row ≡ visit.DeletePairs
 row_behind w u k same = ap (λ (x : PairWalk). x.row) k.same ∙ same
 
-row_of_beat : (held : Held) (w : PairWalk) (o : Option HashItem) → (pairs_of.beat_by held w o).state ≡ w
+pub row_of_beat : (held : Held) (w : PairWalk) (o : Option HashItem) → (pairs_of.beat_by held w o).state ≡ w
 row_of_beat held w None = refl
 row_of_beat held w (Some i) = refl
 
-dropping_goes : Goes dropping
+pub dropping_goes : Goes dropping
 dropping_goes = record {
   goes = λ h w a p same e. e;
   beats = λ h w same. ap (λ (x : PairWalk). x.row) (row_of_beat h w (slice_get w.pairs w.place)) ∙ same;
@@ -108,7 +108,7 @@ gone_by held w i a same there = subst (λ (c : Bool). GoneIf c w.hash i held (pa
 
 -- The course.
 
-abbrev DropRest : List Turn → Value → Held → Type 0
+abbrev pub DropRest : List Turn → Value → Held → Type 0
 DropRest ts r after = (held : Held) (w : PairWalk) → w.row ≡ visit.DeletePairs → w.place + length ts < 2 ^ 64
     → Walks dropping ts held w r after → Drops held w.hash w.block (drop w.place w.pairs) ts r after
 
@@ -196,7 +196,7 @@ drop_turn t ts r after held w (Some i) there rest row less c =
     (c.asked ∙ ap (λ (o : Option HashItem). (pairs_of.beat_by held w o).held) there ∙ heap_passed held w i row)
     (gone_by t.held w i t.answer row there) more)
 
-drop_course : (ts : List Turn) (r : Value) (after : Held) → DropRest ts r after
+pub drop_course : (ts : List Turn) (r : Value) (after : Held) → DropRest ts r after
 drop_course [] r after = λ held w row less d. drop_end held w r after (slice_get w.pairs w.place) refl d
 drop_course (t ∷ ts) r after = λ held w row less c.
     drop_turn t ts r after held w (slice_get w.pairs w.place) refl (drop_course ts r after) row less c

@@ -28,7 +28,7 @@ use Rattle.items_laws.specs.Items.{call_of, calls_of}
 use Rattle.items_laws.proofs.Walks.{Walk, Walks, Called, Done, Goes, plan_at, walks, one_same}
 use Rattle.items_laws.proofs.Small.{none_some, some_none}
 
-abbrev filling_up : Walk Filling
+abbrev pub filling_up : Walk Filling
 filling_up = record {
   fits = λ f. Unit {0};
   as_state = λ f. state.Filling f;
@@ -38,7 +38,7 @@ filling_up = record {
   ending = λ f. Obj f.array;
 }
 
-filling_goes : Goes filling_up
+pub filling_goes : Goes filling_up
 filling_goes = record { goes = λ h f a p fits e. e; beats = λ h f fits. tt; later = λ h f a fits. tt }
 
 -- by whether a place is left
@@ -46,14 +46,14 @@ filling_goes = record { goes = λ h f a p fits e. e; beats = λ h f fits. tt; la
 abbrev number_at : Filling → Value
 number_at f = Int (pos (min f.place (2 ^ 63 - 1)))
 
-abbrev beat_by : Held → Filling → Bool → Beaten Filling
+abbrev pub beat_by : Held → Filling → Bool → Beaten Filling
 beat_by held f c = if c then record { beat = None; state = f; held = held } else record {
   beat = Some (with_one f.block (number_at f));
   state = record f { place = one_more f.place };
   held = held;
 }
 
-abbrev FillRest : List Turn → Value → Held → Type 0
+abbrev pub FillRest : List Turn → Value → Held → Type 0
 FillRest ts r after = (held : Held) (f : Filling) (k : ℕ) → f.place + k ≡ f.count → f.count < 2 ^ 63
     → Walks filling_up ts held f r after → Fills held f.array f.block f.place k ts r after
 
@@ -120,7 +120,7 @@ fill_turn t ts r after held f (suc k) false e rest sum most c =
     (c.asked ∙ ap (λ (d : Bool). (beat_by held f d).held) e)
     (subst (λ (n : ℕ). Fills (pushed t.held f.array t.answer) f.array f.block n k ts r after) one more)
 
-fill_course : (ts : List Turn) (r : Value) (after : Held) → FillRest ts r after
+pub fill_course : (ts : List Turn) (r : Value) (after : Held) → FillRest ts r after
 fill_course [] r after = λ held f k sum most d. fill_end held f k r after (nat_le f.count f.place) refl sum d
 fill_course (t ∷ ts) r after = λ held f k sum most c.
     fill_turn t ts r after held f k (nat_le f.count f.place) refl (fill_course ts r after) sum most c
@@ -138,11 +138,11 @@ few_of : (n : ℕ) (z : ℤ) → filling.size_of z ≡ Ok n → n < 2 ^ 63
 few_of n (pos m) is = few_by n m (nat_lt (2 ^ 24) m) refl is
 few_of n (negsuc m) is = absurd (cc)
 
-few_in : (n : ℕ) (x : Result ℤ Cause) → and_then x filling.size_of ≡ Ok n → n < 2 ^ 63
+pub few_in : (n : ℕ) (x : Result ℤ Cause) → and_then x filling.size_of ≡ Ok n → n < 2 ^ 63
 few_in n (Ok z) is = few_of n z is
 few_in n (Err c) is = absurd (cc)
 
-none_before : (n : ℕ) → 0 + n ≡ n
+pub none_before : (n : ℕ) → 0 + n ≡ n
 none_before n = omega arith
 
 pub array_filled : (held after : Held) (recv size v : Value) (a b : ObjId) (n : ℕ) (ts : List Turn)

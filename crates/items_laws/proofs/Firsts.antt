@@ -53,10 +53,10 @@ next_same h k (source.Numbers n) same =
 
 -- the visit behind the first item
 
-abbrev behind_first : Held → Source → Value → Visit → Visit
+abbrev pub behind_first : Held → Source → Value → Visit → Visit
 behind_first held s first v = record v { value = Some first; source = (next held s).source }
 
-begins_behind : (held : Held) (recv : Value) (s : Source) (b : ObjId) (first : Value) (p : Planned over_items.Stage)
+pub begins_behind : (held : Held) (recv : Value) (s : Source) (b : ObjId) (first : Value) (p : Planned over_items.Stage)
     → (next held s).item ≡ Some first
     → Begins held (first_of_all (injecting b) recv s None None 0) p
     → Begins (next held s).held (behind_first held s first (first_of_all (injecting b) recv s None None 0)) p

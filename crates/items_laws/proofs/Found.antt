@@ -339,7 +339,7 @@ key_found held after recv y v h block ts hash run =
 
 -- Where one of them never replies.
 
-search_cut : (held : Held) (y : Value) (a : ObjId) (indexed : Bool) (ts : List Turn) (last : Planned Stage)
+pub search_cut : (held : Held) (y : Value) (a : ObjId) (indexed : Bool) (ts : List Turn) (last : Planned Stage)
     (stage : Stage) (first : Planned over_values.Stage) → waiting last.plan ≡ Some stage
     → Begins held (codes "==") (comparing.search a y indexed) first → Runs (lifted first) ts last
     → CutsAsking (codes "==") same_as (element a) (always y) is_true held ts last

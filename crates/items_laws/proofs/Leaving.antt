@@ -1,6 +1,6 @@
 -- Which runs are left, method by method.
 use Rattle.std.proofs.Common.{◌≡◌, refl, List, [], ◌∷◌}
-use Rattle.std.specs.Prelude.{codes, not, Bool, true, false, Some, None}
+use Rattle.std.specs.Prelude.{codes, true, Some, None}
 use Rattle.rb_value.specs.declared.value.Value.{Value}
 use Rattle.rb_value.specs.declared.value.ObjId.{ObjId}
 use Rattle.rb_store.specs.Held.{Held}
@@ -15,7 +15,7 @@ use Rattle.items_laws.specs.Run.{Turn}
 use Rattle.items_laws.specs.Items.{answers, with_arguments}
 use Rattle.items_laws.specs.Lists.{alone, in_turn, with_object, with_places}
 use Rattle.items_laws.specs.Cut.{IsLeft, IsCut, hands_alone}
-use Rattle.items_laws.proofs.Small.{true_is, untrue_is}
+use Rattle.items_laws.proofs.Small.{untrue_is}
 use Rattle.items_laws.proofs.Cut.{cut_by}
 use Rattle.items_laws.proofs.Answered.{mapping, maps, flattening, flattens}
 use Rattle.items_laws.proofs.Counted.{placing, places, counting, counts, taking, takes}

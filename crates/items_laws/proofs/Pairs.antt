@@ -38,7 +38,7 @@ use Rattle.items_laws.proofs.Small.{none_some, some_none}
 
 -- rows that delete nothing
 
-abbrev of_pairs : VisitRow → Walk PairWalk
+abbrev pub of_pairs : VisitRow → Walk PairWalk
 of_pairs r = record {
   fits = λ w. w.row ≡ r;
   as_state = λ w. state.Pairs w;
@@ -60,7 +60,7 @@ not_deleting : (r : VisitRow) (w : PairWalk) (a : Value) → pairs_of.is_deletin
     → pairs_of.goes w a ≡ false
 not_deleting r w a keeps same = rw (same, keeps) refl
 
-goes_by : (r : VisitRow) → pairs_of.is_deleting r ≡ false → Goes (of_pairs r)
+pub goes_by : (r : VisitRow) → pairs_of.is_deleting r ≡ false → Goes (of_pairs r)
 goes_by r keeps = record {
   goes = λ h w a p same e. e ∙ ap (λ (c : Bool). then_by h w c) (not_deleting r w a keeps same);
   beats = λ h w same. stays_by r h w (slice_get w.pairs w.place) same;
@@ -72,7 +72,7 @@ goes_by r keeps = record {
 abbrev passed_item : Held → PairWalk → Option HashItem → Option Value
 passed_item held w o = (pair_passed held (source.Pairs w.pairs (one_more w.place)) o).item
 
-abbrev PairRest : List Turn → Value → Held → Type 0
+abbrev pub PairRest : List Turn → Value → Held → Type 0
 PairRest ts r after = (held : Held) (w : PairWalk) → w.row ≡ visit.EachPair
     → Walks (of_pairs visit.EachPair) ts held w r after
     → Visits next held (source.Pairs w.pairs w.place) w.block Whole alone ts (λ h xs. IsValue h (Obj w.hash) r after)
@@ -123,7 +123,7 @@ of_pair r held w t ts v after (Some i) row there c =
           Walks (of_pairs r) ts t.held (pairs_of.passed (pairs_of.beat_by held w o).state) v after) there c.rest;
     }
 
-pair_course : (ts : List Turn) (r : Value) (after : Held) → PairRest ts r after
+pub pair_course : (ts : List Turn) (r : Value) (after : Held) → PairRest ts r after
 pair_course [] r after = λ held w row d.
     let e = pair_end visit.EachPair held w r after (slice_get w.pairs w.place) refl d in
     let none = ap (passed_item held w) e.0 in
@@ -181,15 +181,15 @@ none_left (x ∷ xs) (suc n) none = omega (arith, none_left xs n none)
 pub none_behind : {A : Type 0} (xs : List A) (n : ℕ) → slice_get xs n ≡ None → drop n xs ≡ []
 none_behind xs n none = at_drop_all (λ ys. ys) xs n (none_left xs n none)
 
-abbrev parts : (HashItem → Value) → ObjId → List HashItem → List (Option (ObjId × List Value))
+abbrev pub parts : (HashItem → Value) → ObjId → List HashItem → List (Option (ObjId × List Value))
 parts part b ps = map (λ i. Some (b, part i ∷ [])) ps
 
-abbrev PartRest : VisitRow → (HashItem → Value) → List Turn → Value → Held → Type 0
+abbrev pub PartRest : VisitRow → (HashItem → Value) → List Turn → Value → Held → Type 0
 PartRest r part ts v after = (held : Held) (w : PairWalk) → w.row ≡ r → w.place + length ts < 2 ^ 64
     → Walks (of_pairs r) ts held w v after
     → (calls_of ts ≡ parts part w.block (drop w.place w.pairs)) × IsValue (last_heap held ts) (Obj w.hash) v after
 
-part_course : (r : VisitRow) (part : HashItem → Value)
+pub part_course : (r : VisitRow) (part : HashItem → Value)
     → ((held : Held) (i : HashItem) → (pairs_of.passed_for r held i).passed ≡ One (part i))
     → (ts : List Turn) (v : Value) (after : Held) → PartRest r part ts v after
 part_course r part alone_so [] v after = λ held w row less d.

@@ -34,10 +34,10 @@ use Rattle.items_laws.proofs.Working.{Course, at_end, last_reply, one_reply, cou
 use Rattle.items_laws.proofs.Wrote.{no_text, text_given, text_reply}
 
 -- these pieces are left
-record Left (w : Joining) (ps : List Value) : Type 0 where
-  there : drop w.place w.pieces ≡ ps
-  size : length w.pieces ≡ w.place + length ps
-  less : length w.pieces < 2 ^ 64
+pub record Left (w : Joining) (ps : List Value) : Type 0 where
+  pub there : drop w.place w.pieces ≡ ps
+  pub size : length w.pieces ≡ w.place + length ps
+  pub less : length w.pieces < 2 ^ 64
 
 behind : (n : ℕ) (xs : List Value) (p : Value) (ps : List Value) → drop n xs ≡ p ∷ ps → drop (suc n) xs ≡ ps
 behind zero [] p ps e = absurd (cc)
@@ -51,7 +51,7 @@ next_place n k m size less = omega (arith, size, less)
 one_fewer : (n k m : ℕ) → m ≡ n + suc k → m ≡ suc n + k
 one_fewer n k m size = omega (arith, size)
 
-left_behind : (w : Joining) (p : Value) (ps : List Value) (bytes : List ℕ) → Left w (p ∷ ps)
+pub left_behind : (w : Joining) (p : Value) (ps : List Value) (bytes : List ℕ) → Left w (p ∷ ps)
     → Left (texts.passed (texts.with_text w bytes)) ps
 left_behind w p ps bytes left =
     let e = next_place w.place (length ps) (length w.pieces) left.size left.less in
@@ -140,14 +140,14 @@ with_reply name held k w p a ps us ts r after left own replies more =
 
 -- What the work asks with these pieces left.
 
-abbrev asking : Held → Joining → List Value → Asked Work
+abbrev pub asking : Held → Joining → List Value → Asked Work
 asking held w ps = asked_as work.Joins (texts.joined_from held w ps)
 
-abbrev asking_by : Held → Joining → Value → List Value → Option (List ℕ) → Asked Work
+abbrev pub asking_by : Held → Joining → Value → List Value → Option (List ℕ) → Asked Work
 asking_by held w p ps o = asked_as work.Joins (texts.joined_by held w (texts.asks_by p o)
     (texts.joined_from held (texts.pieced_by w o) ps))
 
-own_is : (held : Held) (w : Joining) (p : Value) (ps : List Value) (o : Option (List ℕ)) → texts.own_text held.store p ≡ o
+pub own_is : (held : Held) (w : Joining) (p : Value) (ps : List Value) (o : Option (List ℕ)) → texts.own_text held.store p ≡ o
     → asking held w (p ∷ ps) ≡ asking_by held w p ps o
 own_is held w p ps o own = ap (λ (x : Option (List ℕ)). asking_by held w p ps x) own
 
@@ -220,7 +220,7 @@ goes_on : (held k : Held) (w : Joining) (u : Work) (a r : Value) → u ≡ work.
 goes_on held k w u a r same ends =
     none_some r (ap (λ (x : Work). (hear k.store (question held x).work a).ends) (sym same) ∙ ends)
 
-asks_left : (held : Held) (w : Joining) (ps : List Value) (u : Work) → u ≡ work.Joins w → Left w ps
+pub asks_left : (held : Held) (w : Joining) (ps : List Value) (u : Work) → u ≡ work.Joins w → Left w ps
     → question held u ≡ asking held w ps
 asks_left held w ps u same left =
     ap (λ (x : Work). question held x) same ∙ ap (λ (l : List Value). asking held w l) left.there
@@ -238,7 +238,7 @@ joined name held w ps u ts r after same left (one_reply h k l x y a z arg us vs 
 
 -- From the first place on.
 
-none_before : (n : ℕ) → n ≡ 0 + n
+pub none_before : (n : ℕ) → n ≡ 0 + n
 none_before n = omega arith
 
 joined_all : (held after : Held) (pieces : List Value) (separator : List ℕ) (ts : List Turn) (v : Value)

@@ -29,33 +29,33 @@ use Rattle.items_laws.proofs.Course.{given, refused}
 use Rattle.items_laws.proofs.Sent.{Sent, first_of, lifted, sent}
 use Rattle.items_laws.proofs.Unequal.{at_once}
 
-abbrev compared_with : OrderRow → Value → Value → Value → Bool → Order
+abbrev pub compared_with : OrderRow → Value → Value → Value → Bool → Order
 compared_with r x low high second = record { row = r; receiver = x; first = low; second = high; at_second = second }
 
-abbrev waits : OrderRow → Value → Value → Value → Bool → over_values.Stage
+abbrev pub waits : OrderRow → Value → Value → Value → Bool → over_values.Stage
 waits r x low high second = over_values.orders (compared_with r x low high second)
 
 -- What a method makes of the signs of two replies.
-record Placing (r : OrderRow) (x low high below within above : Value) : Type 0 where
-  below_first : (z : ℤ) → int_lt z (pos 0) ≡ true
+pub record Placing (r : OrderRow) (x low high below within above : Value) : Type 0 where
+  pub below_first : (z : ℤ) → int_lt z (pos 0) ≡ true
       → ordering.told (compared_with r x low high false) z ≡ Some below
-  not_below : (z : ℤ) → int_lt z (pos 0) ≡ false → ordering.told (compared_with r x low high false) z ≡ None
-  above_second : (z : ℤ) → int_lt (pos 0) z ≡ true
+  pub not_below : (z : ℤ) → int_lt z (pos 0) ≡ false → ordering.told (compared_with r x low high false) z ≡ None
+  pub above_second : (z : ℤ) → int_lt (pos 0) z ≡ true
       → ordering.told (compared_with r x low high true) z ≡ Some above
-  not_above : (z : ℤ) → int_lt (pos 0) z ≡ false
+  pub not_above : (z : ℤ) → int_lt (pos 0) z ≡ false
       → ordering.told (compared_with r x low high true) z ≡ Some within
-  refuses : (h : Held) (second : Bool) → ordering.refused_by r h (compared_with r x low high second)
+  pub refuses : (h : Held) (second : Bool) → ordering.refused_by r h (compared_with r x low high second)
       ≡ ordering.incomparable h (compared_with r x low high second)
 
 -- signs
 
-not_less : (z : ℤ) → int_lt z (pos 0) ≡ false → pos 0 ≤ℤ z
+pub not_less : (z : ℤ) → int_lt z (pos 0) ≡ false → pos 0 ≤ℤ z
 not_less z e = omega (arith, ints, e)
 
 not_more : (z : ℤ) → int_lt (pos 0) z ≡ false → z ≤ℤ pos 0
 not_more z e = omega (arith, ints, e)
 
-less : (z : ℤ) → int_lt z (pos 0) ≡ true → z <ℤ pos 0
+pub less : (z : ℤ) → int_lt z (pos 0) ≡ true → z <ℤ pos 0
 less z e = record { lt = subst (λ (c : Bool). T c) (sym e) tt }
 
 more : (z : ℤ) → int_lt (pos 0) z ≡ true → pos 0 <ℤ z
@@ -209,7 +209,7 @@ placed r x low high below within above m held after v ts p starts runs =
 
 -- `between?`
 
-lies : (x low high : Value) → Placing order_row.Between x low high False True False
+pub lies : (x low high : Value) → Placing order_row.Between x low high False True False
 lies x low high = record {
   below_first = λ z e. ap (λ (c : Bool). if c then Some False else None) e;
   not_below = λ z e. ap (λ (c : Bool). if c then Some False else None) e;
@@ -227,7 +227,7 @@ lies_between held after recv low high v block ts run =
 
 -- `clamp`
 
-held_within : (x low high : Value) → Placing order_row.Clamp x low high low x high
+pub held_within : (x low high : Value) → Placing order_row.Clamp x low high low x high
 held_within x low high = record {
   below_first = λ z e. ap (λ (c : Bool). if c then Some low else None) e;
   not_below = λ z e. ap (λ (c : Bool). if c then Some low else None) e;

@@ -41,17 +41,17 @@ use Rattle.items_laws.proofs.Small.{and_true, none_some}
 use Rattle.items_laws.proofs.Working.{Course, at_end, last_reply, one_reply, courses}
 
 -- What a value is looked for for: where the others lack it; where it is new; where it is shared, and then new, too.
-data Kind : Type 0 where
+pub data Kind : Type 0 where
   lacking : Kind
   fresh : Kind
   sharing : Kind
   shared_new : Kind
 
 -- the place of the value, those that stayed before, and the place of the next that is asked
-record Spot : Type 0 where
-  place : ℕ
-  staying : List Value
-  asked_at : ℕ
+pub record Spot : Type 0 where
+  pub place : ℕ
+  pub staying : List Value
+  pub asked_at : ℕ
 
 abbrev sieve_of : Kind → Sieve
 sieve_of lacking = sieve.Difference
@@ -65,7 +65,7 @@ among_kept fresh = true
 among_kept sharing = false
 among_kept shared_new = true
 
-abbrev work_at : Kind → List Value → List Value → Spot → Sifting
+abbrev pub work_at : Kind → List Value → List Value → Spot → Sifting
 work_at k values others p = record {
   sieve = sieve_of k;
   values = values;
@@ -77,7 +77,7 @@ work_at k values others p = record {
 }
 
 -- how the next value begins
-abbrev first : Kind → Kind
+abbrev pub first : Kind → Kind
 first lacking = lacking
 first fresh = fresh
 first sharing = sharing
@@ -127,36 +127,36 @@ asks_next p = record { place = p.place; staying = p.staying; asked_at = one_more
 
 -- What holds of a value from there on.
 
-abbrev Mid : Kind → List Value → List Value → ℕ → SymId → Value → Held → List Turn → Bool → Held → Type 0
+abbrev pub Mid : Kind → List Value → List Value → ℕ → SymId → Value → Held → List Turn → Bool → Held → Type 0
 Mid lacking others kept n name v held ts stays after = Seeks name others n v held ts (not stays) after
 Mid fresh others kept n name v held ts stays after = Seeks name kept n v held ts (not stays) after
 Mid sharing others kept n name v held ts stays after = IsShared name others n kept v held ts stays after
 Mid shared_new others kept n name v held ts stays after = Seeks name kept n v held ts (not stays) after
 
 -- the values that are left
-record Done (k : Kind) (others : List Value) (name : SymId) (kept : List Value) (held : Held) (vs : List Value)
+pub record Done (k : Kind) (others : List Value) (name : SymId) (kept : List Value) (held : Held) (vs : List Value)
     (ts : List Turn) (r : Value) (after : Held) : Type 0 where
-  stay : List Value
-  last : Held
-  sieves : Sieves (λ kept v h us stays l. Mid (first k) others kept 0 name v h us stays l) held vs kept ts stay last
-  result : IsArrayOf last stay r after
+  pub stay : List Value
+  pub last : Held
+  pub sieves : Sieves (λ kept v h us stays l. Mid (first k) others kept 0 name v h us stays l) held vs kept ts stay last
+  pub result : IsArrayOf last stay r after
 
-record MidDone (k : Kind) (others : List Value) (name : SymId) (p : Spot) (held : Held) (v : Value) (vs : List Value)
+pub record MidDone (k : Kind) (others : List Value) (name : SymId) (p : Spot) (held : Held) (v : Value) (vs : List Value)
     (ts : List Turn) (r : Value) (after : Held) : Type 0 where
-  us : List Turn
-  further : List Turn
-  stays : Bool
-  left : Held
-  parts : ts ≡ us ++ further
-  mid : Mid k others p.staying p.asked_at name v held us stays left
-  more : Done k others name (with_value stays p.staying v) left vs further r after
+  pub us : List Turn
+  pub further : List Turn
+  pub stays : Bool
+  pub left : Held
+  pub parts : ts ≡ us ++ further
+  pub mid : Mid k others p.staying p.asked_at name v held us stays left
+  pub more : Done k others name (with_value stays p.staying v) left vs further r after
 
-abbrev ResultOf : Kind → List Value → SymId → Spot → Held → List Value → List Turn → Value → Held → Type 0
+abbrev pub ResultOf : Kind → List Value → SymId → Spot → Held → List Value → List Turn → Value → Held → Type 0
 ResultOf k others name p held [] ts r after = Done k others name p.staying held [] ts r after
 ResultOf k others name p held (v ∷ vs) ts r after = MidDone k others name p held v vs ts r after
 
 -- at the beginning of a value
-fresh_done : (k : Kind) (others : List Value) (name : SymId) (place : ℕ) (kept : List Value) (held : Held)
+pub fresh_done : (k : Kind) (others : List Value) (name : SymId) (place : ℕ) (kept : List Value) (held : Held)
     (vs : List Value) (ts : List Turn) (r : Value) (after : Held)
     → ResultOf (first k) others name (record { place = place; staying = kept; asked_at = 0 }) held vs ts r after
     → Done (first k) others name kept held vs ts r after
@@ -320,7 +320,7 @@ within n xs v vs e = omega (arith, length-drop n xs, ap (λ (l : List Value). le
 tails_same : (x y : Value) (xs ys : List Value) → (x ∷ xs) ≡ (y ∷ ys) → xs ≡ ys
 tails_same x y xs ys e = cc
 
-behind_it : (n : ℕ) (xs : List Value) (v : Value) (vs : List Value) → length xs < 2 ^ 64 → drop n xs ≡ v ∷ vs
+pub behind_it : (n : ℕ) (xs : List Value) (v : Value) (vs : List Value) → length xs < 2 ^ 64 → drop n xs ≡ v ∷ vs
     → drop (one_more n) xs ≡ vs
 behind_it n xs v vs less e =
     let there = within n xs v vs e in
@@ -472,7 +472,7 @@ sieved_at values others name held less (v ∷ vs) = λ k p ts r after q here see
 
 -- Over the course.
 
-sieved_so : (values others : List Value) (name : SymId) → length values < 2 ^ 64 → (held : Held) (w : Work)
+pub sieved_so : (values others : List Value) (name : SymId) → length values < 2 ^ 64 → (held : Held) (w : Work)
     (ts : List Turn) (r : Value) (after : Held) (k : Kind) (p : Spot) → w ≡ work.Sifts (work_at k values others p)
     → Course name held w ts r after → ResultOf k others name p held (drop p.place values) ts r after
 sieved_so values others name less held w ts r after k p same (at_end h u x is) =
@@ -488,7 +488,7 @@ sieved_so values others name less held w ts r after k p same (one_reply h l m u 
 
 -- The methods.
 
-abbrev at_first : Spot
+abbrev pub at_first : Spot
 at_first = record { place = 0; staying = []; asked_at = 0 }
 
 sieved : (k : Kind) (values others : List Value) (held : Held) → length values < 2 ^ 64 → (ts : List Turn) (v : Value)
@@ -510,18 +510,22 @@ pub record Begun (held : Held) (s : Sieve) (a b : ObjId) (c : Bool) (ts : List T
       first_plan
   pub runs : Runs (lifted first_plan) ts (gives after v)
 
+pub begins_so : (held : Held) (s : Sieve) (a b : ObjId) (y : Value) (c : Bool) (p : Planned over_values.Stage)
+    → an_array held.store.objects y ≡ Some b
+    → own_equality held (comparing.sifting held a s b).values (comparing.sifting held a s b).others ≡ c
+    → comparing.SiftsBy held a s y (an_array held.store.objects y) p
+    → comparing.SiftsHow c (with_symbol (codes "==") held) (symbol (codes "==") held) (comparing.sifting held a s b) p
+begins_so held s a b y c p other own starts = subst (λ (d : Bool). comparing.SiftsHow d (with_symbol (codes "==") held)
+    (symbol (codes "==") held) (comparing.sifting held a s b) p) own
+    (subst (λ (o : Option ObjId). comparing.SiftsBy held a s y o p) other starts)
+
 pub begun_by : (held after : Held) (s : Sieve) (a b : ObjId) (y v : Value) (c : Bool) (ts : List Turn)
     (p : Planned over_values.Stage) → an_array held.store.objects y ≡ Some b
     → own_equality held (comparing.sifting held a s b).values (comparing.sifting held a s b).others ≡ c
     → comparing.SiftsBy held a s y (an_array held.store.objects y) p → Runs (lifted p) ts (gives after v)
     → Begun held s a b c ts v after
-begun_by held after s a b y v c ts p other own starts runs = record {
-  first_plan = p;
-  begins = subst (λ (d : Bool). comparing.SiftsHow d (with_symbol (codes "==") held) (symbol (codes "==") held)
-      (comparing.sifting held a s b) p) own
-      (subst (λ (o : Option ObjId). comparing.SiftsBy held a s y o p) other starts);
-  runs = runs;
-}
+begun_by held after s a b y v c ts p other own starts runs =
+    record { first_plan = p; begins = begins_so held s a b y c p other own starts; runs = runs }
 
 pub difference_sieved : (held after : Held) (recv y v : Value) (a b : ObjId) (block : Option ObjId) (ts : List Turn)
     → length (elements held a) < 2 ^ 64 → an_array held.store.objects recv ≡ Some a → an_array held.store.objects y ≡ Some b

@@ -33,11 +33,11 @@ use Rattle.items_laws.proofs.Cut.{dead}
 use Rattle.items_laws.proofs.Small.{none_some, some_same}
 
 -- whatever a plan waits for, its answer ends the run
-abbrev EndsSoon : Planned Stage → Type 0
+abbrev pub EndsSoon : Planned Stage → Type 0
 EndsSoon p = (s : Stage) → waiting p.plan ≡ Some s → (h : Held) (a : Value) (q : Planned Stage) → GoesOn h s a q
     → waiting q.plan ≡ None
 
-sole : (ts : List Turn) (first last : Planned Stage) (s : Stage) → EndsSoon first → Runs first ts last
+pub sole : (ts : List Turn) (first last : Planned Stage) (s : Stage) → EndsSoon first → Runs first ts last
     → waiting last.plan ≡ Some s → (ts ≡ []) × (last ≡ first)
 sole [] first last s ends runs waits = (refl, sym runs)
 sole (t ∷ ts) first last s ends runs waits =
@@ -47,7 +47,7 @@ sole (t ∷ ts) first last s ends runs waits =
 
 -- Plans that end, and stages whose answer does.
 
-over : (p : Planned Stage) → waiting p.plan ≡ None → EndsSoon p
+pub over : (p : Planned Stage) → waiting p.plan ≡ None → EndsSoon p
 over p none = λ s is h a q goes. absurd (none_some s (sym none ∙ is))
 
 ended_by : (p q : Planned Stage) → p ≡ q → waiting q.plan ≡ None → EndsSoon p
@@ -78,7 +78,7 @@ raised h a q goes =
     ap (λ (x : Planned Stage). waiting x.plan) goes ∙ made_ends h (an_exception h.store.objects a)
 
 -- what isn't refused for the number of its arguments
-unless : (o : Option Cause) (held : Held) (p : Planned Stage) (Further : Type 0) → (Further → EndsSoon p)
+pub unless : (o : Option Cause) (held : Held) (p : Planned Stage) (Further : Type 0) → (Further → EndsSoon p)
     → Unless o held p Further → EndsSoon p
 unless None held p Further ends starts = ends starts
 unless (Some c) held p Further ends starts = over p (ap (λ (x : Planned Stage). waiting x.plan) starts)
@@ -199,7 +199,7 @@ raises_it held [] p is = over p (ap (λ (q : Planned Stage). waiting q.plan) is)
 raises_it held (x ∷ more) p is = first_of held x (sort_of_value held.store x) more p is
 
 -- what comes first is the only thing
-soon : (held : Held) (recv : Value) (r : KernelRow) (args : List Value) (block : Option ObjId) (p : Planned Stage)
+pub soon : (held : Held) (recv : Value) (r : KernelRow) (args : List Value) (block : Option ObjId) (p : Planned Stage)
     → wants_one r ≡ true → Starts (row.Kernel r) held recv args block p → EndsSoon p
 soon held recv kernel.Puts args block p so starts = absurd (cc)
 soon held recv kernel.Print args block p so starts = absurd (cc)

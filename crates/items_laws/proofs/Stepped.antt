@@ -28,7 +28,7 @@ abbrev counted_if : Bool → Held → RangeContents → Value → ObjId → ℤ 
 counted_if c held r recv b by =
     if c then counting.count_next held (counting.numbers_of r recv b by) else refuses held cause.NegativeCount
 
-begun_so : (held : Held) (r : RangeContents) (recv size : Value) (by : ℤ) (b : ObjId)
+pub begun_so : (held : Held) (r : RangeContents) (recv size : Value) (by : ℤ) (b : ObjId)
     → range_in (kind_in held.store.objects recv) ≡ Some r → integer held.store size ≡ Ok by → int_lt (pos 0) by ≡ true
     → counting.begin_range_step held recv (size ∷ []) b ≡ counting.count_next held (counting.numbers_of r recv b by)
 begun_so held r recv size by b is sized above =

@@ -34,10 +34,10 @@ use Rattle.items_laws.proofs.Small.{none_some, some_none}
 
 -- Walks over a text.
 
-abbrev Beats : Type 0
+abbrev pub Beats : Type 0
 Beats = Held → TextWalk → Beaten TextWalk
 
-abbrev over_text : (TextWalk → Iteration) → Beats → Walk TextWalk
+abbrev pub over_text : (TextWalk → Iteration) → Beats → Walk TextWalk
 over_text as_state beat = record {
   fits = λ w. Unit {0};
   as_state = as_state;
@@ -47,26 +47,26 @@ over_text as_state beat = record {
   ending = λ w. Obj w.string;
 }
 
-abbrev behind : TextWalk → ℕ → TextWalk
+abbrev pub behind : TextWalk → ℕ → TextWalk
 behind w end = record w { place = end }
 
-abbrev no_beat : Held → TextWalk → Beaten TextWalk
+abbrev pub no_beat : Held → TextWalk → Beaten TextWalk
 no_beat held w = record { beat = None; state = w; held = held }
 
 -- the text is at its end, or a part of it comes next, for so many turns at least
-data Next (parts : List ℕ → List (List ℕ)) (Long : TextWalk → ℕ → Type 0) (held : Held) (w : TextWalk)
+pub data Next (parts : List ℕ → List (List ℕ)) (Long : TextWalk → ℕ → Type 0) (held : Held) (w : TextWalk)
     (b : Beaten TextWalk) : Type 0 where
   at_end : b ≡ no_beat held w → parts (drop w.place w.text) ≡ [] → Next parts Long held w b
   at_part : (end : ℕ) → b ≡ strings.part_made held w end
       → parts (drop w.place w.text) ≡ slice_range w.text w.place end ∷ parts (drop end w.text)
       → ((k : ℕ) → Long w (suc k) → Long (behind w end) k) → Next parts Long held w b
 
-record TextRow (parts : List ℕ → List (List ℕ)) (Long : TextWalk → ℕ → Type 0) (as_state : TextWalk → Iteration)
+pub record TextRow (parts : List ℕ → List (List ℕ)) (Long : TextWalk → ℕ → Type 0) (as_state : TextWalk → Iteration)
     (beat : Beats) : Type 0 where
-  goes : Goes (over_text as_state beat)
-  next : (held : Held) (w : TextWalk) (k : ℕ) → Long w k → Next parts Long held w (beat held w)
+  pub goes : Goes (over_text as_state beat)
+  pub next : (held : Held) (w : TextWalk) (k : ℕ) → Long w k → Next parts Long held w (beat held w)
 
-abbrev TextRest : (List ℕ → List (List ℕ)) → (TextWalk → ℕ → Type 0) → (TextWalk → Iteration) → Beats → List Turn → Value → Held
+abbrev pub TextRest : (List ℕ → List (List ℕ)) → (TextWalk → ℕ → Type 0) → (TextWalk → Iteration) → Beats → List Turn → Value → Held
     → Type 0
 TextRest parts Long as_state beat ts r after = (held : Held) (w : TextWalk) → Long w (length ts)
     → Walks (over_text as_state beat) ts held w r after
@@ -124,7 +124,7 @@ text_turn parts Long as_state beat t ts r after held w rest long (at_part end is
     (one_text held w.string w.block (slice_range w.text w.place end) (parts (drop end w.text)) t ts r after
     (c.called ∙ one_same w.block x c.call call) (c.asked ∙ ap (λ (b : Beaten TextWalk). b.held) is) more)
 
-text_course : (parts : List ℕ → List (List ℕ)) (Long : TextWalk → ℕ → Type 0) (as_state : TextWalk → Iteration)
+pub text_course : (parts : List ℕ → List (List ℕ)) (Long : TextWalk → ℕ → Type 0) (as_state : TextWalk → Iteration)
     (beat : Beats) (k : TextRow parts Long as_state beat) (ts : List Turn) (r : Value) (after : Held)
     → TextRest parts Long as_state beat ts r after
 text_course parts Long as_state beat k [] r after = λ held w long d.
@@ -141,7 +141,7 @@ part_by held w end c = if c then strings.part_made held w end else no_beat held 
 both : (a b : Bool) → a ≡ true → b ≡ true → (a && b) ≡ true
 both a b e f = rw (e, f) refl
 
-is_part : (held : Held) (w : TextWalk) (end : ℕ) → w.place ≤ end → end ≤ length w.text
+pub is_part : (held : Held) (w : TextWalk) (end : ℕ) → w.place ≤ end → end ≤ length w.text
     → strings.part held w end ≡ strings.part_made held w end
 is_part held w end from to = ap (part_by held w end) (both (nat_le w.place end) (nat_le end (length w.text))
     (le-leb w.place end from) (le-leb end (length w.text) to))
@@ -164,14 +164,14 @@ beyond : (a b : Bool) → b ≡ false → (a && b) ≡ false
 beyond true b e = e
 beyond false b e = refl
 
-no_part : (held : Held) (w : TextWalk) (end : ℕ) → nat_le end (length w.text) ≡ false
+pub no_part : (held : Held) (w : TextWalk) (end : ℕ) → nat_le end (length w.text) ≡ false
     → strings.part held w end ≡ no_beat held w
 no_part held w end e =
     ap (part_by held w end) (beyond (nat_le w.place end) (nat_le end (length w.text)) e)
 
 -- a byte where the text goes on
 
-char_cut : (text : List ℕ) (n : ℕ) → n < length text
+pub char_cut : (text : List ℕ) (n : ℕ) → n < length text
     → characters (drop n text) ≡ slice_range text n (n + 1) ∷ characters (drop (n + 1) text)
 char_cut text n less =
     let x = get_or text n 0 in
@@ -210,7 +210,7 @@ at_most n k less = omega (arith, less)
 not_before : (n k : ℕ) → n ≤ n + k
 not_before n k = omega arith
 
-abbrev Any : TextWalk → ℕ → Type 0
+abbrev pub Any : TextWalk → ℕ → Type 0
 Any w k = Unit {0}
 
 abbrev line_by : Held → TextWalk → Bool → Beaten TextWalk
@@ -239,7 +239,7 @@ line_or_end held w true e = line_there held w (ltb-true w.place (length w.text) 
 line_or_end held w false e = at_end (ap (line_by held w) e)
     (ap lines (drop_all w.place w.text (ltb-false w.place (length w.text) e)))
 
-by_lines : TextRow lines Any (λ w. state.Lines w) (λ held w. strings.line_beat held w)
+pub by_lines : TextRow lines Any (λ w. state.Lines w) (λ held w. strings.line_beat held w)
 by_lines = record {
   goes = record { goes = λ h w a p f e. e; beats = λ h w f. tt; later = λ h w a f. tt };
   next = λ held w k any. line_or_end held w (nat_lt w.place (length w.text)) refl;

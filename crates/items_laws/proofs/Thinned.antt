@@ -26,10 +26,10 @@ use Rattle.items_laws.proofs.Walks.{Walk, Walks, Called, Done, Goes, plan_at, wa
 use Rattle.items_laws.proofs.Small.{from_first, none_some, some_none}
 
 -- where the walk stands behind an answer
-abbrev behind_if : Bool → Visit → Visit
+abbrev pub behind_if : Bool → Visit → Visit
 behind_if c w = if c then w else visiting.passed w
 
-abbrev thinning : Walk Visit
+abbrev pub thinning : Walk Visit
 thinning = record {
   fits = λ w. Unit {0};
   as_state = λ w. state.Deleting w;
@@ -39,7 +39,7 @@ thinning = record {
   ending = λ w. Obj w.array;
 }
 
-plan_is : (held : Held) (w : Visit) (o : Option Value)
+pub plan_is : (held : Held) (w : Visit) (o : Option Value)
     → visiting.delete_at held w o ≡ goes_on (λ w. state.Deleting w) (Obj w.array) (stay_by held w o)
 plan_is held w None = refl
 plan_is held w (Some v) = refl
@@ -52,14 +52,14 @@ plan_behind held w true = plan_is (visiting.deleted held w.array w.place) w
     (visiting.element (visiting.deleted held w.array w.place).store w)
 plan_behind held w false = plan_is held (visiting.passed w) (visiting.element held.store (visiting.passed w))
 
-thinning_goes : Goes thinning
+pub thinning_goes : Goes thinning
 thinning_goes = record {
   goes = λ h w a p f e. e ∙ plan_behind h w (is_true a);
   beats = λ h w f. tt;
   later = λ h w a f. tt;
 }
 
-abbrev ThinRest : List Turn → Value → Held → Type 0
+abbrev pub ThinRest : List Turn → Value → Held → Type 0
 ThinRest ts r after = (held : Held) (w : Visit) → w.place + length ts < 2 ^ 64 → Walks thinning ts held w r after
     → ThinsOut held w.array w.block w.place ts r after
 
@@ -126,7 +126,7 @@ thin_turn t ts r after held w (Some x) there rest less c =
     one_thinned held w.array w.block w.place x t ts r after there (c.called ∙ one_same w.block x c.call call)
     (subst (λ (o : Option Value). t.wanted.held ≡ (stay_by held w o).held) there c.asked) more
 
-thin_course : (ts : List Turn) (r : Value) (after : Held) → ThinRest ts r after
+pub thin_course : (ts : List Turn) (r : Value) (after : Held) → ThinRest ts r after
 thin_course [] r after = λ held w less d. thin_end held w r after (visiting.element held.store w) refl d
 thin_course (t ∷ ts) r after = λ held w less c.
     thin_turn t ts r after held w (visiting.element held.store w) refl (thin_course ts r after) less c

@@ -1,5 +1,5 @@
 -- `inspect` of an Array and of a Hash.
-use Rattle.std.proofs.Common.{◌≡◌, ℕ, suc, ◌<◌, ◌+◌, ◌*◌, ◌/◌, ◌%◌, ◌^◌, refl, sym, ap, subst, ◌∙◌, List, [], ◌∷◌, ◌++◌, length, arith, append_assoc}
+use Rattle.std.proofs.Common.{◌≡◌, ℕ, suc, ◌<◌, ◌+◌, ◌/◌, ◌%◌, ◌^◌, refl, sym, ap, subst, ◌∙◌, List, [], ◌∷◌, ◌++◌, length, arith, append_assoc}
 use Rattle.std.specs.Prelude.{codes, option_map, slice_get, nat_eq, not, Bool, true, false, if◌then◌else◌, Option, Some, None}
 use Rattle.std.proofs.lemmas.Bool.{eqb-true, eqb-false}
 use Rattle.std.proofs.lemmas.Bool.Decides.{nat_tests}
@@ -77,11 +77,11 @@ text_reply name held k w v x y a arg us seen is replies =
 
 -- Which values are shown, and what stands before each.
 
-abbrev item_of : Shown → Held → ℕ → Option Value
+abbrev pub item_of : Shown → Held → ℕ → Option Value
 item_of (Elements a) = element a
 item_of (Pairs ps) = part_of ps
 
-abbrev before : Shown → ℕ → List ℕ
+abbrev pub before : Shown → ℕ → List ℕ
 before (Elements a) n = if nat_eq n 0 then codes "[" else codes ", "
 before (Pairs ps) n = if nat_eq (n % 2) 1 then codes "=>" else (if nat_eq n 0 then codes "{" else codes ", ")
 
@@ -112,16 +112,16 @@ part_is held (Pairs ps) n = part_pair ps n (slice_get ps (n / 2))
 
 -- The text so far, and what it comes to.
 
-abbrev showing_at : Shown → ℕ → List ℕ → Showing
+abbrev pub showing_at : Shown → ℕ → List ℕ → Showing
 showing_at s n text = record { shown = s; place = n; text = text }
 
-abbrev at : Shown → ℕ → List ℕ → Work
+abbrev pub at : Shown → ℕ → List ℕ → Work
 at s n text = work.Shows (showing_at s n text)
 
 abbrev asking : Held → Shown → ℕ → List ℕ → Option Value → Asked Work
 asking held s n text o = asked_as work.Shows (texts.shown_by held (showing_at s n text) (with_before (before s n) o))
 
-question_is : (held : Held) (s : Shown) (n : ℕ) (text : List ℕ) (w : Work) (o : Option Value) → w ≡ at s n text
+pub question_is : (held : Held) (s : Shown) (n : ℕ) (text : List ℕ) (w : Work) (o : Option Value) → w ≡ at s n text
     → item_of s held n ≡ o → question held w ≡ asking held s n text o
 question_is held s n text w o same there = ap (λ (u : Work). question held u) same
     ∙ ap (λ (p : Option (Value × List ℕ)). asked_as work.Shows (texts.shown_by held (showing_at s n text) p))
