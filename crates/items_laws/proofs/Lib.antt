@@ -86,3 +86,4 @@ pub mod CutVisits
 pub mod Awaited
 pub mod Sole
 pub mod Collected
+pub mod Enumerating

@@ -30,3 +30,4 @@ pub mod Raised
 pub mod Stored
 pub mod CutAsked
 pub mod Gathered
+pub mod Enumerated

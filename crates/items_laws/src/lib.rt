@@ -20,6 +20,7 @@
 pub mod asked;
 pub mod byte_ranges;
 pub mod compared;
+pub mod enumerated;
 pub mod gathered;
 pub mod handed;
 pub mod left;
