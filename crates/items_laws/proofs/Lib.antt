@@ -87,3 +87,4 @@ pub mod Awaited
 pub mod Sole
 pub mod Collected
 pub mod Enumerating
+pub mod ReadBack

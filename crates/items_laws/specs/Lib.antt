@@ -31,3 +31,4 @@ pub mod Stored
 pub mod CutAsked
 pub mod Gathered
 pub mod Enumerated
+pub mod Backwards

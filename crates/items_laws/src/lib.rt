@@ -18,6 +18,7 @@
 #![tactic(auto)]
 
 pub mod asked;
+pub mod backwards;
 pub mod byte_ranges;
 pub mod compared;
 pub mod enumerated;
