@@ -88,3 +88,10 @@ pub mod Sole
 pub mod Collected
 pub mod Enumerating
 pub mod ReadBack
+pub mod Beginning
+pub mod BegunTexts
+pub mod BegunPairs
+pub mod BegunPlaces
+pub mod Once
+pub mod CutPlaced
+pub mod CutSieved

@@ -32,3 +32,5 @@ pub mod CutAsked
 pub mod Gathered
 pub mod Enumerated
 pub mod Backwards
+pub mod Beginning
+pub mod Once

@@ -19,6 +19,7 @@
 
 pub mod asked;
 pub mod backwards;
+pub mod beginnings;
 pub mod byte_ranges;
 pub mod compared;
 pub mod enumerated;
