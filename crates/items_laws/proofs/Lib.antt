@@ -95,3 +95,5 @@ pub mod BegunPlaces
 pub mod Once
 pub mod CutPlaced
 pub mod CutSieved
+pub mod CutWrote
+pub mod CutEnumerable

@@ -34,3 +34,5 @@ pub mod Enumerated
 pub mod Backwards
 pub mod Beginning
 pub mod Once
+pub mod CutWritten
+pub mod Each

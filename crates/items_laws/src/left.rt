@@ -25,6 +25,7 @@ ghost use Rattle.core_iter.specs.declared.iteration.Iteration.{Iteration};
 ghost use Rattle.core_iter.specs.Rows.{Starts, caught};
 ghost use Rattle.core_iter.specs.Stage.{Stage};
 ghost use Rattle.items_laws.specs.Example.{turn};
+ghost use Rattle.items_laws.specs.Firsts.{FoldsOff};
 ghost use Rattle.items_laws.specs.Run.{Turn, Runs, waiting};
 ghost use Rattle.items_laws.specs.Items.{answers, with_arguments};
 ghost use Rattle.items_laws.specs.Lists.{alone, in_turn, is_untrue, with_object, with_places};
@@ -51,6 +52,9 @@ pub fn runs_are_left()
     ensures folding { (held : Held) (recv first : Value) (s : Source) (b : ObjId) (ts : List Turn) (last : Planned Stage)
         → IsLeft task.Inject held recv s (first ∷ []) b ts last
         → IsCut next held s b (in_turn (first ∷ answers ts)) ts last }
+    ensures from_first { (held : Held) (recv first : Value) (s : Source) (b : ObjId) (ts : List Turn)
+        (last : Planned Stage) → (next held s).item ≡ Some first → IsLeft task.Inject held recv s [] b ts last
+        → FoldsOff held s b ts first last }
 {}
 
 /// So it is of `drop_while`; of `each_slice`, which hands on a new Array of each so many items; of `each_cons`, of each so many

@@ -1,3 +1,4 @@
+use Rattle.items_laws.proofs.CutEnumerable.{folding_left}
 use Rattle.items_laws.proofs.Leaving.{left_alone, left_backwards, left_counting, left_with_index, left_with_object, left_folding}
 use Rattle.items_laws.proofs.left.runs_are_left.Goals as goal
 
@@ -19,3 +20,6 @@ returns-clause-object c = left_with_object
 
 pub returns-clause-folding : goal.returns-clause-folding
 returns-clause-folding c = left_folding
+
+pub returns-clause-from_first : goal.returns-clause-from_first
+returns-clause-from_first c = folding_left

@@ -1,3 +1,4 @@
+use Rattle.items_laws.proofs.CutEnumerable.{included_left}
 use Rattle.items_laws.proofs.Found.{index_cut, included_cut, value_cut, key_cut}
 use Rattle.items_laws.proofs.Removed.{deleting_cut}
 use Rattle.items_laws.proofs.unreplied.searches_are_left.Goals as goal
@@ -17,3 +18,6 @@ returns-clause-value c = value_cut
 
 pub returns-clause-key : goal.returns-clause-key
 returns-clause-key c = key_cut
+
+pub returns-clause-collected : goal.returns-clause-collected
+returns-clause-collected c = included_left
