@@ -97,3 +97,4 @@ pub mod CutPlaced
 pub mod CutSieved
 pub mod CutWrote
 pub mod CutEnumerable
+pub mod ByteSteps

@@ -36,3 +36,4 @@ pub mod Beginning
 pub mod Once
 pub mod CutWritten
 pub mod Each
+pub mod ByteSteps
