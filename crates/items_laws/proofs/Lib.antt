@@ -98,3 +98,5 @@ pub mod CutSieved
 pub mod CutWrote
 pub mod CutEnumerable
 pub mod ByteSteps
+pub mod NotAwaited
+pub mod Undecided

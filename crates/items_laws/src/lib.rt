@@ -29,6 +29,7 @@ pub mod left;
 pub mod output;
 pub mod raised;
 pub mod stored;
+pub mod unawaited;
 pub mod unreplied;
 pub mod written;
 
