@@ -3,7 +3,8 @@
 //!
 //! - `specs::Run`: the run of an iteration, from its start over each answer to its end
 //! - `specs::Items`: the items that a run hands on, and the heap then
-//! - `specs::Read`, `specs::Numbers`: which items an Array, a Hash or a Range has, and the numbers that are counted
+//! - `specs::Read`, `specs::Backwards`, `specs::Numbers`, `specs::ByteSteps`: which items an Array, a Hash or a Range has, from
+//!   the first one on and from the last one back, and the numbers and bytes that are counted
 //! - `specs::Lists`, `specs::Keys`, `specs::Firsts`, `specs::Dropped`: what comes of items and answers, as plain lists
 //! - `specs::Settled`, `specs::Made`, `specs::Changed`, `specs::Dropping`: where each answer changes a new Hash, or the receiver
 //! - `specs::Slices`, `specs::Neighbours`, `specs::Sums`, `specs::Texts`, `specs::Looped`: items by so many at once, sums, parts
@@ -13,8 +14,9 @@
 //! - `specs::Written`: texts that are made of those that values are asked for
 //! - `specs::Handed`: methods that want one thing alone
 //! - `specs::Output`, `specs::Raised`: what goes out, and exceptions
-//! - `specs::Stored`, `specs::Gathered`: what stands under keys, and what `each` of Enumerable gives
-//! - `specs::Cut`, `specs::CutAsked`: runs that are left
+//! - `specs::Stored`, `specs::Each`, `specs::Gathered`, `specs::Enumerated`: what stands under keys, what methods of Enumerable
+//!   want first and what `each` gives them, and Enumerators
+//! - `specs::Cut`, `specs::CutAsked`, `specs::CutWritten`, `specs::Beginning`, `specs::Once`: runs that are left
 #![tactic(auto)]
 
 pub mod asked;
