@@ -31,7 +31,7 @@ use Rattle.world_laws.proofs.Answers.{fails_with}
 use Rattle.world_laws.proofs.Values.{elements_or_itself_are}
 use Rattle.world_laws.proofs.Calling.{call_is}
 use Rattle.eval_laws.specs.Standing.{IsNamed, MaybeStands, ItemsStand, ReceiverStands, past_items, past_receiver}
-use Rattle.eval_laws.specs.Fits.{GatheringFits, Fits, bodies}
+use Rattle.eval_laws.specs.Fits.{Past, GatheringFits, Fits, bodies}
 use Rattle.eval_laws.proofs.Tests.{either}
 use Rattle.eval_laws.proofs.Staying.{sending_stays, gathering_stays}
 use Rattle.world_laws.proofs.Plans.{values_stay}
@@ -44,8 +44,8 @@ pub record Called (m : Memory) (k : Sending) (recv : Value) (args : List Value) 
   pub receiver : IsValue (census m.world.store) recv
   pub arguments : AllAre (IsValue (census m.world.store)) args
 
-module _ (s : Source) (early : World) where
-  pub called_later : (m : Memory) (w : World) (k : Sending) (recv : Value) (args : List Value) → Keeps (bodies s m.scopes) m.world w
+module _ (s : Source) (early : Past) where
+  pub called_later : (m : Memory) (w : World) (k : Sending) (recv : Value) (args : List Value) → Keeps (bodies s early.Known m.scopes) m.world w
       → Called m k recv args → Called (with_world m w) k recv args
   called_later m w k recv args keeps h = record {
     sending = sending_stays s m.world w keeps.extends k h.sending;
@@ -58,7 +58,7 @@ module _ (s : Source) (early : World) where
       → Fits s early (perform_call s k recv args block ks m)
   performs k recv args block ks m u h is =
       entry_fits s early block ks m u is (calls.call m.world (running m) k recv args block)
-      (call_is (bodies s m.scopes) m.world u.memory.world (running m) k recv args block (running_is s early m u.memory)
+      (call_is (bodies s early.Known m.scopes) m.world u.memory.world (running m) k recv args block (running_is s early m u.memory)
       h.sending h.receiver h.arguments is)
 
   own_block_is : (k : Sending) (ks : List Item) (m : Memory) → Under s early ks m
@@ -79,8 +79,8 @@ module _ (s : Source) (early : World) where
   -- a new Array of these values
   keeps_items : (ks : List Item) (m : Memory) (vs : List Value) → Under s early ks m
       → AllAre (IsValue (census m.world.store)) vs
-      → Keeps (bodies s m.scopes) m.world (with_store m.world (with_object m.world.store (items_object vs)))
-  keeps_items ks m vs u all = keeps_object (bodies s m.scopes) m.world u.memory.world (items_object vs)
+      → Keeps (bodies s early.Known m.scopes) m.world (with_store m.world (with_object m.world.store (items_object vs)))
+  keeps_items ks m vs u all = keeps_object (bodies s early.Known m.scopes) m.world u.memory.world (items_object vs)
       (items_sound m.world.store u.memory.world.store vs all) tt
 
   packed_done : (n : ℕ) (k : Sending) (recv : Value) (args : List Value) (b : Maybe) (ks : List Item) (m : Memory)
@@ -120,7 +120,7 @@ module _ (s : Source) (early : World) where
       (record {
         sending = h.0;
         receiver = h.1;
-        arguments = elements_or_itself_are (bodies s m.scopes) m.world t.under.memory.world (Obj id)
+        arguments = elements_or_itself_are (bodies s early.Known m.scopes) m.world t.under.memory.world (Obj id)
             (any_array ks m id is);
       }) h.2
 
@@ -170,6 +170,6 @@ module _ (s : Source) (early : World) where
       → OptionIs (Is (census m.world.store) Proc) o → ItemsStand s a n is → Fits s early (do_yield s n o is ks m)
   yield_done n None is ks m a t h stands =
       after_fits s early (fail m.world cause.NoBlockToYield) ks m t.under
-      (fails_with (bodies s m.scopes) m.world t.under.memory.world cause.NoBlockToYield tt)
+      (fails_with (bodies s early.Known m.scopes) m.world t.under.memory.world cause.NoBlockToYield tt)
   yield_done n (Some p) is ks m a t h stands =
       call_done n to_proc (Obj p) is absent ks m a t tt (is_good m.world.store Proc p h).there stands tt

@@ -9,7 +9,7 @@ use Rattle.def_core.specs.Store.{core}
 use Rattle.def_core.specs.Sound.{census}
 use Rattle.ir_core.specs.CoreForm.{CoreForm, Maybe, absent, there, Forms, none, more, Clauses, no_clauses, clause}
 use Rattle.ir_core.specs.Program.{Around, within_clause, within_target}
-use Rattle.def_calls.specs.World.{World, Answer, Result, gives, raises}
+use Rattle.def_calls.specs.World.{Answer, Result, gives, raises}
 use Rattle.def_calls.specs.Calls.{is_of}
 use Rattle.def_eval.specs.Source.{Source, span, span_maybe, span_forms}
 use Rattle.def_eval.specs.Configuration as eval
@@ -19,7 +19,7 @@ use Rattle.world_laws.specs.Fine.{IsException}
 use Rattle.world_laws.specs.Outcomes.{AnswerIs}
 use Rattle.world_laws.proofs.Ending.{is_of_is}
 use Rattle.eval_laws.specs.Standing.{FormStands, MaybeStands, FormsStand, ClausesStand}
-use Rattle.eval_laws.specs.Fits.{RescueStands, Fits, bodies}
+use Rattle.eval_laws.specs.Fits.{Past, RescueStands, Fits, bodies}
 use Rattle.eval_laws.proofs.Tests.{either}
 use Rattle.eval_laws.proofs.Going.{Text, goes, after_fits, does, over_part, does_part}
 use Rattle.eval_laws.proofs.Forming.{behind_absent}
@@ -31,7 +31,7 @@ pub record RestStands (s : Source) (a : Around) (n : ℕ) (es : Forms) (t : Mayb
   pub body : FormStands s (within_clause a) (n + span_forms es + span_maybe t) b
   pub others : ClausesStand s a (n + span_forms es + span_maybe t + span b) cs
 
-module _ (s : Source) (early : World) (ks : List Item) (m : Memory) (a : Around) (x : Text s early ks m a) where
+module _ (s : Source) (early : Past) (ks : List Item) (m : Memory) (a : Around) (x : Text s early ks m a) where
   pub body_in_clause : (n : ℕ) (b : CoreForm) (r : Rescue) → FormStands s (within_clause a) n b → RescueStands s a r
       → Fits s early (do_clause_body n b r ks m)
   body_in_clause n b r h rescue =
@@ -65,7 +65,7 @@ module _ (s : Source) (early : World) (ks : List Item) (m : Memory) (a : Around)
       }) h
 
   taken_if : (c : Answer) (n : ℕ) (e : ObjId) (es : Forms) (t : Maybe) (b : CoreForm) (cs : Clauses) (r : Rescue)
-      (further : Config) → AnswerIs (bodies s m.scopes) m.world c → IsException (census m.world.store) e
+      (further : Config) → AnswerIs (bodies s early.Known m.scopes) m.world c → IsException (census m.world.store) e
       → RestStands s a n es t b cs → RescueStands s a r → Fits s early further
       → Fits s early (take_if c c.result n e es t b r ks m further)
   taken_if c n e es t b cs r further h is stands rescue next = by c.result
@@ -110,7 +110,7 @@ module _ (s : Source) (early : World) (ks : List Item) (m : Memory) (a : Around)
   clauses_done n e no_clauses r is h rescue = goes s early (eval.travel (eval.raise e)) ks m x.under is
   clauses_done n e (clause none t b cs) r is h rescue =
       taken_if (is_standard m e) n e none t b cs r (next_clause (n + span_maybe t + span b) e cs r ks m)
-      (is_of_is (bodies s m.scopes) m.world x.under.memory.world (Obj e) (Obj (core class.StandardError))) is
+      (is_of_is (bodies s early.Known m.scopes) m.world x.under.memory.world (Obj e) (Obj (core class.StandardError))) is
       (record { classes = h.0; target = h.1; body = h.2; others = h.3 }) rescue
       (clauses_done (n + span_maybe t + span b) e cs r is
       (behind_absent s n (λ i. ClausesStand s a (i + span_maybe t + span b) cs) h.3) rescue)
@@ -129,7 +129,7 @@ module _ (s : Source) (early : World) (ks : List Item) (m : Memory) (a : Around)
   class_matched n v e es t b cs r is h rescue =
       let others = next_clause (n + span_forms es + span_maybe t + span b) e cs r ks m in
       taken_if (is_of m.world (Obj e) v) n e es t b cs r (next_class n e es t b cs r ks m others)
-      (is_of_is (bodies s m.scopes) m.world x.under.memory.world (Obj e) v) is h rescue
+      (is_of_is (bodies s early.Known m.scopes) m.world x.under.memory.world (Obj e) v) is h rescue
       (next_asked n e es t b cs r others is h rescue
       (clauses_done (n + span_forms es + span_maybe t + span b) e cs r is h.others rescue))
 

@@ -34,7 +34,7 @@ use Rattle.world_laws.proofs.Entering.{opening_stays, opens_stays}
 use Rattle.world_laws.proofs.Ending.{settle_keeps, class_body_keeps}
 use Rattle.world_laws.proofs.Plans.{state_stays}
 use Rattle.eval_laws.specs.Standing.{FormStands, FormsStand, BlockStands, MethodStands, ClassStands}
-use Rattle.eval_laws.specs.Fits.{IsCore, ScopeFits, SceneFits, Fits, bodies}
+use Rattle.eval_laws.specs.Fits.{Past, IsCore, ScopeFits, SceneFits, Fits, bodies}
 use Rattle.eval_laws.proofs.Tests.{either}
 use Rattle.eval_laws.proofs.Scopes.{Values, Parents, parents_of, later_more, later_itself, scopes_more}
 use Rattle.eval_laws.proofs.Staying.{place_stays, items_stay, memories_stay, names_stay, fine_later}
@@ -86,7 +86,7 @@ last_is [] x d (suc n) e = absurd (omega (arith, e))
 last_is (y ∷ xs) x d zero e = absurd (omega (arith, e))
 last_is (y ∷ xs) x d (suc n) e = last_is xs x d n (omega (arith, e))
 
-module _ (s : Source) (early : World) where
+module _ (s : Source) (early : Past) where
   -- The forms of a body.
 
   pub all_done : (n : ℕ) (es : Forms) (ks : List Item) (m : Memory) (a : Around) → Text s early ks m a
@@ -112,7 +112,7 @@ module _ (s : Source) (early : World) where
   body_done (suc k) n e ks m a t h = from_done (suc k) n (forms_in e) ks m a t (stand_in a n e h)
 
   -- A new scope in a later world, for the activation of that number.
-  module _ (ks : List Item) (m : Memory) (u : Under s early ks m) (w : World) (k : Keeps (bodies s m.scopes) m.world w)
+  module _ (ks : List Item) (m : Memory) (u : Under s early ks m) (w : World) (k : Keeps (bodies s early.Known m.scopes) m.world w)
       (i : ℕ) (is : IsActivation w i) where
     p : Parents m.scopes
     p = parents_of (census m.world.store) m.scopes u.memory.scopes
@@ -135,10 +135,10 @@ module _ (s : Source) (early : World) where
               place = record { activation = is; scope = rw length-append (omega arith) };
               scopes = scopes_more (census w.store) m.scopes c
                   (scopes_stay s early m.world w m.scopes e u.memory.scopes) fits;
-              world = fine_later s m.scopes ds p l w k.fine;
+              world = fine_later s early.Known m.scopes ds p l w k.fine;
               names = names_stay s m.world w e u.memory.names;
               fibers = memories_stay s m.world w e m.scopes ds p l m.fibers u.memory.fibers;
-              since = extends_both early m.world w u.memory.since e;
+              since = extends_both early.world m.world w u.memory.since e;
               out = k.out ∙ u.memory.out;
             };
             items = (
@@ -174,7 +174,7 @@ module _ (s : Source) (early : World) where
             world = k.fine;
             names = names_stay s m.world w e u.memory.names;
             fibers = memories_stay s m.world w e m.scopes m.scopes p l m.fibers u.memory.fibers;
-            since = extends_both early m.world w u.memory.since e;
+            since = extends_both early.world m.world w u.memory.since e;
             out = k.out ∙ u.memory.out;
           };
           items = (
@@ -198,14 +198,14 @@ module _ (s : Source) (early : World) where
   }
 
   -- What is entered with its arguments bound.
-  module _ (ks : List Item) (m : Memory) (u : Under s early ks m) (w : World) (k : Keeps (bodies s m.scopes) m.world w)
-      (o : Opening) (h : OpeningIs (bodies s m.scopes) w o) where
+  module _ (ks : List Item) (m : Memory) (u : Under s early ks m) (w : World) (k : Keeps (bodies s early.Known m.scopes) m.world w)
+      (o : Opening) (h : OpeningIs (bodies s early.Known m.scopes) w o) where
     abbrev after_world : World
     after_world = with_activation w o.activation
 
-    after_keeps : Keeps (bodies s m.scopes) m.world after_world
-    after_keeps = keeps_then (bodies s m.scopes) m.world w after_world k
-        (keeps_activation (bodies s m.scopes) w k.fine o.activation h.activation)
+    after_keeps : Keeps (bodies s early.Known m.scopes) m.world after_world
+    after_keeps = keeps_then (bodies s early.Known m.scopes) m.world w after_world k
+        (keeps_activation (bodies s early.Known m.scopes) w k.fine o.activation h.activation)
 
     abbrev the_body : Body
     the_body = body_at s o.body
@@ -265,7 +265,7 @@ module _ (s : Source) (early : World) where
         let v = under_new ks m u after_world after_keeps i (opened_number w o.activation) c (scope_fits [] None tt tt) in
         after_fits s early (count_failure inside.world (shape_of (parameters_of the_body)) given)
         (eval.activation i m.place ∷ ks) inside v
-        (fails_with (bodies s inside.scopes) inside.world v.memory.world (cause.WrongCount given _ _) tt)
+        (fails_with (bodies s early.Known inside.scopes) inside.world v.memory.world (cause.WrongCount given _ _) tt)
 
   -- Entries.
 
@@ -274,10 +274,10 @@ module _ (s : Source) (early : World) where
   result_stays w v e (raises x) h = sort_stays w v e sort.Exception x h
 
   opening_settled : (cs : List Scope) (w : World) (o : Opening) (block : Option ObjId) (t : Option ℕ)
-      → Extends w (settle w block t) → OpeningIs (bodies s cs) w o → OpeningIs (bodies s cs) (settle w block t) o
+      → Extends w (settle w block t) → OpeningIs (bodies s early.Known cs) w o → OpeningIs (bodies s early.Known cs) (settle w block t) o
   unfolding settle
   opening_settled cs w o None t e h = h
-  opening_settled cs w o (Some p) t e h = opening_stays (bodies s cs) w _ o e h
+  opening_settled cs w o (Some p) t e h = opening_stays (bodies s early.Known cs) w _ o e h
 
   opens_settled : (w : World) (a : Activation) (block : Option ObjId) (t : Option ℕ) → Extends w (settle w block t)
       → OpensIn w a → OpensIn (settle w block t) a
@@ -288,48 +288,48 @@ module _ (s : Source) (early : World) where
   -- an iteration begins in a later world
   pub iteration_opens : (it : Iteration) (a : Activation) (ks : List Item) (m : Memory) → Under s early ks m
       → (w : World)
-      → Keeps (bodies s m.scopes) m.world w → StateIs (census w.store) it → OpensIn w a → a.runs ≡ core_method
+      → Keeps (bodies s early.Known m.scopes) m.world w → StateIs (census w.store) it → OpensIn w a → a.runs ≡ core_method
       → Fits s early (open_iteration it a ks m w)
   iteration_opens it a ks m u w keeps state opens core =
       let x = with_activation w a in
-      let k = keeps_activation (bodies s m.scopes) w keeps.fine a opens in
+      let k = keeps_activation (bodies s early.Known m.scopes) w keeps.fine a opens in
       goes s early (eval.give Nil) (eval.iteration (next_activation w) it m.place ∷ ks)
       (record m { place = record m.place { activation = next_activation w }; world = x })
-      (under_iteration ks m u x (keeps_then (bodies s m.scopes) m.world w x keeps k) (next_activation w)
+      (under_iteration ks m u x (keeps_then (bodies s early.Known m.scopes) m.world w x keeps k) (next_activation w)
       (opened_number w a) it (core_opened w a core) (state_stays w x k.extends it state)) tt
 
   module _ (block : Option ObjId) (ks : List Item) (m : Memory) (u : Under s early ks m)
       (is : OptionIs (Is (census m.world.store) Proc) block) where
-    settled : (w : World) → Keeps (bodies s m.scopes) m.world w → (t : Option ℕ)
-        → Keeps (bodies s m.scopes) w (settle w block t)
-    settled w k t = settle_keeps (bodies s m.scopes) w k.fine block t
+    settled : (w : World) → Keeps (bodies s early.Known m.scopes) m.world w → (t : Option ℕ)
+        → Keeps (bodies s early.Known m.scopes) w (settle w block t)
+    settled w k t = settle_keeps (bodies s early.Known m.scopes) w k.fine block t
         (option_stays (Is (census m.world.store) Proc) (Is (census w.store) Proc) (role_stays m.world w k.extends Proc)
         block is)
 
-    settled_then : (w : World) → Keeps (bodies s m.scopes) m.world w → (t : Option ℕ)
-        → Keeps (bodies s m.scopes) m.world (settle w block t)
-    settled_then w k t = keeps_then (bodies s m.scopes) m.world w (settle w block t) k (settled w k t)
+    settled_then : (w : World) → Keeps (bodies s early.Known m.scopes) m.world w → (t : Option ℕ)
+        → Keeps (bodies s early.Known m.scopes) m.world (settle w block t)
+    settled_then w k t = keeps_then (bodies s early.Known m.scopes) m.world w (settle w block t) k (settled w k t)
 
-    too_deep : (w : World) → Keeps (bodies s m.scopes) m.world w
+    too_deep : (w : World) → Keeps (bodies s early.Known m.scopes) m.world w
         → Fits s early (after (fail (settle w block None) cause.StackTooDeep) ks m)
     too_deep w k =
         let v = settle w block None in
         after_fits s early (fail v cause.StackTooDeep) ks m u
-        (answer_then (bodies s m.scopes) m.world v (fail v cause.StackTooDeep) (settled_then w k None)
-        (fails_with (bodies s m.scopes) v (settled w k None).fine cause.StackTooDeep tt))
+        (answer_then (bodies s early.Known m.scopes) m.world v (fail v cause.StackTooDeep) (settled_then w k None)
+        (fails_with (bodies s early.Known m.scopes) v (settled w k None).fine cause.StackTooDeep tt))
 
-    bound_opens : (o : Opening) (w : World) → Keeps (bodies s m.scopes) m.world w → OpeningIs (bodies s m.scopes) w o
+    bound_opens : (o : Opening) (w : World) → Keeps (bodies s early.Known m.scopes) m.world w → OpeningIs (bodies s early.Known m.scopes) w o
         → Fits s early (open_body s o ks m w)
     bound_opens o w k h =
         let x = bind w.store (shape_of (parameters_of (body_at s o.body))) o.arguments o.binds in
-        let g = bind_is (bodies s m.scopes) w k.fine (shape_of (parameters_of (body_at s o.body))) o.arguments o.binds
+        let g = bind_is (bodies s early.Known m.scopes) w k.fine (shape_of (parameters_of (body_at s o.body))) o.arguments o.binds
         h.arguments in
         bound_fits ks m u (with_store w x.store)
-        (keeps_then (bodies s m.scopes) m.world w (with_store w x.store) k g.keeps) o
-        (opening_stays (bodies s m.scopes) w x.store o g.keeps.extends h) x.bound g.bound
+        (keeps_then (bodies s early.Known m.scopes) m.world w (with_store w x.store) k g.keeps) o
+        (opening_stays (bodies s early.Known m.scopes) w x.store o g.keeps.extends h) x.bound g.bound
 
     -- whatever a call or an iteration enters
-    pub entry_fits : (e : Entry) → EntryIs (bodies s m.scopes) m.world e → Fits s early (enter s e block ks m)
+    pub entry_fits : (e : Entry) → EntryIs (bodies s early.Known m.scopes) m.world e → Fits s early (enter s e block ks m)
     unfolding enter
     entry_fits (answers a) h =
         let k = settled a.world h.keeps None in
@@ -362,7 +362,7 @@ module _ (s : Source) (early : World) where
         let b = body_at s n in
         let own = running_is s early m u.memory in
         let w = with_class_body m.world (running m) c in
-        let k = class_body_keeps (bodies s m.scopes) m.world u.memory.world (running m) c own is in
+        let k = class_body_keeps (bodies s early.Known m.scopes) m.world u.memory.world (running m) c own is in
         let x = first_variables (parameters_of b) (locals_of b) [] None in
         let scope : Scope = record { parent = None; variables = x } in
         let fits : ScopeFits (census w.store) (length m.scopes) scope = record {
@@ -383,5 +383,5 @@ module _ (s : Source) (early : World) where
         either (Fits s early) (is_full (depth ks)) (after (fail m.world cause.StackTooDeep) ks m)
         (begin_class n (body_at s n) c ks m)
         (after_fits s early (fail m.world cause.StackTooDeep) ks m u
-        (fails_with (bodies s m.scopes) m.world u.memory.world cause.StackTooDeep tt))
+        (fails_with (bodies s early.Known m.scopes) m.world u.memory.world cause.StackTooDeep tt))
         class_begins

@@ -10,7 +10,7 @@ use Rattle.def_core.specs.declared.cause.Cause.TheVariants as cause
 use Rattle.def_core.specs.Sound.{Census, census, ClassOrModule, Is, IsValue, OptionIs, AllAre}
 use Rattle.ir_core.specs.CoreForm.{Name, Forms, none, more}
 use Rattle.ir_core.specs.Program.{Around}
-use Rattle.def_calls.specs.World.{World, Answer, Result, gives, raises, fail, with_global}
+use Rattle.def_calls.specs.World.{Answer, Result, gives, raises, fail, with_global}
 use Rattle.def_calls.specs.Calls.{break_target}
 use Rattle.def_calls.specs.Views.{object_in}
 use Rattle.def_calls.specs.Constants.{get_constant_in, set_constant_in}
@@ -35,17 +35,17 @@ use Rattle.world_laws.proofs.Classes.{singleton_class_gives, open_class_gives, o
 use Rattle.world_laws.proofs.Constants.{set_constant_is, set_constant_in_is, get_constant_in_is}
 use Rattle.world_laws.proofs.Values.{value_at, wrong_value_is, set_instance_variable_is, element_is, elements_between_is, last_elements_is, make_symbol_is}
 use Rattle.eval_laws.specs.Standing.{IsNamed, FormsStand, MethodStands, ClassStands}
-use Rattle.eval_laws.specs.Fits.{wanted, count, ActionFits, ExitFits, Fits, bodies}
+use Rattle.eval_laws.specs.Fits.{Past, wanted, count, ActionFits, ExitFits, Fits, bodies}
 use Rattle.eval_laws.proofs.Tests.{tested}
 use Rattle.eval_laws.proofs.Going.{Under, Text, under_then, under_variable, running_is, symbol_is, goes, after_fits, does_part}
 use Rattle.eval_laws.proofs.Entered.{class_fits}
 
 -- Exits that lead to an item that is under way.
 
-module _ (s : Source) (early : World) (ks : List Item) (m : Memory) (u : Under s early ks m) where
+module _ (s : Source) (early : Past) (ks : List Item) (m : Memory) (u : Under s early ks m) where
   leaves_to : (exit : ℕ → Value → Exit) (failure : Answer) (v : Value) (o : Option ℕ)
       → ((a : ℕ) → is_under_way ks a ≡ true → ExitFits (census m.world.store) ks (exit a v))
-      → AnswerIs (bodies s m.scopes) m.world failure → Fits s early (leave_to exit failure v ks m o)
+      → AnswerIs (bodies s early.Known m.scopes) m.world failure → Fits s early (leave_to exit failure v ks m o)
   leaves_to exit failure v None f h = after_fits s early failure ks m u h
   leaves_to exit failure v (Some a) f h =
       tested (Fits s early) (is_under_way ks a) (Run (eval.travel (exit a v)) ks m) (after failure ks m)
@@ -57,18 +57,18 @@ module _ (s : Source) (early : World) (ks : List Item) (m : Memory) (u : Under s
   leaves_from false e v is =
       leaves_to eval.break (fail m.world cause.BreakFromProc) v
       (break_target m.world m.place.activation (running m).runs) (λ a under. (under, is))
-      (fails_with (bodies s m.scopes) m.world u.memory.world cause.BreakFromProc tt)
+      (fails_with (bodies s early.Known m.scopes) m.world u.memory.world cause.BreakFromProc tt)
 
   spaced : (instruction : List ℕ) (v : Value) (next : ObjId → Answer) (o : Option ObjId)
       → OptionIs (Is (census m.world.store) ClassOrModule) o
-      → ((c : ObjId) → Is (census m.world.store) ClassOrModule c → AnswerIs (bodies s m.scopes) m.world (next c))
-      → AnswerIs (bodies s m.scopes) m.world (with_space m.world instruction v o next)
-  spaced instruction v next None h f = wrong_value_is (bodies s m.scopes) m.world u.memory.world instruction
+      → ((c : ObjId) → Is (census m.world.store) ClassOrModule c → AnswerIs (bodies s early.Known m.scopes) m.world (next c))
+      → AnswerIs (bodies s early.Known m.scopes) m.world (with_space m.world instruction v o next)
+  spaced instruction v next None h f = wrong_value_is (bodies s early.Known m.scopes) m.world u.memory.world instruction
   spaced instruction v next (Some c) h f = f c h
 
   within_is : (instruction : List ℕ) (v : Value) (next : ObjId → Answer) → IsValue (census m.world.store) v
-      → ((c : ObjId) → Is (census m.world.store) ClassOrModule c → AnswerIs (bodies s m.scopes) m.world (next c))
-      → AnswerIs (bodies s m.scopes) m.world (within m instruction v next)
+      → ((c : ObjId) → Is (census m.world.store) ClassOrModule c → AnswerIs (bodies s early.Known m.scopes) m.world (next c))
+      → AnswerIs (bodies s early.Known m.scopes) m.world (within m instruction v next)
   within_is instruction v next is f =
       spaced instruction v next (space_in m.world.store.objects v)
       (space_is m.world.store u.memory.world.store v is) f
@@ -83,29 +83,29 @@ space_there k (Int z) h = absurd h
 space_there k (Sym x) h = absurd h
 space_there k (Obj id) h = h
 
-opened_space : (s : Source) (early : World) (n : ℕ) (o : Option ObjId) (ks : List Item) (m : Memory)
+opened_space : (s : Source) (early : Past) (n : ℕ) (o : Option ObjId) (ks : List Item) (m : Memory)
     → Under s early ks m
     → OptionIs (Is (census m.world.store) ClassOrModule) o → ClassStands s n (body_at s n)
     → Fits s early (run_class s n o ks m)
 opened_space s early n None ks m u h stands =
     after_fits s early (wrong_value m.world (codes "EXEC")) ks m u
-    (wrong_value_is (bodies s m.scopes) m.world u.memory.world (codes "EXEC"))
+    (wrong_value_is (bodies s early.Known m.scopes) m.world u.memory.world (codes "EXEC"))
 opened_space s early n (Some c) ks m u h stands = class_fits s early n c ks m u h stands
 
 -- a method that is defined on a class
-defined_in : (s : Source) (early : World) (ks : List Item) (m : Memory) (u : Under s early ks m) (x : Name) (n : ℕ) (v : Value) → IsNamed s x
+defined_in : (s : Source) (early : Past) (ks : List Item) (m : Memory) (u : Under s early ks m) (x : Name) (n : ℕ) (v : Value) → IsNamed s x
     → MethodStands s n (body_at s n) → IsValue (census m.world.store) v
-    → AnswerIs (bodies s m.scopes) m.world (define_in m x n v)
+    → AnswerIs (bodies s early.Known m.scopes) m.world (define_in m x n v)
 unfolding bodies
 defined_in s early ks m u x n v named stands is =
     let own = running_is s early m u.memory in
     within_is s early ks m u (codes "DEF") v
     (λ c. definitions.define_method m.world c (symbol m x) n (running m).classes) is
-    (λ c h. define_method_is (bodies s m.scopes) m.world u.memory.world c (symbol m x) n (running m).classes h
+    (λ c h. define_method_is (bodies s early.Known m.scopes) m.world u.memory.world c (symbol m x) n (running m).classes h
     (symbol_is s early m u.memory x named) (record { body = stands; classes = own.classes }))
 
-module _ (s : Source) (early : World) (ks : List Item) (m : Memory) (u : Under s early ks m) where
-  opened : (n : ℕ) (a : Answer) → AnswerIs (bodies s m.scopes) m.world a → GivesSpace (census a.world.store) a.result
+module _ (s : Source) (early : Past) (ks : List Item) (m : Memory) (u : Under s early ks m) where
+  opened : (n : ℕ) (a : Answer) → AnswerIs (bodies s early.Known m.scopes) m.world a → GivesSpace (census a.world.store) a.result
       → ClassStands s n (body_at s n) → Fits s early (open_after s n a ks m)
   opened n a h space stands = by a.result space
     where
@@ -116,7 +116,7 @@ module _ (s : Source) (early : World) (ks : List Item) (m : Memory) (u : Under s
       by (raises e) is =
           goes s early (eval.travel (eval.raise e)) ks (with_world m a.world) (under_then s early ks m a.world u h.keeps) is
 
-  defined_after : (a : Answer) (x : Name) (n : ℕ) → AnswerIs (bodies s m.scopes) m.world a → IsNamed s x
+  defined_after : (a : Answer) (x : Name) (n : ℕ) → AnswerIs (bodies s early.Known m.scopes) m.world a → IsNamed s x
       → MethodStands s n (body_at s n) → Fits s early (define_after a x n ks m a.result)
   defined_after a x n h named stands = by a.result h.result
     where
@@ -125,44 +125,44 @@ module _ (s : Source) (early : World) (ks : List Item) (m : Memory) (u : Under s
           let w = with_world m a.world in
           let later = under_then s early ks m a.world u h.keeps in
           after_fits s early (define_in w x n v) ks m u
-          (answer_then (bodies s m.scopes) m.world a.world (define_in w x n v) h.keeps
+          (answer_then (bodies s early.Known m.scopes) m.world a.world (define_in w x n v) h.keeps
           (defined_in s early ks w later x n v named stands is))
       by (raises e) is = after_fits s early a ks m u h
 
   -- What `defined?` tells.
 
-  pub told_alone : (k : DefinedKind) (x : Name) → AnswerIs (bodies s m.scopes) m.world (tell_alone k x m)
-  told_alone asks.Expression x = makes_text (bodies s m.scopes) m.world u.memory.world (codes "expression")
-  told_alone asks.LocalVariable x = makes_text (bodies s m.scopes) m.world u.memory.world (codes "local-variable")
-  told_alone asks.SelfReference x = makes_text (bodies s m.scopes) m.world u.memory.world (codes "self")
-  told_alone asks.Assignment x = makes_text (bodies s m.scopes) m.world u.memory.world (codes "assignment")
+  pub told_alone : (k : DefinedKind) (x : Name) → AnswerIs (bodies s early.Known m.scopes) m.world (tell_alone k x m)
+  told_alone asks.Expression x = makes_text (bodies s early.Known m.scopes) m.world u.memory.world (codes "expression")
+  told_alone asks.LocalVariable x = makes_text (bodies s early.Known m.scopes) m.world u.memory.world (codes "local-variable")
+  told_alone asks.SelfReference x = makes_text (bodies s early.Known m.scopes) m.world u.memory.world (codes "self")
+  told_alone asks.Assignment x = makes_text (bodies s early.Known m.scopes) m.world u.memory.world (codes "assignment")
   told_alone asks.InstanceVariable x =
-      instance_variable_told_is (bodies s m.scopes) m.world u.memory.world (self_of m) (symbol m x)
-  told_alone asks.GlobalVariable x = global_told_is (bodies s m.scopes) m.world u.memory.world (symbol m x)
+      instance_variable_told_is (bodies s early.Known m.scopes) m.world u.memory.world (self_of m) (symbol m x)
+  told_alone asks.GlobalVariable x = global_told_is (bodies s early.Known m.scopes) m.world u.memory.world (symbol m x)
   told_alone asks.Constant x =
-      constant_told_is (bodies s m.scopes) m.world u.memory.world (running m).classes (symbol m x)
+      constant_told_is (bodies s early.Known m.scopes) m.world u.memory.world (running m).classes (symbol m x)
   told_alone asks.Method x =
-      method_told_is (bodies s m.scopes) m.world u.memory.world (self_of m) (self_of m) (symbol m x)
-  told_alone asks.Yield x = yield_told_is (bodies s m.scopes) m.world u.memory.world (running m)
-  told_alone asks.Super x = super_told_is (bodies s m.scopes) m.world u.memory.world (running m)
+      method_told_is (bodies s early.Known m.scopes) m.world u.memory.world (self_of m) (self_of m) (symbol m x)
+  told_alone asks.Yield x = yield_told_is (bodies s early.Known m.scopes) m.world u.memory.world (running m)
+  told_alone asks.Super x = super_told_is (bodies s early.Known m.scopes) m.world u.memory.world (running m)
 
-  told : (k : DefinedKind) (x : Name) (v : Value) → AnswerIs (bodies s m.scopes) m.world (tell_of k x v m)
+  told : (k : DefinedKind) (x : Name) (v : Value) → AnswerIs (bodies s early.Known m.scopes) m.world (tell_of k x v m)
   told asks.Expression x v = told_alone asks.Expression x
   told asks.LocalVariable x v = told_alone asks.LocalVariable x
   told asks.SelfReference x v = told_alone asks.SelfReference x
   told asks.Assignment x v = told_alone asks.Assignment x
   told asks.InstanceVariable x v = told_alone asks.InstanceVariable x
   told asks.GlobalVariable x v = told_alone asks.GlobalVariable x
-  told asks.Constant x v = constant_in_told_is (bodies s m.scopes) m.world u.memory.world v (symbol m x)
-  told asks.Method x v = method_told_is (bodies s m.scopes) m.world u.memory.world (self_of m) v (symbol m x)
+  told asks.Constant x v = constant_in_told_is (bodies s early.Known m.scopes) m.world u.memory.world v (symbol m x)
+  told asks.Method x v = method_told_is (bodies s early.Known m.scopes) m.world u.memory.world (self_of m) v (symbol m x)
   told asks.Yield x v = told_alone asks.Yield x
   told asks.Super x v = told_alone asks.Super x
 
 -- An action with its values.
 
-module _ (s : Source) (early : World) (ks : List Item) (m : Memory) (a : Around) (t : Text s early ks m a) where
+module _ (s : Source) (early : Past) (ks : List Item) (m : Memory) (a : Around) (t : Text s early ks m a) where
   abbrev b : Bodies
-  b = bodies s m.scopes
+  b = bodies s early.Known m.scopes
 
   pub finished : (action : Action) (v w : Value) → ActionFits s action → IsValue (census m.world.store) v
       → IsValue (census m.world.store) w → Fits s early (finish s action v w ks m)

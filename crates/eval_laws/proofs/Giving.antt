@@ -24,7 +24,7 @@ use Rattle.world_laws.proofs.Growing.{role_stays, sort_stays}
 use Rattle.world_laws.proofs.Values.{wrong_value_is, pushed_keeps, push_splat_keeps, appended_keeps, with_pair_is}
 use Rattle.world_laws.proofs.Ending.{block_argument_is}
 use Rattle.eval_laws.specs.Standing.{FormStands, MaybeStands, FormsStand, ItemsStand, PairsStand, BranchesStand, past_items, past_branches}
-use Rattle.eval_laws.specs.Fits.{GatheringFits, OutgoingFits, IsHash, IsText, PartStands, Fits, bodies}
+use Rattle.eval_laws.specs.Fits.{Past, GatheringFits, OutgoingFits, IsHash, IsText, PartStands, Fits, bodies}
 use Rattle.eval_laws.proofs.Staying.{gathering_stays}
 use Rattle.eval_laws.proofs.Going.{Text, under_then, text_then, symbol_is, all_behind, goes, after_fits, does, does_part}
 use Rattle.eval_laws.proofs.Finishing.{operands_done}
@@ -32,19 +32,19 @@ use Rattle.eval_laws.proofs.Calling.{Called, called_later, performs, items_done,
 use Rattle.eval_laws.proofs.Forming.{pairs_done, pieces_done, branches_done, loop_done}
 use Rattle.eval_laws.proofs.Clauses.{body_in_clause, class_matched}
 
-module _ (s : Source) (early : World) (ks : List Item) (m : Memory) (a : Around) (t : Text s early ks m a) where
+module _ (s : Source) (early : Past) (ks : List Item) (m : Memory) (a : Around) (t : Text s early ks m a) where
   -- a block argument is one, or isn't
   block_given : (k : Sending) (recv : Value) (args : List Value) (x : BlockArgument) → Called m k recv args
-      → BlockArgumentIs (bodies s m.scopes) m.world x → Fits s early (with_block s k recv args x ks m)
+      → BlockArgumentIs (bodies s early.Known m.scopes) m.world x → Fits s early (with_block s k recv args x ks m)
   block_given k recv args no_block h is = performs s early k recv args None ks m t.under h tt
   block_given k recv args (block_of p w) h is =
       performs s early k recv args (Some p) ks (with_world m w) (under_then s early ks m w t.under is.0)
       (called_later s early m w k recv args is.0 h) is.1
   block_given k recv args not_a_block h is =
       after_fits s early (values.wrong_value m.world (passing k)) ks m t.under
-      (wrong_value_is (bodies s m.scopes) m.world t.under.memory.world (passing k))
+      (wrong_value_is (bodies s early.Known m.scopes) m.world t.under.memory.world (passing k))
 
-  element_then : (n : ℕ) (g : Gathering) (id : ObjId) (is : Items) (w : World) → Keeps (bodies s m.scopes) m.world w
+  element_then : (n : ℕ) (g : Gathering) (id : ObjId) (is : Items) (w : World) → Keeps (bodies s early.Known m.scopes) m.world w
       → GatheringFits s a (census m.world.store) (past_items n is) g → Is (census m.world.store) Array id
       → ItemsStand s a n is → Fits s early (next_element s n g id is ks (with_world m w))
   element_then n g id is w k h array stands =
@@ -58,12 +58,12 @@ module _ (s : Source) (early : World) (ks : List Item) (m : Memory) (a : Around)
       → Fits s early (next_element s n g id is ks (with_element m id splat v))
   element_given n g id false is v h array stands value =
       element_then n g id is (with_store m.world (values.pushed m.world.store id (v ∷ [])))
-      (pushed_keeps (bodies s m.scopes) m.world t.under.memory.world id (v ∷ []) array (value, tt)) h array stands
+      (pushed_keeps (bodies s early.Known m.scopes) m.world t.under.memory.world id (v ∷ []) array (value, tt)) h array stands
   element_given n g id true is v h array stands value =
       element_then n g id is (with_store m.world (values.push_splat (values.splat m.world.store v) id))
-      (push_splat_keeps (bodies s m.scopes) m.world t.under.memory.world id v array value) h array stands
+      (push_splat_keeps (bodies s early.Known m.scopes) m.world t.under.memory.world id v array value) h array stands
 
-  pair_given : (n : ℕ) (id : ObjId) (ps : Pairs) (c : Answer) → AnswerIs (bodies s m.scopes) m.world c
+  pair_given : (n : ℕ) (id : ObjId) (ps : Pairs) (c : Answer) → AnswerIs (bodies s early.Known m.scopes) m.world c
       → IsHash (census m.world.store) id → PairsStand s a n ps → Fits s early (after_pair n id ps ks m c c.result)
   pair_given n id ps c h is stands = by c.result
     where
@@ -76,7 +76,7 @@ module _ (s : Source) (early : World) (ks : List Item) (m : Memory) (a : Around)
       → Fits s early (next_piece n id es ks (with_piece m id v))
   piece_given n id es v is stands =
       let w = with_store m.world (values.appended m.world.store id (values.text_of_value m.world.store v)) in
-      let k = appended_keeps (bodies s m.scopes) m.world t.under.memory.world id
+      let k = appended_keeps (bodies s early.Known m.scopes) m.world t.under.memory.world id
       (values.text_of_value m.world.store v) is in
       pieces_done s early n id es ks (with_world m w) a (text_then s early ks m a w t k)
       (sort_stays m.world w k.extends sort.String id is) stands
@@ -139,13 +139,13 @@ module _ (s : Source) (early : World) (ks : List Item) (m : Memory) (a : Around)
       }) h.3 h.4
   part_given v (eval.block k recv args) is h =
       block_given k recv args (block_argument m.world v) (record { sending = h.0; receiver = h.1; arguments = h.2 })
-      (block_argument_is (bodies s m.scopes) m.world t.under.memory.world v is)
+      (block_argument_is (bodies s early.Known m.scopes) m.world t.under.memory.world v is)
   part_given v (eval.elements n g id splat items) is h = element_given n g id splat items v h.0 h.1 h.2 is
   part_given v (eval.hash_key n id e ps) is h =
       does_part s early (eval.hash_value (n + span e) id v ps) n e ks m a t (h.0, is, h.2) h.1
   part_given v (eval.hash_value n id k ps) is h =
       pair_given n id ps (values.with_pair m.world id k v)
-      (with_pair_is (bodies s m.scopes) m.world t.under.memory.world id k v h.0 h.1 is) h.0 h.2
+      (with_pair_is (bodies s early.Known m.scopes) m.world t.under.memory.world id k v h.0 h.1 is) h.0 h.2
   part_given v (eval.pieces n id es) is h = piece_given n id es v h.0 h.1
   part_given v (eval.rest n es) is h = rest_done n es v h is
   part_given v (eval.test n b bs o) is h = chosen_done (is_true v) n b bs o h.0 h.1 h.2

@@ -22,17 +22,17 @@ use Rattle.world_laws.specs.Outcomes.{AnswerIs, ResultIs}
 use Rattle.world_laws.proofs.Ending.{activation_at_is}
 use Rattle.world_laws.proofs.Growing.{value_stays, extends_itself, extends_both}
 use Rattle.eval_laws.specs.Standing.{IsNamed, FormStands}
-use Rattle.eval_laws.specs.Fits.{ComesHushed, After, ScopesFit, AroundFits, begins_anew, in_clause, assigns_exception, has_exception, PartStands, ItemsFit, MemoryFits, FocusFits, Fits, bodies}
+use Rattle.eval_laws.specs.Fits.{Past, ComesHushed, After, ScopesFit, AroundFits, begins_anew, in_clause, assigns_exception, has_exception, PartStands, ItemsFit, MemoryFits, FocusFits, Fits, bodies}
 use Rattle.eval_laws.proofs.Tests.{or_right}
 use Rattle.eval_laws.proofs.Scopes.{Values, Parents, later_itself, later_put, scopes_put, parents_of, value_found, scopes_there, last_there, first_there}
 use Rattle.eval_laws.proofs.Staying.{place_stays, items_stay, memories_stay, names_stay, fine_later}
 
-pub record Under (s : Source) (early : World) (ks : List Item) (m : Memory) : Type 0 where
+pub record Under (s : Source) (early : Past) (ks : List Item) (m : Memory) : Type 0 where
   pub memory : MemoryFits s early m
   pub items : ItemsFit s m.world m.scopes m.place ks
 
 -- a form is done over items, under what stands around it
-pub record Text (s : Source) (early : World) (ks : List Item) (m : Memory) (a : Around) : Type 0 where
+pub record Text (s : Source) (early : Past) (ks : List Item) (m : Memory) (a : Around) : Type 0 where
   pub under : Under s early ks m
   pub there : is_there ks ≡ true
   pub around : AroundFits m.scopes m.place.scope ks a
@@ -79,7 +79,7 @@ within_or : (most n : ℕ) (o : Option ℕ) → n < most → OptionIs (λ m. m <
 within_or most n None lt h = lt
 within_or most n (Some m) lt h = h
 
-module _ (s : Source) (early : World) where
+module _ (s : Source) (early : Past) where
   pub scopes_stay : (w v : World) (cs : List Scope) → Extends w v → ScopesFit (census w.store) cs
       → ScopesFit (census v.store) cs
   scopes_stay w v cs e h n lt =
@@ -95,7 +95,7 @@ module _ (s : Source) (early : World) where
 
     -- the activation that runs is there
     pub running_is : ActivationIs m.world (running m)
-    running_is = activation_at_is (bodies s m.scopes) m.world h.world m.place.activation h.place.activation
+    running_is = activation_at_is (bodies s early.Known m.scopes) m.world h.world m.place.activation h.place.activation
 
     -- Variables.
 
@@ -134,8 +134,8 @@ module _ (s : Source) (early : World) where
     -- Another world.
 
     -- a fine world that goes on from it and from another one
-    pub memory_later : (w : World) → Fine (bodies s m.scopes) w → Extends m.world w → (first : World) → Extends first w
-        → w.out ≡ first.out → MemoryFits s first (with_world m w)
+    pub memory_later : (w : World) → Fine (bodies s early.Known m.scopes) w → Extends m.world w → (first : World) → Extends first w
+        → w.out ≡ first.out → MemoryFits s (record early { world = first }) (with_world m w)
     memory_later w fine e first since out =
         let p = parents_of (census m.world.store) m.scopes h.scopes in
         record {
@@ -148,19 +148,19 @@ module _ (s : Source) (early : World) where
           out = out;
         }
 
-    module _ (w : World) (k : Keeps (bodies s m.scopes) m.world w) where
+    module _ (w : World) (k : Keeps (bodies s early.Known m.scopes) m.world w) where
       p : Parents m.scopes
       p = parents_of (census m.world.store) m.scopes h.scopes
 
       pub memory_then : MemoryFits s early (with_world m w)
       memory_then =
-          memory_later w k.fine k.extends early (extends_both early m.world w h.since k.extends) (k.out ∙ h.out)
+          memory_later w k.fine k.extends early.world (extends_both early.world m.world w h.since k.extends) (k.out ∙ h.out)
 
       pub items_then : (ks : List Item) → ItemsFit s m.world m.scopes m.place ks → ItemsFit s w m.scopes m.place ks
       items_then ks is =
           items_stay s m.world w k.extends m.scopes m.scopes p (later_itself m.scopes) m.place ks h.place.scope is
 
-  pub under_then : (ks : List Item) (m : Memory) (w : World) → Under s early ks m → Keeps (bodies s m.scopes) m.world w
+  pub under_then : (ks : List Item) (m : Memory) (w : World) → Under s early ks m → Keeps (bodies s early.Known m.scopes) m.world w
       → Under s early ks (with_world m w)
   under_then ks m w u k = record {
     memory = memory_then m u.memory w k;
@@ -168,7 +168,7 @@ module _ (s : Source) (early : World) where
   }
 
   pub text_then : (ks : List Item) (m : Memory) (a : Around) (w : World) → Text s early ks m a
-      → Keeps (bodies s m.scopes) m.world w → Text s early ks (with_world m w) a
+      → Keeps (bodies s early.Known m.scopes) m.world w → Text s early ks (with_world m w) a
   text_then ks m a w t k = record { under = under_then ks m w t.under k; there = t.there; around = t.around }
 
   -- A variable that is set.
@@ -188,7 +188,7 @@ module _ (s : Source) (early : World) where
         memory = record {
           place = place_stays s m.world m.world e m.scopes ds p l m.place u.memory.place;
           scopes = scopes_put m.scopes n x v lt k u.memory.scopes is;
-          world = fine_later s m.scopes ds p l m.world u.memory.world;
+          world = fine_later s early.Known m.scopes ds p l m.world u.memory.world;
           names = u.memory.names;
           fibers = memories_stay s m.world m.world e m.scopes ds p l m.fibers u.memory.fibers;
           since = u.memory.since;
@@ -204,7 +204,7 @@ module _ (s : Source) (early : World) where
   goes f ks m u focus = record { memory = u.memory; focus = focus; items = u.items }
 
   pub after_fits : (a : Answer) (ks : List Item) (m : Memory) → Under s early ks m
-      → AnswerIs (bodies s m.scopes) m.world a
+      → AnswerIs (bodies s early.Known m.scopes) m.world a
       → Fits s early (after a ks m)
   after_fits a ks m u h = by a.result h.result
     where
@@ -245,8 +245,8 @@ hushed_always q h (Run (eval.give v) (k ∷ ks) m) = tt
 hushed_always q h (Run (eval.travel x) ks m) = h
 hushed_always q h (Halt e) = tt
 
-pub quietly : (s : Source) (early : World) (c : Config) → Fits s early c → After s early c
-quietly s early c h = record { out = early.out; fits = h; hushed = hushed_always (early.out ≡ early.out) refl c }
+pub quietly : (s : Source) (early : Past) (c : Config) → Fits s early c → After s early c
+quietly s early c h = record { out = early.world.out; fits = h; hushed = hushed_always (early.world.out ≡ early.world.out) refl c }
 
 -- what is written makes no other world
 pub same_since : (early w : World) (out : List ℕ) → Extends early w → Extends (record early { out = out }) w

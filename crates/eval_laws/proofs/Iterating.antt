@@ -26,14 +26,14 @@ use Rattle.world_laws.proofs.Calling.{send_is}
 use Rattle.world_laws.proofs.Plans.{next_is}
 use Rattle.world_laws.proofs.Fibers.{resume_is, yield_is, finish_is, ended_keeps}
 use Rattle.def_core.proofs.Good.{is_good}
-use Rattle.eval_laws.specs.Fits.{After, IsCore, PlaceFits, OutgoingFits, ItemsFit, KeptFits, MemoryFits, FocusFits, Fits, bodies}
+use Rattle.eval_laws.specs.Fits.{Past, After, IsCore, PlaceFits, OutgoingFits, ItemsFit, KeptFits, MemoryFits, FocusFits, Fits, bodies}
 use Rattle.eval_laws.proofs.Staying.{exit_stays, items_stay}
 use Rattle.eval_laws.proofs.Scopes.{parents_of, later_itself}
 use Rattle.eval_laws.proofs.Going.{Under, memory_later, under_then, goes, after_fits, quietly, same_since}
 use Rattle.eval_laws.proofs.Entered.{entry_fits}
 use Rattle.eval_laws.proofs.Giving.{part_given}
 
-module _ (s : Source) (early : World) where
+module _ (s : Source) (early : Past) where
   -- Back at the place of a caller.
 
   pub placed : (ks : List Item) (m : Memory) (back : Place) → MemoryFits s early m → PlaceFits m.world m.scopes back
@@ -51,8 +51,8 @@ module _ (s : Source) (early : World) where
     items = items;
   }
 
-  pub closed : (m : Memory) (a : ℕ) → MemoryFits s early m → Keeps (bodies s m.scopes) m.world (close m.world a)
-  closed m a h = close_keeps (bodies s m.scopes) m.world h.world a
+  pub closed : (m : Memory) (a : ℕ) → MemoryFits s early m → Keeps (bodies s early.Known m.scopes) m.world (close m.world a)
+  closed m a h = close_keeps (bodies s early.Known m.scopes) m.world h.world a
 
   pub back_under : (ks : List Item) (m : Memory) (a : ℕ) (back : Place) → MemoryFits s early m
       → PlaceFits m.world m.scopes back → ItemsFit s m.world m.scopes back ks → Under s early ks (returned m a back)
@@ -65,7 +65,7 @@ module _ (s : Source) (early : World) where
   -- an answer of the world before the end of the activation
   back_after : (c : Answer) (ks : List Item) (m : Memory) (a : ℕ) (back : Place) → MemoryFits s early m
       → PlaceFits m.world m.scopes back → ItemsFit s m.world m.scopes back ks
-      → AnswerIs (bodies s m.scopes) m.world c → Fits s early (after c ks (returned m a back))
+      → AnswerIs (bodies s early.Known m.scopes) m.world c → Fits s early (after c ks (returned m a back))
   back_after c ks m a back h place items is = by c.result is.result
     where
       by : (r : Result) → ResultIs (census c.world.store) r
@@ -100,7 +100,7 @@ module _ (s : Source) (early : World) where
       → ResumedIs (census m.world.store) (KeptFits s m.world m.scopes) x → AllAre (IsValue (census m.world.store)) args
       → Fits s early (resume_by s x args ks m)
   resumed (refused c) args ks m u is all =
-      after_fits s early (fail m.world c) ks m u (fails_with (bodies s m.scopes) m.world u.memory.world c is)
+      after_fits s early (fail m.world c) ks m u (fails_with (bodies s early.Known m.scopes) m.world u.memory.world c is)
   resumed (begins p fs) args ks m u is all =
       entry_fits s early None [] (record m { fibers = fs })
       (record {
@@ -115,30 +115,30 @@ module _ (s : Source) (early : World) where
         };
         items = tt;
       }) tt (enter_proc m.world p args None)
-      (proc_enters (bodies s m.scopes) m.world u.memory.world args None all tt p (is_good m.world.store Proc p is.0).there)
+      (proc_enters (bodies s early.Known m.scopes) m.world u.memory.world args None all tt p (is_good m.world.store Proc p is.0).there)
   resumed (continues o) args ks m u is all =
       after_fits s early (one_of m.world args) o.kept.items (in_fiber m o) (under_fiber m o u.memory is)
-      (one_of_is (bodies s m.scopes) m.world u.memory.world args all)
+      (one_of_is (bodies s early.Known m.scopes) m.world u.memory.world args all)
 
   yielded : (x : Option (Onward Kept)) (args : List Value) (ks : List Item) (m : Memory) → Under s early ks m
       → OptionIs (OnwardIs (census m.world.store) (KeptFits s m.world m.scopes)) x
       → AllAre (IsValue (census m.world.store)) args → Fits s early (yield_by x args ks m)
   yielded None args ks m u is all =
       after_fits s early (fail m.world cause.RootYield) ks m u
-      (fails_with (bodies s m.scopes) m.world u.memory.world cause.RootYield tt)
+      (fails_with (bodies s early.Known m.scopes) m.world u.memory.world cause.RootYield tt)
   yielded (Some o) args ks m u is all =
       after_fits s early (one_of m.world args) o.kept.items (in_fiber m o) (under_fiber m o u.memory is)
-      (one_of_is (bodies s m.scopes) m.world u.memory.world args all)
+      (one_of_is (bodies s early.Known m.scopes) m.world u.memory.world args all)
 
   -- the end of a fiber, with what leaves it
   pub fiber_ended : (f : Focus) (x : Option (Onward Kept)) (m : Memory) → MemoryFits s early m
       → OptionIs (OnwardIs (census m.world.store) (KeptFits s m.world m.scopes)) x
-      → ((o : Onward Kept) (w : World) → Keeps (bodies s m.scopes) m.world w
+      → ((o : Onward Kept) (w : World) → Keeps (bodies s early.Known m.scopes) m.world w
       → FocusFits s o.kept.items (with_world (in_fiber m o) w) f) → Fits s early (end_fiber f x m)
   fiber_ended f None m h is focus = tt
   fiber_ended f (Some o) m h is focus =
       let w = with_store m.world (fibers.with_ended m.world.store m.fibers.running) in
-      let k = ended_keeps (bodies s m.scopes) m.world h.world m.fibers.running h.fibers.running in
+      let k = ended_keeps (bodies s early.Known m.scopes) m.world h.world m.fibers.running h.fibers.running in
       goes s early f o.kept.items (with_world (in_fiber m o) w)
       (under_then s early o.kept.items (in_fiber m o) w (under_fiber m o h is) k) (focus o w k)
 
@@ -168,7 +168,7 @@ module _ (s : Source) (early : World) where
     carried_out (plan.fails c) is =
         quietly s early _ (
         back_after (fail m.world c) ks m a back h place items
-        (fails_with (bodies s m.scopes) m.world h.world c is))
+        (fails_with (bodies s early.Known m.scopes) m.world h.world c is))
     carried_out (plan.raises e) is =
         quietly s early _ (
         goes s early (eval.travel (eval.raise e)) ks (returned m a back) (back_under ks m a back h place items)
@@ -177,20 +177,20 @@ module _ (s : Source) (early : World) where
         quietly s early _ (
         entry_fits s early None (eval.iteration a it back ∷ ks) m (waits it is.0) tt
         (send_by_core m.world v x args b public)
-        (send_is (bodies s m.scopes) m.world h.world x v args b is.2 is.1 is.3 is.4 public))
+        (send_is (bodies s early.Known m.scopes) m.world h.world x v args b is.2 is.1 is.3 is.4 public))
     carried_out (plan.calls it p args b) is =
         quietly s early _ (
         entry_fits s early None (eval.iteration a it back ∷ ks) m (waits it is.0) tt (enter_proc m.world p args b)
-        (proc_enters (bodies s m.scopes) m.world h.world args b is.2 is.3 p (is_good m.world.store Proc p is.1).there))
+        (proc_enters (bodies s early.Known m.scopes) m.world h.world args b is.2 is.3 p (is_good m.world.store Proc p is.1).there))
     carried_out (plan.writes it bytes) is =
         let w = write m.world bytes in
-        let first = record early { out = w.out } in
+        let first = record early.world { out = w.out } in
         let e = extends_written m.world bytes in
-        let since = same_since early w w.out (extends_both early m.world w h.since e) in
+        let since = same_since early.world w w.out (extends_both early.world m.world w h.since e) in
         record {
           out = w.out;
           fits = record {
-            memory = memory_later s early m h w (fine_written (bodies s m.scopes) m.world h.world bytes) e first since refl;
+            memory = memory_later s early m h w (fine_written (bodies s early.Known m.scopes) m.world h.world bytes) e first since refl;
             focus = tt;
             items = items_stay s m.world w e m.scopes m.scopes (parents_of (census m.world.store) m.scopes h.scopes)
                 (later_itself m.scopes) m.place (eval.iteration a it back ∷ ks) h.place.scope (number, is, place, items);
@@ -200,7 +200,7 @@ module _ (s : Source) (early : World) where
     carried_out (plan.reads it) is =
         quietly s early _ (
         after_fits s early (read m.world) (eval.iteration a it back ∷ ks) m (waits it is)
-        (read_is (bodies s m.scopes) m.world h.world))
+        (read_is (bodies s early.Known m.scopes) m.world h.world))
     carried_out (plan.resumes it f args) is =
         let u = waits it is.0 in
         let kept = kept_as (eval.iteration a it back ∷ ks) m in
@@ -217,7 +217,7 @@ module _ (s : Source) (early : World) where
         (kept_is (eval.iteration a it back ∷ ks) m u)) is.1)
 
   planned : (x : Planned) (a : ℕ) (it : Iteration) (back : Place) (ks : List Item) (m : Memory)
-      → Under s early (eval.iteration a it back ∷ ks) m → PlannedIs (bodies s m.scopes) m.world x
+      → Under s early (eval.iteration a it back ∷ ks) m → PlannedIs (bodies s early.Known m.scopes) m.world x
       → After s early (go_on s x a back ks m)
   planned x a it back ks m u h =
       let w = with_store m.world x.store in
@@ -251,7 +251,7 @@ module _ (s : Source) (early : World) where
       (value_stays m.world (close m.world a) (closed m a u.memory).extends v is))
   value_given v (eval.iteration a it back ∷ ks) m u is =
       planned (plan.next it v m.world.store) a it back ks m u
-      (next_is (bodies s m.scopes) m.world u.memory.world it v u.items.1 is)
+      (next_is (bodies s early.Known m.scopes) m.world u.memory.world it v u.items.1 is)
   value_given v (eval.ensuring o ∷ ks) m u is =
       quietly s early _ (
       outgoing_given o ks m (record { memory = u.memory; items = u.items.2 }) u.items.0)

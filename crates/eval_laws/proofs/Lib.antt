@@ -1,6 +1,7 @@
 pub mod Tests
 pub mod Scopes
 pub mod Staying
+pub mod Procs
 pub mod Sizes
 pub mod Sources
 pub mod Going

@@ -7,23 +7,22 @@ use Rattle.def_core.specs.Sound.{census, IsValue, OptionIs}
 use Rattle.ir_core.specs.CoreForm as form
 use Rattle.ir_core.specs.CoreForm.{none, Local, named, hidden, pattern, rest, CoreForm, Body}
 use Rattle.ir_core.specs.Program.{Around, is_known, is_bound}
-use Rattle.def_calls.specs.World.{World}
 use Rattle.def_eval.specs.Source.{Source, body_at}
 use Rattle.def_eval.specs.Configuration as eval
 use Rattle.def_eval.specs.Configuration.{Action, Scope, Exit, Item, Focus, Memory, Config, Run, Halt}
 use Rattle.def_eval.specs.Scopes.{value_in, scope_at, scopes_around, first_with, scope_of}
-use Rattle.eval_laws.specs.Fits.{wanted, Fits, is_outward, has_exception}
+use Rattle.eval_laws.specs.Fits.{Past, wanted, Fits, is_outward, has_exception}
 use Rattle.eval_laws.specs.Example.{lost}
 use Rattle.eval_laws.specs.Reached.{SoundStore, IsFound, IsOwn}
 use Rattle.eval_laws.proofs.Scopes.{is_in, first_has}
 use Rattle.eval_laws.proofs.Going.{scope_there}
 use Rattle.eval_laws.proofs.Forming.{block_there}
 
-pub store_sound : (s : Source) (early : World) (c : Config) → Fits s early c → SoundStore c
+pub store_sound : (s : Source) (early : Past) (c : Config) → Fits s early c → SoundStore c
 store_sound s early (Halt e) h = tt
 store_sound s early (Run f ks m) h = h.memory.world.store
 
-pub value_good : (s : Source) (early : World) (v : Value) (ks : List Item) (m : Memory)
+pub value_good : (s : Source) (early : Past) (v : Value) (ks : List Item) (m : Memory)
     → Fits s early (Run (eval.give v) ks m)
     → IsValue (census m.world.store) v
 value_good s early v ks m h = h.focus
@@ -34,7 +33,7 @@ found_in : (cs : List Scope) (x : Local) (n : ℕ) (o : Option ℕ) → is_some 
 found_in cs x n None h g = absurd (true≢false (sym h))
 found_in cs x n (Some i) h g = g
 
-module _ (s : Source) (early : World) (n : ℕ) (ks : List Item) (m : Memory) where
+module _ (s : Source) (early : Past) (n : ℕ) (ks : List Item) (m : Memory) where
   seen_there : (x : Local) (o : Option ℕ) → first_with m.scopes (scopes_around m.scopes m.place.scope) x ≡ o
       → is_some o ≡ true → is_in (scope_at m.scopes (unwrap_or o m.place.scope)).variables x ≡ true
   seen_there x o e h = found_in m.scopes x m.place.scope o h
@@ -82,13 +81,13 @@ module _ (s : Source) (early : World) (n : ℕ) (ks : List Item) (m : Memory) wh
   block_found f h = let g = h.focus.1 in block_there s g.0 n f g.2
 
 -- an action has as many values as it wants
-pub values_enough : (s : Source) (early : World) (n : ℕ) (action : Action) (vs : List Value) (v : Value) (ks : List Item) (m : Memory)
+pub values_enough : (s : Source) (early : Past) (n : ℕ) (action : Action) (vs : List Value) (v : Value) (ks : List Item) (m : Memory)
     → Fits s early (Run (eval.give v) (eval.part (eval.operands n action vs none) ∷ ks) m)
     → wanted action ≤ length (vs ++ v ∷ [])
 values_enough s early n action vs v ks m h = let g = h.items.0 in rw length-append (omega (arith, g.2.3))
 
 -- nothing but an exception gets past the last item
-pub leaves_last : (s : Source) (early : World) (x : Exit) (m : Memory) → Fits s early (Run (eval.travel x) [] m)
+pub leaves_last : (s : Source) (early : Past) (x : Exit) (m : Memory) → Fits s early (Run (eval.travel x) [] m)
     → (e : ObjId) × (x ≡ eval.raise e)
 leaves_last s early (eval.raise e) m h = (e, refl)
 leaves_last s early (eval.return a v) m h = absurd (true≢false (sym h.focus.0))
@@ -97,5 +96,5 @@ leaves_last s early (eval.leave_loop v) m h = absurd (true≢false (sym h.focus.
 leaves_last s early (eval.next v) m h = absurd (true≢false (sym h.focus.0))
 leaves_last s early eval.begin_anew m h = absurd (true≢false (sym h.focus))
 
-pub lost_fails : (s : Source) (early : World) (m : Memory) → Fits s early (lost m) → ⊥
+pub lost_fails : (s : Source) (early : Past) (m : Memory) → Fits s early (lost m) → ⊥
 lost_fails s early m h = true≢false (sym h.focus.0)

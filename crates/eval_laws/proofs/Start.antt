@@ -19,7 +19,7 @@ use Rattle.def_eval.specs.Scopes.{first_variables}
 use Rattle.def_eval.specs.Transition.{go_times}
 use Rattle.world_laws.proofs.Growing.{extends_itself}
 use Rattle.world_laws.proofs.Opening.{opening_is}
-use Rattle.eval_laws.specs.Fits.{ScopeFits, ScopesFit, Fits, FitsSince, bodies}
+use Rattle.eval_laws.specs.Fits.{ScopeFits, ScopesFit, anything_since, Fits, FitsSince, bodies}
 use Rattle.eval_laws.proofs.Tests.{or_left, or_right}
 use Rattle.eval_laws.proofs.Scopes.{Parents}
 use Rattle.eval_laws.proofs.Sources.{program_stands}
@@ -78,7 +78,7 @@ one_scope k c h zero lt = h
 one_scope k c h (suc n) lt = absurd (omega (arith, lt))
 
 pub opening_fits : (b : Body) (input : List ℕ) → IsProgram b
-    → Fits (source_of b) (opening_world (all_names (source_of b)) input) (opening (source_of b) input)
+    → Fits (source_of b) (anything_since (opening_world (all_names (source_of b)) input)) (opening (source_of b) input)
 unfolding opening body_at first_variables
 opening_fits (body p ls e) input is =
     let s = source_of (body p ls e) in
@@ -89,7 +89,7 @@ opening_fits (body p ls e) input is =
       memory = record {
         place = record { activation = (omega arith, omega arith); scope = omega arith };
         scopes = one_scope (census w.store) c (record { parent = tt; variables = values_nil (census w.store) ls });
-        world = opening_is (bodies s (c ∷ [])) (all_names s) input;
+        world = opening_is (bodies s (anything_since w).Known (c ∷ [])) (all_names s) input;
         names = λ x h. names_held (all_names s) rows.opening x h;
         fibers = record { running = tt; resumer = tt; others = tt };
         since = extends_itself w;
@@ -111,7 +111,7 @@ opening_fits (body p ls e) input is =
     }
 
 pub evaluation_fits : (b : Body) (input : List ℕ) (n : ℕ) → IsProgram b
-    → FitsSince (source_of b) (opening_world (all_names (source_of b)) input)
+    → FitsSince (source_of b) (anything_since (opening_world (all_names (source_of b)) input))
     (go_times n (source_of b) (opening (source_of b) input))
 evaluation_fits b input n is =
     times_fit n (source_of b) (opening_world (all_names (source_of b)) input) (opening (source_of b) input)

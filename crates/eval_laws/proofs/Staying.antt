@@ -132,51 +132,53 @@ names_stay s w v e h x is =
 
 -- The same world, with other scopes.
 
-module _ (s : Source) (cs ds : List Scope) (p : Parents cs) (l : Later cs ds) (w : World) where
-  pub proc_later : (c : ProcContents) → ProcFits s cs w c → ProcFits s ds w c
-  proc_later c h = record {
-    around = h.around;
-    scope = h.scope;
-    within = omega (arith, h.within, l.longer);
-    scopes = h.scopes ∙ sym (scopes_same cs ds h.scope p l h.within);
-    scene = scene_later cs ds p l h.scope h.within h.around h.scene;
-    body = h.body;
-    shape = h.shape;
-    home = h.home;
-    classes = h.classes;
-  }
+module _ (s : Source) (Known : ℕ → List ℕ → Type 0) (cs ds : List Scope) (p : Parents cs) (l : Later cs ds) (w : World)
+  where
+    pub proc_later : (c : ProcContents) → ProcFits s Known cs w c → ProcFits s Known ds w c
+    proc_later c h = record {
+      around = h.around;
+      scope = h.scope;
+      within = omega (arith, h.within, l.longer);
+      scopes = h.scopes ∙ sym (scopes_same cs ds h.scope p l h.within);
+      scene = scene_later cs ds p l h.scope h.within h.around h.scene;
+      body = h.body;
+      shape = h.shape;
+      known = h.known;
+      home = h.home;
+      classes = h.classes;
+    }
 
-  method_later : (m : Method) → MethodIs (bodies s cs) w m → MethodIs (bodies s ds) w m
-  unfolding bodies
-  method_later (method.Body b n) h = h
-  method_later (method.Core r) h = tt
-  method_later (method.Reader n) h = tt
-  method_later (method.Writer n) h = tt
-  method_later (method.Block b) h = tt
-  method_later method.Undefined h = tt
+    method_later : (m : Method) → MethodIs (bodies s Known cs) w m → MethodIs (bodies s Known ds) w m
+    unfolding bodies
+    method_later (method.Body b n) h = h
+    method_later (method.Core r) h = tt
+    method_later (method.Reader n) h = tt
+    method_later (method.Writer n) h = tt
+    method_later (method.Block b) h = tt
+    method_later method.Undefined h = tt
 
-  kind_later : (k : Kind) → KindIs (bodies s cs) w k → KindIs (bodies s ds) w k
-  unfolding bodies
-  kind_later kind.Plain h = tt
-  kind_later (kind.Class c) h = all_stay (EntryHas (bodies s cs) w) (EntryHas (bodies s ds) w)
-      (λ x. method_later x.1.method) c.methods h
-  kind_later (kind.String x) h = tt
-  kind_later (kind.Array a) h = tt
-  kind_later (kind.Hash x) h = tt
-  kind_later (kind.Range r) h = tt
-  kind_later (kind.Proc c) h = proc_later c h
-  kind_later (kind.CoreProc r x) h = tt
-  kind_later (kind.Fiber b x) h = tt
-  kind_later (kind.Exception x d) h = tt
-  kind_later (kind.Enumerator x) h = tt
-  kind_later (kind.Yielder b) h = tt
+    kind_later : (k : Kind) → KindIs (bodies s Known cs) w k → KindIs (bodies s Known ds) w k
+    unfolding bodies
+    kind_later kind.Plain h = tt
+    kind_later (kind.Class c) h = all_stay (EntryHas (bodies s Known cs) w) (EntryHas (bodies s Known ds) w)
+        (λ x. method_later x.1.method) c.methods h
+    kind_later (kind.String x) h = tt
+    kind_later (kind.Array a) h = tt
+    kind_later (kind.Hash x) h = tt
+    kind_later (kind.Range r) h = tt
+    kind_later (kind.Proc c) h = proc_later c h
+    kind_later (kind.CoreProc r x) h = tt
+    kind_later (kind.Fiber b x) h = tt
+    kind_later (kind.Exception x d) h = tt
+    kind_later (kind.Enumerator x) h = tt
+    kind_later (kind.Yielder b) h = tt
 
-  pub fine_later : Fine (bodies s cs) w → Fine (bodies s ds) w
-  fine_later h = record {
-    store = h.store;
-    objects = all_stay (ObjectIs (bodies s cs) w) (ObjectIs (bodies s ds) w) (λ o. kind_later o.kind) w.store.objects
-        h.objects;
-    globals = h.globals;
-    enclosing = h.enclosing;
-    activations = h.activations;
-  }
+    pub fine_later : Fine (bodies s Known cs) w → Fine (bodies s Known ds) w
+    fine_later h = record {
+      store = h.store;
+      objects = all_stay (ObjectIs (bodies s Known cs) w) (ObjectIs (bodies s Known ds) w) (λ o. kind_later o.kind) w.store.objects
+          h.objects;
+      globals = h.globals;
+      enclosing = h.enclosing;
+      activations = h.activations;
+    }

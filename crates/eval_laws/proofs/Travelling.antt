@@ -14,7 +14,6 @@ use Rattle.def_calls.specs.Plans.{Iteration, reporting, caught}
 use Rattle.def_calls.specs.Fibers.{Onward}
 use Rattle.def_calls.specs.Fibers as fibers
 use Rattle.def_calls.specs.Seen.{Ended, Uncaught}
-use Rattle.def_calls.specs.World.{World}
 use Rattle.def_eval.specs.Source.{Source, span}
 use Rattle.def_eval.specs.Configuration as eval
 use Rattle.def_eval.specs.Configuration.{Exit, Rescue, Part, Stop, Item, Kept, Memory, stop_of, Config, Run, Halt}
@@ -29,7 +28,7 @@ use Rattle.world_laws.proofs.Changing.{has_any}
 use Rattle.world_laws.proofs.Entering.{report_begins}
 use Rattle.world_laws.proofs.Plans.{caught_is}
 use Rattle.eval_laws.specs.Standing.{FormStands, ClausesStand}
-use Rattle.eval_laws.specs.Fits.{begins_anew, in_clause, ExitFits, PartStands, RescueStands, KeptFits, MemoryFits, Fits, bodies}
+use Rattle.eval_laws.specs.Fits.{Past, begins_anew, in_clause, ExitFits, PartStands, RescueStands, KeptFits, MemoryFits, Fits, bodies}
 use Rattle.eval_laws.proofs.Tests.{either}
 use Rattle.eval_laws.proofs.Staying.{exit_stays}
 use Rattle.eval_laws.proofs.Going.{Under, Text, goes}
@@ -98,7 +97,7 @@ leads_on k ks stop (eval.leave_loop v) l b t h = (subst (λ c. (c || in_loop ks)
 leads_on k ks stop (eval.next v) l b t h = (t, h)
 leads_on k ks stop eval.begin_anew l b t h = subst (λ c. (c || in_clause ks) ≡ true) b h
 
-module _ (s : Source) (early : World) (ks : List Item) (m : Memory) (a : Around) (t : Text s early ks m a) where
+module _ (s : Source) (early : Past) (ks : List Item) (m : Memory) (a : Around) (t : Text s early ks m a) where
   abbrev k : Census
   k = census m.world.store
 
@@ -164,7 +163,7 @@ for_below a b u h other = by (nat_eq b a) refl h
     by true e g = absurd (true≢false (sym (equal_back a b e) ∙ other))
     by false e g = g
 
-module _ (s : Source) (early : World) (ks : List Item) (m : Memory) (u : Under s early ks m) where
+module _ (s : Source) (early : Past) (ks : List Item) (m : Memory) (u : Under s early ks m) where
   abbrev c : Census
   c = census m.world.store
 
@@ -199,7 +198,7 @@ module _ (s : Source) (early : World) (ks : List Item) (m : Memory) (u : Under s
       → Fits s early (travel_iteration x a it ks m)
   iteration_left (eval.raise e) a it back h =
       caught_or e (caught it e m.world.store) h
-      (caught_is (bodies s m.scopes) m.world u.memory.world it e (has_any m.world.store sort.Exception e h))
+      (caught_is (bodies s early.Known m.scopes) m.world u.memory.world it e (has_any m.world.store sort.Exception e h))
   iteration_left (eval.return b v) a it back h =
       by (nat_eq a b) refl
     where
@@ -216,7 +215,7 @@ module _ (s : Source) (early : World) (ks : List Item) (m : Memory) (u : Under s
 
 -- Past the last item.
 
-module _ (s : Source) (early : World) (m : Memory) (h : MemoryFits s early m) where
+module _ (s : Source) (early : Past) (m : Memory) (h : MemoryFits s early m) where
   exception_leaves : (e : ObjId) (o : Option (Onward Kept)) → IsException (census m.world.store) e
       → OptionIs (OnwardIs (census m.world.store) (KeptFits s m.world m.scopes)) o → Fits s early (leave_fiber e o m)
   exception_leaves e None is out = asked (is_asked m.world e)
@@ -227,7 +226,7 @@ module _ (s : Source) (early : World) (m : Memory) (h : MemoryFits s early m) wh
 
       asked : (c : Bool) → Fits s early (end_or_ask c e m)
       asked true =
-          let r = report_begins (bodies s m.scopes) m.world h.world e is in
+          let r = report_begins (bodies s early.Known m.scopes) m.world h.world e is in
           iteration_opens s early (reporting e) (core_activation m.world (Obj e)) [] m (record {
             memory =
                 h;
@@ -257,7 +256,7 @@ leads_behind k ks o (eval.leave_loop v) t h = h
 leads_behind k ks o (eval.next v) t h = (t, h.1)
 leads_behind k ks o eval.begin_anew t h = h
 
-pub exit_done : (s : Source) (early : World) (x : Exit) (ks : List Item) (m : Memory) → Under s early ks m
+pub exit_done : (s : Source) (early : Past) (x : Exit) (ks : List Item) (m : Memory) → Under s early ks m
     → ExitFits (census m.world.store) ks x → Fits s early (do_travel x ks m)
 unfolding do_travel
 exit_done s early x [] m u h = last_left s early m u.memory x h

@@ -238,16 +238,18 @@ pub record KeptFits (s : Source) (w : World) (cs : List Scope) (kept : Kept) : T
 -- Procs and methods of the store.
 
 -- A Proc has the scope in which its literal was done and those around it, in which its body stands.
-pub record ProcFits (s : Source) (cs : List Scope) (w : World) (c : ProcContents) : Type 0 where
-  pub around : Around
-  pub scope : ℕ
-  pub within : scope < length cs
-  pub scopes : c.scopes ≡ scopes_around cs scope
-  pub scene : SceneFits cs scope around
-  pub body : BlockStands s around c.code (body_at s c.code)
-  pub shape : c.shape ≡ shape_of (parameters_of (body_at s c.code))
-  pub home : IsActivation w c.home
-  pub classes : IsClasses w c.classes
+pub record ProcFits (s : Source) (Known : ℕ → List ℕ → Type 0) (cs : List Scope) (w : World) (c : ProcContents) : Type 0
+  where
+    pub around : Around
+    pub scope : ℕ
+    pub within : scope < length cs
+    pub scopes : c.scopes ≡ scopes_around cs scope
+    pub scene : SceneFits cs scope around
+    pub body : BlockStands s around c.code (body_at s c.code)
+    pub shape : c.shape ≡ shape_of (parameters_of (body_at s c.code))
+    pub known : Known c.code c.scopes
+    pub home : IsActivation w c.home
+    pub classes : IsClasses w c.classes
 
 pub record BodyFits (s : Source) (w : World) (n around : ℕ) : Type 0 where
   pub body : MethodStands s n (body_at s n)
@@ -257,9 +259,9 @@ pub record BodyFits (s : Source) (w : World) (n around : ℕ) : Type 0 where
 pub goes_longer : {A : Type 0} (xs ys : List A) → Goes xs ys → length xs ≤ length ys
 goes_longer xs ys g = rw g.same (rw length-append (omega arith))
 
-unfoldable pub bodies : Source → List Scope → Bodies
-bodies s cs = record {
-  ProcIs = λ w c. ProcFits s cs w c;
+unfoldable pub bodies : Source → (ℕ → List ℕ → Type 0) → List Scope → Bodies
+bodies s Known cs = record {
+  ProcIs = λ w c. ProcFits s Known cs w c;
   BodyIs = λ w n classes. BodyFits s w n classes;
   proc_home = λ w c h. h.home;
   proc_classes = λ w c h. h.classes;
@@ -272,6 +274,7 @@ bodies s cs = record {
     scene = h.scene;
     body = h.body;
     shape = h.shape;
+    known = h.known;
     home = (h.home.0, omega (arith, h.home.1, goes_longer w.activations v.activations e.activations));
     classes = omega (arith, h.classes, goes_longer w.enclosing v.enclosing e.enclosing);
   };
@@ -287,6 +290,7 @@ bodies s cs = record {
     scene = h.scene;
     body = h.body;
     shape = h.shape;
+    known = h.known;
     home = h.home;
     classes = h.classes;
   };
@@ -298,6 +302,7 @@ bodies s cs = record {
     scene = h.scene;
     body = h.body;
     shape = h.shape;
+    known = h.known;
     home = h.home;
     classes = h.classes;
   };
@@ -309,16 +314,29 @@ bodies s cs = record {
 abbrev pub NamesFit : Source → World → Type 0
 NamesFit s w = (x : Name) → IsNamed s x → list_any (bytes_eq x) w.store.symbols ≡ true
 
+-- A world from which others go on, and the Procs that there may be in them, by the body and the scopes of each.
+pub record Past : Type 1 where
+  pub world : World
+  pub Known : ℕ → List ℕ → Type 0
+
+-- with another output
+abbrev pub with_out : Past → List ℕ → Past
+with_out p out = record p { world = record p.world { out = out } }
+
+-- whatever the Procs are
+abbrev pub anything_since : World → Past
+anything_since w = record { world = w; Known = λ b ns. Unit {0} }
+
 -- the lists of scopes, and all that is kept of a world beside them; it goes on from an earlier
 -- world, without output since
-pub record MemoryFits (s : Source) (early : World) (m : Memory) : Type 0 where
+pub record MemoryFits (s : Source) (early : Past) (m : Memory) : Type 0 where
   pub place : PlaceFits m.world m.scopes m.place
   pub scopes : ScopesFit (census m.world.store) m.scopes
-  pub world : Fine (bodies s m.scopes) m.world
+  pub world : Fine (bodies s early.Known m.scopes) m.world
   pub names : NamesFit s m.world
   pub fibers : FibersAre (census m.world.store) (KeptFits s m.world m.scopes) m.fibers
-  pub since : Extends early m.world
-  pub out : m.world.out ≡ early.out
+  pub since : Extends early.world m.world
+  pub out : m.world.out ≡ early.world.out
 
 -- a form that is done is one of a body, so there is an item below it
 abbrev pub FocusFits : Source → List Item → Memory → Focus → Type 0
@@ -327,13 +345,13 @@ FocusFits s ks m (eval.perform n e) =
 FocusFits s ks m (eval.give v) = IsValue (census m.world.store) v
 FocusFits s ks m (eval.travel x) = ExitFits (census m.world.store) ks x
 
-pub record RunFits (s : Source) (early : World) (f : Focus) (ks : List Item) (m : Memory) : Type 0 where
+pub record RunFits (s : Source) (early : Past) (f : Focus) (ks : List Item) (m : Memory) : Type 0 where
   pub memory : MemoryFits s early m
   pub focus : FocusFits s ks m f
   pub items : ItemsFit s m.world m.scopes m.place ks
 
 -- what has to be so of what goes on from a world
-abbrev pub Fits : Source → World → Config → Type 0
+abbrev pub Fits : Source → Past → Config → Type 0
 Fits s early (Run f ks m) = RunFits s early f ks m
 Fits s early (Halt e) = Unit {0}
 
@@ -349,11 +367,11 @@ abbrev pub ComesHushed : Type 0 → Config → Type 0
 ComesHushed q (Run f ks m) = IsHushed q f ks
 ComesHushed q (Halt e) = Unit {0}
 
-pub record After (s : Source) (early : World) (c : Config) : Type 0 where
+pub record After (s : Source) (early : Past) (c : Config) : Type 0 where
   pub out : List ℕ
-  pub fits : Fits s (record early { out = out }) c
-  pub hushed : ComesHushed (out ≡ early.out) c
+  pub fits : Fits s (with_out early out) c
+  pub hushed : ComesHushed (out ≡ early.world.out) c
 
 -- it goes on from that world, whatever was written since
-abbrev pub FitsSince : Source → World → Config → Type 0
-FitsSince s early c = (out : List ℕ) × Fits s (record early { out = out }) c
+abbrev pub FitsSince : Source → Past → Config → Type 0
+FitsSince s early c = (out : List ℕ) × Fits s (with_out early out) c

@@ -1,4 +1,5 @@
 pub mod Kinds
+pub mod Procs
 pub mod Standing
 pub mod Fits
 pub mod Reached

@@ -19,7 +19,7 @@ use Rattle.gen_forms.specs.Gen.{gen, gather}
 use Rattle.def_calls.specs.World.{World, gives, with_store}
 use Rattle.def_calls.specs.Views.{an_array}
 use Rattle.def_calls.specs.Values as values
-use Rattle.def_eval.specs.Source.{span}
+use Rattle.def_eval.specs.Source.{Source, span}
 use Rattle.def_eval.specs.Configuration as source
 use Rattle.def_eval.specs.Configuration.{Gathering, an_array as new_array, elements, Item, part, perform, give, Config, Run}
 use Rattle.def_eval.specs.Forms.{next_element, do_form}
@@ -28,13 +28,13 @@ use Rattle.def_eval.specs.Transition.{go}
 use Rattle.def_machine.specs.State as machine
 use Rattle.def_machine.specs.State.{Level, frame, State, slot_at, value_at}
 use Rattle.def_machine.specs.Turn.{act, on_object}
+use Rattle.step_laws.specs.Calm.{Grows, Quiet}
 use Rattle.step_laws.specs.Site.{Site, within, place_in, at_line, Room}
 use Rattle.step_laws.specs.Covered.{Covered, CoveredElements}
 use Rattle.step_laws.proofs.Covers.{at_top}
 use Rattle.step_laws.proofs.Placed.{high, high-both, high-puts, high-nothing, line-past, Stands, moved, left, right, the_line, Rest, frame_at, turned}
 use Rattle.step_laws.specs.Behind.{Static, push}
 use Rattle.step_laws.specs.Relation.{Ground, InFrame, Common, Doing, GivesIn, Related, Step}
-use Rattle.step_laws.proofs.Untouched.{same_activations}
 use Rattle.step_laws.proofs.Matching.{by_one, in_loop, going, state_at, written, stays}
 use Rattle.step_laws.proofs.Literals.{aligned}
 use Rattle.step_laws.proofs.Gathered.{kept}
@@ -110,6 +110,12 @@ on_with g h j id (plain e is) ks m k x n low end loop s both there room covered 
 on_with g h j id (splat e is) ks m k x n low end loop s both there room covered here code ends held next =
     item_on g h j id true e is ks m k x n low end loop s both there room covered.0 covered.1 here code ends held next
 
+quiet_elements : (s : Source) (j : ℕ) (id : ObjId) (is : Items) (ks : List Item) (m : source.Memory) (w : World)
+    → Quiet m (next_element s j new_array id is ks (source.with_world m w)) → Grows m.world w
+quiet_elements s j id no_items ks m w q = q.1
+quiet_elements s j id (plain e is) ks m w q = q.1
+quiet_elements s j id (splat e is) ks m w q = q.1
+
 -- The turn that pushes what stands behind the Array.
 module _ (g : Ground) (h : Site) (x : Rest) (n low : ℕ) (k : machine.Memory) (id : ObjId) (v : Value)
     (held : slot_at k.lists h.list low ≡ V (Obj id)) (stands : slot_at k.lists h.list (low + 1) ≡ V v)
@@ -142,16 +148,17 @@ module _ (g : Ground) (h : Site) (x : Rest) (n low : ℕ) (k : machine.Memory) (
 module _ (g : Ground) (h : Site) (static : Static h) (j : ℕ) (ks : List Item) (m : source.Memory) (ls : List Level)
     (k : machine.Memory) (both : Common g h m (aligned k m)) where
   pub do_array : (is : Items) (d : Doing g h j (array is) ks m.place ls k.lists)
+      → Quiet m (go h.source (Run (perform j (array is)) ks m))
       → Step h (Run (perform j (array is)) ks m) (state_at g h d.x d.n (aligned k m))
   unfolding do_form
-  do_array is d =
+  do_array is d quiet =
       let o = op.Array d.r 0 in
       let p = does o in
       let q = gather (within h d.loop) (past d.s p) d.r is in
       let id = next_number m.world.store in
       let w = with_store m.world (with_object m.world.store (items_object [])) in
       let end = d.n + high (p ⊕ q) in
-      let t = kept g h static ks m k both w (same_activations m.world w refl) (Obj id) end d.r d.loop d.covered.0 d.next in
+      let t = kept g h static ks m k both w (quiet_elements h.source j id is ks m w quiet) (Obj id) end d.r d.loop d.covered.0 d.next in
       let tall : high p ≡ 1 = high-puts (line.Does o) in
       by_one h (Run (perform j (array is)) ks m) (state_at g h d.x d.n (aligned k m))
       (state_at g h d.x (d.n + 1) (written h (machine.with_world k w) d.r (Obj id)))
@@ -169,19 +176,13 @@ module _ (g : Ground) (h : Site) (static : Static h) (j : ℕ) (ks : List Item) 
   element_of false v id about low held stands x n = refl
   element_of true v id about low held stands x n = refl
 
-  more_of : (spread : Bool) (v : Value) (id : ObjId) (about : an_array m.world.store.objects (Obj id) ≡ Some id)
-      (low : ℕ) (held : slot_at k.lists h.list low ≡ V (Obj id)) (stands : slot_at k.lists h.list (low + 1) ≡ V v)
-      (x : Rest) (n : ℕ)
-      → (more g h x n low (aligned k m) id v held stands about spread).activations ≡ m.world.activations
-  more_of false v id about low held stands x n = refl
-  more_of true v id about low held stands x n = refl
-
   pub give_element : (v : Value) (i : ℕ) (q : Gathering) (id : ObjId) (spread : Bool) (is : Items)
       (d : GivesIn g h v (part (elements i q id spread is) ∷ ks) m.place ls k.lists)
       → an_array m.world.store.objects (Obj id) ≡ Some id
+      → Quiet m (go h.source (Run (give v) (part (elements i q id spread is) ∷ ks) m))
       → Step h (Run (give v) (part (elements i q id spread is) ∷ ks) m) (state_at g h d.x d.n (aligned k m))
   unfolding do_give give_part
-  give_element v i q id spread is d about =
+  give_element v i q id spread is d about quiet =
       let b = d.next.behind in
       let low = d.next.low in
       let c = Run (give v) (part (elements i q id spread is) ∷ ks) m in
@@ -189,11 +190,11 @@ module _ (g : Ground) (h : Site) (static : Static h) (j : ℕ) (ks : List Item) 
       subst (λ (a : ℕ). slot_at k.lists h.list a ≡ V v) (sym b.at) d.stands in
       let w = more g h d.x d.n low (aligned k m) id v b.held stands about spread in
       let k' = written h (machine.with_world k w) low (Obj id) in
-      let u = kept g h static ks m k both w (same_activations m.world w (more_of spread v id about low b.held stands d.x d.n)) (Obj id) d.next.end low d.loop b.room
-      (in_loop g h k.lists ks d.next.end low d.loop d.next.outer d.next.inner d.next.next) in
       let goes : go h.source c ≡ next_element h.source i new_array id is ks (source.with_world m w) =
       ap (λ (o : Gathering). next_element h.source i o id is ks (with_element m id spread v)) b.gathers
       ∙ ap (next_element h.source i new_array id is ks) (element_of spread v id about low b.held stands d.x d.n) in
+      let u = kept g h static ks m k both w (quiet_elements h.source i id is ks m w (subst (Quiet m) goes quiet)) (Obj id) d.next.end
+      low d.loop b.room (in_loop g h k.lists ks d.next.end low d.loop d.next.outer d.next.inner d.next.next) in
       by_one h c (state_at g h d.x d.n (aligned k m)) (state_at g h d.x (d.n + 1) k')
       (going (give v) (part (elements i q id spread is) ∷ ks) m (frame (frame_at h d.x d.n) ∷ g.below) (aligned k m) refl)
       (turned h d.x d.n (push spread low) g.below (aligned k m) b.pushes

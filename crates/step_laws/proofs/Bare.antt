@@ -101,9 +101,9 @@ module _ (g : Ground) (h : Site) (static : Static h) (ks : List Item) (m : sourc
       ∙ ap (λ (i : SymId). told i (value_at k'.lists h.list r)) (symbols_same h d.x d.n k m y d.covered.1)
       ∙ ap (told (symbol m y)) (first ∙ sym self))
       (omega arith) refl (λ w grows. grown (over_levels g (frame f ∷ g.below)) m k' (below_running g h m k' both' f refl) m.place w grows)
-      waiting (then_enters h.source h.program m.world.store.objects
+      waiting (then_enters h.source h.program m.world.store.objects m.world.store.objects
       (the_entry (symbol m y) (activation_at m.world h.activation) (self_of m))
-      (λ is. call_entered h.source h.program m.world is (activation_at m.world h.activation) (by_bare_name (symbol m y))
+      (λ is. call_entered h.source h.program m.world.store.objects m.world is (activation_at m.world h.activation) (by_bare_name (symbol m y))
       (self_of m) [] None) peace.calls)).advances
     where
       told : SymId → Value → State

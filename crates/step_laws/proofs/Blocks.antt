@@ -1,7 +1,8 @@
 -- Block literals, and calls with a block: the Proc is made, and passed with the call.
 use Rattle.std.proofs.Common.{◌≡◌, ◌⊎◌, ℕ, suc, ◌+◌, ◌<◌, List, ◌∷◌, refl, sym, ap, ◌∙◌, subst, arith, length, get_or, Bool, true, false}
-use Rattle.std.specs.Prelude.{if◌then◌else◌, nat_lt, Option, Some, None}
+use Rattle.std.specs.Prelude.{if◌then◌else◌, nat_lt, Option, Some, None, unwrap_or}
 use Rattle.rb_value.specs.declared.value.Value.{Value}
+use Rattle.rb_value.specs.declared.value.Value.TheVariants.{Obj}
 use Rattle.rb_value.specs.declared.value.ObjId.{ObjId}
 use Rattle.rb_value.specs.declared.value.SymId.{SymId}
 use Rattle.rb_value.specs.declared.exit.Slot.TheVariants.{V}
@@ -17,7 +18,7 @@ use Rattle.gen_parts.specs.declared.line.Line.TheVariants as line
 use Rattle.gen_parts.specs.declared.emitter.Spot.{Spot}
 use Rattle.gen_forms.specs.declared.context.Loop.{Loop}
 use Rattle.gen_forms.specs.Gen.{body_code, symbol as entry_of}
-use Rattle.def_core.specs.Store.{core, fresh}
+use Rattle.def_core.specs.Store.{core, fresh, next_number}
 use Rattle.def_calls.specs.World.{World, Activation, Answer, Result, gives, raises, make, activation_at}
 use Rattle.def_calls.specs.Values.{wrong_value}
 use Rattle.def_calls.specs.Calls.{Sending, by_name, Entry, BlockArgument, no_block, block_of, not_a_block, block_argument, passing}
@@ -26,7 +27,7 @@ use Rattle.def_eval.specs.Source.{parameters_of}
 use Rattle.def_eval.specs.Configuration as source
 use Rattle.def_eval.specs.Configuration.{Place, block, raise, Item, part, perform, give, travel, Config, Run}
 use Rattle.def_eval.specs.Scopes.{scopes_around, shape_of}
-use Rattle.def_eval.specs.Entering.{after, after_result, enter, make_proc}
+use Rattle.def_eval.specs.Entering.{first_of, after, after_result, enter, make_proc}
 use Rattle.def_eval.specs.Forms.{perform_call, do_form}
 use Rattle.def_eval.specs.Giving.{with_block, give_part, do_give}
 use Rattle.def_eval.specs.Transition.{go}
@@ -37,19 +38,19 @@ use Rattle.def_machine.specs.Entering.{enter as enter_machine}
 use Rattle.def_machine.specs.Turn.{turn, fetch, shape_by, lists_around, make_proc as make_proc_machine, symbol, arguments, registers_of, call as call_machine, call_with}
 use Rattle.scope_laws.proofs.Alike.{around_alike}
 use Rattle.step_laws.specs.Site.{Site, place_in, at_line, LineAt, Room, Named, number}
+use Rattle.step_laws.specs.Around.{Around}
 use Rattle.step_laws.specs.Covers.{Makes}
-use Rattle.step_laws.specs.Calm.{IsSteady, Quiet, Still, Peace, objects_with}
+use Rattle.step_laws.specs.Calm.{IsSteady, QuietBy, Quiet, Still, Peace, objects_with}
 use Rattle.step_laws.specs.Bodies.{CallsBodies}
 use Rattle.step_laws.specs.Measure.{burden, measure}
 use Rattle.step_laws.proofs.Placed.{Rest, frame_at, turned}
 use Rattle.step_laws.specs.Behind.{Static, Holds, HoldsCall, block_sender}
-use Rattle.step_laws.specs.Relation.{Ground, over_levels, InFrame, Common, Doing, GivesIn, raised, Related, Step}
+use Rattle.step_laws.specs.Relation.{Ground, over_levels, InFrame, Linked, SeesIn, Common, Doing, GivesIn, raised, Related, Step}
 use Rattle.step_laws.proofs.Registers.{slot_same, slot_other, keeps_above}
-use Rattle.step_laws.proofs.Untouched.{put_only, frame_kept, grown, grown_here, same_here, written_here, below_running}
+use Rattle.step_laws.proofs.Untouched.{put_only, frame_kept, grown, grown_here, made_here, same_here, written_here, below_running}
 use Rattle.step_laws.proofs.Matching.{by_none, by_one, going, state_at, written, writes}
 use Rattle.step_laws.proofs.Calling.{From, leaves_frame}
 use Rattle.step_laws.proofs.Literals.{aligned}
-use Rattle.step_laws.proofs.Answers.{answer_at}
 use Rattle.step_laws.proofs.Operators.{arguments_are, not_all, symbol_is}
 use Rattle.step_laws.proofs.Called.{call_entered}
 use Rattle.step_laws.proofs.Entered.{then_enters, entered}
@@ -89,22 +90,48 @@ module _ (g : Ground) (h : Site) (static : Static h) (ks : List Item) (m : sourc
       ∙ ap (λ (q : Place). the_proc m.world j (shape_of (parameters_of f)) (scopes_around m.scopes q.scope)
       (activation_at m.world q.activation)) (sym there)
 
+  -- its body sees what its literal sees, in the scope of this site
+  the_scope : m.place ≡ place_in h → first_of (scopes_around m.scopes m.place.scope) ≡ Some h.list
+  unfolding scopes_around
+  the_scope there = ap (λ (q : Place). Some q.scope) there
+
+  sees_here : (j : ℕ) (ns : List ℕ) → Around h.source j h.context.scopes → first_of ns ≡ Some h.list
+      → SeesIn h.source g.sites j ns
+  sees_here j ns sees e = (
+    h.context.scopes,
+    sees,
+    subst (Linked g.sites h.context.scopes) (sym e) (h, both.site, refl, refl),
+  )
+
+  made_sees : (j : ℕ) (ns : List ℕ) → Around h.source j h.context.scopes → first_of ns ≡ Some h.list → (b : ℕ)
+      (us : List ℕ) → ◌≡◌ {A = Option (ℕ × List ℕ)} (Some (j, ns)) (Some (b, us)) → SeesIn h.source g.sites b us
+  made_sees j ns sees e b us is =
+      let one : j ≡ b = ap (λ (o : Option (ℕ × List ℕ)). (unwrap_or o (j, ns)).0) is in
+      let two : ns ≡ us = ap (λ (o : Option (ℕ × List ℕ)). (unwrap_or o (j, ns)).1) is in
+      subst (λ (i : ℕ). SeesIn h.source g.sites i us) one (subst (SeesIn h.source g.sites j) two (sees_here j ns sees e))
+
   pub do_function : (j : ℕ) (f : Body) (d : Doing g h j (function f) ks m.place ls k.lists)
-      → Quiet m (go h.source (Run (perform j (function f)) ks m))
+      → QuietBy (Some (j, scopes_around m.scopes m.place.scope)) m (go h.source (Run (perform j (function f)) ks m))
       → Step h (Run (perform j (function f)) ks m) (state_at g h d.x d.n (aligned k m))
-  unfolding do_form
+  unfolding do_form make_proc
   do_function j f d quiet =
       let bodies = body_code kind.Block h.context.scopes d.s.body f in
       let o = op.Block d.r d.s.child in
-      let a = make_proc m j f false in
-      answer_at g h static (Run (perform j (function f)) ks m) a.result a.world ks m d.x k d.n d.r o d.loop (record {
-        alike = going (perform j (function f)) ks m (frame (frame_at h d.x d.n) ∷ g.below) (aligned k m) refl;
-        out = refl;
-        quiet = quiet;
-      }) refl (made_line h d.n d.s.body o bodies d.code)
-      (ap (λ (b : Answer). after_machine h.program b.result d.r (at_line h (d.n + 1)) (frame_at h d.x d.n) g.below
-      (machine.with_world k b.world)) (same_proc d.x d.n d.r d.s j f d.there d.covered)) (omega arith) both d.there
-      d.covered.room (subst (λ (i : ℕ). InFrame g h k.lists ks (d.n + i) d.r d.loop) (high_made o d.s.body bodies) d.next)
+      let ns = scopes_around m.scopes m.place.scope in
+      let made : ℕ × List ℕ = (j, ns) in
+      let w = (make_proc m j f false).world in
+      let v = Obj (next_number m.world.store) in
+      let k' = machine.with_world k w in
+      let both' : Common g h (source.with_world m w) k' =
+      made_here g h m (aligned k m) both w (Some made) quiet.1 (made_sees j ns d.covered.sees (the_scope d.there)) in
+      by_one h (Run (perform j (function f)) ks m) (state_at g h d.x d.n (aligned k m))
+      (state_at g h d.x (d.n + 1) (written h k' d.r v))
+      (going (perform j (function f)) ks m (frame (frame_at h d.x d.n) ∷ g.below) (aligned k m) refl)
+      (turned h d.x d.n o g.below (aligned k m) (made_line h d.n d.s.body o bodies d.code)
+      ∙ ap (λ (b : Answer). after_machine h.program b.result d.r (at_line h (d.n + 1)) (frame_at h d.x d.n) g.below
+      (machine.with_world k b.world)) (same_proc d.x d.n d.r d.s j f d.there d.covered))
+      (writes g h static v ks (source.with_world m w) d.x k' (d.n + 1) d.r d.loop both' d.there d.covered.room
+      (subst (λ (i : ℕ). InFrame g h k.lists ks (d.n + i) d.r d.loop) (high_made o d.s.body bodies) d.next))
 
 -- A call with a block whose items, and the block, stand in their registers.
 module _ (g : Ground) (h : Site) (static : Static h) (ks : List Item) (m : source.Memory) (k : machine.Memory)
@@ -153,7 +180,7 @@ module _ (g : Ground) (h : Site) (static : Static h) (ks : List Item) (m : sourc
         → turn h.program (state_at g h x n (aligned k m))
         ≡ call_machine h.program (by_name (number h.source name)) low (length vs) b (at_line h (n + 1)) (frame_at h x n)
         g.below (machine.with_world k' w)
-        → (Still m (go h.source c) ⊎ CallsBodies h.source h.program w.store.objects)
+        → (Still m (go h.source c) ⊎ CallsBodies h.source h.program m.world.store.objects w.store.objects)
         → Step h c (state_at g h x n (aligned k m))
     enters_with b w goes turns may =
         let f = frame_at h (asking h x n low) n in
@@ -174,15 +201,15 @@ module _ (g : Ground) (h : Site) (static : Static h) (ks : List Item) (m : sourc
         (arguments_are (frame_at h x n) (machine.with_world k' w) low (length vs) vs held refl few))
         less refl (waiting_worlds g h static ks m k both steady at_home k' both' f refl)
         (waiting_frame g h static ks m k both steady at_home x n low around k' both' room next)
-        (then_enters h.source h.program w.store.objects e
-        (λ is. call_entered h.source h.program w is (activation_at w h.activation) (by_name (number h.source name)) recv vs
+        (then_enters h.source h.program m.world.store.objects w.store.objects e
+        (λ is. call_entered h.source h.program m.world.store.objects w is (activation_at w h.activation) (by_name (number h.source name)) recv vs
         b) may)).advances
 
     -- by what the block argument is
     passes : (q : BlockArgument) → go h.source c ≡ with_block h.source sender recv vs q ks m
         → turn h.program (state_at g h x n (aligned k m))
         ≡ call_with h.program (by_name (number h.source name)) low (length vs) q (at_line h (n + 1)) (frame_at h x n) g.below k'
-        → (Still m (go h.source c) ⊎ CallsBodies h.source h.program (objects_with m.world q))
+        → (Still m (go h.source c) ⊎ CallsBodies h.source h.program m.world.store.objects (objects_with m.world q))
         → Step h c (state_at g h x n (aligned k m))
     passes no_block goes turns may =
         enters_with None m.world goes

@@ -84,7 +84,7 @@ module _ (s : Source) (ks : List Item) (m : Memory) (kept : Kept s m.world) (all
       by false = sent_fine m kept refl refl refl all alone under k sent
       by true =
           sent_fine (with_world m (with_store m.world (with_object m.world.store (items_object vs))))
-          (kept_more s m.world (with_object m.world.store (items_object vs)) (items_object vs ∷ []) kept refl refl) refl
+          (kept_more s m.world (with_object m.world.store (items_object vs)) (items_object vs ∷ []) kept refl refl refl) refl
           refl refl all alone (items_grow s m.world (with_store m.world (with_object m.world.store (items_object vs))) ks m.place
           (same_grows m.world (with_store m.world (with_object m.world.store (items_object vs))) refl) under) k sent
 

@@ -127,6 +127,7 @@ module _ (s : Source) (ks : List Item) (m : Memory) (kept : Kept s m.world) (all
             symbols = kept.symbols;
             more = kept.more;
             objects = kept.objects;
+            none = kept.none;
             others = kept.others;
             activations = kept.activations;
           };

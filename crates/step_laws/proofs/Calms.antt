@@ -110,7 +110,7 @@ calm_of s p (Run f ks m) t = (
   record { names = λ x e. steady_name s m.world.store x t.kept.symbols e },
   about_next s f ks m t,
   leaves_core s f ks m t,
-  peaceful s p f ks m (go_fine s f ks m t).1,
+  peaceful s p f ks m (go_fine s f ks m t),
 )
 
 tame_next : (s : Source) (c : Config) → IsTame s c → IsTame s (go s c)
@@ -132,6 +132,7 @@ opening_tame s input is = record {
     symbols = refl;
     more = [];
     objects = opening_objects s ∙ sym (append-nil Rows.opening.objects);
+    none = refl;
     others = [];
     activations = refl;
   };

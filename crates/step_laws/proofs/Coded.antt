@@ -32,7 +32,7 @@ use Rattle.code_laws.proofs.Binding.{main_knows}
 use Rattle.text_set.specs.Sets.{is_among}
 use Rattle.rb_store.specs.Opening.{with_names}
 use Rattle.def_calls.specs.Rows
-use Rattle.def_eval.specs.Source.{over, in_order, body_at as source_body, no_parameters, parameters_of, source_of, all_names}
+use Rattle.def_eval.specs.Source.{over, in_order, span, span_forms, body_at as source_body, no_parameters, parameters_of, source_of, all_names}
 use Rattle.def_eval.specs.Scopes.{shape_of}
 use Rattle.def_machine.specs.State.{body_at, no_body, all_symbols}
 use Rattle.step_laws.specs.Site.{Site, LineAt, Lines, IsThere, opening_store}
@@ -48,7 +48,9 @@ use Rattle.step_laws.proofs.Plainly.{simple_plain}
 use Rattle.step_laws.proofs.Whole.{implements}
 use Rattle.step_laws.proofs.Steady.{peace_is_calm}
 use Rattle.step_laws.proofs.Alone.{stays_peaceful}
-use Rattle.eval_laws.specs.Kinds.{Kind, IsKind, of_method, of_block, kinds}
+use Rattle.eval_laws.specs.Kinds.{Kind, IsKind, of_program, of_method, of_block, kinds}
+use Rattle.step_laws.proofs.Around.{program_alone}
+use Rattle.step_laws.proofs.Nested.{Inside, inside_less, inside_new}
 use Rattle.eval_laws.proofs.Sources.{program_stands}
 use Rattle.step_laws.proofs.Numbered.{kind_within}
 use Rattle.step_laws.proofs.Found.{both_true}
@@ -71,11 +73,14 @@ fits_main p ls f c = (
 )
 
 -- a method or a block of the source by its number in the code
-method_of : (s : List Body) (c : Program) (n : ℕ) (b : Body) → c.version ≡ 2 → source_body s n ≡ b
+method_of : (s : List Body) (c : Program) (n : ℕ) (b : Body) → IsKind s n of_method → c.version ≡ 2 → source_body s n ≡ b
     → Written s kind.Method n b (body_at c n) → ((x : Name) → is_among x (tally b).symbols ≡ true → IsThere s x)
     → coding.Coded s c n
-method_of s c n (form.body p ls f) version mine w there = record {
+method_of s c n (form.body p ls f) is version mine w there = record {
   kind_of = kind.Method;
+  role = of_method;
+  plays = is;
+  slots_too = refl;
   enters = refl;
   parameters = p;
   locals = ls;
@@ -87,12 +92,15 @@ method_of s c n (form.body p ls f) version mine w there = record {
   there = there;
 }
 
-block_of : (s : List Body) (c : Program) (n : ℕ) (b : Body) → c.version ≡ 2 → source_body s n ≡ b
+block_of : (s : List Body) (c : Program) (n : ℕ) (b : Body) → IsKind s n of_block → c.version ≡ 2 → source_body s n ≡ b
     → Written s kind.Block n b (body_at c n) → ((x : Name) → is_among x (tally b).symbols ≡ true → IsThere s x)
     → (g : coding.Coded s c n) × (g.kind_of ≡ kind.Block)
-block_of s c n (form.body p ls f) version mine w there = (
+block_of s c n (form.body p ls f) is version mine w there = (
   record {
     kind_of = kind.Block;
+    role = of_block;
+    plays = is;
+    slots_too = refl;
     enters = refl;
     parameters = p;
     locals = ls;
@@ -167,12 +175,20 @@ module _ (p : Parameters) (ls : List Local) (f : CoreForm) (program_is : IsProgr
 
   -- The other bodies.
 
+  -- its forms stand in it
+  nested : Inside (source_of b) around.scopes 1 (1 + span_forms (form.more f form.none))
+  unfolding source_body
+  nested =
+      inside_less (source_of b) around.scopes 1 (1 + span f) (1 + span_forms (form.more f form.none)) (omega arith)
+      (inside_new (source_of b) 0 of_program [] around.scopes b refl refl (program_alone (source_of b) 0 refl) refl)
+
   written : AllWritten (source_of b) 1 (kinds f) (over in_order f) (q.bodies ++ [])
   unfolding both nothing
   written =
       subst (λ (is : List Irep). AllWritten (source_of b) 1 (kinds f) (over in_order f) is) (sym (append-nil q.bodies))
       (of_one (source_of b) f around (first_spot 0) start (tops_written tops (source_of b) t (within_program ls) around
       (first_spot 0) start (record {
+        inside = nested;
         short = (fitting.w kind.Main [] of_main p ls f fits).able.each;
         deep = omega arith;
         few = omega (arith, within.few);
@@ -195,14 +211,14 @@ module _ (p : Parameters) (ls : List Local) (f : CoreForm) (program_is : IsProgr
   coded_method : (n : ℕ) → IsKind (source_of b) n of_method → coding.Coded (source_of b) code n
   coded_method zero e = absurd (cc e)
   coded_method (suc j) e =
-      method_of (source_of b) code (suc j) (source_body (source_of b) (suc j)) refl refl (nth_at j of_method e)
+      method_of (source_of b) code (suc j) (source_body (source_of b) (suc j)) e refl refl (nth_at j of_method e)
       (λ x there. nth_there (suc j) x (kind_within b (suc j) of_method e) there)
 
   coded_block : (n : ℕ) → IsKind (source_of b) n of_block
       → (g : coding.Coded (source_of b) code n) × (g.kind_of ≡ kind.Block)
   coded_block zero e = absurd (cc e)
   coded_block (suc j) e =
-      block_of (source_of b) code (suc j) (source_body (source_of b) (suc j)) refl refl (nth_at j of_block e)
+      block_of (source_of b) code (suc j) (source_body (source_of b) (suc j)) e refl refl (nth_at j of_block e)
       (λ x there. nth_there (suc j) x (kind_within b (suc j) of_block e) there)
 
   -- the code of each block begins with its parameters
@@ -250,7 +266,7 @@ module _ (p : Parameters) (ls : List Local) (f : CoreForm) (program_is : IsProgr
   covers : Covers site None start (first_spot 0) 1 f
   covers =
       (topped.tops_cover site (named_slots ls) ls t (start + width f) has shapes tops (first_spot 0) start (width f)
-      (within_program ls) (within_program ls) refl (program_stands b program_is, tt) (fits.1, tt) all_formed (omega arith) (omega arith, tt) (omega arith) all_stand).0
+      (within_program ls) (within_program ls) refl (program_stands b program_is, tt) (fits.1, tt) all_formed (omega arith) (omega arith, tt) (omega arith) all_stand nested).0
 
   code_of_it : IsCodeOf (source_of b) code
   unfolding coded assembled both puts high Stands source_body
@@ -265,6 +281,7 @@ module _ (p : Parameters) (ls : List Local) (f : CoreForm) (program_is : IsProgr
     room = omega arith;
     no_catches = no_catches;
     outside = refl;
+    alone = refl;
     covered = covers;
     code = left site 0 q (does op.Stop) both_stand;
     stop = subst (λ (n : ℕ). LineAt site n (line.Does op.Stop)) (omega arith)

@@ -29,10 +29,12 @@ use Rattle.code_laws.proofs.Shares.{Fits, many}
 use Rattle.code_laws.specs.Bound.{AreHeld}
 use Rattle.code_laws.proofs.Binding.{method_knows}
 use Rattle.code_laws.proofs.Entering.{Inner}
-use Rattle.def_eval.specs.Source.{Source, body_at as source_body, parameters_of}
+use Rattle.def_eval.specs.Source.{Source, span, span_forms, body_at as source_body, parameters_of}
 use Rattle.def_calls.specs.World.{Runs, main_program}
 use Rattle.def_eval.specs.Scopes.{shape_of}
+use Rattle.eval_laws.specs.Kinds.{Kind, IsKind}
 use Rattle.eval_laws.specs.Standing.{FormStands}
+use Rattle.step_laws.specs.Around.{slots_for}
 use Rattle.def_machine.specs.State.{body_at}
 use Rattle.def_machine.specs.Turn.{fetch, shape_by}
 use Rattle.rb_value.specs.declared.value.Value.{Value}
@@ -51,6 +53,7 @@ use Rattle.step_laws.proofs.Fitting.{Around}
 use Rattle.step_laws.proofs.Covering.{Has}
 use Rattle.step_laws.proofs.Making.{form_by, form_spot, spot_body, spot_child, SameTables, tables_of, tops_catchless}
 use Rattle.step_laws.proofs.Fronts.{front_of}
+use Rattle.step_laws.proofs.Nested.{Inside, inside_less, inside_new}
 use Rattle.step_laws.proofs.Written.{Written}
 use Rattle.step_laws.proofs.Topped as topped
 
@@ -117,6 +120,10 @@ pub record Coded (s : Source) (c : Program) (n : ℕ) : Type 0 where
   pub slots : slots_of kind_of (form.body parameters locals form_of_it) ≡ parameter_slots parameters ++ named_slots locals
   pub version : c.version ≡ 2
   pub mine : source_body s n ≡ form.body parameters locals form_of_it
+  pub role : Kind
+  pub plays : IsKind s n role
+  pub slots_too : slots_for role (form.body parameters locals form_of_it)
+      ≡ slots_of kind_of (form.body parameters locals form_of_it)
   pub written : Written s kind_of n (form.body parameters locals form_of_it) (body_at c n)
   pub there : (x : Name) → is_among x (tally (form.body parameters locals form_of_it)).symbols ≡ true → IsThere s x
 
@@ -266,6 +273,17 @@ module _ (s : Source) (c : Program) (n : ℕ) (g : Coded s c n) (activation list
     count = sym (spot_child n (optional s c n g));
   }
 
+  -- its forms stand in it
+  nested : Inside s h.context.scopes (spot s c n g).body ((spot s c n g).body + span_forms (form.more (f s c n g) form.none))
+  nested =
+      let number = spot_body n (optional s c n g) in
+      let others = seen_around g.kind_of (sc s c n g) in
+      subst (λ (i : ℕ). Inside s h.context.scopes i (i + span_forms (form.more (f s c n g) form.none))) (sym number)
+      (inside_less s h.context.scopes (n + 1) (n + 1 + span (f s c n g)) (n + 1 + span_forms (form.more (f s c n g) form.none))
+      (omega arith)
+      (inside_new s n g.role others h.context.scopes (b s c n g) g.mine g.plays g.written.sees
+      (ap (λ (z : Slots). z ∷ others) (sym g.slots_too))))
+
   covers : topped.Shapes s c → Covers h None (first s c n g) (spot s c n g) (n + 1) (f s c n g)
   covers shapes =
       let number = spot_body n (optional s c n g) in
@@ -275,7 +293,7 @@ module _ (s : Source) (c : Program) (n : ℕ) (g : Coded s c n) (activation list
       (width (f s c n g)) g.written.inner g.written.within g.written.known
       (subst (λ (i : ℕ). FormStands s g.written.within i (f s c n g)) (sym number) g.written.stands, tt)
       ((fits s c n g).1, tt) (ap (λ (x : Bool). x && true) g.written.closed) (omega arith)
-      (omega arith, tt) (omega arith) children_stand).0
+      (omega arith, tt) (omega arith) children_stand nested).0
 
   enters_there : LineAt h 0 (line.Does (op.Enter (parameters (p s c n g))))
   enters_there =
@@ -317,6 +335,7 @@ module _ (s : Source) (c : Program) (n : ℕ) (g : Coded s c n) (activation list
         scopes = of_body s c n g (λ (d : Body).
             h.context.scopes ≡ slots_of kind.Method d ∷ seen_around g.kind_of (sc s c n g))
             (ap (λ (z : Slots). z ∷ seen_around g.kind_of (sc s c n g)) (slots_are s c n g));
+        sees = g.written.sees;
         low = of_body s c n g (λ (d : Body). 1 + length (slots_of kind.Method d) ≤ h.first) (omega (arith, same));
         none_hidden = of_body s c n g (λ (d : Body). (i : ℕ) → seek (hidden i) (slots_of kind.Method d) (Past 1)
             ≡ Past (1 + length (slots_of kind.Method d)))

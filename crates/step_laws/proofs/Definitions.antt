@@ -32,7 +32,7 @@ use Rattle.step_laws.proofs.Placed.{high, high-both, high-puts, Stands, moved, l
 use Rattle.step_laws.specs.Behind.{Static}
 use Rattle.step_laws.specs.Relation.{Ground, InFrame, Common, Doing, Related, Step}
 use Rattle.step_laws.proofs.Registers.{keeps_above, slot_same}
-use Rattle.step_laws.proofs.Untouched.{same_activations, put_only, frame_kept, grown_here, same_here, written_here}
+use Rattle.step_laws.proofs.Untouched.{put_only, frame_kept, grown_here, same_here, written_here}
 use Rattle.step_laws.proofs.Matching.{by_two, going, state_at, written, writes}
 use Rattle.step_laws.proofs.Literals.{aligned}
 use Rattle.step_laws.proofs.Answers.{symbols_same}
@@ -101,7 +101,7 @@ module _ (g : Ground) (h : Site) (static : Static h) (ks : List Item) (m : sourc
       (state_at g h d.x (d.n + 1 + 1) (written h (machine.with_world holding defined) r (Sym (symbol m x))))) (sym goes)
       (writes g h static (Sym (symbol m x)) ks (source.with_world m defined) d.x (machine.with_world holding defined)
       (d.n + 1 + 1) r d.loop
-      (grown_here g h m holding both' defined (same_activations m.world defined refl)) d.there d.covered.room next))
+      (grown_here g h m holding both' defined (subst (Quiet m) goes quiet).1) d.there d.covered.room next))
     where
       class : ObjId
       class = class_around m.world (activation_at m.world h.activation).classes

@@ -25,16 +25,17 @@ use Rattle.def_machine.specs.Turn.{turn}
 use Rattle.step_laws.specs.Calm.{Quiet, Still}
 use Rattle.step_laws.specs.Bodies.{OpensBody, EntersBody, CallsBodies}
 use Rattle.step_laws.specs.Relation.{Waits, Ground, over_levels, Alike}
-use Rattle.step_laws.proofs.Untouched.{same_activations}
+use Rattle.step_laws.proofs.Untouched.{same_world}
 use Rattle.step_laws.proofs.Matching.{Soon, soon_one}
 use Rattle.step_laws.proofs.Calling.{depth_is, Origin, Worlds, Falls, answered}
 use Rattle.step_laws.proofs.Entering.{enters_body}
 
 -- what is told of the objects of a world tells what an entry is
-pub then_enters : {A : Type 0} (s : Source) (p : Program) (objects : List Object) (e : Entry)
-    → (CallsBodies s p objects → EntersBody s p e) → A ⊎ CallsBodies s p objects → A ⊎ EntersBody s p e
-then_enters s p objects e to (inl still) = inl still
-then_enters s p objects e to (inr calls) = inr (to calls)
+pub then_enters : {A : Type 0} (s : Source) (p : Program) (before objects : List Object) (e : Entry)
+    → (CallsBodies s p before objects → EntersBody s p before e) → A ⊎ CallsBodies s p before objects
+    → A ⊎ EntersBody s p before e
+then_enters s p before objects e to (inl still) = inl still
+then_enters s p before objects e to (inr calls) = inr (to calls)
 
 -- Nothing but a body opens a scope.
 
@@ -93,10 +94,11 @@ unfolding settle
 settled w None t = refl
 settled w (Some q) t = refl
 
-opens_settled : (s : Source) (p : Program) (w : World) (b : Option ObjId) (t : Option ℕ) (o : Opening)
-    → OpensBody s p w o → OpensBody s p (settle w b t) o
-opens_settled s p w b t o is = record {
+opens_settled : (s : Source) (p : Program) (before : List Object) (w : World) (b : Option ObjId) (t : Option ℕ)
+    (o : Opening) → OpensBody s p before w o → OpensBody s p before (settle w b t) o
+opens_settled s p before w b t o is = record {
   code = is.code;
+  called = is.called;
   home = λ r e. is.home r e ∙ ap (λ (all : List Activation). length all + 1) (sym (settled w b t));
 }
 
@@ -106,7 +108,7 @@ pub entered : (s : Source) (p : Program) (c : Config) (ls : List Level) (k : mac
     (gs : List Level) (k' : machine.Memory) → go s c ≡ enter s e block ks m'
     → turn p (On ls k) ≡ enter_machine p e block gs k'
     → Falls gs ks m' c → length m'.scopes ≡ length m.scopes → Worlds s p (over_levels g gs) m m' k'
-    → Waits g.sites g.fiber k'.lists ks m'.place gs → (Still m (go s c) ⊎ EntersBody s p e)
+    → Waits g.sites g.fiber k'.lists ks m'.place gs → (Still m (go s c) ⊎ EntersBody s p m.world.store.objects e)
     → Soon s p c (On ls k)
 unfolding enter enter_machine
 entered s p c ls k m from (answers a) block ks m' g gs k' goes turns less scopes both waits calls =
@@ -140,14 +142,14 @@ entered s p c ls k m from (enters o w) block ks m' g gs k' goes turns less scope
         by goes' turns' calls
       where
         by : go s c ≡ open_body s o ks m' u → turn p (On ls k) ≡ open_frame p o u gs k'
-            → (Still m (go s c) ⊎ OpensBody s p w o) → Soon s p c (On ls k)
+            → (Still m (go s c) ⊎ OpensBody s p m.world.store.objects w o) → Soon s p c (On ls k)
         by goes' turns' (inl still) =
             let more = opens m s o ks m' u (subst (Still m) goes' still) in
             absurd (omega (arith, more, scopes))
         by goes' turns' (inr is) =
-            let sites = (both m.world (same_activations m.world m.world refl)).sites in
+            let sites = (both m.world (same_world m.world)).sites in
             enters_body s p c ls k m from o u ks m' g gs k' goes' turns'
-            (opens_settled s p w block (Some (next_activation w)) o is) both waits
+            (opens_settled s p m.world.store.objects w block (Some (next_activation w)) o is) both waits
             (omega (arith, sites.scopes, sites.lists))
 entered s p c ls k m from (begins it a w) block ks m' g gs k' goes turns less scopes both waits calls =
     at (is_full (depth ks)) refl

@@ -12,6 +12,7 @@ use Rattle.rb_value.specs.declared.method.Shape.{Shape}
 use Rattle.rite_code.specs.Code.{Program}
 use Rattle.rite_code.specs.declared.operation.Operation.TheVariants as op
 use Rattle.ir_core.specs.CoreForm.{CoreForm, seq, Forms, more, Parameters, Body}
+use Rattle.scope_resolver.specs.Layout.{Scopes}
 use Rattle.gen_parts.specs.declared.line.Line.TheVariants as line
 use Rattle.gen_parts.specs.declared.emitter.Spot.{Spot}
 use Rattle.gen_parts.specs.Pieces.{behind}
@@ -41,10 +42,12 @@ use Rattle.step_laws.specs.Site.{Site, place_in, at_line, LineAt}
 use Rattle.step_laws.specs.Covers.{Covers, CoversAll}
 use Rattle.step_laws.specs.Calm.{Quiet}
 use Rattle.step_laws.specs.Standing.{high, Stands, Rest, frame_at}
-use Rattle.step_laws.specs.Bodies.{FormAt, behind_jumps, start_of, DefaultsAt, BodyAt, OpensBody}
-use Rattle.step_laws.specs.Relation.{returns, Ground, over_levels, Waits, InFrame, Same, SiteIs, Both, Running, raised, Alike}
+use Rattle.step_laws.specs.Bodies.{FormAt, behind_jumps, start_of, DefaultsAt, BodyAt, IsCalled, by_method, by_proc, OpensBody}
+use Rattle.step_laws.specs.Around.{further_slots}
+use Rattle.step_laws.proofs.Around.{same_around, method_alone}
+use Rattle.step_laws.specs.Relation.{returns, Ground, over_levels, Waits, InFrame, Same, SiteIs, Linked, SeesIn, Both, Running, raised, Alike}
 use Rattle.step_laws.proofs.Placed.{line-behind, moved, turned, jumped}
-use Rattle.step_laws.proofs.Untouched.{same_activations, below_running}
+use Rattle.step_laws.proofs.Untouched.{same_world, below_running}
 use Rattle.step_laws.proofs.Opened.{waits_more, opened}
 use Rattle.step_laws.proofs.Parameters.{set_row}
 use Rattle.step_laws.proofs.Begun.{begun_nil, begun_same, nil_same}
@@ -94,7 +97,7 @@ three_turns s p c t u v z e one e' two e'' three r = record {
 module _ (s : Source) (p : Program) (c : Config) (ls : List Level) (k : machine.Memory) (m : source.Memory)
     (from : Origin s c ls k m) (o : Opening) (w : World) (ks : List Item) (m' : source.Memory) (g : Ground)
     (gs : List Level) (k' : machine.Memory) (goes : go s c ≡ open_body s o ks m' w)
-    (turns : turn p (On ls k) ≡ open_frame p o w gs k') (is : OpensBody s p w o)
+    (turns : turn p (On ls k) ≡ open_frame p o w gs k') (is : OpensBody s p m.world.store.objects w o)
     (both : Worlds s p (over_levels g gs) m m' k') (waits : Waits g.sites g.fiber k'.lists ks m'.place gs) where
   abbrev b : Body
   b = body_at s o.body
@@ -120,6 +123,19 @@ module _ (s : Source) (p : Program) (c : Config) (ls : List Level) (k : machine.
 
   at : BodyAt d
   at = is.code.everywhere (next_activation w) (length k'.lists) o.activation.self o.activation.runs
+
+  -- what its code sees around its own slots
+  sees : SeesIn s g.sites o.body o.scopes
+  sees = by is.called
+    where
+      by : IsCalled s m.world.store.objects o → SeesIn s g.sites o.body o.scopes
+      by (by_method kind none) =
+          ([], method_alone s o.body kind, subst (λ (ns : List ℕ). Linked g.sites [] (first_of ns)) (sym none) refl)
+      by (by_proc has) = (both m.world (same_world m.world)).sites.procs o.body o.scopes has
+
+  linked : Linked g.sites (further_slots d.context.scopes) (first_of o.scopes)
+  linked = subst (λ (scopes : Scopes). Linked g.sites scopes (first_of o.scopes))
+      (same_around s {n = o.body} sees.1 at.sees ∙ sym (ap further_slots at.scopes)) sees.2
 
   abbrev x : Rest
   x = record { after = 0; waits = 0; arguments = o.arguments; block = o.block; binds = o.binds }
@@ -246,8 +262,8 @@ module _ (s : Source) (p : Program) (c : Config) (ls : List Level) (k : machine.
     runs_there : New → Running s p with_site d memory memory_too
     runs_there new =
         opened s p g gs (source.with_world m' (u st)) (machine.with_world k' (u st)) d (scope list) (registers list)
-        (next_place m' w) (u st) ks m'.place base waits base.sites.lists (first_same o.scopes) new
-        (same_activations (u st) (u st) refl)
+        (next_place m' w) (u st) ks m'.place base waits base.sites.lists (first_same o.scopes) linked new
+        (same_world (u st))
 
     there : memory.place ≡ place_in d
     there = ap (λ (n : ℕ). record { activation = next_activation w; scope = n })
@@ -419,8 +435,8 @@ module _ (s : Source) (p : Program) (c : Config) (ls : List Level) (k : machine.
     running : SiteIs s p d (m'.scopes ++ empty ∷ []) (k'.lists ++ fresh ∷ []) failure.world
         → Running s p above d (source.with_world inside failure.world) (machine.with_world before failure.world)
     running new = opened s p g gs (source.with_world m' failure.world) (machine.with_world k' failure.world) d empty fresh
-        (next_place m' w) failure.world ks m'.place ground waits ground.sites.lists (first_same o.scopes) new
-        (same_activations failure.world failure.world refl)
+        (next_place m' w) failure.world ks m'.place ground waits ground.sites.lists (first_same o.scopes) linked new
+        (same_world failure.world)
 
     raises_inside : SiteIs s p d (m'.scopes ++ empty ∷ []) (k'.lists ++ fresh ∷ []) failure.world
         → Soon s p c (On ls k)

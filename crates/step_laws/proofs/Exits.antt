@@ -1,5 +1,5 @@
 -- The end of the main program, and exceptions that leave items.
-use Rattle.std.proofs.Common.{◌≡◌, ℕ, suc, ◌+◌, ◌<◌, ◌≤◌, List, [], ◌∷◌, refl, sym, ap, ◌∙◌, subst, arith, length, Bool, true, false, reverse}
+use Rattle.std.proofs.Common.{◌≡◌, ℕ, suc, ◌+◌, ◌<◌, ◌≤◌, List, [], ◌∷◌, refl, sym, ap, ◌∙◌, subst, arith, length, Bool, true, false, reverse, inl}
 use Rattle.std.specs.List.{filter}
 use Rattle.std.specs.Prelude.{if◌then◌else◌, Option, Some, None}
 use Rattle.std.proofs.lemmas.Bool.{eq-eqb}
@@ -33,7 +33,7 @@ use Rattle.step_laws.specs.Measure.{weight, measure}
 use Rattle.step_laws.proofs.Placed.{Rest, frame_at, turned}
 use Rattle.step_laws.specs.Behind.{Static}
 use Rattle.step_laws.specs.Relation.{EndsBy, stops, returns, Waits, Ground, over_levels, IsPassed, uses, uses_in, Both, Common, GivesIn, GivesOut, Throwing, raised, Alike, Advances, Step}
-use Rattle.step_laws.proofs.Untouched.{same_activations, grown, without_top}
+use Rattle.step_laws.proofs.Untouched.{grown, without_top}
 use Rattle.step_laws.proofs.Switching.{Onwards, nowhere, onward, finished, ground_in, switched}
 use Rattle.step_laws.proofs.Matching.{no_turn, one_turn, going, going_out, state_at}
 use Rattle.step_laws.proofs.Calling.{From, leaves, falls, given_back, given_on}
@@ -67,9 +67,9 @@ in_resumer_is v (l ∷ gs) k some = refl
 
 -- The end of a fiber: it goes back to the one that resumed it, and that of the main program is the end.
 pub give_end : (s : Source) (p : Program) (v : Value) (m : source.Memory) (ls : List Level) (k : machine.Memory)
-    → GivesOut s p v m ls k → Advances s p (Run (give v) [] m) (On ls k)
+    → GivesOut s p v m ls k → Quiet m (go s (Run (give v) [] m)) → Advances s p (Run (give v) [] m) (On ls k)
 unfolding do_give receive
-give_end s p v m ls k d =
+give_end s p v m ls k d quiet =
     at (finished d.g.sites d.g.fiber d.memory.lists m.fibers d.memory.fibers d.both.fibers)
   where
     conf : Config
@@ -87,10 +87,12 @@ give_end s p v m ls k d =
         let u = ended_in d.memory.world d.memory.fibers.running in
         let k' : machine.Memory = record d.memory { fibers = q.fibers; world = u } in
         let m' : source.Memory = record m { place = o.kept.place; fibers = o.fibers; world = w } in
+        let goes : go s conf ≡ Run (give v) o.kept.items m' =
+        ap (λ (o : Option (Onward Kept)). end_fiber (give v) o m) left in
         let b = switched s p d.g m d.memory m.fibers.others d.memory.fibers.others o q w u d.both.sites (λ n. omega (arith, d.both.apart n)) i
-        (same_activations m.world w refl) (ends_same s p d.g m d.memory d.both) in
+        (subst (Quiet m) goes quiet).1 (ends_same s p d.g m d.memory d.both) in
         (given_on s p conf ls k (going_out (give v) [] m ls k d.out) v o.kept.items m' (ground_in d.g o q.kept) q.kept k'
-        (ap (λ (o : Option (Onward Kept)). end_fiber (give v) o m) left)
+        goes
         (d.gives ∙ ap (λ (o : Option (Onward (List Level))). end_fiber_machine v o d.memory) right
         ∙ in_resumer_is v q.kept k' i.some) i.some b i.waits).advances
 
@@ -256,7 +258,7 @@ module _ (s : Source) (p : Program) (m : source.Memory) (ls : List Level) (k : m
       let a = core_activation m.world (Obj e) in
       let w = with_activation (asking m.world) a in
       let place : Place = record m.place { activation = next_activation m.world } in
-      let b = grown g m l both place w (record { more = a ∷ []; is = refl }) in
+      let b = grown g m l both place w (record { more = a ∷ []; is = refl; procs = λ b ns is. inl is }) in
       record {
         g = over_levels g [];
         is = refl;
@@ -271,9 +273,10 @@ module _ (s : Source) (p : Program) (m : source.Memory) (ls : List Level) (k : m
   asked_alike g l both last false e = ends_alike (unrescued m.world.store e) m.world.out
 
   -- nothing is left in the fiber: the program ends, or the exception goes on in what resumed the fiber
-  pub travel_end : (x : Exit) → Throwing s p x [] m ls k → Advances s p (Run (travel x) [] m) (On ls k)
+  pub travel_end : (x : Exit) → Throwing s p x [] m ls k → Quiet m (go s (Run (travel x) [] m))
+      → Advances s p (Run (travel x) [] m) (On ls k)
   unfolding do_travel throw
-  travel_end x t = at (finished t.g.sites t.g.fiber t.memory.lists m.fibers t.memory.fibers t.both.fibers)
+  travel_end x t quiet = at (finished t.g.sites t.g.fiber t.memory.lists m.fibers t.memory.fibers t.both.fibers)
     where
       conf : Config
       conf = Run (travel x) [] m
@@ -321,7 +324,7 @@ module _ (s : Source) (p : Program) (m : source.Memory) (ls : List Level) (k : m
                 ∙ ap (λ (n : ℕ). throw_within n p (Raise t.e) q.kept k') more;
             out = t.out;
             both = switched s p t.g m t.memory m.fibers.others t.memory.fibers.others o q w u t.both.sites (λ n. omega (arith, t.both.apart n)) i
-                (same_activations m.world w refl) (ends_same s p t.g m t.memory t.both);
+                (subst (Quiet m) goes' quiet).1 (ends_same s p t.g m t.memory t.both);
             leaving = leaves t.g.sites o.fibers.running t.memory.lists o.kept.items o.kept.place q.kept i.waits;
           })))
 

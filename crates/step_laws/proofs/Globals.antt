@@ -99,5 +99,5 @@ module _ (g : Ground) (h : Site) (static : Static h) (ks : List Item) (m : sourc
       (machine.with_world k (with_global m.world (symbol m b.name) (read u)))) stands)
       (subst (λ (q : Config). Related h q (state_at g h d.x (d.n + 1) k')) (sym goes)
       (stays g h v ks (source.with_world m w) d.x k' (d.n + 1) d.next.low d.next.outer
-      (with_worlds g h m k both w (same_activations m.world w refl)) d.there stands
+      (with_worlds g h m k both w (same_activations m.world w refl (λ b ns is. is))) d.there stands
       (subst (λ (i : ℕ). InFrame g h k.lists ks i d.next.low d.next.outer) (sym b.ends) d.next.next)))

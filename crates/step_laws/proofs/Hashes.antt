@@ -38,7 +38,7 @@ use Rattle.step_laws.proofs.Covers.{at_top}
 use Rattle.step_laws.proofs.Placed.{high, high-both, high-puts, high-nothing, line-past, Stands, moved, left, right, the_line, Rest, frame_at, turned}
 use Rattle.step_laws.specs.Behind.{Static}
 use Rattle.step_laws.specs.Relation.{Ground, over_levels, InFrame, Common, Doing, GivesIn, raised, Related, Step}
-use Rattle.step_laws.proofs.Untouched.{same_activations, grown, below_running}
+use Rattle.step_laws.proofs.Untouched.{grown, below_running}
 use Rattle.step_laws.proofs.Matching.{by_none, by_one, in_loop, going, state_at, written, stays}
 use Rattle.step_laws.proofs.Calling.{leaves_frame}
 use Rattle.step_laws.proofs.Literals.{aligned}
@@ -138,16 +138,17 @@ module _ (g : Ground) (h : Site) (x : Rest) (n low : ℕ) (k : machine.Memory) (
 module _ (g : Ground) (h : Site) (static : Static h) (ks : List Item) (m : source.Memory) (ls : List Level)
     (k : machine.Memory) (both : Common g h m (aligned k m)) where
   pub do_hash : (j : ℕ) (ps : Pairs) (d : Doing g h j (hash ps) ks m.place ls k.lists)
+      → Quiet m (go h.source (Run (perform j (hash ps)) ks m))
       → Step h (Run (perform j (hash ps)) ks m) (state_at g h d.x d.n (aligned k m))
   unfolding do_form
-  do_hash j ps d =
+  do_hash j ps d quiet =
       let o = op.Hash d.r 0 in
       let p = does o in
       let q = gather_pairs (within h d.loop) (past d.s p) d.r ps in
       let id = next_number m.world.store in
       let w = with_store m.world (with_object m.world.store (fresh (core class.Hash) (kind.Hash no_keys))) in
       let end = d.n + high (p ⊕ q) in
-      let t = kept g h static ks m k both w (same_activations m.world w refl) (Obj id) end d.r d.loop d.covered.0 d.next in
+      let t = kept g h static ks m k both w (quiet_pairs j id ps ks m w quiet) (Obj id) end d.r d.loop d.covered.0 d.next in
       let tall : high p ≡ 1 = high-puts (line.Does o) in
       by_one h (Run (perform j (hash ps)) ks m) (state_at g h d.x d.n (aligned k m))
       (state_at g h d.x (d.n + 1) (written h (machine.with_world k w) d.r (Obj id)))

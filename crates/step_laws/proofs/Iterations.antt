@@ -57,7 +57,7 @@ module _ (s : Source) (p : Program) (v : Value) (a : ℕ) (it : Iteration) (plac
 
     -- a body is entered, of what the plan calls
     abbrev MayCall : Store → Type 0
-    MayCall st = Still m (go s conf) ⊎ CallsBodies s p st.objects
+    MayCall st = Still m (go s conf) ⊎ CallsBodies s p m.world.store.objects st.objects
 
     -- back at the place of the caller
     back : (w : World) → Grows m.world w
@@ -158,8 +158,8 @@ module _ (s : Source) (p : Program) (v : Value) (a : ℕ) (it : Iteration) (plac
           sites = sites_grow s p g.sites m.scopes k.lists m.world u grows both.sites;
           fibers = all;
           apart = alone;
-        }) refl (then_enters s p w.store.objects (enter_proc w b args None)
-        (λ i. proc_entered s p w i b args None) may)).advances
+        }) refl (then_enters s p m.world.store.objects w.store.objects (enter_proc w b args None)
+        (λ i. proc_entered s p m.world.store.objects w i b args None) may)).advances
       where
         few_of : (n : ℕ) → uses_in n e.others ≤ 1
         few_of n = subst (λ (fs : List (Fiber (List Level))). uses_in n fs ≤ 1) (sym others_too) (few next resuming n)
@@ -224,14 +224,14 @@ module _ (s : Source) (p : Program) (v : Value) (a : ℕ) (it : Iteration) (plac
         let w = with_store m.world st in
         (entered s p conf levels (aligned k m) m from (send_by_core w u x args b public) None (iteration a next place ∷ ks)
         (source.with_world m w) g (machine.iteration a next Nil ∷ g.below) (machine.with_world k w) goes turns (omega arith)
-        refl (stay next) (on next) (then_enters s p w.store.objects (send_by_core w u x args b public)
-        (λ i. sent_entered s p w i u x args b public) may)).advances
+        refl (stay next) (on next) (then_enters s p m.world.store.objects w.store.objects (send_by_core w u x args b public)
+        (λ i. sent_entered s p m.world.store.objects w i u x args b public) may)).advances
     planned (calls next q args b) st may goes turns =
         let w = with_store m.world st in
         (entered s p conf levels (aligned k m) m from (enter_proc w q args b) None (iteration a next place ∷ ks)
         (source.with_world m w) g (machine.iteration a next Nil ∷ g.below) (machine.with_world k w) goes turns (omega arith)
-        refl (stay next) (on next) (then_enters s p w.store.objects (enter_proc w q args b)
-        (λ i. proc_entered s p w i q args b) may)).advances
+        refl (stay next) (on next) (then_enters s p m.world.store.objects w.store.objects (enter_proc w q args b)
+        (λ i. proc_entered s p m.world.store.objects w i q args b) may)).advances
     planned (writes next bytes) st may goes turns =
         let w = write (with_store m.world st) bytes in
         let still = subst (Quiet m) goes peace.quiet in

@@ -1,4 +1,5 @@
 pub mod Placed
+pub mod Around
 pub mod Covers
 pub mod Registers
 pub mod Untouched
@@ -47,6 +48,7 @@ pub mod Whole
 pub mod Apart
 pub mod Symbols
 pub mod Found
+pub mod Procless
 pub mod Unasked
 pub mod Outcomes
 pub mod Tame
@@ -65,6 +67,7 @@ pub mod Laid
 pub mod Fitting
 pub mod Catchless
 pub mod Making
+pub mod Nested
 pub mod Written
 pub mod Topped
 pub mod Naming

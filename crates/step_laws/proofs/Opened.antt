@@ -1,8 +1,8 @@
 -- What stays where a body is entered: a scope and a list of registers are added, and their site.
 use Rattle.std.proofs.Common.{◌≡◌, ℕ, zero, suc, ◌+◌, ◌<◌, ◌≤◌, List, [], ◌∷◌, ◌++◌, refl, sym, ap, ◌∙◌, subst, arith, length, length-append, get_or, Bool, true, false, ⊎_elim}
-use Rattle.std.specs.Prelude.{nat_eq, if◌then◌else◌, Option, Some, unwrap_or, slice_get}
+use Rattle.std.specs.Prelude.{nat_eq, if◌then◌else◌, Option, Some, None, unwrap_or, slice_get}
 use Rattle.std.proofs.lemmas.Bool.{cases_lt, eqb-true}
-use Rattle.std.proofs.lemmas.List.{map-append, get_or_append_left}
+use Rattle.std.proofs.lemmas.List.{map-append, length-map, get_or_append_left, get_or_push}
 use Rattle.rb_value.specs.declared.value.Value.TheVariants.{Nil}
 use Rattle.rb_value.specs.declared.exit.Slot.TheVariants.{V}
 use Rattle.rb_value.specs.Slot.{read}
@@ -14,12 +14,16 @@ use Rattle.def_eval.specs.Source.{Source}
 use Rattle.def_eval.specs.Configuration as source
 use Rattle.def_eval.specs.Configuration.{Place, Scope, Item, part, activation, iteration, ensuring, Kept}
 use Rattle.def_eval.specs.Scopes.{no_scope, value_in, scope_at}
+use Rattle.def_eval.specs.Entering.{first_of}
+use Rattle.def_core.specs.Sound.{OptionIs}
+use Rattle.scope_resolver.specs.Layout.{Scopes}
+use Rattle.step_laws.specs.Around.{further_slots}
 use Rattle.def_machine.specs.State as machine
 use Rattle.def_machine.specs.State.{Registers, no_registers, Frame, Level, frame, list_at, slot_at}
 use Rattle.scope_laws.specs.Numbers.{parents}
 use Rattle.step_laws.specs.Site.{Site, register}
 use Rattle.step_laws.specs.Calm.{Grows}
-use Rattle.step_laws.specs.Relation.{Inside, Ends, Waits, Same, Owned, SiteIs, SitesAre, FibersAre, AllFibers, uses, uses_in, Ground, over_levels, Both, Running}
+use Rattle.step_laws.specs.Relation.{Inside, Ends, Waits, Same, Owned, SiteIs, Linked, SeesIn, SitesAre, FibersAre, AllFibers, uses, uses_in, Ground, over_levels, Both, Running}
 use Rattle.step_laws.proofs.Registers.{Keeps, inside_kept}
 use Rattle.step_laws.proofs.Untouched.{ends_kept, leaves_end, sites_grow}
 
@@ -188,10 +192,37 @@ same_before h cs c l r s =
           ∙ sym (ap (λ (g : Registers). read (get_or g.slots (register h x) (V Nil))) list);
     }
 
+-- what is around the scopes stays, and around the new one is what is said
+linked_more : (hs ds : List Site) (around : Scopes) (o : Option ℕ) → Linked hs around o → Linked (hs ++ ds) around o
+linked_more hs ds around None x = x
+linked_more hs ds around (Some n) x = (x.0, there_before hs ds x.0.list x.0 x.1, x.2, x.3)
+
+sees_more : (s : Source) (hs ds : List Site) (b : ℕ) (ns : List ℕ) → SeesIn s hs b ns → SeesIn s (hs ++ ds) b ns
+sees_more s hs ds b ns x = (x.0, x.1, linked_more hs ds x.0 (first_of ns) x.2)
+
+below_end : (hs : List Site) (around : Scopes) (o : Option ℕ) → Linked hs around o → OptionIs (λ n. n < length hs) o
+below_end hs around None x = tt
+below_end hs around (Some n) x = subst (λ (i : ℕ). i < length hs) x.2 (low_enough hs x.0.list x.0 x.1)
+
+parents_more : (cs : List Scope) (c : Scope) → parents (cs ++ c ∷ []) ≡ parents cs ++ c.parent ∷ []
+parents_more cs c = map-append (λ (q : Scope). q.parent) cs (c ∷ [])
+
+parent_before : (cs : List Scope) (c : Scope) (n : ℕ) → n < length cs
+    → get_or (parents cs) n None ≡ get_or (parents (cs ++ c ∷ [])) n None
+parent_before cs c n lt =
+    sym (ap (λ (os : List (Option ℕ)). get_or os n None) (parents_more cs c)
+    ∙ get_or_append_left (parents cs) (c.parent ∷ []) None n (omega (arith, lt, length-map cs (λ (q : Scope). q.parent))))
+
+parent_new : (cs : List Scope) (c : Scope) (n : ℕ) → n ≡ length cs → c.parent ≡ get_or (parents (cs ++ c ∷ [])) n None
+parent_new cs c n e =
+    sym (ap (λ (os : List (Option ℕ)). get_or os n None) (parents_more cs c)
+    ∙ get_or_push (parents cs) c.parent None n (length-map cs (λ (q : Scope). q.parent) ∙ sym e))
+
 pub sites_more : (s : Source) (p : Program) (hs : List Site) (d : Site) (cs : List Scope) (c : Scope)
     (l : List Registers) (r : Registers) (w : World) → SitesAre s p hs cs l w → d.list ≡ length hs → r.outer ≡ c.parent
+    → Linked hs (further_slots d.context.scopes) c.parent
     → SiteIs s p d (cs ++ c ∷ []) (l ++ r ∷ []) w → SitesAre s p (hs ++ d ∷ []) (cs ++ c ∷ []) (l ++ r ∷ []) w
-sites_more s p hs d cs c l r w a e out new = record {
+sites_more s p hs d cs c l r w a e out link new = record {
   around = map-append (λ (q : Registers). q.outer) l (r ∷ [])
       ∙ ap (λ (os : List (Option ℕ)). os ++ r.outer ∷ []) a.around
       ∙ ap (λ (o : Option ℕ). parents cs ++ o ∷ []) out ∙ sym (map-append (λ (q : Scope). q.parent) cs (c ∷ []));
@@ -200,8 +231,39 @@ sites_more s p hs d cs c l r w a e out new = record {
   each = λ h is. ⊎_elim (λ lt. old h (a.each h (before_or_new hs d h.list h is lt)))
       (λ le. subst (λ (q : Site). SiteIs s p q (cs ++ c ∷ []) (l ++ r ∷ []) w) (sym (the_new hs d h.list h is le)) new)
       (cases_lt h.list (length hs));
+  linked = λ h is. ⊎_elim (λ lt. linked_before h lt (a.linked h (before_or_new hs d h.list h is lt)))
+      (λ le. subst (λ (q : Site). Links q) (sym (the_new hs d h.list h is le)) linked_now)
+      (cases_lt h.list (length hs));
+  below = λ h is. ⊎_elim (λ lt. below_before h lt (a.below h (before_or_new hs d h.list h is lt)))
+      (λ le. subst (λ (q : Site). Below q) (sym (the_new hs d h.list h is le)) below_now)
+      (cases_lt h.list (length hs));
+  procs = λ b ns has. sees_more s hs (d ∷ []) b ns (a.procs b ns has);
 }
   where
+    Links : Site → Type 0
+    Links h = Linked (hs ++ d ∷ []) (further_slots h.context.scopes) (get_or (parents (cs ++ c ∷ [])) h.list None)
+
+    Below : Site → Type 0
+    Below h = OptionIs (λ n. n < h.list) (get_or (parents (cs ++ c ∷ [])) h.list None)
+
+    linked_before : (h : Site) → h.list < length hs
+        → Linked hs (further_slots h.context.scopes) (get_or (parents cs) h.list None) → Links h
+    linked_before h lt x = subst (λ (o : Option ℕ). Linked (hs ++ d ∷ []) (further_slots h.context.scopes) o)
+        (parent_before cs c h.list (omega (arith, lt, a.scopes)))
+        (linked_more hs (d ∷ []) (further_slots h.context.scopes) (get_or (parents cs) h.list None) x)
+
+    linked_now : Links d
+    linked_now = subst (λ (o : Option ℕ). Linked (hs ++ d ∷ []) (further_slots d.context.scopes) o)
+        (parent_new cs c d.list (e ∙ sym a.scopes)) (linked_more hs (d ∷ []) (further_slots d.context.scopes) c.parent link)
+
+    below_before : (h : Site) → h.list < length hs → OptionIs (λ n. n < h.list) (get_or (parents cs) h.list None) → Below h
+    below_before h lt x = subst (OptionIs (λ n. n < h.list)) (parent_before cs c h.list (omega (arith, lt, a.scopes))) x
+
+    below_now : Below d
+    below_now = subst (OptionIs (λ n. n < d.list)) (parent_new cs c d.list (e ∙ sym a.scopes))
+        (subst (λ (i : ℕ). OptionIs (λ n. n < i) c.parent) (sym e)
+        (below_end hs (further_slots d.context.scopes) c.parent link))
+
     old : (h : Site) → SiteIs s p h cs l w → SiteIs s p h (cs ++ c ∷ []) (l ++ r ∷ []) w
     old h i = record {
       source = i.source;
@@ -219,16 +281,16 @@ sites_more s p hs d cs c l r w a e out new = record {
 pub opened : (s : Source) (p : Program) (g : Ground) (gs : List Level) (m : source.Memory) (k : machine.Memory) (d : Site)
     (c : Scope) (r : Registers) (place : Place) (w : World) (ks : List Item) (back : Place)
     → Both s p (over_levels g gs) m k → Waits g.sites g.fiber k.lists ks back gs → d.list ≡ length g.sites
-    → r.outer ≡ c.parent
+    → r.outer ≡ c.parent → Linked g.sites (further_slots d.context.scopes) c.parent
     → SiteIs s p d (m.scopes ++ c ∷ []) (k.lists ++ r ∷ []) w → Grows m.world w
     → Running s p (record { sites = g.sites ++ d ∷ []; fiber = g.fiber; below = gs }) d
     (record m { place = place; scopes = m.scopes ++ c ∷ []; world = w })
     (record k { lists = k.lists ++ r ∷ []; world = w })
-opened s p g gs m k d c r place w ks back b waits e out new grows = record {
+opened s p g gs m k d c r place w ks back b waits e out link new grows = record {
   all = record {
     world = refl;
     sites = sites_more s p g.sites d m.scopes c k.lists r w
-        (sites_grow s p g.sites m.scopes k.lists m.world w grows b.sites) e out new;
+        (sites_grow s p g.sites m.scopes k.lists m.world w grows b.sites) e out link new;
     fibers = all_fibers_more g.sites d g.fiber k.lists r b.sites.lists m.fibers k.fibers b.fibers;
     apart = b.apart;
   };

@@ -50,6 +50,8 @@ use Rattle.step_laws.specs.Site.{opening_store, number}
 use Rattle.step_laws.specs.Simple.{IsOperator}
 use Rattle.step_laws.proofs.Symbols.{IsCoreName, the_symbol, number_is, interned_core}
 use Rattle.step_laws.proofs.Unasked.{failure_unasked}
+use Rattle.eval_laws.specs.Procs.{HasProc}
+use Rattle.step_laws.proofs.Procless.{are_bodiless, has_none, both_bodiless, opening_bodiless}
 use Rattle.step_laws.proofs.Found.{is_arithmetic, is_sameness, is_plain_row, is_plain_line, is_plain_of, is_number_text, is_truth_text, is_text_row, is_text_line, is_text_of, is_open, is_core, passes, is_plain, is_text, none_or, grown, both_true, operator_known, FindsAll, finds_all, is_missing, Missing, missing_all, Texts, texts_all, is_writer, writes_row, is_puts, writing}
 
 -- nil, true, false and integers
@@ -94,6 +96,7 @@ pub record Kept (s : Source) (w : World) : Type 0 where
   pub symbols : w.store.symbols ≡ (opening_store s).symbols
   pub more : List Object
   pub objects : w.store.objects ≡ grown more
+  pub none : are_bodiless more ≡ true
   pub others : List Activation
   pub activations : w.activations ≡ main_activation ∷ others
 
@@ -107,6 +110,7 @@ OutcomeIs Is st d (outcome.Raise f) = (c : Cause) × (d ≡ fails st c)
 pub record DoneIs (Is : Value → Type 0) (st : Store) (d : Done) : Type 0 where
   pub more : List Object
   pub objects : d.store.objects ≡ st.objects ++ more
+  pub none : are_bodiless more ≡ true
   pub symbols : d.store.symbols ≡ st.symbols
   pub outcome : OutcomeIs Is st d d.outcome
 
@@ -126,13 +130,21 @@ EntryIs s Is w (answers a) = AnswerIs s Is w a
 EntryIs s Is w (enters o u) = ⊥
 EntryIs s Is w (begins it a u) = IsOfPuts it × (a.runs ≡ core_method) × (u ≡ w)
 
+-- none of its Procs has a body
+pub kept_none : (s : Source) (w : World) → Kept s w → (b : ℕ) (ns : List ℕ) → HasProc w.store.objects b ns → ⊥
+kept_none s w k b ns is =
+    has_none (grown k.more) b ns (both_bodiless Rows.opening.objects k.more opening_bodiless k.none)
+    (subst (λ (os : List Object). HasProc os b ns) k.objects is)
+
 -- more objects behind
 pub kept_more : (s : Source) (w : World) (st : Store) (more : List Object) → Kept s w
-    → st.objects ≡ w.store.objects ++ more → st.symbols ≡ w.store.symbols → Kept s (with_store w st)
-kept_more s w st more k e f = record {
+    → st.objects ≡ w.store.objects ++ more → are_bodiless more ≡ true → st.symbols ≡ w.store.symbols
+    → Kept s (with_store w st)
+kept_more s w st more k e none f = record {
   symbols = f ∙ k.symbols;
   more = k.more ++ more;
   objects = e ∙ ap (λ (os : List Object). os ++ more) k.objects ∙ append_assoc Rows.opening.objects k.more more;
+  none = both_bodiless k.more more k.none none;
   others = k.others;
   activations = k.activations;
 }
@@ -155,7 +167,7 @@ answered_as s Is w d k g = by d.outcome refl g.outcome
   where
     by : (x : Outcome) → d.outcome ≡ x → OutcomeIs Is w.store d x → AnswerIs s Is w (answer_in w d.store x)
     by (outcome.Value v) e is = record {
-      kept = kept_more s w d.store g.more k g.objects g.symbols;
+      kept = kept_more s w d.store g.more k g.objects g.none g.symbols;
       activations = refl;
       out = refl;
       result = is;
@@ -165,7 +177,8 @@ answered_as s Is w d k g = by d.outcome refl g.outcome
         record {
           kept = kept_more s w (with_object d.store exception) (g.more ++ exception ∷ []) k
               (ap (λ (os : List Object). os ++ exception ∷ []) g.objects
-              ∙ append_assoc w.store.objects g.more (exception ∷ [])) g.symbols;
+              ∙ append_assoc w.store.objects g.more (exception ∷ [])) (both_bodiless g.more (exception ∷ []) g.none refl)
+              g.symbols;
           activations = refl;
           out = refl;
           result = raised_given s Is w d k (outcome.Raise f) e is.0 is.1;
@@ -173,14 +186,14 @@ answered_as s Is w d k g = by d.outcome refl g.outcome
 
 fails_done : (Is : Value → Type 0) (st : Store) (c : Cause) → DoneIs Is st (fails st c)
 unfolding fails
-fails_done Is st c = record { more = _; objects = refl; symbols = refl; outcome = (c, refl) }
+fails_done Is st c = record { more = _; objects = refl; none = refl; symbols = refl; outcome = (c, refl) }
 
 pub failed : (s : Source) (Is : Value → Type 0) (w : World) (c : Cause) → Kept s w → AnswerIs s Is w (fail w c)
 unfolding fail
 failed s Is w c k = answered_as s Is w (fails w.store c) k (fails_done Is w.store c)
 
 gives_done : (Is : Value → Type 0) (st : Store) (v : Value) → Is v → DoneIs Is st (record { outcome = outcome.Value v; store = st })
-gives_done Is st v is = record { more = []; objects = sym (append-nil st.objects); symbols = refl; outcome = is }
+gives_done Is st v is = record { more = []; objects = sym (append-nil st.objects); none = refl; symbols = refl; outcome = is }
 
 -- Rows.
 
@@ -267,7 +280,7 @@ line_done st recv args block (Some l) e =
 -- the text of an integer and of a truth value
 text_made : (st : Store) (recv : Value) (bytes : List ℕ)
     → DoneIs (λ v. Unit {0}) st (finish_plain st recv (plain.Text bytes))
-text_made st recv bytes = record { more = _; objects = refl; symbols = refl; outcome = tt }
+text_made st recv bytes = record { more = _; objects = refl; none = refl; symbols = refl; outcome = tt }
 
 number_text : (st : Store) (recv : Value) (m : IntegerMethod) → is_number_text m ≡ true
     → DoneIs (λ v. Unit {0}) st (finish_plain st recv (integers.gives m recv []))

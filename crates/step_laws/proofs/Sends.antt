@@ -159,13 +159,13 @@ module _ (g : Ground) (h : Site) (static : Static h) (ks : List Item) (m : sourc
 
   -- the transition enters no body, or what is called are methods with code
   abbrev MayCall : Config → Type 0
-  MayCall c = Still m (go h.source c) ⊎ CallsBodies h.source h.program m.world.store.objects
+  MayCall c = Still m (go h.source c) ⊎ CallsBodies h.source h.program m.world.store.objects m.world.store.objects
 
   enters_by : (c : Config) (q : Sending) (recv : Value) (vs : List Value) → MayCall c
-      → Still m (go h.source c) ⊎ EntersBody h.source h.program (the_entry q recv vs)
+      → Still m (go h.source c) ⊎ EntersBody h.source h.program m.world.store.objects (the_entry q recv vs)
   enters_by c q recv vs calls =
-      then_enters h.source h.program m.world.store.objects (the_entry q recv vs)
-      (λ is. call_entered h.source h.program m.world is (activation_at m.world h.activation) q recv vs None) calls
+      then_enters h.source h.program m.world.store.objects m.world.store.objects (the_entry q recv vs)
+      (λ is. call_entered h.source h.program m.world.store.objects m.world is (activation_at m.world h.activation) q recv vs None) calls
 
   -- The instruction of a call whose value and items stand in their registers.
   called_at : (c : Config) (x : Rest) (n low : ℕ) (around : Option Loop) (q : Sending) (recv : Value) (vs : List Value)

@@ -22,7 +22,7 @@ use Rattle.def_core.specs.Bind.{elements_of}
 use Rattle.def_core.specs.Sound.{sorts_of, census, Is, plays, plays_at, Array, ClassOrModule}
 use Rattle.def_core.proofs.Good.{is_good, sort_found}
 use Rattle.def_core.proofs.Sorts.{sort_at-sorts}
-use Rattle.def_calls.specs.World.{World, activation_at, class_around}
+use Rattle.def_calls.specs.World.{activation_at, class_around}
 use Rattle.def_calls.specs.Calls.{opening_world}
 use Rattle.def_calls.specs.Definitions.{space_in}
 use Rattle.def_calls.specs.Views.{string_of, hash_of, if_there, an_array, a_hash, a_string}
@@ -32,12 +32,13 @@ use Rattle.def_eval.specs.Configuration.{Part, Item, part, activation, iteration
 use Rattle.def_eval.specs.Transition.{go, go_times}
 use Rattle.world_laws.specs.Fine.{HasSort}
 use Rattle.world_laws.proofs.Constants.{class_around_is}
-use Rattle.eval_laws.specs.Fits.{PartStands, ItemsFit, Fits, IsHushed, bodies}
+use Rattle.eval_laws.specs.Fits.{PartStands, ItemsFit, Past, anything_since, Fits, IsHushed, bodies}
+use Rattle.eval_laws.specs.Procs.{literal, ProcsAreKnown}
 use Rattle.eval_laws.specs.Reached.{GoesOn}
-use Rattle.eval_laws.proofs.Kept.{goes_on}
+use Rattle.eval_laws.proofs.Kept.{goes_on, procs_known}
 use Rattle.eval_laws.proofs.Start.{evaluation_fits}
 use Rattle.step_laws.specs.Site.{IsThere, number, opening_store}
-use Rattle.step_laws.specs.Calm.{IsAbout, IsAboutNext, Leaves, QuietFocus, Quiet, IsSteady, IsCalm, StaysCalm}
+use Rattle.step_laws.specs.Calm.{IsAbout, IsAboutNext, Leaves, QuietFocus, QuietBy, IsSteady, IsCalm, StaysCalm}
 use Rattle.step_laws.specs.Peaceful.{IsPeaceful, StaysPeaceful}
 use Rattle.step_laws.proofs.Symbols.{Has, has_of, interned, position_more}
 use Rattle.step_laws.proofs.Tame.{core_closed}
@@ -161,8 +162,8 @@ about s st a (eval.clause_body r) h = tt
 about s st a (eval.ensured n e) h = tt
 
 -- A configuration that fits, of a world that goes on from that of the opening.
-module _ (s : Source) (early : World) (ks : List Item) (m : Memory) where
-  steady : (f : Focus) → early.store ≡ opening_store s → Fits s early (Run f ks m) → IsSteady s m.world
+module _ (s : Source) (early : Past) (ks : List Item) (m : Memory) where
+  steady : (f : Focus) → early.world.store ≡ opening_store s → Fits s early (Run f ks m) → IsSteady s m.world
   unfolding IsThere number
   steady f same h = record {
     names = λ x t.
@@ -180,7 +181,7 @@ module _ (s : Source) (early : World) (ks : List Item) (m : Memory) where
   about_next (perform n e) h =
       let classes = (activation_at m.world m.place.activation).classes in
       space_there m.world.store (class_around m.world classes)
-      (class_around_is (bodies s m.scopes) m.world h.memory.world classes)
+      (class_around_is (bodies s early.Known m.scopes) m.world h.memory.world classes)
   about_next (give v) h = by ks h.items
     where
       by : (is : List Item) → ItemsFit s m.world m.scopes m.place is → IsAboutNext (give v) is m
@@ -211,19 +212,22 @@ quiet_focus (give v) [] m l h = h
 quiet_focus (give v) (k ∷ ks) m l h = tt
 quiet_focus (travel x) ks m l h = h
 
-quiet_by : (m : Memory) (c : Config) → GoesOn m.world c → Quiet m c
-quiet_by m (Run f ks l) g =
-    (quiet_focus f ks m l g.1, record { more = g.0.activations.more; is = g.0.activations.same })
-quiet_by m (Halt e) g = tt
+quiet_by : (f : Focus) (m : Memory) (c : Config) → GoesOn m.world c → ProcsAreKnown f m c → QuietBy (literal f m) m c
+quiet_by f m (Run h ks l) g all =
+    (quiet_focus h ks m l g.1, record { more = g.0.activations.more; is = g.0.activations.same; procs = all })
+quiet_by f m (Halt e) g all = tt
 
-calm_by : (s : Source) (p : Program) (early : World) (c : Config) → early.store ≡ opening_store s → Fits s early c
+calm_by : (s : Source) (p : Program) (early : Past) (c : Config) → early.world.store ≡ opening_store s → Fits s early c
     → IsPeaceful s p c → IsCalm s p c
 calm_by s p early (Halt e) same h q = tt
 calm_by s p early (Run f ks m) same h q = (
   steady s early ks m f same h,
   about_next s early ks m f h,
   leaves s early ks m f h,
-  record { quiet = quiet_by m (go s (Run f ks m)) (goes_on s early f ks m h); calls = q },
+  record {
+    quiet = quiet_by f m (go s (Run f ks m)) (goes_on s early f ks m h) (procs_known s early f ks m h);
+    calls = q;
+  },
 )
 
 pub peace_is_calm : (b : Body) (p : Program) (input : List ℕ) → IsProgram b
@@ -232,5 +236,5 @@ pub peace_is_calm : (b : Body) (p : Program) (input : List ℕ) → IsProgram b
 unfolding opening_store
 peace_is_calm b p input is peace n =
     let h = evaluation_fits b input n is in
-    calm_by (source_of b) p (record (opening_world (all_names (source_of b)) input) { out = h.0 })
+    calm_by (source_of b) p (anything_since (record (opening_world (all_names (source_of b)) input) { out = h.0 }))
     (go_times n (source_of b) (opening (source_of b) input)) refl h.1 (peace n)

@@ -19,9 +19,10 @@ use Rattle.def_eval.specs.Scopes.{same_local, value_in, put_value, scope_at, sco
 use Rattle.def_eval.specs.Entering.{after_result, depth, open_iteration, enter}
 use Rattle.def_eval.specs.Transition.{go}
 use Rattle.step_laws.specs.Site.{number}
-use Rattle.step_laws.specs.Calm.{QuietFocus, Grows, Quiet, Still, Peace}
+use Rattle.step_laws.specs.Calm.{QuietFocus, QuietBy, Still, Peace}
+use Rattle.eval_laws.specs.Procs.{literal}
 use Rattle.step_laws.specs.Simple.{IsOperator, IsSimple, AreSimple, AreSimpleItems, AreSimpleBranches}
-use Rattle.step_laws.proofs.Outcomes.{IsImmediate, AreImmediate, IsOfPuts, Kept, GivenIs, AnswerIs, EntryIs, failed}
+use Rattle.step_laws.proofs.Outcomes.{IsImmediate, AreImmediate, IsOfPuts, Kept, kept_none, GivenIs, AnswerIs, EntryIs, failed}
 
 -- What the evaluation keeps.
 
@@ -109,9 +110,14 @@ abbrev pub IsTame : Source → Config → Type 0
 IsTame s (Halt e) = Unit {0}
 IsTame s (Run f ks m) = MemoryIs s f ks m
 
+-- activations were added alone
+pub record Adds (w u : World) : Type 0 where
+  pub more : List Activation
+  pub is : u.activations ≡ w.activations ++ more
+
 -- no scope was opened since, nothing was written where an exception was raised, and activations were added alone
 abbrev pub Rests : Memory → Config → Type 0
-Rests m (Run f ks l) = (length l.scopes ≡ length m.scopes) × QuietFocus f ks m l × Grows m.world l.world
+Rests m (Run f ks l) = (length l.scopes ≡ length m.scopes) × QuietFocus f ks m l × Adds m.world l.world
 Rests m (Halt e) = Unit {0}
 
 -- a transition from that memory comes to this
@@ -119,18 +125,25 @@ abbrev pub Fine : Source → Memory → Config → Type 0
 Fine s m c = IsTame s c × Rests m c
 
 -- what rests enters no body
-pub peaceful : (s : Source) (p : Program) (f : Focus) (ks : List Item) (m : Memory) → Rests m (go s (Run f ks m))
+pub peaceful : (s : Source) (p : Program) (f : Focus) (ks : List Item) (m : Memory) → Fine s m (go s (Run f ks m))
     → Peace s p f ks m
 peaceful s p f ks m r = by (go s (Run f ks m)) refl r
   where
-    by : (c : Config) → go s (Run f ks m) ≡ c → Rests m c → Peace s p f ks m
+    by : (c : Config) → go s (Run f ks m) ≡ c → Fine s m c → Peace s p f ks m
     by (Halt e) is at = record {
-      quiet = subst (Quiet m) (sym is) tt;
+      quiet = subst (QuietBy (literal f m) m) (sym is) tt;
       calls = inl (subst (Still m) (sym is) tt);
     }
     by (Run h js l) is at = record {
-      quiet = subst (Quiet m) (sym is) (at.1, at.2);
-      calls = inl (subst (Still m) (sym is) at.0);
+      quiet = subst (QuietBy (literal f m) m) (sym is) (
+        at.1.1,
+        record {
+          more = at.1.2.more;
+          is = at.1.2.is;
+          procs = λ b ns has. absurd (kept_none s l.world at.0.kept b ns has);
+        },
+      );
+      calls = inl (subst (Still m) (sym is) at.1.0);
     }
 
 pub quiet_given : (v : Value) (ks : List Item) (m l : Memory) → l.world.out ≡ m.world.out
@@ -183,10 +196,10 @@ set_is (d ∷ cs) (suc n) c is all = (all.0, set_is cs n c is all.1)
 
 -- Activations.
 
-pub same_grows : (w u : World) → u.activations ≡ w.activations → Grows w u
+pub same_grows : (w u : World) → u.activations ≡ w.activations → Adds w u
 same_grows w u e = record { more = []; is = e ∙ sym (append-nil w.activations) }
 
-pub core_grows : (w u : World) (a : ℕ) → Grows w u → IsCoreAt w a → IsCoreAt u a
+pub core_grows : (w u : World) (a : ℕ) → Adds w u → IsCoreAt w a → IsCoreAt u a
 unfolding activation_at
 core_grows w u a g c =
     let longer = ap length g.is ∙ length-append w.activations g.more in
@@ -198,7 +211,7 @@ core_grows w u a g c =
           ∙ get_or_append_left w.activations g.more no_activation (a - 1) (omega (arith, c.low, c.within))) ∙ c.runs;
     }
 
-pub items_grow : (s : Source) (w u : World) (ks : List Item) (place : Place) → Grows w u → ItemsAre s w ks place
+pub items_grow : (s : Source) (w u : World) (ks : List Item) (place : Place) → Adds w u → ItemsAre s w ks place
     → ItemsAre s u ks place
 items_grow s w u [] place g i = tt
 items_grow s w u (part p ∷ ks) place g i = (i.0, i.1, items_grow s w u ks place g i.2)
@@ -230,7 +243,7 @@ answer_fine s Is m l w ks a g out same scopes all alone under to = by a.result g
     still : ItemsAre s a.world ks l.place
     still = items_grow s w a.world ks l.place (same_grows w a.world g.activations) under
 
-    grows : Grows m.world a.world
+    grows : Adds m.world a.world
     grows = same_grows m.world a.world (g.activations ∙ same)
 
     by : (x : Given) → GivenIs Is a.world x → Fine s m (after_result x a.world ks l)
@@ -258,6 +271,7 @@ opened_fine s m l ks it a is core k same scopes all alone under =
           symbols = k.symbols;
           more = k.more;
           objects = k.objects;
+          none = k.none;
           others = k.others ++ a ∷ [];
           activations = ap (λ (xs : List Activation). xs ++ a ∷ []) k.activations;
         };

@@ -28,12 +28,13 @@ use Rattle.def_machine.specs.State as machine
 use Rattle.def_machine.specs.State.{Level, frame, State, slot_at, value_at}
 use Rattle.def_machine.specs.Turn.{act, on_object, new_text}
 use Rattle.step_laws.specs.Site.{Site, within, place_in, at_line, Room}
+use Rattle.def_eval.specs.Transition.{go}
+use Rattle.step_laws.specs.Calm.{Grows, Quiet}
 use Rattle.step_laws.specs.Covered.{CoveredForms}
 use Rattle.step_laws.proofs.Covers.{at_top}
 use Rattle.step_laws.proofs.Placed.{high, high-both, high-puts, high-nothing, line-past, Stands, moved, left, right, the_line, Rest, frame_at, turned}
 use Rattle.step_laws.specs.Behind.{Static}
 use Rattle.step_laws.specs.Relation.{Ground, InFrame, Common, Doing, GivesIn, Related, Step}
-use Rattle.step_laws.proofs.Untouched.{same_activations}
 use Rattle.step_laws.proofs.Matching.{by_one, in_loop, going, state_at, written, stays}
 use Rattle.step_laws.proofs.Literals.{aligned}
 use Rattle.step_laws.proofs.Gathered.{kept}
@@ -92,6 +93,11 @@ on_with g h j id (more e es) ks m k x n low end loop s both there room covered h
       },
     )
 
+quiet_pieces : (j : ℕ) (id : ObjId) (es : Forms) (ks : List Item) (m : source.Memory) (w : World)
+    → Quiet m (next_piece j id es ks (source.with_world m w)) → Grows m.world w
+quiet_pieces j id none ks m w q = q.1
+quiet_pieces j id (more e es) ks m w q = q.1
+
 -- The turn that adds the bytes of what stands behind the String.
 module _ (g : Ground) (h : Site) (x : Rest) (n low : ℕ) (k : machine.Memory) (id : ObjId) (v : Value)
     (held : slot_at k.lists h.list low ≡ V (Obj id)) (stands : slot_at k.lists h.list (low + 1) ≡ V v)
@@ -114,16 +120,17 @@ module _ (g : Ground) (h : Site) (x : Rest) (n low : ℕ) (k : machine.Memory) (
 module _ (g : Ground) (h : Site) (static : Static h) (ks : List Item) (m : source.Memory) (ls : List Level)
     (k : machine.Memory) (both : Common g h m (aligned k m)) where
   pub do_text : (j : ℕ) (es : Forms) (d : Doing g h j (text es) ks m.place ls k.lists)
+      → Quiet m (go h.source (Run (perform j (text es)) ks m))
       → Step h (Run (perform j (text es)) ks m) (state_at g h d.x d.n (aligned k m))
   unfolding do_form
-  do_text j es d =
+  do_text j es d quiet =
       let o = op.String d.r (text_entry h.context []) in
       let p = does o in
       let q = gather_text (within h d.loop) (past d.s p) d.r es in
       let id = next_number m.world.store in
       let w = with_store m.world (with_object m.world.store (text_object [])) in
       let end = d.n + high (p ⊕ q) in
-      let t = kept g h static ks m k both w (same_activations m.world w refl) (Obj id) end d.r d.loop d.covered.0 d.next in
+      let t = kept g h static ks m k both w (quiet_pieces j id es ks m w quiet) (Obj id) end d.r d.loop d.covered.0 d.next in
       let tall : high p ≡ 1 = high-puts (line.Does o) in
       by_one h (Run (perform j (text es)) ks m) (state_at g h d.x d.n (aligned k m))
       (state_at g h d.x (d.n + 1) (written h (machine.with_world k w) d.r (Obj id)))
@@ -139,9 +146,10 @@ module _ (g : Ground) (h : Site) (static : Static h) (ks : List Item) (m : sourc
   pub give_piece : (v : Value) (j : ℕ) (id : ObjId) (es : Forms)
       (d : GivesIn g h v (part (pieces j id es) ∷ ks) m.place ls k.lists)
       → a_string m.world.store.objects (Obj id) ≡ Some id
+      → Quiet m (go h.source (Run (give v) (part (pieces j id es) ∷ ks) m))
       → Step h (Run (give v) (part (pieces j id es) ∷ ks) m) (state_at g h d.x d.n (aligned k m))
   unfolding do_give give_part
-  give_piece v j id es d about =
+  give_piece v j id es d about quiet =
       let b = d.next.behind in
       let low = d.next.low in
       let c = Run (give v) (part (pieces j id es) ∷ ks) m in
@@ -149,7 +157,7 @@ module _ (g : Ground) (h : Site) (static : Static h) (ks : List Item) (m : sourc
       subst (λ (a : ℕ). slot_at k.lists h.list a ≡ V v) (sym b.at) d.stands in
       let w = with_store m.world (appended m.world.store id (text_of_value m.world.store v)) in
       let k' = written h (machine.with_world k w) low (Obj id) in
-      let u = kept g h static ks m k both w (same_activations m.world w refl) (Obj id) d.next.end low d.loop b.room
+      let u = kept g h static ks m k both w (quiet_pieces j id es ks m w quiet) (Obj id) d.next.end low d.loop b.room
       (in_loop g h k.lists ks d.next.end low d.loop d.next.outer d.next.inner d.next.next) in
       by_one h c (state_at g h d.x d.n (aligned k m)) (state_at g h d.x (d.n + 1) k')
       (going (give v) (part (pieces j id es) ∷ ks) m (frame (frame_at h d.x d.n) ∷ g.below) (aligned k m) refl)

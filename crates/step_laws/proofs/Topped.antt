@@ -17,7 +17,7 @@ use Rattle.gen_parts.specs.Pieces.{Piece, past, nothing, both, puts, makes, does
 use Rattle.gen_forms.specs.Gen.{Context, gen, gen_receiver, in_turn, others_in_turn}
 use Rattle.code_laws.proofs.Shares.{Noted, Noted_all, Noted_receiver}
 use Rattle.code_laws.proofs.Widths.{Under, InOrder, under_greatest, order_within, order_room, order_left, turn_within}
-use Rattle.def_eval.specs.Source.{Source, span, parameters_of}
+use Rattle.def_eval.specs.Source.{Source, span, span_forms, parameters_of}
 use Rattle.def_eval.specs.Scopes.{shape_of}
 use Rattle.eval_laws.specs.Kinds.{IsKind, of_block}
 use Rattle.eval_laws.specs.Standing.{FormStands, FormsStand, past_receiver, past_items}
@@ -30,7 +30,9 @@ use Rattle.step_laws.proofs.Found.{both_true}
 use Rattle.step_laws.proofs.Covers.{at_top}
 use Rattle.step_laws.proofs.Catchless.{IsBare, bare_items}
 use Rattle.step_laws.proofs.Making.{last_tables, last_span, form_span, method_span, call_span, list_span, tops_span, bare_receiver, call_made, call_number}
-use Rattle.step_laws.proofs.Written.{last_stands, last_noted, last_formed, forms_stand_on}
+use Rattle.step_laws.specs.Around.{Around as Sees}
+use Rattle.step_laws.proofs.Nested.{last_stands, first_closed, Inside, inside_past, inside_less}
+use Rattle.step_laws.proofs.Written.{last_noted, last_formed, last_wide, call_sees, forms_stand_on}
 use Rattle.step_laws.proofs.Covering.{Has, room, known, named, none_spread, covered_items, covered}
 
 there_at : (xs : List ℕ) (x : ℕ) (ys : List ℕ) (n : ℕ) → length xs ≡ n → get_or (xs ++ x ∷ ys) n 0 ≡ x
@@ -115,10 +117,10 @@ module _ (h : Site) (ss : Slots) (ls : List Local) (t : Tally) (registers : ℕ)
       → is_form a (form.call e x is (form.there (form.function f))) ≡ true → h.first ≤ r
       → r + width (form.call e x is (form.there (form.function f))) ≤ registers
       → Stands all s (gen c s r (form.call e x is (form.there (form.function f)))).children
-      → FormStands h.source z s.body (form.call e x is (form.there (form.function f)))
+      → FormStands h.source z s.body (form.call e x is (form.there (form.function f))) → Sees h.source s.body h.context.scopes
       → CallsWith h None r s s.body e x is (form.function f)
   unfolding past IsBare
-  calls_with shapes s r a z e x is (form.body p ks f) k m block n formed low w stands st =
+  calls_with shapes s r a z e x is (form.body p ks f) k m block n formed low w stands st sees =
       let b = form.body p ks f in
       let ws = receiver_width e ∷ (item_widths is ++ width (form.function b) ∷ []) in
       let wide : r + in_order ws ≤ registers =
@@ -153,6 +155,7 @@ module _ (h : Site) (ss : Slots) (ls : List Local) (t : Tally) (registers : ℕ)
               (call_made c s r e x is b m block).children
               ∙ there_at stands.before s.body stands.after sp.child at ∙ sym same;
           shape = shapes j b st.3.0 st.3.4;
+          sees = subst (λ (i : ℕ). Sees h.source i h.context.scopes) (sym same) sees;
         };
       }
 
@@ -162,13 +165,13 @@ module _ (h : Site) (ss : Slots) (ls : List Local) (t : Tally) (registers : ℕ)
       → is_form a (form.call e x is (form.there (form.function f))) ≡ true → h.first ≤ r
       → r + width (form.call e x is (form.there (form.function f))) ≤ registers
       → Stands all s (gen c s r (form.call e x is (form.there (form.function f)))).children
-      → FormStands h.source z s.body (form.call e x is (form.there (form.function f)))
+      → FormStands h.source z s.body (form.call e x is (form.there (form.function f))) → Sees h.source s.body h.context.scopes
       → Covers h None r s s.body (form.call e x is (form.there (form.function f)))
-  call_covers shapes s r a z (form.to e) x is f k m block n formed low w stands st =
-      calls_with shapes s r a z (form.to e) x is f k m block n formed low w stands st
-  call_covers shapes s r a z form.on_self x is f k m block n formed low w stands st =
-      calls_with shapes s r a z form.on_self x is f k m block n formed low w stands st
-  call_covers shapes s r a z form.bare x is f k m block n formed low w stands st = absurd m.receiver
+  call_covers shapes s r a z (form.to e) x is f k m block n formed low w stands st sees =
+      calls_with shapes s r a z (form.to e) x is f k m block n formed low w stands st sees
+  call_covers shapes s r a z form.on_self x is f k m block n formed low w stands st sees =
+      calls_with shapes s r a z form.on_self x is f k m block n formed low w stands st sees
+  call_covers shapes s r a z form.bare x is f k m block n formed low w stands st sees = absurd m.receiver
 
   -- what follows has the number behind the bodies of the form
   numbered : (s : Spot) (q : Piece) (e : CoreForm) (es : Forms) (r : ℕ) → span e ≡ length q.bodies
@@ -200,10 +203,10 @@ module _ (h : Site) (ss : Slots) (ls : List Local) (t : Tally) (registers : ℕ)
   pub tops_cover : Shapes h.source h.program → {es : Forms} → AreTops es → (s : Spot) (r g : ℕ) (a z : Around)
       → a.known ≡ ls → FormsStand h.source z s.body es → Noted_all t es → are_forms a es ≡ true
       → h.first ≤ r → Under g (widths es) → r + g ≤ registers → Stands all s (others_in_turn c s r es).children
-      → CoversAll h None r s s.body es
+      → Inside h.source h.context.scopes s.body (s.body + span_forms es) → CoversAll h None r s s.body es
   unfolding both
-  tops_cover shapes no_tops s r g a z k st n formed low u w stands = tt
-  tops_cover shapes (form_before {e} {es} is tops) s r g a z k st n formed low u w stands =
+  tops_cover shapes no_tops s r g a z k st n formed low u w stands nested = tt
+  tops_cover shapes (form_before {e} {es} is tops) s r g a z k st n formed low u w stands nested =
       let q = gen c s r e in
       let parts = both_true (is_form a e) (are_forms a es) formed in (
         at_top h None r s s.body e
@@ -211,9 +214,11 @@ module _ (h : Site) (ss : Slots) (ls : List Local) (t : Tally) (registers : ℕ)
         numbered s q e es r (form_span e is c s r)
             (tops_cover shapes tops (past s q) r g a z k
             (forms_stand_on h.source z s q e es (form_span e is c s r) st.1) n.1 parts.1 low u.1 w
-            (then_stands all s q (others_in_turn c (past s q) r es).children stands)),
+            (then_stands all s q (others_in_turn c (past s q) r es).children stands)
+            (inside_past h.source h.context.scopes s q e es (form_span e is c s r)
+            (first_closed (form_before {e = e} {es = es} is tops) h.source z s.body st) nested)),
       )
-  tops_cover shapes (method_before {x} {f} {es} m body tops) s r g a z k st n formed low u w stands =
+  tops_cover shapes (method_before {x} {f} {es} m body tops) s r g a z k st n formed low u w stands nested =
       let q = gen c s r (form.define x f) in
       let rest = others_in_turn c (past s q) r es in
       let parts = both_true (is_form a (form.define x f)) (are_forms a es) formed in
@@ -222,21 +227,26 @@ module _ (h : Site) (ss : Slots) (ls : List Local) (t : Tally) (registers : ℕ)
         numbered s q (form.define x f) es r long
             (tops_cover shapes tops (past s q) r g a z k
             (forms_stand_on h.source z s q (form.define x f) es long st.1) n.1 parts.1 low u.1 w
-            (then_stands all s q rest.children stands)),
+            (then_stands all s q rest.children stands) (inside_past h.source h.context.scopes s q (form.define x f) es long
+            (first_closed (method_before {x = x} {f = f} {es = es} m body tops) h.source z s.body st) nested)),
       )
-  tops_cover shapes (call_before {e} {x} {is} {f} {es} m block body tops) s r g a z k st n formed low u w stands =
+  tops_cover shapes (call_before {e} {x} {is} {f} {es} m block body tops) s r g a z k st n formed low u w stands nested =
       let whole = form.call e x is (form.there (form.function f)) in
       let q = gen c s r whole in
       let rest = others_in_turn c (past s q) r es in
       let parts = both_true (is_form a whole) (are_forms a es) formed in
       let long = call_span e x is f m block (λ d v i. tops_span body d v i) c s r in (
         call_covers shapes s r a z e x is f k m block n.0 parts.0 low (omega (arith, u.0, w))
-            (first_stands all s q.children rest.children stands) st.0,
+            (first_stands all s q.children rest.children stands) st.0
+            (call_sees h.source z h.context.scopes s.body (s.body + span_forms (form.more whole es)) e x is f m st.0 (omega arith)
+            nested),
         numbered s q whole es r long
             (tops_cover shapes tops (past s q) r g a z k (forms_stand_on h.source z s q whole es long st.1)
-            n.1 parts.1 low u.1 w (then_stands all s q rest.children stands)),
+            n.1 parts.1 low u.1 w (then_stands all s q rest.children stands)
+            (inside_past h.source h.context.scopes s q whole es long
+            (first_closed (call_before {e = e} {x = x} {is = is} {f = f} {es = es} m block body tops) h.source z s.body st) nested)),
       )
-  tops_cover shapes (value_before {f} {e} {es} is inner tops) s r g a z k st n formed low u w stands =
+  tops_cover shapes (value_before {f} {e} {es} is inner tops) s r g a z k st n formed low u w stands nested =
       let q = gen c s r f in
       let rest = others_in_turn c (past s q) r es in
       let parts = both_true (is_form a f) (are_forms a es) formed in
@@ -246,12 +256,15 @@ module _ (h : Site) (ss : Slots) (ls : List Local) (t : Tally) (registers : ℕ)
             (ap (λ (x : Bool). x && true) (last_formed is a parts.0)) low (omega arith, tt)
             (last_width is r (omega (arith, u.0, w)))
             (one_stands e s r (subst (λ (xs : List ℕ). Stands all s xs) (last_tables is c s r).children
-            (first_stands all s q.children rest.children stands)))).0,
+            (first_stands all s q.children rest.children stands)))
+            (inside_less h.source h.context.scopes s.body (s.body + span_forms (form.more f es))
+            (s.body + span_forms (form.more e form.none)) (omega (arith, last_wide is)) nested)).0,
         numbered s q f es r long
             (tops_cover shapes tops (past s q) r g a z k (forms_stand_on h.source z s q f es long st.1) n.1 parts.1 low u.1 w
-            (then_stands all s q rest.children stands)),
+            (then_stands all s q rest.children stands) (inside_past h.source h.context.scopes s q f es long
+            (first_closed (value_before {f = f} {e = e} {es = es} is inner tops) h.source z s.body st) nested)),
       )
-  tops_cover shapes (list_before {fs} {es} inner tops) s r g a z k st n formed low u w stands =
+  tops_cover shapes (list_before {fs} {es} inner tops) s r g a z k st n formed low u w stands nested =
       let q = gen c s r (form.seq fs) in
       let rest = others_in_turn c (past s q) r es in
       let parts = both_true (is_form a (form.seq fs)) (are_forms a es) formed in
@@ -261,10 +274,14 @@ module _ (h : Site) (ss : Slots) (ls : List Local) (t : Tally) (registers : ℕ)
           tops_cover shapes inner s r (greatest (widths fs)) a z k st.0 n.0.1 parts.0 low (under_greatest 0 (widths fs))
               (omega (arith, part.0))
               (subst (λ (xs : List ℕ). Stands all s xs) (turn_children c s r fs)
-              (first_stands all s q.children rest.children stands)),
+              (first_stands all s q.children rest.children stands))
+              (inside_less h.source h.context.scopes s.body (s.body + span_forms (form.more (form.seq fs) es))
+              (s.body + span_forms fs) (omega arith) nested),
         ),
         numbered s q (form.seq fs) es r (list_span fs inner c s r)
             (tops_cover shapes tops (past s q) r g a z k
             (forms_stand_on h.source z s q (form.seq fs) es (list_span fs inner c s r) st.1) n.1 parts.1 low u.1 w
-            (then_stands all s q rest.children stands)),
+            (then_stands all s q rest.children stands) (inside_past h.source h.context.scopes s q (form.seq fs) es
+            (list_span fs inner c s r)
+            (first_closed (list_before {fs = fs} {es = es} inner tops) h.source z s.body st) nested)),
       )

@@ -1,7 +1,7 @@
 -- What a step leaves as it is: all but the list of registers of the frame that runs, its scope, and the world, to which
 -- activations are added.
-use Rattle.std.proofs.Common.{◌≡◌, ◌≢◌, ℕ, ◌+◌, ◌-◌, ◌≤◌, List, [], ◌∷◌, refl, sym, ap, ◌∙◌, subst, arith, length, length-set, length-append, get_or, Bool, true, false, ⊎_elim}
-use Rattle.std.specs.Prelude.{nat_eq, if◌then◌else◌, Option, unwrap_or, slice_get}
+use Rattle.std.proofs.Common.{◌≡◌, ◌≢◌, ℕ, ◌+◌, ◌-◌, ◌<◌, ◌≤◌, List, [], ◌∷◌, refl, sym, ap, ◌∙◌, subst, arith, length, length-set, length-append, get_or, Bool, true, false, inl, ⊎_elim}
+use Rattle.std.specs.Prelude.{nat_eq, if◌then◌else◌, Option, Some, None, unwrap_or, slice_get}
 use Rattle.std.proofs.lemmas.Bool.{cases_eq, eqb-true, eqb-false}
 use Rattle.std.proofs.lemmas.List.{append-nil, get_or_append_left}
 use Rattle.rb_value.specs.declared.value.Value.{Value}
@@ -20,8 +20,11 @@ use Rattle.def_eval.specs.Scopes.{value_in, scope_at, put_in, with_variable}
 use Rattle.def_machine.specs.State as machine
 use Rattle.def_machine.specs.State.{Registers, Frame, Level, frame, body_at, list_at, slot_at, value_at, put}
 use Rattle.step_laws.specs.Site.{Site, place_in, register, Known}
-use Rattle.step_laws.specs.Calm.{Grows}
-use Rattle.step_laws.specs.Relation.{EndsBy, stops, returns, Ends, IsSite, Waits, Ground, over_levels, InFrame, Same, Owned, SiteIs, SitesAre, FibersAre, AllFibers, uses, uses_in, Both, Running}
+use Rattle.step_laws.specs.Calm.{GrowsBy, Grows}
+use Rattle.def_core.specs.Sound.{OptionIs}
+use Rattle.eval_laws.specs.Procs.{HasProc}
+use Rattle.step_laws.specs.Around.{further_slots}
+use Rattle.step_laws.specs.Relation.{EndsBy, stops, returns, Ends, IsSite, Waits, Ground, over_levels, InFrame, Same, Owned, SiteIs, Linked, SeesIn, SitesAre, FibersAre, AllFibers, uses, uses_in, Both, Running}
 use Rattle.scope_laws.specs.Numbers.{parents, outers}
 use Rattle.step_laws.proofs.Registers.{Keeps, inside_kept, outers_put, parents_put, list_other, length_put, scope_other, same_above, put_alike, assigned}
 
@@ -146,10 +149,15 @@ same_elsewhere h cs cs' l l' s scope scopes list lists = record {
 -- the scope and the list of one site change, and no others
 sites_changed : (s : Source) (p : Program) (hs : List Site) (cs cs' : List Scope) (l l' : List Registers) (w : World)
     (h : Site) → SitesAre s p hs cs l w → IsSite hs h → Same h cs' l' → length cs' ≡ length cs → length l' ≡ length l
-    → ((n : ℕ) → n ≢ h.list → scope_at cs' n ≡ scope_at cs n) → OnlyIn h.list l l' → outers l' ≡ parents cs'
-    → SitesAre s p hs cs' l' w
-sites_changed s p hs cs cs' l l' w h a site same scopes lists elsewhere o around = record {
-  around = around;
+    → ((n : ℕ) → n ≢ h.list → scope_at cs' n ≡ scope_at cs n) → OnlyIn h.list l l' → outers l' ≡ outers l
+    → parents cs' ≡ parents cs → SitesAre s p hs cs' l' w
+sites_changed s p hs cs cs' l l' w h a site same scopes lists elsewhere o outside around = record {
+  around = outside ∙ a.around ∙ sym around;
+  linked = λ d is. subst (λ (os : List (Option ℕ)). Linked hs (further_slots d.context.scopes) (get_or os d.list None))
+      (sym around) (a.linked d is);
+  below = λ d is. subst (λ (os : List (Option ℕ)). OptionIs (λ n. n < d.list) (get_or os d.list None)) (sym around)
+      (a.below d is);
+  procs = a.procs;
   scopes = scopes ∙ a.scopes;
   lists = lists ∙ a.lists;
   each = λ d is. ⊎_elim (λ e. at d is (a.each d is) (subst (λ (q : Site). Same q cs' l') (sym (site_is hs h d site is e)) same))
@@ -171,24 +179,40 @@ sites_changed s p hs cs cs' l l' w h a site same scopes lists elsewhere o around
     }
 
 -- activations that are there stay
-pub activation_kept : (w u : World) (a : ℕ) → Grows w u → 1 ≤ a → a ≤ length w.activations
-    → activation_at u a ≡ activation_at w a
+pub activation_kept : (made : Option (ℕ × List ℕ)) (w u : World) (a : ℕ) → GrowsBy made w u → 1 ≤ a
+    → a ≤ length w.activations → activation_at u a ≡ activation_at w a
 unfolding activation_at
-activation_kept w u a g low high =
+activation_kept made w u a g low high =
     ap (λ (xs : List Activation). get_or xs (a - 1) no_activation) g.is
     ∙ get_or_append_left w.activations g.more no_activation (a - 1) (omega (arith, low, high))
 
-pub same_activations : (w u : World) → u.activations ≡ w.activations → Grows w u
-same_activations w u e = record { more = []; is = e ∙ sym (append-nil w.activations) }
+-- nothing is added
+pub same_world : (w : World) → Grows w w
+same_world w = record { more = []; is = sym (append-nil w.activations); procs = λ b ns is. inl is }
 
-pub sites_grow : (s : Source) (p : Program) (hs : List Site) (cs : List Scope) (l : List Registers) (w u : World)
-    → Grows w u → SitesAre s p hs cs l w → SitesAre s p hs cs l u
-sites_grow s p hs cs l w u g a =
-    record { scopes = a.scopes; lists = a.lists; around = a.around; each = λ h is. at h (a.each h is) }
+-- nor is it to the Procs, of which none is made
+pub same_activations : (w u : World) → u.activations ≡ w.activations
+    → ((b : ℕ) (ns : List ℕ) → HasProc u.store.objects b ns → HasProc w.store.objects b ns) → Grows w u
+same_activations w u e all =
+    record { more = []; is = e ∙ sym (append-nil w.activations); procs = λ b ns is. inl (all b ns is) }
+
+-- where a Proc is made it sees what is around its literal
+pub sites_grow_by : (made : Option (ℕ × List ℕ)) (s : Source) (p : Program) (hs : List Site) (cs : List Scope)
+    (l : List Registers) (w u : World) → GrowsBy made w u → ((b : ℕ) (ns : List ℕ) → made ≡ Some (b, ns) → SeesIn s hs b ns)
+    → SitesAre s p hs cs l w → SitesAre s p hs cs l u
+sites_grow_by made s p hs cs l w u g sees a = record {
+  scopes = a.scopes;
+  lists = a.lists;
+  around = a.around;
+  each = λ h is. at h (a.each h is);
+  linked = a.linked;
+  below = a.below;
+  procs = λ b ns is. ⊎_elim (λ old. a.procs b ns old) (λ new. sees b ns new) (g.procs b ns is);
+}
   where
     at : (h : Site) → SiteIs s p h cs l w → SiteIs s p h cs l u
     at h i =
-        let e = activation_kept w u h.activation g i.from_one i.opened in
+        let e = activation_kept made w u h.activation g i.from_one i.opened in
         let longer = ap length g.is ∙ length-append w.activations g.more in
         record {
           source = i.source;
@@ -201,6 +225,13 @@ sites_grow s p hs cs l w u g a =
           runs = ap (λ (x : Activation). x.runs) e ∙ i.runs;
           home = λ r is. ap (λ (x : Activation). x.home) e ∙ i.home r is;
         }
+
+no_literal : (b : ℕ) (ns : List ℕ) → ◌≡◌ {A = Option (ℕ × List ℕ)} None (Some (b, ns)) → ⊥
+no_literal b ns e = absurd (cc e)
+
+pub sites_grow : (s : Source) (p : Program) (hs : List Site) (cs : List Scope) (l : List Registers) (w u : World)
+    → Grows w u → SitesAre s p hs cs l w → SitesAre s p hs cs l u
+sites_grow s p hs cs l w u g a = sites_grow_by None s p hs cs l w u g (λ b ns e. absurd (no_literal b ns e)) a
 
 -- Both sides, after a change.
 
@@ -218,6 +249,22 @@ module _ {s : Source} {p : Program} where
   pub same_here : (g : Ground) (h : Site) (m : source.Memory) (k : machine.Memory) → Running s p g h m k
       → Same h m.scopes k.lists
   same_here g h m k b = (b.all.sites.each h b.site).same
+
+  -- a Proc is made of a body that sees what is around its literal
+  pub made_here : (g : Ground) (h : Site) (m : source.Memory) (k : machine.Memory) → Running s p g h m k → (w : World)
+      (made : Option (ℕ × List ℕ)) → GrowsBy made m.world w
+      → ((b : ℕ) (ns : List ℕ) → made ≡ Some (b, ns) → SeesIn s g.sites b ns)
+      → Running s p g h (source.with_world m w) (machine.with_world k w)
+  made_here g h m k b w made grows sees = record {
+    all = record {
+      world = refl;
+      sites = sites_grow_by made s p g.sites m.scopes k.lists m.world w grows sees b.all.sites;
+      fibers = b.all.fibers;
+      apart = b.all.apart;
+    };
+    site = b.site;
+    free = b.free;
+  }
 
   pub grown_here : (g : Ground) (h : Site) (m : source.Memory) (k : machine.Memory) → Running s p g h m k → (w : World)
       → Grows m.world w → Running s p g h (source.with_world m w) (machine.with_world k w)
@@ -261,7 +308,7 @@ module _ {s : Source} {p : Program} where
       changed g h m m k (record k { lists = put k.lists h.list r (V v) }) b b.all.world refl refl refl
       (sites_changed s p g.sites m.scopes m.scopes k.lists (put k.lists h.list r (V v)) m.world h b.all.sites b.site
       (same_above h m.scopes k.lists r v i.static above i.same) refl (length_put k.lists h.list r (V v)) (λ n ne. refl) o
-      (outers_put k.lists h.list r (V v) ∙ b.all.sites.around)) o
+      (outers_put k.lists h.list r (V v)) refl) o
 
   -- a local of the body is assigned
   pub assigned_here : (g : Ground) (h : Site) (m : source.Memory) (k : machine.Memory) → Running s p g h m k → (x : Local)
@@ -279,7 +326,7 @@ module _ {s : Source} {p : Program} where
       (put_alike h m.scopes k.lists x v i.static i.same known (omega (arith, known.low, i.static.room)))
       (length-set m.scopes h.list _) (length_put k.lists h.list (register h x) (V v))
       (λ n ne. scope_other m.scopes h.list n (x) v ne) o
-      (outers_put k.lists h.list (register h x) (V v) ∙ b.all.sites.around ∙ sym (parents_put m.scopes h.list x v)))) o
+      (outers_put k.lists h.list (register h x) (V v)) (parents_put m.scopes h.list x v))) o
 
   -- The frame that runs begins to wait, and one that waits runs again.
 

@@ -1,5 +1,5 @@
 -- The step law, by cases on the focus, and the theorem for a main program.
-use Rattle.std.proofs.Common.{◌≡◌, ℕ, zero, suc, List, [], ◌∷◌, refl, sym, ap, ◌∙◌, subst, arith, length, length-set, get_or, get_or-set_same, get_or-set_other, replicate, Bool, true, false, true≢false, inl}
+use Rattle.std.proofs.Common.{◌≡◌, ◌<◌, ℕ, zero, suc, List, [], ◌∷◌, refl, sym, ap, ◌∙◌, subst, arith, length, length-set, get_or, get_or-set_same, get_or-set_other, replicate, Bool, true, false, true≢false, inl}
 use Rattle.std.specs.Prelude.{Option, Some, None, unwrap_or, if◌then◌else◌, slice_get}
 use Rattle.std.proofs.lemmas.List.{length-replicate}
 use Rattle.rb_value.specs.declared.value.Value.{Value}
@@ -26,13 +26,18 @@ use Rattle.def_eval.specs.Transition.{go}
 use Rattle.def_machine.specs.State as machine
 use Rattle.def_machine.specs.State.{Level, State, On, Off, Stuck, start, shown, frame}
 use Rattle.def_machine.specs.Turn.{turn}
-use Rattle.step_laws.specs.Site.{Site, LineAt, register}
+use Rattle.def_core.specs.Sound.{OptionIs}
+use Rattle.eval_laws.specs.Procs.{HasProc}
+use Rattle.step_laws.proofs.Symbols.{opening_objects}
+use Rattle.step_laws.proofs.Procless.{are_bodiless, has_none, opening_bodiless}
+use Rattle.step_laws.specs.Around.{further_slots}
+use Rattle.step_laws.specs.Site.{Site, LineAt, register, opening_store}
 use Rattle.step_laws.specs.Covers.{Covers}
 use Rattle.step_laws.specs.Calm.{IsCalm, StaysCalm}
 use Rattle.step_laws.specs.Measure.{measure}
 use Rattle.step_laws.specs.Implements.{main_site, IsCodeOf, Implements}
 use Rattle.step_laws.specs.Behind.{Static}
-use Rattle.step_laws.specs.Relation.{Same, Common, Doing, GivesIn, raised, leaping, returning, going_far, Step, stops, Ground, SiteIs, SitesAre, Both, Running, Alike, Advances, Shared, Throwing, Leaps, GoesHome, GoesFar, Travels}
+use Rattle.step_laws.specs.Relation.{Same, Common, Doing, GivesIn, raised, leaping, returning, going_far, Step, stops, Ground, SiteIs, Linked, SitesAre, Both, Running, Alike, Advances, Shared, Throwing, Leaps, GoesHome, GoesFar, Travels}
 use Rattle.step_laws.proofs.Placed.{high, Stands, Rest, frame_at}
 use Rattle.step_laws.proofs.Matching.{state_at}
 use Rattle.step_laws.proofs.Literals.{aligned, do_nil, do_truth, do_falsehood, do_self, do_int}
@@ -87,10 +92,10 @@ module _ (g : Ground) (h : Site) (static : Static h) (ks : List Item) (m : sourc
   form_matched j (form.in_constant e x) c d = do_in_constant g h static j ks m ls k both c.0 e x d
   form_matched j (form.set_constant x e) c d = do_set_constant g h static j ks m ls k both c.0 x e d
   form_matched j (form.set_in_constant e x v) c d = do_set_in_constant g h static j ks m ls k both c.0 e x v d
-  form_matched j (form.array is) c d = do_array g h static j ks m ls k both is d
-  form_matched j (form.hash ps) c d = do_hash g h static ks m ls k both j ps d
+  form_matched j (form.array is) c d = do_array g h static j ks m ls k both is d c.3.quiet
+  form_matched j (form.hash ps) c d = do_hash g h static ks m ls k both j ps d c.3.quiet
   form_matched j (form.range a b x) c d = do_range g h static j ks m ls k both c.0 a b x d
-  form_matched j (form.text es) c d = do_text g h static ks m ls k both j es d
+  form_matched j (form.text es) c d = do_text g h static ks m ls k both j es d c.3.quiet
   form_matched j (form.intern e) c d = do_intern g h static j ks m ls k both c.0 e d
   form_matched j (form.seq es) c d = do_seq g h static ks m ls k both j es d
   form_matched j (form.cond bs o) c d = do_cond g h static ks m ls k both j bs o d
@@ -136,10 +141,10 @@ module _ (g : Ground) (h : Site) (static : Static h) (ks : List Item) (m : sourc
   part_matched v (receiver j x is b) c d = give_receiver g h static ks m ls k both c.0 v j x is b d c.3
   part_matched v (items j s recv vs is b) c d = give_item g h static ks m ls k both c.0 v j s recv vs is b d c.3
   part_matched v (block s recv vs) c d = give_block g h static ks m ls k both c.0 v s recv vs d c.3
-  part_matched v (elements j q o s is) c d = give_element g h static j ks m ls k both v j q o s is d c.1
+  part_matched v (elements j q o s is) c d = give_element g h static j ks m ls k both v j q o s is d c.1 c.3.quiet
   part_matched v (hash_key j o e ps) c d = give_key g h static ks m ls k both v j o e ps d
   part_matched v (hash_value j o u ps) c d = give_pair g h static ks m ls k both v j o u ps d c.1 c.3.quiet
-  part_matched v (pieces j o es) c d = give_piece g h static ks m ls k both v j o es d c.1
+  part_matched v (pieces j o es) c d = give_piece g h static ks m ls k both v j o es d c.1 c.3.quiet
   part_matched v (rest j es) c d = give_rest g h static ks m ls k both v j es d
   part_matched v (test j b bs o) c d = give_test g h static ks m ls k both v j b bs o d
   part_matched v chosen c d = give_chosen g h static ks m ls k both v d
@@ -190,7 +195,7 @@ module _ (s : Source) (p : Program) (ks : List Item) (m : source.Memory) (ls : L
 thrown_on : (s : Source) (p : Program) (x : Exit) (ks : List Item) (m : source.Memory) (ls : List Level)
     (k : machine.Memory) → Throwing s p x ks m ls k → IsCalm s p (Run (travel x) ks m)
     → Advances s p (Run (travel x) ks m) (On ls k)
-thrown_on s p x [] m ls k z calm = travel_end s p m ls k x z
+thrown_on s p x [] m ls k z calm = travel_end s p m ls k x z calm.3.quiet
 thrown_on s p x (part q ∷ ks) m ls k z calm = travel_part_on s p m ls k x q ks z
 thrown_on s p x (activation a q ∷ ks) m ls k z calm = travel_activation_on s p m ls k x a q ks z calm.3.quiet
 thrown_on s p x (iteration a it q ∷ ks) m ls k z calm = travel_iteration_on s p m ls k x a it q ks z calm.2 calm.3.quiet
@@ -273,7 +278,7 @@ matched s p (Run (perform j e) ks m) (On ls k) r calm o =
     in_frame s p ks m ls k (perform j e) r.0 r.1 r.2 (λ static both here.
     on_levels s p ks m ls k (perform j e) r.1 (frame (frame_at r.1 r.3.x r.3.n) ∷ r.0.below) r.3.is
     (form_matched r.0 r.1 static ks m ls k both j e here r.3)) calm
-matched s p (Run (give v) [] m) (On ls k) r calm o = give_end s p v m ls k r
+matched s p (Run (give v) [] m) (On ls k) r calm o = give_end s p v m ls k r calm.3.quiet
 matched s p (Run (give v) (part q ∷ ks) m) (On ls k) r calm o =
     in_frame s p (part q ∷ ks) m ls k (give v) r.0 r.1 r.2 (λ static both here.
     on_levels s p (part q ∷ ks) m ls k (give v) r.1 (frame (frame_at r.1 r.3.x r.3.n) ∷ r.0.below) r.3.is
@@ -398,9 +403,32 @@ module _ (s : Source) (p : Program) (input : List ℕ) (c : IsCodeOf s p) where
   opening_sites : SitesAre s p (h ∷ [])
       (record { parent = None; variables = all_nil (locals_of (body_at s 0)) } ∷ [])
       (machine.fresh_registers (machine.body_at p 0) None (Obj main_object) ∷ []) (opening_world (all_names s) input)
-  unfolding activation_at
-  opening_sites = record { scopes = refl; lists = refl; around = refl; each = λ d is. at d d.list is }
+  unfolding activation_at opening_store
+  opening_sites = record {
+    scopes = refl;
+    lists = refl;
+    around = refl;
+    each = λ d is. at d d.list is;
+    linked = λ d is. alone d d.list is;
+    below = λ d is. nothing d.list;
+    procs = λ b ns has. absurd (has_none (opening_store s).objects b ns
+        (ap are_bodiless (opening_objects s) ∙ opening_bodiless) (stored b ns has));
+  }
     where
+      stored : (b : ℕ) (ns : List ℕ) → HasProc (opening_world (all_names s) input).store.objects b ns
+          → HasProc (opening_store s).objects b ns
+      stored b ns has = has
+
+      nothing : (n : ℕ) → OptionIs (λ i. i < n) (get_or (None ∷ []) n None)
+      nothing zero = tt
+      nothing (suc n) = tt
+
+      alone : (d : Site) (n : ℕ) → slice_get (h ∷ []) n ≡ Some d
+          → Linked (h ∷ []) (further_slots d.context.scopes) (get_or (None ∷ []) n None)
+      alone d zero e = subst (λ (q : Site). further_slots q.context.scopes ≡ [])
+          (ap (λ (o : Option Site). unwrap_or o h) e) c.alone
+      alone d (suc n) e = absurd (cc e)
+
       main : SiteIs s p h (record { parent = None; variables = all_nil (locals_of (body_at s 0)) } ∷ [])
           (machine.fresh_registers (machine.body_at p 0) None (Obj main_object) ∷ []) (opening_world (all_names s) input)
       main = record {

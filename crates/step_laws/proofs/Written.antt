@@ -13,13 +13,13 @@ use Rattle.ir_counts.specs.declared.tally.Tally.{Tally}
 use Rattle.ir_counts.specs.Counts.{tally}
 use Rattle.scope_resolver.specs.declared.body_kind.BodyKind.{BodyKind}
 use Rattle.scope_resolver.specs.declared.body_kind.BodyKind.TheVariants as kind
-use Rattle.scope_resolver.specs.Layout.{Scopes, seen_around}
+use Rattle.scope_resolver.specs.Layout.{Scopes, scopes_in, seen_around}
 use Rattle.gen_parts.specs.declared.emitter.Spot.{Spot}
 use Rattle.gen_parts.specs.Pieces.{Piece, past, nothing, both, puts, makes, does}
 use Rattle.gen_forms.specs.Gen.{Context, gen, others_in_turn, first_register, opening}
 use Rattle.code_laws.proofs.Shares.{Noted, Noted_all, Fits, many, many_all, many_body}
 use Rattle.code_laws.proofs.Operating.{AreShort}
-use Rattle.def_eval.specs.Source.{Source, over, over_body, over_forms, over_items, how_many, in_order, span, parameters_of, locals_of}
+use Rattle.def_eval.specs.Source.{Source, over, over_body, over_forms, over_items, how_many, in_order, span, span_forms, parameters_of, locals_of}
 use Rattle.step_laws.specs.Plain.{IsPlain, ArePlainItems}
 use Rattle.step_laws.specs.Bodies.{AreSingle}
 use Rattle.step_laws.specs.Tops.{AreNamed, within_closed, IsPlainMethod, IsPlainBlock, IsPlainReceiver, IsPlainCall, IsLast, assigns_it, returns_it, AreTops, no_tops, form_before, method_before, call_before, value_before, list_before}
@@ -27,8 +27,12 @@ use Rattle.step_laws.proofs.Found.{both_true}
 use Rattle.eval_laws.specs.Kinds.{Kind, of_program, of_block, of_method, of_class, kinds, kinds_body, kinds_forms, kinds_items, kinds_receiver}
 use Rattle.eval_laws.specs.Standing.{FormStands, FormsStand, BlockStands}
 use Rattle.eval_laws.proofs.Sizes.{size}
+use Rattle.eval_laws.proofs.Forming.{body_from}
 use Rattle.step_laws.proofs.Bodiless.{no_bodies, none_in_items}
-use Rattle.step_laws.proofs.Fitting.{Around, none_around, w as body_room}
+use Rattle.step_laws.proofs.Fitting.{Around as Fit, none_around, w as body_room}
+use Rattle.step_laws.specs.Around.{slots_for, Around}
+use Rattle.step_laws.proofs.Around.{method_alone}
+use Rattle.step_laws.proofs.Nested.{block_stands, last_stands, first_closed, Closed, Inside, inside_past, inside_less, block_sees, inside_new}
 use Rattle.step_laws.proofs.Catchless.{IsBare, bare}
 use Rattle.step_laws.proofs.Making.{last_tables, last_span, last_many, form_spot, spot_body, body_irep, inner_bodies, code_of_method, turn_bodies, form_span, method_span, call_made, none_in_receiver, call_span, call_number, tops_span, list_span, form_many, method_many, call_many, tops_many}
 
@@ -36,7 +40,7 @@ use Rattle.step_laws.proofs.Making.{last_tables, last_span, last_many, form_spot
 -- within its own locals.
 pub record Written (s : Source) (k : BodyKind) (n : ℕ) (b : Body) (i : Irep) : Type 0 where
   pub around : Scopes
-  pub out : Around k around
+  pub out : Fit k around
   pub fits : Fits b
   pub few : many (form_of b) ≤ 65535
   pub within : program.Around
@@ -50,6 +54,7 @@ pub record Written (s : Source) (k : BodyKind) (n : ℕ) (b : Body) (i : Irep) :
   pub defaults : has_defaults (parameters_of b).optional (form_of b) ≡ true
   pub named : AreNamed (all_parameters (parameters_of b) ++ locals_of b)
   pub tops : AreTops (form.more (form_of b) form.none)
+  pub sees : Around s n (seen_around k around)
   pub is : i ≡ body_irep k around n b
 
 abbrev pub WrittenAs : Source → Kind → ℕ → Body → Irep → Type 0
@@ -98,14 +103,15 @@ nth_written s n (suc j) (l ∷ ks) (c ∷ bs) (h ∷ is) k b i w e =
 
 -- Where forms in turn stand: the scopes around, each of which has few locals, are no more than the bodies before, and with
 -- those in the forms these are few.
-pub record Reaches (c : Context) (s : Spot) (es : Forms) : Type 0 where
+pub record Reaches (src : Source) (c : Context) (s : Spot) (es : Forms) : Type 0 where
+  pub inside : Inside src c.scopes s.body (s.body + span_forms es)
   pub short : AreShort c.scopes
   pub deep : length c.scopes ≤ s.body
   pub few : s.body + many_all es ≤ 65536
 
 -- what is shown of forms in turn
 abbrev AllMade : Source → Forms → Type 0
-AllMade src es = (t : Tally) (a : program.Around) (c : Context) (s : Spot) (r : ℕ) → Reaches c s es
+AllMade src es = (t : Tally) (a : program.Around) (c : Context) (s : Spot) (r : ℕ) → Reaches src c s es
     → FormsStand src a s.body es → Noted_all t es → are_forms a es ≡ true
     → AllWritten src s.body (kinds_forms es) (over_forms in_order es) (others_in_turn c s r es).bodies
 
@@ -123,11 +129,12 @@ of_one src f c s r all =
     (append-nil (kinds f)) all))
 
 -- the bodies in a body
-inner_written : (src : Source) (k : BodyKind) (sc : Scopes) (out : Around k sc) (n : ℕ) (p : form.Parameters)
+inner_written : (src : Source) (k : BodyKind) (sc : Scopes) (out : Fit k sc) (n : ℕ) (p : form.Parameters)
     (ls : List Local) (f : CoreForm) → Fits (form.body p ls f) → (a : program.Around) → length (seen_around k sc) ≤ n
-    → n + (1 + many f) ≤ 65536 → FormStands src a (n + 1) f → is_form a f ≡ true → AllMade src (form.more f form.none)
+    → n + (1 + many f) ≤ 65536 → Inside src (scopes_in k (form.body p ls f) sc) (n + 1) (n + 1 + span f)
+    → FormStands src a (n + 1) f → is_form a f ≡ true → AllMade src (form.more f form.none)
     → AllWritten src (n + 1) (kinds f) (over in_order f) (inner_bodies k sc n (form.body p ls f))
-inner_written src k sc out n p ls f fits a deep few st formed made =
+inner_written src k sc out n p ls f fits a deep few nested st formed made =
     let b = form.body p ls f in
     let t = tally b in
     let c = opening k b sc t in
@@ -136,6 +143,8 @@ inner_written src k sc out n p ls f fits a deep few st formed made =
     let number = spot_body n (length p.optional) in
     subst (λ (i : ℕ). AllWritten src i (kinds f) (over in_order f) (inner_bodies k sc n b)) number
     (of_one src f c sp r (made t a c sp r (record {
+      inside = subst (λ (i : ℕ). Inside src c.scopes i (i + span_forms (form.more f form.none))) (sym number)
+          (inside_less src c.scopes (n + 1) (n + 1 + span f) (n + 1 + span_forms (form.more f form.none)) (omega arith) nested);
       short = (body_room k sc out p ls f fits).able.each;
       deep = omega (arith, deep, number);
       few = omega (arith, few, number);
@@ -163,6 +172,7 @@ method_written src t a c s r x (form.body p ls f) m tops made few st n h =
     let same : k ≡ s.body = omega arith in
     let formed = (both_true (has_defaults p.optional f) (is_form (within_method p ls) f) h).1 in
     let out = none_around kind.Method (omega arith) in
+    let alone = method_alone src s.body st.1.4 in
     subst (λ (is : List Irep). AllWritten src s.body (of_method ∷ kinds f) (b ∷ over in_order f) is)
     (sym (code_of_method c.scopes k b m))
     (subst (λ (i : ℕ). AllWritten src s.body (of_method ∷ kinds f) (b ∷ over in_order f)
@@ -183,9 +193,12 @@ method_written src t a c s r x (form.body p ls f) m tops made few st n h =
         defaults = m.defaults;
         named = m.named;
         tops = tops;
+        sees = alone;
         is = refl;
       },
-      inner_written src kind.Method [] out s.body p ls f n.1 (within_method p ls) (omega arith) few st.1.2 formed made,
+      inner_written src kind.Method [] out s.body p ls f n.1 (within_method p ls) (omega arith) few
+          (inside_new src s.body of_method [] (scopes_in kind.Method b []) b (body_from src s.body b st.1.0) st.1.4 alone refl)
+          st.1.2 formed made,
     ))
 
 kinds_in_receiver : (e : Receiver) → IsPlainReceiver e → kinds_receiver e ≡ []
@@ -213,26 +226,21 @@ call_bodies e x is f m =
     ∙ ap (λ (bs : List Body). bs ++ over_body in_order f)
     (none_in_items in_order (λ y. refl) refl is m.items)
 
--- what stands of the block
-block_stands : (src : Source) (a : program.Around) (n : ℕ) (e : Receiver) (x : Name) (is : Items) (b : Body)
-    → IsPlainCall e is → FormStands src a n (form.call e x is (form.there (form.function b))) → BlockStands src a n b
-block_stands src a n e x is b m st = subst (λ (i : ℕ). BlockStands src a i b) (call_number n e is m) st.3
-
 call_written : (src : Source) (t : Tally) (a : program.Around) (c : Context) (s : Spot) (r : ℕ) (e : Receiver) (x : Name)
     (is : Items) (f : Body) → IsPlainCall e is → IsPlainBlock f → (tops : AreTops (form.more (form_of f) form.none))
     → AllMade src (form.more (form_of f) form.none) → AreShort c.scopes → length c.scopes ≤ s.body
-    → s.body + many_body f ≤ 65536 → BlockStands src a s.body f
+    → s.body + many_body f ≤ 65536 → Around src s.body c.scopes → BlockStands src a s.body f
     → Noted t (form.call e x is (form.there (form.function f)))
     → is_form a (form.call e x is (form.there (form.function f))) ≡ true
     → AllWritten src s.body (kinds (form.call e x is (form.there (form.function f))))
     (over in_order (form.call e x is (form.there (form.function f))))
     (gen c s r (form.call e x is (form.there (form.function f)))).bodies
-call_written src t a c s r e x is (form.body p ls f) m block tops made short deep few st n h =
+call_written src t a c s r e x is (form.body p ls f) m block tops made short deep few sees st n h =
     let b = form.body p ls f in
     let second = (both_true (is_receiver a e) (are_items a is && is_block a b) h).1 in
     let third = (both_true (are_items a is) (is_block a b) second).1 in
     let formed = (both_true (has_defaults p.optional f) (is_form (within_block a p ls) f) third).1 in
-    let out : Around kind.Block c.scopes = record { short = short; few = omega (arith, deep, few) } in
+    let out : Fit kind.Block c.scopes = record { short = short; few = omega (arith, deep, few) } in
     subst (λ (ks : List Kind). AllWritten src s.body ks (over in_order (form.call e x is (form.there (form.function b))))
     (gen c s r (form.call e x is (form.there (form.function b)))).bodies) (sym (call_kinds e x is b m))
     (subst (λ (bs : List Body). AllWritten src s.body (of_block ∷ kinds f) bs
@@ -255,9 +263,12 @@ call_written src t a c s r e x is (form.body p ls f) m block tops made short dee
         defaults = block.defaults;
         named = block.named;
         tops = tops;
+        sees = sees;
         is = refl;
       },
-      inner_written src kind.Block c.scopes out s.body p ls f n.3.1 (within_block a p ls) deep few st.2 formed made,
+      inner_written src kind.Block c.scopes out s.body p ls f n.3.1 (within_block a p ls) deep few
+          (inside_new src s.body of_block c.scopes (scopes_in kind.Block b c.scopes) b (body_from src s.body b st.0) st.4 sees
+          refl) st.2 formed made,
     )))
 
 -- What is shown of the form whose value is taken is so of what takes it.
@@ -265,11 +276,6 @@ call_written src t a c s r e x is (form.body p ls f) m block tops made short dee
 last_many_of : {f e : CoreForm} → IsLast f e → many_all (form.more e form.none) ≤ many f
 last_many_of (assigns_it {x} {e} is) = omega arith
 last_many_of (returns_it {e}) = omega arith
-
-pub last_stands : {f e : CoreForm} → IsLast f e → (src : Source) (a : program.Around) (n : ℕ) → FormStands src a n f
-    → FormStands src a n e
-last_stands (assigns_it is) src a n st = st.1
-last_stands returns_it src a n st = st
 
 pub last_noted : {f e : CoreForm} → IsLast f e → (t : Tally) → Noted t f → Noted t e
 last_noted (assigns_it is) t n = n.1
@@ -289,11 +295,28 @@ last_written (returns_it {e}) src c s r all =
     subst (λ (bs : List Irep). AllWritten src s.body (kinds e) (over in_order e) bs)
     (sym (last_tables (returns_it {e = e}) c s r).bodies) all
 
+-- what takes the value of a form has its bodies
+pub last_wide : {f e : CoreForm} → IsLast f e → span f ≡ span e
+last_wide (assigns_it is) = refl
+last_wide returns_it = refl
+
+-- the block of a call sees the slots of the body that the call stands in
+pub call_sees : (src : Source) (a : program.Around) (scopes : Scopes) (n m : ℕ) (e : Receiver) (x : Name) (is : Items)
+    (f : Body) → IsPlainCall e is → FormStands src a n (form.call e x is (form.there (form.function f)))
+    → n + span (form.call e x is (form.there (form.function f))) ≤ m → Inside src scopes n m → Around src n scopes
+call_sees src a scopes n m e x is (form.body p ls f) plain st le w =
+    let block = block_stands src a n e x is (form.body p ls f) plain st in
+    let first = none_in_receiver how_many (λ y. refl) refl e plain.receiver in
+    let items = none_in_items how_many (λ y. refl) refl is plain.items in
+    block_sees src scopes n m w (omega (arith, le, first, items)) block.4
+
 -- what follows a form reaches no further
-reaches_on : (c : Context) (s : Spot) (q : Piece) (e : CoreForm) (es : Forms) → length q.bodies ≤ many e
-    → Reaches c s (form.more e es) → Reaches c (past s q) es
+reaches_on : (src : Source) (c : Context) (s : Spot) (q : Piece) (e : CoreForm) (es : Forms) → length q.bodies ≤ many e
+    → span e ≡ length q.bodies → Closed src s.body (s.body + span e) → Reaches src c s (form.more e es)
+    → Reaches src c (past s q) es
 unfolding past
-reaches_on c s q e es le w = record {
+reaches_on src c s q e es le long closed w = record {
+  inside = inside_past src c.scopes s q e es long closed w.inside;
   short = w.short;
   deep = omega (arith, w.deep);
   few = omega (arith, w.few, le);
@@ -314,7 +337,7 @@ tops_written (form_before {e} {es} is tops) src t a c s r w st n h =
     (others_in_turn c (past s q) r es).bodies
     (none_written src s.body (kinds e) (over in_order e) q.bodies (no_kinds e is)
     (no_bodies in_order (λ y. refl) refl e is) (bare e is c s r).2) refl
-    (tops_written tops src t a c (past s q) r (reaches_on c s q e es (form_many e is c s r) w)
+    (tops_written tops src t a c (past s q) r (reaches_on src c s q e es (form_many e is c s r) (form_span e is c s r) (first_closed (form_before {e = e} {es = es} is tops) src a s.body st) w)
     (forms_stand_on src a s q e es (form_span e is c s r) st.1) n.1 parts.1)
 tops_written (method_before {x} {f} {es} m body tops) src t a c s r w st n h =
     let whole = form.define x f in
@@ -325,7 +348,9 @@ tops_written (method_before {x} {f} {es} m body tops) src t a c s r w st n h =
     (method_written src t a c s r x f m body (λ u b d v i z g o k. tops_written body src u b d v i z g o k)
     (omega (arith, w.few)) st.0 n.0 parts.0) refl
     (tops_written tops src t a c (past s q) r
-    (reaches_on c s q whole es (method_many x f m (λ d v i. tops_many body d v i) c s r) w)
+    (reaches_on src c s q whole es (method_many x f m (λ d v i. tops_many body d v i) c s r)
+    (method_span x f m (λ d v i. tops_span body d v i) c s r)
+    (first_closed (method_before {x = x} {f = f} {es = es} m body tops) src a s.body st) w)
     (forms_stand_on src a s q whole es (method_span x f m (λ d v i. tops_span body d v i) c s r) st.1) n.1 parts.1)
 tops_written (call_before {e} {x} {is} {f} {es} m block body tops) src t a c s r w st n h =
     let whole = form.call e x is (form.there (form.function f)) in
@@ -334,9 +359,12 @@ tops_written (call_before {e} {x} {is} {f} {es} m block body tops) src t a c s r
     both_written src s.body (past s q).body (kinds whole) (kinds_forms es) (over in_order whole) (over_forms in_order es)
     q.bodies (others_in_turn c (past s q) r es).bodies
     (call_written src t a c s r e x is f m block body (λ u b d v i z g o k. tops_written body src u b d v i z g o k)
-    w.short w.deep (omega (arith, w.few)) (block_stands src a s.body e x is f m st.0) n.0 parts.0) refl
+    w.short w.deep (omega (arith, w.few)) (call_sees src a c.scopes s.body (s.body + span_forms (form.more whole es)) e x is f
+    m st.0 (omega arith) w.inside) (block_stands src a s.body e x is f m st.0) n.0 parts.0) refl
     (tops_written tops src t a c (past s q) r
-    (reaches_on c s q whole es (call_many e x is f m block (λ d v i. tops_many body d v i) c s r) w)
+    (reaches_on src c s q whole es (call_many e x is f m block (λ d v i. tops_many body d v i) c s r)
+    (call_span e x is f m block (λ d v i. tops_span body d v i) c s r)
+    (first_closed (call_before {e = e} {x = x} {is = is} {f = f} {es = es} m block body tops) src a s.body st) w)
     (forms_stand_on src a s q whole es (call_span e x is f m block (λ d v i. tops_span body d v i) c s r) st.1) n.1
     parts.1)
 tops_written (value_before {f} {e} {es} is inner tops) src t a c s r w st n h =
@@ -346,10 +374,18 @@ tops_written (value_before {f} {e} {es} is inner tops) src t a c s r w st n h =
     both_written src s.body (past s q).body (kinds f) (kinds_forms es) (over in_order f) (over_forms in_order es) q.bodies
     (others_in_turn c (past s q) r es).bodies
     (last_written is src c s r (of_one src e c s r (tops_written inner src t a c s r
-    (record { short = w.short; deep = w.deep; few = omega (arith, w.few, few) }) (last_stands is src a s.body st.0, tt)
+    (record {
+      inside = inside_less src c.scopes s.body (s.body + span_forms (form.more f es))
+          (s.body + span_forms (form.more e form.none)) (omega (arith, last_wide is)) w.inside;
+      short = w.short;
+      deep = w.deep;
+      few = omega (arith, w.few, few);
+    }) (last_stands is src a s.body st.0, tt)
     (last_noted is t n.0, tt) (ap (λ (x : Bool). x && true) (last_formed is a parts.0))))) refl
     (tops_written tops src t a c (past s q) r
-    (reaches_on c s q f es (last_many is (λ d v i. tops_many inner d v i) c s r) w)
+    (reaches_on src c s q f es (last_many is (λ d v i. tops_many inner d v i) c s r)
+    (last_span is (λ d v i. tops_span inner d v i) c s r)
+    (first_closed (value_before {f = f} {e = e} {es = es} is inner tops) src a s.body st) w)
     (forms_stand_on src a s q f es (last_span is (λ d v i. tops_span inner d v i) c s r) st.1) n.1 parts.1)
 tops_written (list_before {fs} {es} inner tops) src t a c s r w st n h =
     let q = gen c s r (form.seq fs) in
@@ -358,7 +394,14 @@ tops_written (list_before {fs} {es} inner tops) src t a c s r w st n h =
     (over_forms in_order es) q.bodies (others_in_turn c (past s q) r es).bodies
     (subst (λ (is : List Irep). AllWritten src s.body (kinds_forms fs) (over_forms in_order fs) is)
     (sym (turn_bodies c s r fs)) (tops_written inner src t a c s r
-    (record { short = w.short; deep = w.deep; few = omega (arith, w.few) }) st.0 n.0.1 parts.0)) refl
+    (record {
+      inside = inside_less src c.scopes s.body (s.body + span_forms (form.more (form.seq fs) es)) (s.body + span_forms fs)
+          (omega arith) w.inside;
+      short = w.short;
+      deep = w.deep;
+      few = omega (arith, w.few);
+    }) st.0 n.0.1 parts.0)) refl
     (tops_written tops src t a c (past s q) r
-    (reaches_on c s q (form.seq fs) es (omega (arith, tops_many inner c s r, ap length (turn_bodies c s r fs))) w)
+    (reaches_on src c s q (form.seq fs) es (omega (arith, tops_many inner c s r, ap length (turn_bodies c s r fs)))
+    (list_span fs inner c s r) (first_closed (list_before {fs = fs} {es = es} inner tops) src a s.body st) w)
     (forms_stand_on src a s q (form.seq fs) es (list_span fs inner c s r) st.1) n.1 parts.1)

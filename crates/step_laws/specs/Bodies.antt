@@ -1,5 +1,5 @@
 -- Code of the body of a method or a block, and what is asked of the bodies that are entered.
-use Rattle.std.specs.Prelude.{◌≡◌, ◌⊎◌, ◌≤◌, ℕ, zero, suc, ◌+◌, List, ◌∷◌, length, Bool, Option, Some, None}
+use Rattle.std.specs.Prelude.{◌≡◌, ◌⊎◌, ◌≤◌, ℕ, zero, suc, ◌+◌, List, [], ◌∷◌, length, Bool, Option, Some, None}
 use Rattle.rb_value.specs.declared.value.Value.{Value}
 use Rattle.rb_value.specs.declared.value.ObjId.{ObjId}
 use Rattle.rb_value.specs.declared.value.SymId.{SymId}
@@ -22,6 +22,9 @@ use Rattle.def_calls.specs.World.{World, Runs, next_activation}
 use Rattle.def_calls.specs.Views.{Callable, by_body, by_row, callable_of, kind_in}
 use Rattle.def_calls.specs.Calls.{Entry, answers, enters, begins, Opening}
 use Rattle.def_eval.specs.Source.{Source, body_at, form_of, parameters_of}
+use Rattle.eval_laws.specs.Kinds.{IsKind, of_method}
+use Rattle.eval_laws.specs.Procs.{HasProc}
+use Rattle.step_laws.specs.Around.{Around}
 use Rattle.step_laws.specs.Site.{Site, at_line, LineAt, Room}
 use Rattle.step_laws.specs.Covers.{Covers, CoversAll}
 use Rattle.step_laws.specs.Standing.{high, Stands}
@@ -75,6 +78,7 @@ pub record BodyAt (h : Site) : Type 0 where
   -- the slots of its parameters and locals, and those that it sees around it
   pub around : Scopes
   pub scopes : h.context.scopes ≡ slots_of kind.Method (body_of h) ∷ around
+  pub sees : Around h.source h.body around
   pub low : 1 + length (slots_of kind.Method (body_of h)) ≤ h.first
   -- hidden locals stand behind the slots
   pub none_hidden : (d : ℕ) → seek (hidden d) (slots_of kind.Method (body_of h)) (Past 1)
@@ -109,21 +113,32 @@ pub record ProcCode (s : Source) (p : Program) (b : ℕ) : Type 0 where
   pub code : BodyCode s p b
   pub of_block : code.context.kind_of ≡ kind.Block
 
--- A body that is entered, which has such code.
-pub record OpensBody (s : Source) (p : Program) (w : World) (o : Opening) : Type 0 where
+-- and that of a method
+pub record MethodCode (s : Source) (p : Program) (b : ℕ) : Type 0 where
+  pub code : BodyCode s p b
+  pub of_method : IsKind s b of_method
+
+-- A body that is entered is that of a method, or of a Proc that there was before.
+pub data IsCalled (s : Source) (before : List Object) (o : Opening) : Type 0 where
+  by_method : IsKind s o.body of_method → o.scopes ≡ [] → IsCalled s before o
+  by_proc : HasProc before o.body o.scopes → IsCalled s before o
+
+-- It has such code.
+pub record OpensBody (s : Source) (p : Program) (before : List Object) (w : World) (o : Opening) : Type 0 where
   pub code : BodyCode s p o.body
+  pub called : IsCalled s before o
   -- a return in the code of a method ends the activation that is opened
   pub home : (r : ℕ) → return_by code.context.kind_of r ≡ op.Return r → o.activation.home ≡ next_activation w
 
 -- what a call enters is no body, or one with such code
-abbrev pub EntersBody : Source → Program → Entry → Type 0
-EntersBody s p (answers a) = Unit {0}
-EntersBody s p (enters o w) = OpensBody s p w o
-EntersBody s p (begins it a w) = Unit {0}
+abbrev pub EntersBody : Source → Program → List Object → Entry → Type 0
+EntersBody s p before (answers a) = Unit {0}
+EntersBody s p before (enters o w) = OpensBody s p before w o
+EntersBody s p before (begins it a w) = Unit {0}
 
 -- a method has no body, or one with such code
 abbrev pub IsMethod : Source → Program → Method → Type 0
-IsMethod s p (method.Body b classes) = BodyCode s p b
+IsMethod s p (method.Body b classes) = MethodCode s p b
 IsMethod s p (method.Core r) = Unit {0}
 IsMethod s p (method.Reader x) = Unit {0}
 IsMethod s p (method.Writer x) = Unit {0}
@@ -134,13 +149,13 @@ abbrev pub IsEntry : Source → Program → Option MethodEntry → Type 0
 IsEntry s p None = Unit {0}
 IsEntry s p (Some e) = IsMethod s p e.method
 
--- a Proc is that of a row, or of a block with such code
-abbrev pub HasCode : Source → Program → Option Callable → Type 0
-HasCode s p None = Unit {0}
-HasCode s p (Some (by_row r v)) = Unit {0}
-HasCode s p (Some (by_body c)) = ProcCode s p c.code
+-- a Proc is that of a row, or of a block with such code, and there was such a one before
+abbrev pub HasCode : Source → Program → List Object → Option Callable → Type 0
+HasCode s p before None = Unit {0}
+HasCode s p before (Some (by_row r v)) = Unit {0}
+HasCode s p before (Some (by_body c)) = ProcCode s p c.code × HasProc before c.code c.scopes
 
 -- The methods of all classes are such ones, and all Procs: what a call enters is one of them.
-pub record CallsBodies (s : Source) (p : Program) (objects : List Object) : Type 0 where
+pub record CallsBodies (s : Source) (p : Program) (before objects : List Object) : Type 0 where
   pub methods : (c : ObjId) (name : SymId) → IsEntry s p (entry_of objects c name)
-  pub procs : (v : Value) → HasCode s p (callable_of (kind_in objects v))
+  pub procs : (v : Value) → HasCode s p before (callable_of (kind_in objects v))

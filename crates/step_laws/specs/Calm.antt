@@ -1,5 +1,5 @@
 -- What an evaluation keeps that calls no bodies of the source but those with code.
-use Rattle.std.specs.Prelude.{◌≡◌, ◌⊎◌, ℕ, List, [], ◌∷◌, ◌++◌, length, Some}
+use Rattle.std.specs.Prelude.{◌≡◌, ◌⊎◌, ℕ, List, [], ◌∷◌, ◌++◌, length, Option, Some, None}
 use Rattle.rb_value.specs.Object.{Object}
 use Rattle.rb_value.specs.declared.value.Value.{Value}
 use Rattle.rb_value.specs.declared.value.Value.TheVariants.{Obj}
@@ -14,6 +14,7 @@ use Rattle.def_calls.specs.Views.{an_array, a_hash, a_string}
 use Rattle.def_eval.specs.Source.{Source}
 use Rattle.def_eval.specs.Configuration.{Part, operands, receiver, items, block, elements, hash_key, hash_value, pieces, rest, test, chosen, and_then, or_else, loop_test, loop_body, rescued, clause_class, clause_target, clause_body, ensured, Item, part, activation, iteration, ensuring, Focus, perform, give, travel, Memory, Config, Run, Halt}
 use Rattle.def_eval.specs.Transition.{go, go_times}
+use Rattle.eval_laws.specs.Procs.{HasProc, literal}
 use Rattle.step_laws.specs.Site.{IsThere, number}
 use Rattle.step_laws.specs.Bodies.{CallsBodies}
 
@@ -71,14 +72,23 @@ QuietFocus (give v) [] m l = l.world.out ≡ m.world.out
 QuietFocus (give v) (k ∷ ks) m l = Unit {0}
 QuietFocus (travel x) ks m l = l.world.out ≡ m.world.out
 
--- activations were added alone
-pub record Grows (w u : World) : Type 0 where
+-- activations were added, and of Procs with bodies that one alone, by its body and its scopes
+pub record GrowsBy (made : Option (ℕ × List ℕ)) (w u : World) : Type 0 where
   pub more : List Activation
   pub is : u.activations ≡ w.activations ++ more
+  pub procs : (b : ℕ) (ns : List ℕ) → HasProc u.store.objects b ns
+      → HasProc w.store.objects b ns ⊎ (made ≡ Some (b, ns))
+
+-- and none
+abbrev pub Grows : World → World → Type 0
+Grows w u = GrowsBy None w u
+
+abbrev pub QuietBy : Option (ℕ × List ℕ) → Memory → Config → Type 0
+QuietBy made m (Run f ks l) = QuietFocus f ks m l × GrowsBy made m.world l.world
+QuietBy made m (Halt e) = Unit {0}
 
 abbrev pub Quiet : Memory → Config → Type 0
-Quiet m (Run f ks l) = QuietFocus f ks m l × Grows m.world l.world
-Quiet m (Halt e) = Unit {0}
+Quiet m c = QuietBy None m c
 
 -- no body was entered: no scope was opened since
 abbrev pub Still : Memory → Config → Type 0
@@ -126,8 +136,8 @@ objects_for (travel x) ks m = m.world.store.objects
 
 -- A transition keeps the peace: it enters no body, or what it calls are methods whose bodies have code.
 pub record Peace (s : Source) (p : Program) (f : Focus) (ks : List Item) (m : Memory) : Type 0 where
-  pub quiet : Quiet m (go s (Run f ks m))
-  pub calls : Still m (go s (Run f ks m)) ⊎ CallsBodies s p (objects_for f ks m)
+  pub quiet : QuietBy (literal f m) m (go s (Run f ks m))
+  pub calls : Still m (go s (Run f ks m)) ⊎ CallsBodies s p m.world.store.objects (objects_for f ks m)
 
 -- the numbers of the program's names stay
 pub record IsSteady (s : Source) (w : World) : Type 0 where

@@ -15,6 +15,7 @@ use Rattle.def_machine.specs.State.{body_at}
 use Rattle.def_machine.specs.Turn.{fetch, shape_by}
 use Rattle.eval_laws.specs.Standing.{past_receiver, past_items}
 use Rattle.step_laws.specs.Site.{Site, within, Room, Known, Named}
+use Rattle.step_laws.specs.Around.{Around}
 use Rattle.step_laws.specs.Covered.{Covered, CoveredItems}
 
 -- the body of a method is the child of its definition
@@ -28,6 +29,8 @@ pub record Makes (h : Site) (r : ℕ) (s : Spot) (j : ℕ) (f : Body) : Type 0 w
   pub room : Room h r
   pub child : get_or (body_at h.program h.body).children s.child 0 ≡ j
   pub shape : shape_by (fetch h.program j 0) ≡ shape_of (parameters_of f)
+  -- it sees what the code around it sees
+  pub sees : Around h.source j h.context.scopes
 
 abbrev pub CoveredReceiver : Site → ℕ → Receiver → Type 0
 CoveredReceiver h r (to e) = Covered h r e

@@ -20,6 +20,7 @@ use Rattle.def_machine.specs.State.{all_symbols, start, shown}
 use Rattle.def_machine.specs.Turn.{turn}
 use Rattle.eval_laws.specs.Kinds.{IsKind, of_method, of_block}
 use Rattle.step_laws.specs.Site.{Site, at_line, LineAt, Lines, Known, register}
+use Rattle.step_laws.specs.Around.{further_slots}
 use Rattle.step_laws.specs.Covers.{Covers}
 use Rattle.step_laws.specs.Bodies.{BodyCode, ProcCode}
 
@@ -54,6 +55,8 @@ pub record IsCodeOf (s : Source) (p : Program) : Type 0 where
   pub room : first ≤ (machine.body_at p 0).registers
   pub no_catches : (machine.body_at p 0).catches ≡ []
   pub outside : context.loop ≡ None
+  -- nothing is around it
+  pub alone : further_slots context.scopes ≡ []
   pub covered : Covers (main_site s p wide at context first) None first (first_spot 0) 1 (form_of (body_at s 0))
   pub code : Lines (main_site s p wide at context first) 0
       (gen context (first_spot 0) first (form_of (body_at s 0))).lines

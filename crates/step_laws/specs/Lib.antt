@@ -1,4 +1,5 @@
 pub mod Site
+pub mod Around
 pub mod Strict
 pub mod Covered
 pub mod Covers

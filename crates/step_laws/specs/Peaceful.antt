@@ -10,7 +10,7 @@ use Rattle.step_laws.specs.Calm.{Still, objects_for}
 
 abbrev pub IsPeaceful : Source → Program → Config → Type 0
 IsPeaceful s p (Halt e) = Unit {0}
-IsPeaceful s p (Run f ks m) = Still m (go s (Run f ks m)) ⊎ CallsBodies s p (objects_for f ks m)
+IsPeaceful s p (Run f ks m) = Still m (go s (Run f ks m)) ⊎ CallsBodies s p m.world.store.objects (objects_for f ks m)
 
 abbrev pub StaysPeaceful : Source → Program → Config → Type 0
 StaysPeaceful s p c = (n : ℕ) → IsPeaceful s p (go_times n s c)

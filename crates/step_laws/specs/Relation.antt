@@ -1,6 +1,6 @@
 -- When a configuration of the evaluation and a state of the machine are alike: the fiber that runs, whose focus goes
 -- with its frame or its iteration, all that waits below, each other fiber, and each scope with its list of registers.
-use Rattle.std.specs.Prelude.{◌≡◌, ◌⊎◌, ◌<◌, ◌≤◌, ℕ, ◌+◌, List, [], ◌∷◌, length, Bool, true, false, Option, Some, None, is_some, unwrap_or, nat_eq, if◌then◌else◌, slice_get}
+use Rattle.std.specs.Prelude.{◌≡◌, ◌⊎◌, ◌<◌, ◌≤◌, ℕ, ◌+◌, List, [], ◌∷◌, length, Bool, true, false, Option, Some, None, is_some, unwrap_or, nat_eq, if◌then◌else◌, slice_get, get_or}
 use Rattle.rb_value.specs.declared.value.Value.{Value}
 use Rattle.rb_value.specs.declared.value.Value.TheVariants.{Nil}
 use Rattle.rb_value.specs.declared.value.ObjId.{ObjId}
@@ -29,6 +29,11 @@ use Rattle.def_machine.specs.State.{Registers, Frame, Level, frame, State, On, O
 use Rattle.def_machine.specs.Unwind.{receive, throw}
 use Rattle.def_machine.specs.Turn.{turn}
 use Rattle.scope_laws.specs.Numbers.{parents, outers}
+use Rattle.scope_resolver.specs.Layout.{Scopes}
+use Rattle.def_core.specs.Sound.{OptionIs}
+use Rattle.def_eval.specs.Entering.{first_of}
+use Rattle.eval_laws.specs.Procs.{HasProc}
+use Rattle.step_laws.specs.Around.{Around, further_slots}
 use Rattle.step_laws.specs.Site.{Site, within, place_in, at_line, LineAt, Room, register, Known}
 use Rattle.step_laws.specs.Covers.{Covers}
 use Rattle.step_laws.specs.Calm.{StaysCalm}
@@ -187,6 +192,16 @@ pub record SiteIs (s : Source) (p : Program) (h : Site) (cs : List Scope) (l : L
     -- a return in it ends itself, but for that of a block
     pub home : (r : ℕ) → return_by h.context.kind_of r ≡ op.Return r → (activation_at w h.activation).home ≡ h.activation
 
+-- what is around a scope is one of a body whose slots are those that its code sees around its own; where nothing is, it
+-- sees none
+abbrev pub Linked : List Site → Scopes → Option ℕ → Type 0
+Linked hs around None = around ≡ []
+Linked hs around (Some n) = (g : Site) × IsSite hs g × (g.list ≡ n) × (g.context.scopes ≡ around)
+
+-- a body of a Proc sees the slots of the body whose scope is the first around it
+abbrev pub SeesIn : Source → List Site → ℕ → List ℕ → Type 0
+SeesIn s hs b ns = (around : Scopes) × Around s b around × Linked hs around (first_of ns)
+
 -- each scope and the list of registers of its number have a site
 pub record SitesAre (s : Source) (p : Program) (hs : List Site) (cs : List Scope) (l : List Registers) (w : World)
     : Type 0 where
@@ -194,6 +209,10 @@ pub record SitesAre (s : Source) (p : Program) (hs : List Site) (cs : List Scope
   pub lists : length l ≡ length hs
   pub around : outers l ≡ parents cs
   pub each : (h : Site) → IsSite hs h → SiteIs s p h cs l w
+  pub linked : (h : Site) → IsSite hs h
+      → Linked hs (further_slots h.context.scopes) (get_or (parents cs) h.list None)
+  pub below : (h : Site) → IsSite hs h → OptionIs (λ n. n < h.list) (get_or (parents cs) h.list None)
+  pub procs : (b : ℕ) (ns : List ℕ) → HasProc w.store.objects b ns → SeesIn s hs b ns
 
 -- Fibers that wait, one by one.
 
