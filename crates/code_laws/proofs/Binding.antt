@@ -56,7 +56,7 @@ one_first x (s ∷ ss) (suc n) (suc k) f g = ap suc (one_first x ss n k f.1 g.1)
 
 -- ## A search through bodies
 
-abbrev place_by : ℕ → ℕ → Place
+abbrev pub place_by : ℕ → ℕ → Place
 place_by levels place = record { levels = levels; register = place + 1 }
 
 same_place : (levels n k : ℕ) → n ≡ 1 + k → Some (record { levels = levels; register = n }) ≡ Some (place_by levels k)
@@ -101,7 +101,7 @@ placed_from x (ss ∷ scopes) (suc levels) place before b =
     })
     ∙ ap (λ (n : ℕ). Some (place_by n place)) (omega arith)
 
-place_is : (scopes : Scopes) (x : Local) (levels place : ℕ) → IsSeen x → IsBound scopes x levels place
+pub place_is : (scopes : Scopes) (x : Local) (levels place : ℕ) → IsSeen x → IsBound scopes x levels place
     → place_of scopes x ≡ place_by levels place
 place_is scopes (named x) levels place seen b =
     ap place_or_self (placed_from (named x) scopes levels place 0 b)

@@ -9,6 +9,7 @@ use Rattle.scope_resolver.specs.declared.seek.Search.TheVariants.{Found, Past}
 use Rattle.scope_resolver.specs.Layout.{Slots, Scopes, is_at, seek, place_at, place_from, place_or_self, innermost_count, place_of}
 use Rattle.def_eval.specs.Scopes.{same_local}
 use Rattle.step_laws.specs.Site.{Site, register, Known}
+use Rattle.step_laws.specs.Around.{is_found, first_slots}
 
 -- what is found stays
 pub stays_found : (x : Local) (ss : Slots) (n : ℕ) → seek x ss (Found n) ≡ Found n
@@ -18,10 +19,6 @@ stays_found x (s ∷ ss) n = stays_found x ss n
 abbrev found_or : ℕ → Search → ℕ
 found_or other (Found n) = n
 found_or other (Past n) = other
-
-abbrev is_found : Search → Bool
-is_found (Found n) = true
-is_found (Past n) = false
 
 -- the slot of a name
 slot_is : (x : Name) (s : Option Local) → is_at (named x) s ≡ true → s ≡ Some (named x)
@@ -118,6 +115,25 @@ first_register ss around x level low = by (seek (named x) ss (Past 1)) level low
         ≡ (place_or_self (place_at q 0 None)).register
     by (Found i) level low = refl
     by (Past i) level low = absurd (omega (arith, low, further_out (named x) around 1 (omega arith) level))
+
+-- and there it is
+pub own_place : (scopes : Scopes) (x : Name) → (place_of scopes (named x)).levels ≡ 0 → 1 ≤ register_in scopes x
+    → is_found (seek (named x) (first_slots scopes) (Past 1)) ≡ true
+own_place [] x level low = absurd (omega (arith, low))
+own_place (ss ∷ around) x level low = by (seek (named x) ss (Past 1)) level low
+  where
+    by : (q : Search) → (place_or_self (place_at q 0 (place_from (named x) around 1))).levels ≡ 0
+        → 1 ≤ (place_or_self (place_at q 0 (place_from (named x) around 1))).register → is_found q ≡ true
+    by (Found i) level low = refl
+    by (Past i) level low = absurd (omega (arith, low, further_out (named x) around 1 (omega arith) level))
+
+pub own_low : (scopes : Scopes) (x : Name) → (place_of scopes (named x)).levels ≡ 0 → 1 ≤ register_in scopes x
+    → register_in scopes x ≤ length (first_slots scopes)
+own_low [] x level low = absurd (omega (arith, low))
+own_low (ss ∷ around) x level low =
+    let own = first_register ss around x level low in
+    let below = below_hidden x ss (omega (arith, own, low)) in
+    omega (arith, own, below)
 
 module _ (h : Site) (ss : Slots) (around : Scopes) (scopes : h.context.scopes ≡ ss ∷ around) where
   own_register : (x : Name) → Known h (named x) → register h (named x) ≡ register_in (ss ∷ []) x

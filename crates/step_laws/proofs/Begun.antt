@@ -1,5 +1,5 @@
 -- With which variables and registers a body begins that is entered: they are alike.
-use Rattle.std.proofs.Common.{◌≡◌, ℕ, zero, suc, ◌+◌, ◌<◌, ◌≤◌, List, [], ◌∷◌, ◌++◌, refl, sym, ap, ◌∙◌, subst, arith, length, length-append, length-set, get_or, set, replicate, Bool, true, false, get_or-set_same, get_or-set_other, inr}
+use Rattle.std.proofs.Common.{◌≡◌, ℕ, zero, suc, ◌+◌, ◌<◌, ◌≤◌, List, [], ◌∷◌, ◌++◌, refl, sym, ap, ◌∙◌, subst, arith, length, length-append, length-set, get_or, set, replicate, Bool, true, false, get_or-set_same, get_or-set_other}
 use Rattle.std.specs.Prelude.{if◌then◌else◌, Option, Some, None, is_some, unwrap_or}
 use Rattle.std.proofs.lemmas.List.{length-replicate, length-map, map-append, append_assoc, get_or_append_left, get_or_push}
 use Rattle.rb_value.specs.declared.value.Value.{Value}
@@ -21,7 +21,8 @@ use Rattle.def_machine.specs.State as machine
 use Rattle.def_machine.specs.State.{Registers, no_registers, list_at, slot_at}
 use Rattle.step_laws.specs.Site.{Site, register, Known}
 use Rattle.step_laws.specs.Bodies.{body_of, BodyAt}
-use Rattle.step_laws.specs.Relation.{IsOwn, Owned, Same}
+use Rattle.step_laws.specs.Around.{is_found, first_slots as own_of}
+use Rattle.step_laws.specs.Relation.{Mirrors, Same}
 use Rattle.step_laws.proofs.Apart.{further_out}
 use Rattle.step_laws.proofs.Parameters.{Lined, Sought, at, nowhere, sought, lined_values, lined_nils, lined_block, set_row, length_row, row_below, row_at, row_past}
 
@@ -125,6 +126,19 @@ found_slot d m f vs l x k = by (sought (named x) (own_slots d) 1 f vs l)
         ∙ further_out (named x) m.around 1 (omega arith) level in
         absurd (omega (arith, k.behind_self, none))
 
+-- variables that are lined up with the slots are those that the body has slots of
+pub mirrored_by : (x : Name) (f : ℕ → Value) (vs : List (Local × Value)) (q : Search) → Sought (named x) 1 f vs q
+    → is_some (value_in vs (named x)) ≡ is_found q
+mirrored_by x f vs q (at i le e v) = ap is_some v ∙ sym (ap is_found e)
+mirrored_by x f vs q (nowhere i le e v) = ap is_some v ∙ sym (ap is_found e)
+
+pub lined_mirrors : (d : Site) (m : BodyAt d) (f : ℕ → Value) (vs : List (Local × Value)) → Lined (own_slots d) 1 f vs
+    → (c : Scope) → c.variables ≡ vs → Mirrors d c
+lined_mirrors d m f vs l c e x =
+    ap (λ (us : List (Local × Value)). is_some (value_in us (named x))) e
+    ∙ mirrored_by x f vs (seek (named x) (own_slots d) (Past 1)) (sought (named x) (own_slots d) 1 f vs l)
+    ∙ sym (ap (λ (z : Scopes). is_found (seek (named x) (own_of z) (Past 1))) m.scopes)
+
 module _ (d : Site) (m : BodyAt d) (args : List Value) (blk : Option ObjId)
     (right : length args ≡ length (all_of (parameters_of (body_of d)))) where
   abbrev count : ℕ
@@ -193,17 +207,10 @@ module _ (d : Site) (m : BodyAt d) (args : List Value) (blk : Option ObjId)
   alike (pattern q) k = absurd k.scoped
   alike rest k = absurd k.scoped
 
-  own : (c : Scope)
-      → c.variables ≡ first_variables (parameters_of (body_of d)) (locals_of (body_of d)) args blk → Owned d c
-  own c e = inr (λ x k. its x k)
-    where
-      its : (x : Local) → Known d x → IsOwn c x
-      its (named x) k = ap (λ (vs : List (Local × Value)). is_some (value_in vs (named x))) e
-          ∙ ap is_some (found_slot d m value
-          (first_variables (parameters_of (body_of d)) (locals_of (body_of d)) args blk) lined x k)
-      its (hidden h) k = tt
-      its (pattern q) k = tt
-      its rest k = tt
+  mirrored : (c : Scope)
+      → c.variables ≡ first_variables (parameters_of (body_of d)) (locals_of (body_of d)) args blk → Mirrors d c
+  mirrored c e = lined_mirrors d m value
+      (first_variables (parameters_of (body_of d)) (locals_of (body_of d)) args blk) lined c e
 
   -- the first register of its form has nil
   pub begun_nil : (l : List Registers) (outer : Option ℕ) → d.list ≡ length l
@@ -231,7 +238,7 @@ module _ (d : Site) (m : BodyAt d) (args : List Value) (blk : Option ObjId)
       let list : list_at (l ++ r ∷ []) d.list ≡ r = get_or_push l r no_registers d.list (sym e) in
       record {
         scope = omega (arith, e, f, length-append cs (c ∷ []));
-        owned = subst (Owned d) (sym scope) (own c refl);
+        mirrors = subst (Mirrors d) (sym scope) (mirrored c refl);
         present = omega (arith, e, length-append l (r ∷ []));
         long = ap (λ (q : Registers). length q.slots) list
             ∙ length_row first_slots 1 (args ++ block_value blk ∷ []) ∙ first_long;
@@ -284,18 +291,11 @@ first_nil (body p ls fm) x =
     (nil_values (((p.required ++ p.optional) ++ p.rest) ++ p.post) x (with_values p.block (Nil ∷ []) ++ all_nil ls)
     (block_nil p.block x (all_nil ls) (all_nils ls x)))
 
-nil_own : (d : Site) (m : BodyAt d) (c : Scope)
-    → c.variables ≡ first_variables (parameters_of (body_of d)) (locals_of (body_of d)) [] None → Owned d c
-nil_own d m c e = inr (λ x k. its x k)
-  where
-    its : (x : Local) → Known d x → IsOwn c x
-    its (named x) k = ap (λ (vs : List (Local × Value)). is_some (value_in vs (named x))) e
-        ∙ ap is_some (found_slot d m (λ i. Nil)
-        (first_variables (parameters_of (body_of d)) (locals_of (body_of d)) [] None)
-        (lined_nothing (body_of d) m.single.one_block) x k)
-    its (hidden h) k = tt
-    its (pattern q) k = tt
-    its rest k = tt
+nil_mirrors : (d : Site) (m : BodyAt d) (c : Scope)
+    → c.variables ≡ first_variables (parameters_of (body_of d)) (locals_of (body_of d)) [] None → Mirrors d c
+nil_mirrors d m c e = lined_mirrors d m (λ i. Nil)
+    (first_variables (parameters_of (body_of d)) (locals_of (body_of d)) [] None)
+    (lined_nothing (body_of d) m.single.one_block) c e
 
 pub nil_same : (d : Site) (m : BodyAt d) (cs : List Scope) (l : List Registers) (around outer : Option ℕ)
     → d.list ≡ length l → length cs ≡ length l → Same d (cs ++ (record {
@@ -317,7 +317,7 @@ nil_same d m cs l around outer e f =
     let list : list_at (l ++ r ∷ []) d.list ≡ r = get_or_push l r no_registers d.list (sym e) in
     record {
       scope = omega (arith, e, f, length-append cs (c ∷ []));
-      owned = subst (Owned d) (sym scope) (nil_own d m c refl);
+      mirrors = subst (Mirrors d) (sym scope) (nil_mirrors d m c refl);
       present = omega (arith, e, length-append l (r ∷ []));
       long = ap (λ (q : Registers). length q.slots) list
           ∙ length-set (replicate count (V Nil)) 0 (V d.self) ∙ length-replicate count (V Nil);

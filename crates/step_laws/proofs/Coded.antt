@@ -188,6 +188,7 @@ module _ (p : Parameters) (ls : List Local) (f : CoreForm) (program_is : IsProgr
       subst (λ (is : List Irep). AllWritten (source_of b) 1 (kinds f) (over in_order f) is) (sym (append-nil q.bodies))
       (of_one (source_of b) f around (first_spot 0) start (tops_written tops (source_of b) t (within_program ls) around
       (first_spot 0) start (record {
+        knows = main_knows p ls f;
         inside = nested;
         short = (fitting.w kind.Main [] of_main p ls f fits).able.each;
         deep = omega arith;
@@ -281,7 +282,8 @@ module _ (p : Parameters) (ls : List Local) (f : CoreForm) (program_is : IsProgr
     room = omega arith;
     no_catches = no_catches;
     outside = refl;
-    alone = refl;
+    scopes = refl;
+    low = omega arith;
     covered = covers;
     code = left site 0 q (does op.Stop) both_stand;
     stop = subst (λ (n : ℕ). LineAt site n (line.Does op.Stop)) (omega arith)

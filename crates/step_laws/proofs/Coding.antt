@@ -26,8 +26,6 @@ use Rattle.gen_parts.specs.Pieces.{Piece, nothing, both, puts, does}
 use Rattle.gen_parts.specs.Assembly.{places, entry_by, instruction_before}
 use Rattle.gen_forms.specs.Gen.{Context, gen, others_in_turn, parameters}
 use Rattle.code_laws.proofs.Shares.{Fits, many}
-use Rattle.code_laws.specs.Bound.{AreHeld}
-use Rattle.code_laws.proofs.Binding.{method_knows}
 use Rattle.code_laws.proofs.Entering.{Inner}
 use Rattle.def_eval.specs.Source.{Source, span, span_forms, body_at as source_body, parameters_of}
 use Rattle.def_calls.specs.World.{Runs, main_program}
@@ -238,12 +236,11 @@ module _ (s : Source) (c : Program) (n : ℕ) (g : Coded s c n) (activation list
   front : Stands h 0 (lines s c n g)
   front = left h 0 (lines s c n g) (does back) all_stand
 
-  has : Has h (ss s c n g) (all_parameters (p s c n g) ++ ls s c n g) (t s c n g) (first s c n g + width (f s c n g))
+  has : Has h (ss s c n g) g.written.within.known (t s c n g) (first s c n g + width (f s c n g))
   has = record {
     around = seen_around g.kind_of (sc s c n g);
     scopes = refl;
-    held = subst (λ (z : Slots). AreHeld (z ∷ []) (all_parameters (p s c n g) ++ ls s c n g)) (sym (slots_are s c n g))
-        (method_knows (p s c n g) (ls s c n g) (f s c n g) [] g.written.single.one_block).0;
+    held = g.written.knows.0;
     symbols = refl;
     integers = refl;
     texts = refl;
@@ -288,11 +285,11 @@ module _ (s : Source) (c : Program) (n : ℕ) (g : Coded s c n) (activation list
   covers shapes =
       let number = spot_body n (optional s c n g) in
       subst (λ (i : ℕ). Covers h None (first s c n g) (spot s c n g) i (f s c n g)) number
-      (topped.tops_cover h (ss s c n g) (all_parameters (p s c n g) ++ ls s c n g) (t s c n g)
+      (topped.tops_cover h (ss s c n g) g.written.within.known (t s c n g)
       (first s c n g + width (f s c n g)) has shapes g.written.tops (spot s c n g) (first s c n g)
-      (width (f s c n g)) g.written.inner g.written.within g.written.known
+      (width (f s c n g)) g.written.within g.written.within refl
       (subst (λ (i : ℕ). FormStands s g.written.within i (f s c n g)) (sym number) g.written.stands, tt)
-      ((fits s c n g).1, tt) (ap (λ (x : Bool). x && true) g.written.closed) (omega arith)
+      ((fits s c n g).1, tt) (ap (λ (x : Bool). x && true) g.written.formed) (omega arith)
       (omega arith, tt) (omega arith) children_stand nested).0
 
   enters_there : LineAt h 0 (line.Does (op.Enter (parameters (p s c n g))))
@@ -325,6 +322,7 @@ module _ (s : Source) (c : Program) (n : ℕ) (g : Coded s c n) (activation list
         static = record {
           apart = apart h (ss s c n g) (seen_around g.kind_of (sc s c n g)) refl;
           some = omega arith;
+          low = omega arith;
           room = omega (arith, registers);
           no_catches = no_catches;
         };

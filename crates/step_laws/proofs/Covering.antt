@@ -1,5 +1,5 @@
 -- Plain forms of a body within the limits are covered: their registers, locals and tables are there.
-use Rattle.std.proofs.Common.{◌≡◌, ◌≤◌, ◌<◌, ℕ, ◌+◌, ℤ, pos, negsuc, List, [], ◌∷◌, ◌++◌, length, map, get_or, arith, refl, sym, ap, ◌∙◌, subst, Bool, true, false}
+use Rattle.std.proofs.Common.{◌≡◌, ◌≤◌, ◌<◌, ℕ, zero, suc, ◌+◌, ℤ, pos, negsuc, List, [], ◌∷◌, ◌++◌, length, map, get_or, arith, refl, sym, ap, ◌∙◌, subst, Bool, true, false}
 use Rattle.std.specs.Prelude.{codes, ◌&&◌, bytes_eq, position, slice_get, if◌then◌else◌, is_some, Option, Some, None}
 use Rattle.std.proofs.lemmas.List.{append-nil}
 use Rattle.std.specs.Ordering.{int_eq}
@@ -16,25 +16,26 @@ use Rattle.ir_walk.specs.Width.{greatest, in_order, of_call, has_splat, width, w
 use Rattle.ir_counts.specs.declared.tally.Tally.{Tally}
 use Rattle.ir_counts.specs.Tables.{hidden_by, is_wide}
 use Rattle.scope_resolver.specs.declared.place.Place.{Place}
-use Rattle.scope_resolver.specs.declared.seek.Search.{Search}
-use Rattle.scope_resolver.specs.declared.seek.Search.TheVariants.{Found, Past}
-use Rattle.scope_resolver.specs.Layout.{Slots, Scopes, innermost_count, seek, place_at, place_from, place_or_self, place_of}
+use Rattle.scope_resolver.specs.Layout.{Slots, Scopes, innermost_count, place_of}
 use Rattle.gen_forms.specs.Gen.{place_or, is_within, integer_entry, text_entry, symbol, operates}
 use Rattle.code_laws.specs.Bound.{AreHeld}
+use Rattle.code_laws.proofs.Binding.{place_by, place_is}
 use Rattle.code_laws.proofs.Shares.{Numbered, Adds, Noted, Noted_all, Noted_items, Noted_pairs, Noted_branches}
 use Rattle.code_laws.proofs.Widths.{Under, InOrder, under_left, under_right, under_greatest, order_within, order_room, into_within, turn_within}
 use Rattle.def_machine.specs.State.{body_at}
-use Rattle.step_laws.specs.Site.{Site, Room, IsScoped, register, Known, IsThere, Named}
+use Rattle.step_laws.specs.Site.{Site, Room, IsScoped, register, Reaches, of_the_body, of_one_around, IsThere, Named}
 use Rattle.step_laws.specs.Covered.{IsNamed, IsTexted, IsAsked, IsAskedOf, Covered, CoveredForms, CoveredItems, CoveredElements, CoveredPairs, CoveredBranches}
 use Rattle.step_laws.specs.Plain.{IsLookedIn, IsPlain, ArePlain, ArePlainItems, ArePlainElements, ArePlainPairs, ArePlainBranches}
 use Rattle.step_laws.proofs.Found.{both_true}
-use Rattle.step_laws.proofs.Listing.{name_there, integer_there, text_there, wide_is, local_there}
+use Rattle.step_laws.proofs.Listing.{name_there, integer_there, text_there, wide_is}
+use Rattle.step_laws.specs.Around.{first_slots}
+use Rattle.step_laws.proofs.Apart.{own_low}
 
 -- What a body has: its slots, of which some locals are known, those around it, and its tally.
 pub record Has (h : Site) (ss : Slots) (ls : List Local) (t : Tally) (size : ℕ) : Type 0 where
   pub around : Scopes
   pub scopes : h.context.scopes ≡ ss ∷ around
-  pub held : AreHeld (ss ∷ []) ls
+  pub held : AreHeld h.context.scopes ls
   pub symbols : h.context.symbols ≡ t.symbols
   pub integers : h.context.integers ≡ t.integers
   pub texts : h.context.texts ≡ t.texts
@@ -44,44 +45,43 @@ pub record Has (h : Site) (ss : Slots) (ls : List Local) (t : Tally) (size : ℕ
   pub first : 1 + length ss + t.hidden ≤ h.first
   pub there : (x : Name) → is_among x t.symbols ≡ true → IsThere h.source x
 
--- what is found in the first slots is so whatever is around them
-first_found : (ss : Slots) (around : Scopes) (x : Name) (r : ℕ)
-    → place_of (ss ∷ []) (form.named x) ≡ record { levels = 0; register = r } → 1 ≤ r
-    → place_of (ss ∷ around) (form.named x) ≡ record { levels = 0; register = r }
-first_found ss around x r e low = by (seek (form.named x) ss (Past 1)) e
-  where
-    by : (q : Search) → place_or_self (place_at q 0 None) ≡ record { levels = 0; register = r }
-        → place_or_self (place_at q 0 (place_from (form.named x) around 1)) ≡ record { levels = 0; register = r }
-    by (Found i) e = e
-    by (Past i) e = absurd (omega (arith, low, ap (λ (p : Place). p.register) e))
-
 module _ (h : Site) (ss : Slots) (ls : List Local) (t : Tally) (registers : ℕ) (has : Has h ss ls t registers) where
   pub room : (r : ℕ) → h.first ≤ r → r < registers → Room h r
   room r low high = record { within = omega (arith, high, has.registers); above = low }
 
-  pub known : (x : Local) → IsScoped x → is_known x ls ≡ true → hidden_by x ≤ t.hidden → Known h x
-  known (form.named x) is e few =
-      let l = local_there x ss (has.held (form.named x) tt e) in
-      let place : place_of h.context.scopes (form.named x) ≡ record { levels = 0; register = l.place } =
-      ap (λ (c : Scopes). place_of c (form.named x)) has.scopes ∙ first_found ss has.around x l.place l.is l.low in
-      let at : register h (form.named x) ≡ l.place = ap (λ (p : Place). p.register) place in
-      record {
+  -- a local that is bound is one of the body or of one around
+  bound_at : (x : Name) (levels place : ℕ) → place_of h.context.scopes (form.named x) ≡ place_by levels place
+      → Reaches h (form.named x)
+  bound_at x zero place is =
+      let level = ap (λ (p : Place). p.levels) is in
+      let at : register h (form.named x) ≡ place + 1 = ap (λ (p : Place). p.register) is in
+      let high = own_low h.context.scopes x level (omega (arith, at)) in
+      let long = ap (λ (z : Scopes). length (first_slots z)) has.scopes in
+      of_the_body (record {
         scoped = tt;
-        level = ap (λ (p : Place). p.levels) place;
-        behind_self = omega (arith, at, l.low);
-        low = omega (arith, at, l.high, has.first);
-      }
-  known (form.hidden d) is e few =
+        level = level;
+        behind_self = omega (arith, at);
+        low = omega (arith, high, long, has.first);
+      })
+  bound_at x (suc d) place is =
+      let at : register h (form.named x) ≡ place + 1 = ap (λ (p : Place). p.register) is in
+      of_one_around x d refl (ap (λ (p : Place). p.levels) is) (omega (arith, at))
+
+  pub reaches : (x : Local) → IsScoped x → is_known x ls ≡ true → hidden_by x ≤ t.hidden → Reaches h x
+  reaches (form.named x) is e few =
+      let b = has.held (form.named x) tt e in
+      bound_at x b.levels b.place (place_is h.context.scopes (form.named x) b.levels b.place tt b.bound)
+  reaches (form.hidden d) is e few =
       let at : register h (form.hidden d) ≡ 1 + length ss + d =
       ap (λ (c : Scopes). 1 + innermost_count c + d) has.scopes in
-      record {
+      of_the_body (record {
         scoped = tt;
         level = refl;
         behind_self = omega arith;
         low = omega (arith, at, few, has.first);
-      }
-  known (form.pattern i) is e few = absurd is
-  known form.rest is e few = absurd is
+      })
+  reaches (form.pattern i) is e few = absurd is
+  reaches form.rest is e few = absurd is
 
   pub named : (x : Name) → is_among x t.symbols ≡ true → Named h x
   named x e = record {
@@ -154,14 +154,14 @@ module _ (h : Site) (ss : Slots) (ls : List Local) (t : Tally) (registers : ℕ)
     cover (form.int z) r a k is n f low w = (room r low (omega (arith, w)), pooled z n.integer)
     cover (form.str x) r a k is n f low w = (room r low (omega (arith, w)), texted x n.text)
     cover (form.sym x) r a k is n f low w = (room r low (omega (arith, w)), named x n.name)
-    cover (form.local x) r a k is n f low w = (room r low (omega (arith, w)), known x is (subst (λ (xs : List Local). is_known x xs ≡ true) k f) n.hidden)
+    cover (form.local x) r a k is n f low w = (room r low (omega (arith, w)), reaches x is (subst (λ (xs : List Local). is_known x xs ≡ true) k f) n.hidden)
     cover (form.own x) r a k is n f low w = absurd is
     cover form.exception r a k is n f low w = absurd is
     cover (form.set_local x e) r a k is n f low w =
         let both = both_true (is_known x a.known) (is_form a e) f in
         let part = order_within registers r (width e ∷ []) w in (
           cover e r a k is.0 n.1 both.1 low part.0,
-          known x is.1 (subst (λ (xs : List Local). is_known x xs ≡ true) k both.0) n.0.hidden,
+          reaches x is.1 (subst (λ (xs : List Local). is_known x xs ≡ true) k both.0) n.0.hidden,
         )
     cover (form.ivar x) r a k is n f low w = (room r low (omega (arith, w)), named x n.name)
     cover (form.set_ivar x e) r a k is n f low w =

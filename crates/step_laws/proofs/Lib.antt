@@ -8,6 +8,8 @@ pub mod Matching
 pub mod Calling
 pub mod Literals
 pub mod Answers
+pub mod Apart
+pub mod Reaching
 pub mod Locals
 pub mod Globals
 pub mod Sequences
@@ -45,7 +47,6 @@ pub mod Entering
 pub mod Called
 pub mod Entered
 pub mod Whole
-pub mod Apart
 pub mod Symbols
 pub mod Found
 pub mod Procless

@@ -1,6 +1,6 @@
--- What the tables of a body have: the entry of a name, of an integer, and the register of a local.
-use Rattle.std.proofs.Common.{◌≡◌, ◌≤◌, ◌<◌, ℕ, zero, suc, ◌+◌, ℤ, pos, negsuc, List, [], ◌∷◌, ◌++◌, length, map, get_or, arith, refl, sym, ap, ◌∙◌, subst, Bool, true, false, true≢false}
-use Rattle.std.specs.Prelude.{◌||◌, not, bytes_eq, position, slice_get, if◌then◌else◌, unwrap_or, Option, Some, None}
+-- What the tables of a body have: the entry of a name, of an integer, and of a text.
+use Rattle.std.proofs.Common.{◌≡◌, ◌<◌, ℕ, suc, ◌+◌, ℤ, pos, negsuc, List, [], ◌∷◌, ◌++◌, length, map, get_or, arith, refl, sym, ap, ◌∙◌, subst, Bool, true, false, true≢false}
+use Rattle.std.specs.Prelude.{◌||◌, not, bytes_eq, position, slice_get, if◌then◌else◌, Some, None}
 use Rattle.std.specs.List.{position_or_len, list_any}
 use Rattle.std.specs.Ordering.{int_eq}
 use Rattle.std.proofs.lemmas.Bool.{lt-ltb}
@@ -9,14 +9,9 @@ use Rattle.std.proofs.lemmas.Slice.Eq.{bytes_eq-Decides}
 use Rattle.rite_code.specs.declared.code.PoolItem.TheVariants as pool
 use Rattle.text_set.specs.Sets.{is_among}
 use Rattle.integer_set.specs.Sets as integers
-use Rattle.ir_core.specs.CoreForm.{Name, Local, named}
+use Rattle.ir_core.specs.CoreForm.{Name}
 use Rattle.ir_counts.specs.Tables.{is_wide}
-use Rattle.scope_resolver.specs.declared.seek.Search.{Search}
-use Rattle.scope_resolver.specs.declared.seek.Search.TheVariants.{Found, Past}
-use Rattle.scope_resolver.specs.Layout.{Slots, seek, place_at, place_or_self, place_of}
-use Rattle.code_laws.specs.Bound.{IsFirst, IsBound, Binds}
 use Rattle.gen_forms.specs.Gen.{place_or, is_within}
-use Rattle.step_laws.proofs.Apart.{stays_found}
 
 -- Names.
 
@@ -133,42 +128,3 @@ text_there x zs ts h =
 pub wide_is : (z : ℤ) → is_within (negsuc 2147483647) z (pos 2147483647) ≡ false → is_wide z ≡ true
 wide_is (pos n) e = lt-ltb 2147483647 n (grind (arith, nat_tests, e))
 wide_is (negsuc n) e = lt-ltb 2147483647 n (grind (arith, nat_tests, e))
-
--- Locals.
-
--- the first slot of a local is the one that is found
-first_sought : (x : Local) (ss : Slots) (n place : ℕ) → IsFirst x ss place
-    → (seek x ss (Past n) ≡ Found (n + place)) × (place < length ss)
-first_sought x [] n place f = absurd f
-first_sought x (s ∷ ss) n zero f = (
-  ap (λ (b : Bool). seek x ss (if b then Found n else Past (n + 1))) f ∙ stays_found x ss n
-      ∙ ap Found (omega arith),
-  omega arith,
-)
-first_sought x (s ∷ ss) n (suc place) f =
-    let g = first_sought x ss (n + 1) place f.1 in (
-      ap (λ (b : Bool). seek x ss (if b then Found n else Past (n + 1))) f.0 ∙ g.0 ∙ ap Found (omega arith),
-      omega (arith, g.1),
-    )
-
-pub record LocalAt (x : Name) (ss : Slots) : Type 0 where
-  pub place : ℕ
-  pub is : place_of (ss ∷ []) (named x) ≡ record { levels = 0; register = place }
-  pub low : 1 ≤ place
-  pub high : place ≤ length ss
-
--- a local that a body binds which sees no other
-pub local_there : (x : Name) (ss : Slots) → Binds (ss ∷ []) (named x) → LocalAt x ss
-local_there x ss b = by b.levels b.place b.bound
-  where
-    by : (levels place : ℕ) → IsBound (ss ∷ []) (named x) levels place → LocalAt x ss
-    by zero place c =
-        let same : ss ≡ c.slots = ap (λ (o : Option Slots). unwrap_or o ss) c.body in
-        let g = first_sought (named x) ss 1 place (subst (λ (ts : Slots). IsFirst (named x) ts place) (sym same) c.first) in
-        record {
-          place = 1 + place;
-          is = ap (λ (q : Search). place_or_self (place_at q 0 None)) g.0;
-          low = omega arith;
-          high = omega (arith, g.1);
-        }
-    by (suc levels) place c = absurd (cc c.body)

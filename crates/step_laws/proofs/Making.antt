@@ -19,7 +19,7 @@ use Rattle.code_laws.proofs.Shares.{many, many_all, many_body}
 use Rattle.code_laws.proofs.Bodywise.{body_of}
 use Rattle.def_eval.specs.Source.{Gathered, over_body, over_receiver, how_many, span, span_forms}
 use Rattle.step_laws.specs.Plain.{IsPlain, ArePlainItems}
-use Rattle.step_laws.specs.Tops.{IsPlainMethod, IsPlainBlock, IsPlainReceiver, IsPlainCall, IsLast, assigns_it, returns_it, AreTops, no_tops, form_before, method_before, call_before, value_before, list_before}
+use Rattle.step_laws.specs.Tops.{IsPlainBody, IsPlainReceiver, IsPlainCall, IsLast, assigns_it, returns_it, AreTops, no_tops, form_before, method_before, call_before, value_before, list_before}
 use Rattle.eval_laws.specs.Standing.{past_receiver, past_items}
 use Rattle.step_laws.proofs.Bodiless.{no_bodies, none_in_items}
 use Rattle.step_laws.proofs.Catchless.{IsBare, Bare, bare_both, bare_puts, bare_nothing, bare_passed, bare_items, bare_gather, elements_of, bare}
@@ -106,11 +106,11 @@ code_by k sc n p ls f defaults =
     ap (λ (bs : List Irep). body_irep k sc n (form.body p ls f) ∷ bs)
     (append-nil (form_piece k sc n (form.body p ls f)).bodies ∙ (tables_of p.optional f c n r defaults).bodies)
 
-pub code_of_method : (around : Scopes) (n : ℕ) (b : Body) → IsPlainMethod b
+pub code_of_method : (around : Scopes) (n : ℕ) (b : Body) → IsPlainBody b
     → body_code kind.Method around n b ≡ body_irep kind.Method [] n b ∷ inner_bodies kind.Method [] n b
 code_of_method around n (form.body p ls f) m = code_by kind.Method [] n p ls f m.defaults
 
-pub code_of_block : (around : Scopes) (n : ℕ) (b : Body) → IsPlainBlock b
+pub code_of_block : (around : Scopes) (n : ℕ) (b : Body) → IsPlainBody b
     → body_code kind.Block around n b ≡ body_irep kind.Block around n b ∷ inner_bodies kind.Block around n b
 code_of_block around n (form.body p ls f) m = code_by kind.Block around n p ls f m.defaults
 
@@ -144,7 +144,7 @@ inner_span k sc n (form.body p ls f) each =
       ap length (append-nil (gen c (form_spot n (length p.optional)) r f).bodies),
     )
 
-pub method_span : (x : Name) (f : Body) → IsPlainMethod f → SpanOf (form.more (form_of f) form.none) → (c : Context)
+pub method_span : (x : Name) (f : Body) → IsPlainBody f → SpanOf (form.more (form_of f) form.none) → (c : Context)
     (s : Spot) (r : ℕ) → span (form.define x f) ≡ length (gen c s r (form.define x f)).bodies
 unfolding both puts makes
 method_span x (form.body p ls f) m each c s r =
@@ -168,7 +168,7 @@ pub record CallMade (c : Context) (s : Spot) (f : Body) (g : Piece) : Type 0 whe
   pub bodies : g.bodies ≡ body_irep kind.Block c.scopes s.body f ∷ inner_bodies kind.Block c.scopes s.body f
 
 pub call_made : (c : Context) (s : Spot) (r : ℕ) (e : Receiver) (x : Name) (is : Items) (f : Body) → IsPlainCall e is
-    → IsPlainBlock f → CallMade c s f (gen c s r (form.call e x is (form.there (form.function f))))
+    → IsPlainBody f → CallMade c s f (gen c s r (form.call e x is (form.there (form.function f))))
 unfolding both puts makes past IsBare
 call_made c s r e x is f m block =
     let each : Code = λ d t i. pass_in_registers d t i is in
@@ -195,7 +195,7 @@ none_in_receiver a names joins (form.to e) is = no_bodies a names joins e is
 none_in_receiver a names joins form.on_self is = refl
 none_in_receiver a names joins form.bare is = absurd is
 
-pub call_span : (e : Receiver) (x : Name) (is : Items) (f : Body) → IsPlainCall e is → IsPlainBlock f
+pub call_span : (e : Receiver) (x : Name) (is : Items) (f : Body) → IsPlainCall e is → IsPlainBody f
     → SpanOf (form.more (form_of f) form.none) → (c : Context) (s : Spot) (r : ℕ)
     → span (form.call e x is (form.there (form.function f)))
     ≡ length (gen c s r (form.call e x is (form.there (form.function f)))).bodies
@@ -301,7 +301,7 @@ pub form_many : (e : CoreForm) → IsPlain e → (c : Context) (s : Spot) (r : �
 unfolding IsBare
 form_many e is c s r = omega (arith, ap length (bare e is c s r).2)
 
-pub method_many : (x : Name) (f : Body) → IsPlainMethod f
+pub method_many : (x : Name) (f : Body) → IsPlainBody f
     → ((c : Context) (s : Spot) (r : ℕ)
     → length (others_in_turn c s r (form.more (form_of f) form.none)).bodies ≤ many_all (form.more (form_of f) form.none))
     → (c : Context) (s : Spot) (r : ℕ) → length (gen c s r (form.define x f)).bodies ≤ many (form.define x f)
@@ -310,7 +310,7 @@ method_many x f m each c s r =
     let k = (past s (does (op.TClass r))).body in
     omega (arith, inner_many kind.Method [] k f each, ap length (code_of_method c.scopes k f m))
 
-pub call_many : (e : Receiver) (x : Name) (is : Items) (f : Body) → IsPlainCall e is → IsPlainBlock f
+pub call_many : (e : Receiver) (x : Name) (is : Items) (f : Body) → IsPlainCall e is → IsPlainBody f
     → ((c : Context) (s : Spot) (r : ℕ)
     → length (others_in_turn c s r (form.more (form_of f) form.none)).bodies ≤ many_all (form.more (form_of f) form.none))
     → (c : Context) (s : Spot) (r : ℕ) → length (gen c s r (form.call e x is (form.there (form.function f)))).bodies

@@ -6,8 +6,8 @@ use Rattle.gen_forms.specs.Open.{coded}
 use Rattle.def_eval.proofs.Running.{run as run_source}
 use Rattle.def_machine.proofs.Running.{run as run_code}
 use Rattle.ir_core.specs.CoreForm.{form_of, none, more}
-use Rattle.step_laws.specs.Tops.{IsPlainBlock, AreTops, IsPlainProgram, returns_it, assigns_it, no_tops, form_before, method_before, call_before, value_before, list_before}
-use Rattle.step_laws.specs.Example.{chooser, IsMethodWitness, teller, showing, visitor, IsBlockWitness, passer, printer, yielder, IsYieldWitness, finder, stopper, seeker, IsExitWitness, defaulter, IsDefaultWitness, doubler, keeper, IsValueWitness}
+use Rattle.step_laws.specs.Tops.{IsPlainBody, AreTops, IsPlainProgram, returns_it, assigns_it, no_tops, form_before, method_before, call_before, value_before, list_before}
+use Rattle.step_laws.specs.Example.{chooser, IsMethodWitness, teller, showing, visitor, IsBlockWitness, passer, printer, yielder, IsYieldWitness, finder, stopper, seeker, IsExitWitness, defaulter, IsDefaultWitness, doubler, keeper, IsValueWitness, step, summing, counting, IsClosureWitness}
 
 plain : IsPlainProgram chooser
 plain =
@@ -34,24 +34,22 @@ chooses = record {
   runs = refl;
 }
 
-told : IsPlainBlock teller
+told : IsPlainBody teller
 told = record {
   single = record { one_rest = omega arith; one_block = omega arith };
   defaults = refl;
   named = (tt, (tt, tt));
-  closed = refl;
 }
 
 told_plain : AreTops (more (form_of teller) none)
 told_plain = form_before (((tt, (tt, tt), refl), tt), (((tt, tt), refl), tt)) no_tops
 
 -- a block in a block
-shown : IsPlainBlock showing
+shown : IsPlainBody showing
 shown = record {
   single = record { one_rest = omega arith; one_block = omega arith };
   defaults = refl;
   named = (tt, tt);
-  closed = refl;
 }
 
 shown_plain : AreTops (more (form_of showing) none)
@@ -80,20 +78,18 @@ visits = record {
 }
 
 -- a block that yields in a method that yields
-passes : IsPlainBlock passer
+passes : IsPlainBody passer
 passes = record {
   single = record { one_rest = omega arith; one_block = omega arith };
   defaults = refl;
   named = (tt, tt);
-  closed = refl;
 }
 
-prints : IsPlainBlock printer
+prints : IsPlainBody printer
 prints = record {
   single = record { one_rest = omega arith; one_block = omega arith };
   defaults = refl;
   named = (tt, tt);
-  closed = refl;
 }
 
 yielder_plain : IsPlainProgram yielder
@@ -122,20 +118,18 @@ hands_on = record {
 }
 
 -- blocks that a next, a return and a break leave
-finds : IsPlainBlock finder
+finds : IsPlainBody finder
 finds = record {
   single = record { one_rest = omega arith; one_block = omega arith };
   defaults = refl;
   named = (tt, tt);
-  closed = refl;
 }
 
-stops : IsPlainBlock stopper
+stops : IsPlainBody stopper
 stops = record {
   single = record { one_rest = omega arith; one_block = omega arith };
   defaults = refl;
   named = (tt, tt);
-  closed = refl;
 }
 
 seeker_plain : IsPlainProgram seeker
@@ -185,12 +179,11 @@ takes_defaults = record {
 }
 
 -- what calls with blocks give is assigned and returned
-doubles : IsPlainBlock doubler
+doubles : IsPlainBody doubler
 doubles = record {
   single = record { one_rest = omega arith; one_block = omega arith };
   defaults = refl;
   named = (tt, tt);
-  closed = refl;
 }
 
 doubles_plain : AreTops (more (form_of doubler) none)
@@ -216,6 +209,55 @@ keeps_values = record {
   program = refl;
   within = refl;
   plain = keeper_plain;
+  evaluates = refl;
+  runs = refl;
+}
+
+-- blocks that read and set locals of the bodies around them
+steps : IsPlainBody step
+steps = record {
+  single = record { one_rest = omega arith; one_block = omega arith };
+  defaults = refl;
+  named = tt;
+}
+
+sums : IsPlainBody summing
+sums = record {
+  single = record { one_rest = omega arith; one_block = omega arith };
+  defaults = refl;
+  named = (tt, tt);
+}
+
+counting_plain : IsPlainProgram counting
+counting_plain =
+    list_before
+    (method_before (record {
+      single = record { one_rest = omega arith; one_block = omega arith };
+      defaults = refl;
+      named = (tt, tt);
+    }) (form_before tt no_tops)
+    (method_before (record {
+      single = record { one_rest = omega arith; one_block = omega arith };
+      defaults = refl;
+      named = (tt, tt);
+    })
+    (list_before
+    (form_before (tt, tt)
+    (call_before (record { receiver = tt; items = tt; few = refl }) steps
+    (form_before ((tt, (tt, tt), refl), tt) no_tops) no_tops)) no_tops)
+    (form_before ((tt, refl), tt)
+    (form_before (tt, tt, refl)
+    (form_before (tt, tt)
+    (call_before (record { receiver = (tt, (tt, tt)); items = tt; few = refl }) sums
+    (form_before ((tt, (tt, tt), refl), tt) no_tops)
+    (form_before ((tt, ((tt, tt, refl), tt)), refl) no_tops))))))) no_tops
+
+pub counts : IsClosureWitness counting
+unfolding coded assembled both puts makes past behind nothing instruction_before run_source run_code
+counts = record {
+  program = refl;
+  within = refl;
+  plain = counting_plain;
   evaluates = refl;
   runs = refl;
 }

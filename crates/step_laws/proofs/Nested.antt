@@ -1,5 +1,5 @@
 -- Where forms stand in turn in a body of a source: the bodies in those before are behind them.
-use Rattle.std.proofs.Common.{◌≡◌, ◌<◌, ◌≤◌, ℕ, suc, ◌+◌, List, [], ◌∷◌, length, refl, sym, ap, ◌∙◌, subst, arith, ⊎_elim}
+use Rattle.std.proofs.Common.{◌≡◌, ◌<◌, ◌≤◌, ℕ, ◌+◌, [], ◌∷◌, length, refl, sym, ap, ◌∙◌, subst, arith, ⊎_elim}
 use Rattle.std.specs.Prelude.{slice_get, Some}
 use Rattle.std.proofs.lemmas.Bool.{cases_lt}
 use Rattle.ir_core.specs.CoreForm as form
@@ -10,10 +10,10 @@ use Rattle.gen_parts.specs.declared.emitter.Spot.{Spot}
 use Rattle.gen_parts.specs.Pieces.{Piece, past}
 use Rattle.def_eval.specs.Source.{Source, body_at, span, span_forms, how_many}
 use Rattle.eval_laws.specs.Kinds.{Kind, of_block, IsKind}
-use Rattle.eval_laws.specs.Standing.{FormsStand, FormStands, MethodStands, BlockStands}
+use Rattle.eval_laws.specs.Standing.{FormsStand, FormStands, BlockStands}
 use Rattle.eval_laws.proofs.Forming.{body_from}
 use Rattle.step_laws.specs.Plain.{IsPlain}
-use Rattle.step_laws.specs.Around.{slots_for, inside_of, Innermost, Around, inside}
+use Rattle.step_laws.specs.Around.{slots_for, inside_of, Around, inside}
 use Rattle.step_laws.specs.Tops.{IsPlainCall, IsLast, assigns_it, returns_it, AreTops, no_tops, form_before, method_before, call_before, value_before, list_before}
 use Rattle.step_laws.proofs.Bodiless.{no_bodies, none_in_items}
 use Rattle.step_laws.proofs.Making.{none_in_receiver, call_number}

@@ -23,7 +23,7 @@ use Rattle.def_machine.specs.State.{Registers, no_registers, Frame, Level, frame
 use Rattle.scope_laws.specs.Numbers.{parents}
 use Rattle.step_laws.specs.Site.{Site, register}
 use Rattle.step_laws.specs.Calm.{Grows}
-use Rattle.step_laws.specs.Relation.{Inside, Ends, Waits, Same, Owned, SiteIs, Linked, SeesIn, SitesAre, FibersAre, AllFibers, uses, uses_in, Ground, over_levels, Both, Running}
+use Rattle.step_laws.specs.Relation.{Inside, Ends, Waits, Same, Mirrors, SiteIs, Linked, SeesIn, SitesAre, FibersAre, AllFibers, uses, uses_in, Ground, over_levels, Both, Running}
 use Rattle.step_laws.proofs.Registers.{Keeps, inside_kept}
 use Rattle.step_laws.proofs.Untouched.{ends_kept, leaves_end, sites_grow}
 
@@ -184,7 +184,7 @@ same_before h cs c l r s =
     let list = list_before l r h.list s.present in
     record {
       scope = omega (arith, s.scope, length-append cs (c ∷ []));
-      owned = subst (Owned h) (sym scope) s.owned;
+      mirrors = subst (Mirrors h) (sym scope) s.mirrors;
       present = omega (arith, s.present, length-append l (r ∷ []));
       long = ap (λ (g : Registers). length g.slots) list ∙ s.long;
       self = ap (λ (g : Registers). read (get_or g.slots 0 (V Nil))) list ∙ s.self;

@@ -14,11 +14,11 @@ use Rattle.def_machine.specs.State as machine
 use Rattle.def_machine.specs.State.{Level}
 use Rattle.step_laws.specs.Site.{Site}
 use Rattle.step_laws.specs.Calm.{IsSteady, Quiet}
-use Rattle.step_laws.specs.Behind.{Static, OperandBehind, to_local, to_global, strict, breaks, begins_round, leaves_body, ends_body, goes_far}
+use Rattle.step_laws.specs.Behind.{Static, OperandBehind, to_local, to_outer, to_global, strict, breaks, begins_round, leaves_body, ends_body, goes_far}
 use Rattle.step_laws.specs.Relation.{Ground, Common, Doing, GivesIn, Step}
 use Rattle.step_laws.proofs.Matching.{state_at}
 use Rattle.step_laws.proofs.Literals.{aligned}
-use Rattle.step_laws.proofs.Locals.{give_local}
+use Rattle.step_laws.proofs.Locals.{give_local, give_outer}
 use Rattle.step_laws.proofs.Globals.{give_global}
 use Rattle.step_laws.proofs.Returns.{give_return, give_round}
 use Rattle.step_laws.proofs.Far.{give_far}
@@ -111,6 +111,7 @@ module _ (g : Ground) (h : Site) (static : Static h) (j : ℕ) (ks : List Item) 
       by : OperandBehind h k.lists a vs es d.next.low d.n d.r d.next.end d.loop
           → Step h (Run (give v) (part (operands i a vs es) ∷ ks) m) (state_at g h d.x d.n (aligned k m))
       by (to_local b) = give_local g h static ks m ls k both v i a vs es d b
+      by (to_outer b) = give_outer g h static ks m ls k both v i a vs es d b
       by (to_global b) = give_global g h static ks m ls k both v i a vs es d b
       by (breaks b) = give_break g h static ks m ls k both v i a vs es d b
       by (begins_round b) = give_next g h static ks m ls k both v i a vs es d b

@@ -1,5 +1,5 @@
 -- A write to one register, and what it leaves.
-use Rattle.std.proofs.Common.{◌≡◌, ◌≢◌, ℕ, zero, suc, ◌+◌, ◌<◌, ◌≤◌, List, [], ◌∷◌, refl, sym, ap, ◌∙◌, subst, arith, length, get_or, set, Bool, true, false, length-set, get_or-set_same, get_or-set_other, true≢false, ◌⊎◌, inl, inr, ⊎_elim, map}
+use Rattle.std.proofs.Common.{◌≡◌, ◌≢◌, ℕ, zero, suc, ◌+◌, ◌<◌, ◌≤◌, List, [], ◌∷◌, refl, sym, ap, ◌∙◌, subst, arith, length, get_or, set, Bool, true, false, length-set, get_or-set_same, get_or-set_other, true≢false, map}
 use Rattle.std.specs.Prelude.{Option, Some, None, unwrap_or, is_some, if◌then◌else◌}
 use Rattle.std.proofs.lemmas.Bool.{eq-eqb, eqb-true}
 use Rattle.std.proofs.lemmas.Slice.Eq.{bytes_eq-Decides}
@@ -8,15 +8,19 @@ use Rattle.rb_value.specs.declared.value.Value.TheVariants.{Nil}
 use Rattle.rb_value.specs.declared.exit.Slot.{Slot}
 use Rattle.rb_value.specs.declared.exit.Slot.TheVariants.{V}
 use Rattle.rb_value.specs.Slot.{read}
-use Rattle.ir_core.specs.CoreForm.{Local, named, hidden, pattern, rest, Forms}
+use Rattle.ir_core.specs.CoreForm.{Name, Local, named, hidden, pattern, rest, Forms}
 use Rattle.gen_forms.specs.declared.context.Loop.{Loop}
 use Rattle.def_eval.specs.Configuration.{Place, Scope, Action, Part, operands, receiver, items, block, elements, hash_key, hash_value, pieces, rest as rest_part, test, chosen, and_then, or_else, loop_test, loop_body, rescued, clause_class, clause_target, clause_body, ensured, Item, part, activation, iteration, ensuring, Memory}
 use Rattle.def_eval.specs.Scopes.{same_local, value_in, put_value, no_scope, scope_at, outward, scopes_around, first_with, scope_of, variable, put_in, with_variable}
 use Rattle.def_machine.specs.State.{Registers, no_registers, body_at, list_at, slot_at, value_at, put}
 use Rattle.scope_laws.specs.Numbers.{parents, outers}
 use Rattle.step_laws.specs.Site.{Site, place_in, register, Known}
-use Rattle.step_laws.specs.Behind.{Static, Holds, HoldsCall, OperandBehind, Behind, to_local, to_global, strict, breaks, begins_round, leaves_body, ends_body, goes_far}
-use Rattle.step_laws.specs.Relation.{Inside, IsOwn, Owned, Same}
+use Rattle.step_laws.specs.Behind.{Static, Holds, HoldsCall, OperandBehind, Behind, to_local, to_outer, to_global, strict, breaks, begins_round, leaves_body, ends_body, goes_far}
+use Rattle.scope_resolver.specs.declared.seek.Search.TheVariants.{Past}
+use Rattle.scope_resolver.specs.Layout.{seek}
+use Rattle.step_laws.specs.Around.{is_found, first_slots}
+use Rattle.step_laws.specs.Relation.{Inside, Mirrors, Same}
+use Rattle.step_laws.proofs.Apart.{own_place}
 
 pub list_same : (l : List Registers) (n i : ℕ) (v : Slot) → n < length l
     → list_at (put l n i v) n ≡ record (list_at l n) { slots = set (list_at l n).slots i v }
@@ -96,6 +100,7 @@ operand_kept : (h : Site) (l l' : List Registers) (a : Action) (vs : List Value)
     (around : Option Loop) → Keeps h l l' r → h.first ≤ low → OperandBehind h l a vs es low n r end around
     → OperandBehind h l' a vs es low n r end around
 operand_kept h l l' a vs es low n r end around k above (to_local b) = to_local b
+operand_kept h l l' a vs es low n r end around k above (to_outer b) = to_outer b
 operand_kept h l l' a vs es low n r end around k above (to_global b) = to_global b
 operand_kept h l l' a vs es low n r end around k above (breaks b) = breaks b
 operand_kept h l l' a vs es low n r end around k above (begins_round b) = begins_round b
@@ -235,7 +240,7 @@ pub same_above : (h : Site) (cs : List Scope) (l : List Registers) (r : ℕ) (v 
     → Same h cs l → Same h cs (put l h.list r (V v))
 same_above h cs l r v static above s = record {
   scope = s.scope;
-  owned = s.owned;
+  mirrors = s.mirrors;
   present = omega (arith, s.present, length_put l h.list r (V v));
   long = ap (λ (g : Registers). length g.slots) (list_same l h.list r (V v) s.present)
       ∙ length-set (list_at l h.list).slots r (V v) ∙ s.long;
@@ -293,38 +298,24 @@ value_other (v ∷ vs) x y u ne = at (value_other vs x y u ne) (same_local x v.0
         ∙ sym (ap (λ (b : Bool). if b then Some v.1 else value_in vs y) (ap (same_local y) (is_same x v.0 e) ∙ ne))
     at further false e = ap (λ (o : Option Value). if same_local y v.0 then Some v.1 else o) further
 
--- The scope of a local of the body is its own: there is none around, or it has the local.
+-- The scope of a local of the body is its own, which has it.
 
-none_out : (n : ℕ) (cs : List Scope) → outward n cs None ≡ []
-none_out zero cs = refl
-none_out (suc n) cs = refl
-
-the_scope : (cs : List Scope) (n : ℕ) (x : Local) → (scope_at cs n).parent ≡ None
+found_here : (cs : List Scope) (n : ℕ) (x : Local) → is_some (value_in (scope_at cs n).variables x) ≡ true
     → unwrap_or (first_with cs (scopes_around cs n) x) n ≡ n
 unfolding scopes_around
-the_scope cs n x e =
-    ap (λ (ns : List ℕ). unwrap_or (first_with cs (n ∷ ns) x) n)
-    (ap (outward n cs) e ∙ none_out n cs)
-    ∙ at (is_some (value_in (scope_at cs n).variables x))
-  where
-    at : (b : Bool) → unwrap_or (if b then Some n else None) n ≡ n
-    at true = refl
-    at false = refl
-
-found_here : (cs : List Scope) (n : ℕ) (x : Local)
-    → ((scope_at cs n).parent ≡ None) ⊎ (is_some (value_in (scope_at cs n).variables x) ≡ true)
-    → unwrap_or (first_with cs (scopes_around cs n) x) n ≡ n
-unfolding scopes_around
-found_here cs n x (inl none) = the_scope cs n x none
-found_here cs n x (inr own) =
+found_here cs n x own =
     ap (λ (b : Bool). unwrap_or (if b then Some n else first_with cs (outward n cs (scope_at cs n).parent) x) n) own
 
+name_there : (h : Site) (c : Scope) (x : Name) → Known h (named x) → Mirrors h c
+    → is_some (value_in c.variables (named x)) ≡ true
+name_there h c x k mirrors = mirrors x ∙ own_place h.context.scopes x k.level k.behind_self
+
 -- that of a local of the body
-scope_is : (h : Site) (m : Memory) (x : Local) → m.place.scope ≡ h.list → Known h x → Owned h (scope_at m.scopes h.list)
+scope_is : (h : Site) (m : Memory) (x : Local) → m.place.scope ≡ h.list → Known h x → Mirrors h (scope_at m.scopes h.list)
     → scope_of m x ≡ h.list
 scope_is h m (named x) e k o =
     ap (λ (n : ℕ). unwrap_or (first_with m.scopes (scopes_around m.scopes n) (named x)) n) e
-    ∙ found_here m.scopes h.list (named x) (⊎_elim (λ none. inl none) (λ own. inr (own (named x) k)) o)
+    ∙ found_here m.scopes h.list (named x) (name_there h (scope_at m.scopes h.list) x k o)
 scope_is h m (hidden d) e k o = e
 scope_is h m (pattern q) e k o = absurd k.scoped
 scope_is h m rest e k o = absurd k.scoped
@@ -335,30 +326,29 @@ pub named_is : (h : Site) (m : Memory) (l : List Registers) (x : Local) → m.pl
 unfolding variable
 named_is h m l x there s k =
     ap (λ (n : ℕ). unwrap_or (value_in (scope_at m.scopes n).variables x) Nil)
-    (scope_is h m x (ap (λ (p : Place). p.scope) there) k s.owned)
+    (scope_is h m x (ap (λ (p : Place). p.scope) there) k s.mirrors)
     ∙ s.alike x k
 
--- a variable that is there stays
-still_there : (vs : List (Local × Value)) (x y : Local) (u : Value) → is_some (value_in vs y) ≡ true
-    → is_some (value_in (put_value vs x u) y) ≡ true
-still_there vs x y u there = at (same_local y x) refl
+-- a local of the body that is set was there before
+known_there : (h : Site) (c : Scope) (x : Local) (y : Name) → Known h x → Mirrors h c → same_local (named y) x ≡ true
+    → is_found (seek (named y) (first_slots h.context.scopes) (Past 1)) ≡ true
+known_there h c (named x) y k mirrors e =
+    ap (λ (z : Local). is_found (seek z (first_slots h.context.scopes) (Past 1))) (sym (is_same (named y) (named x) e))
+    ∙ own_place h.context.scopes x k.level k.behind_self
+known_there h c (hidden d) y k mirrors e = absurd (true≢false (sym e))
+known_there h c (pattern q) y k mirrors e = absurd (true≢false (sym e))
+known_there h c rest y k mirrors e = absurd (true≢false (sym e))
+
+mirrors_put : (h : Site) (c : Scope) (x : Local) (u : Value) → Known h x → Mirrors h c
+    → Mirrors h (record c { variables = put_value c.variables x u })
+mirrors_put h c x u k mirrors y = at (same_local (named y) x) refl
   where
-    at : (b : Bool) → same_local y x ≡ b → is_some (value_in (put_value vs x u) y) ≡ true
+    at : (b : Bool) → same_local (named y) x ≡ b → is_some (value_in (put_value c.variables x u) (named y))
+        ≡ is_found (seek (named y) (first_slots h.context.scopes) (Past 1))
     at true e =
-        ap (λ (z : Local). is_some (value_in (put_value vs x u) z)) (sym (is_same y x e))
-        ∙ ap is_some (value_same vs x u)
-    at false e = ap is_some (value_other vs x y u e) ∙ there
-
-own_put : (c : Scope) (x y : Local) (u : Value) → IsOwn c y → IsOwn (record c { variables = put_value c.variables x u }) y
-own_put c x (named y) u own = still_there c.variables x (named y) u own
-own_put c x (hidden d) u own = tt
-own_put c x (pattern k) u own = tt
-own_put c x rest u own = tt
-
-owned_put : (h : Site) (c : Scope) (x : Local) (u : Value) → Owned h c
-    → Owned h (record c { variables = put_value c.variables x u })
-owned_put h c x u (inl none) = inl none
-owned_put h c x u (inr own) = inr (λ y k. own_put c x y u (own y k))
+        ap (λ (z : Local). is_some (value_in (put_value c.variables x u) z)) (sym (is_same (named y) x e))
+        ∙ ap is_some (value_same c.variables x u) ∙ sym (known_there h c x y k mirrors e)
+    at false e = ap is_some (value_other c.variables x (named y) u e) ∙ mirrors y
 
 scope_put : (cs : List Scope) (n : ℕ) (x : Local) (v : Value) → n < length cs
     → scope_at (put_in cs n x v) n ≡ record (scope_at cs n) { variables = put_value (scope_at cs n).variables x v }
@@ -384,7 +374,7 @@ put_alike h cs l x v static s k within =
         length-set cs h.list
             (record (scope_at cs h.list) { variables = put_value old x v }),
       );
-      owned = subst (Owned h) (sym now) (owned_put h (scope_at cs h.list) x v s.owned);
+      mirrors = subst (Mirrors h) (sym now) (mirrors_put h (scope_at cs h.list) x v k s.mirrors);
       present = omega (arith, s.present, length_put l h.list (register h x) (V v));
       long = ap (λ (g : Registers). length g.slots) (list_same l h.list (register h x) (V v) s.present)
           ∙ length-set (list_at l h.list).slots (register h x) (V v) ∙ s.long;
@@ -410,7 +400,7 @@ put_alike h cs l x v static s k within =
 
 -- the scope of the body is that in which a local is assigned
 pub assigned : (h : Site) (m : Memory) (x : Local) (v : Value) → m.place ≡ place_in h → Known h x
-    → Owned h (scope_at m.scopes h.list) → (with_variable m x v).scopes ≡ put_in m.scopes h.list x v
+    → Mirrors h (scope_at m.scopes h.list) → (with_variable m x v).scopes ≡ put_in m.scopes h.list x v
 unfolding with_variable
-assigned h m x v there k owned =
-    ap (λ (n : ℕ). put_in m.scopes n x v) (scope_is h m x (ap (λ (p : Place). p.scope) there) k owned)
+assigned h m x v there k mirrors =
+    ap (λ (n : ℕ). put_in m.scopes n x v) (scope_is h m x (ap (λ (p : Place). p.scope) there) k mirrors)

@@ -25,7 +25,7 @@ use Rattle.def_machine.specs.State.{body_at}
 use Rattle.def_machine.specs.Turn.{fetch, shape_by}
 use Rattle.step_laws.specs.Site.{Site, within}
 use Rattle.step_laws.specs.Covers.{CoveredReceiver, past_items_code, CallsWith, Covers, CoversAll}
-use Rattle.step_laws.specs.Tops.{IsPlainReceiver, IsPlainCall, IsPlainBlock, IsLast, assigns_it, returns_it, AreTops, no_tops, form_before, method_before, call_before, value_before, list_before}
+use Rattle.step_laws.specs.Tops.{IsPlainReceiver, IsPlainCall, IsPlainBody, IsLast, assigns_it, returns_it, AreTops, no_tops, form_before, method_before, call_before, value_before, list_before}
 use Rattle.step_laws.proofs.Found.{both_true}
 use Rattle.step_laws.proofs.Covers.{at_top}
 use Rattle.step_laws.proofs.Catchless.{IsBare, bare_items}
@@ -33,7 +33,7 @@ use Rattle.step_laws.proofs.Making.{last_tables, last_span, form_span, method_sp
 use Rattle.step_laws.specs.Around.{Around as Sees}
 use Rattle.step_laws.proofs.Nested.{last_stands, first_closed, Inside, inside_past, inside_less}
 use Rattle.step_laws.proofs.Written.{last_noted, last_formed, last_wide, call_sees, forms_stand_on}
-use Rattle.step_laws.proofs.Covering.{Has, room, known, named, none_spread, covered_items, covered}
+use Rattle.step_laws.proofs.Covering.{Has, room, reaches, named, none_spread, covered_items, covered}
 
 there_at : (xs : List ℕ) (x : ℕ) (ys : List ℕ) (n : ℕ) → length xs ≡ n → get_or (xs ++ x ∷ ys) n 0 ≡ x
 there_at [] x ys zero e = refl
@@ -112,7 +112,7 @@ module _ (h : Site) (ss : Slots) (ls : List Local) (t : Tally) (registers : ℕ)
   receiver_covered form.bare r a k is n f low w = absurd is
 
   calls_with : Shapes h.source h.program → (s : Spot) (r : ℕ) (a z : Around) (e : Receiver) (x : Name) (is : Items)
-      (f : Body) → a.known ≡ ls → IsPlainCall e is → IsPlainBlock f
+      (f : Body) → a.known ≡ ls → IsPlainCall e is → IsPlainBody f
       → Noted t (form.call e x is (form.there (form.function f)))
       → is_form a (form.call e x is (form.there (form.function f))) ≡ true → h.first ≤ r
       → r + width (form.call e x is (form.there (form.function f))) ≤ registers
@@ -160,7 +160,7 @@ module _ (h : Site) (ss : Slots) (ls : List Local) (t : Tally) (registers : ℕ)
       }
 
   call_covers : Shapes h.source h.program → (s : Spot) (r : ℕ) (a z : Around) (e : Receiver) (x : Name) (is : Items)
-      (f : Body) → a.known ≡ ls → IsPlainCall e is → IsPlainBlock f
+      (f : Body) → a.known ≡ ls → IsPlainCall e is → IsPlainBody f
       → Noted t (form.call e x is (form.there (form.function f)))
       → is_form a (form.call e x is (form.there (form.function f))) ≡ true → h.first ≤ r
       → r + width (form.call e x is (form.there (form.function f))) ≤ registers
@@ -186,7 +186,7 @@ module _ (h : Site) (ss : Slots) (ls : List Local) (t : Tally) (registers : ℕ)
   last_covers (assigns_it {x} {e} is) s r a k n formed covers =
       let both = both_true (is_known x a.known) (is_form a e) formed in (
         covers,
-        known h ss ls t registers has x is (subst (λ (xs : List Local). is_known x xs ≡ true) k both.0) n.0.hidden,
+        reaches h ss ls t registers has x is (subst (λ (xs : List Local). is_known x xs ≡ true) k both.0) n.0.hidden,
       )
   last_covers (returns_it {e}) s r a k n formed covers = covers
 

@@ -16,7 +16,7 @@ use Rattle.def_calls.specs.Fibers as fibers
 use Rattle.def_eval.specs.Source.{Source}
 use Rattle.def_eval.specs.Configuration as source
 use Rattle.def_eval.specs.Configuration.{Place, Scope, Item, Kept}
-use Rattle.def_eval.specs.Scopes.{value_in, scope_at, put_in, with_variable}
+use Rattle.def_eval.specs.Scopes.{value_in, scope_at, scope_of, put_in, with_variable}
 use Rattle.def_machine.specs.State as machine
 use Rattle.def_machine.specs.State.{Registers, Frame, Level, frame, body_at, list_at, slot_at, value_at, put}
 use Rattle.step_laws.specs.Site.{Site, place_in, register, Known}
@@ -24,9 +24,9 @@ use Rattle.step_laws.specs.Calm.{GrowsBy, Grows}
 use Rattle.def_core.specs.Sound.{OptionIs}
 use Rattle.eval_laws.specs.Procs.{HasProc}
 use Rattle.step_laws.specs.Around.{further_slots}
-use Rattle.step_laws.specs.Relation.{EndsBy, stops, returns, Ends, IsSite, Waits, Ground, over_levels, InFrame, Same, Owned, SiteIs, Linked, SeesIn, SitesAre, FibersAre, AllFibers, uses, uses_in, Both, Running}
+use Rattle.step_laws.specs.Relation.{EndsBy, stops, returns, Ends, IsSite, Waits, Ground, over_levels, InFrame, Same, Mirrors, SiteIs, Linked, SeesIn, SitesAre, FibersAre, AllFibers, uses, uses_in, Both, Running}
 use Rattle.scope_laws.specs.Numbers.{parents, outers}
-use Rattle.step_laws.proofs.Registers.{Keeps, inside_kept, outers_put, parents_put, list_other, length_put, scope_other, same_above, put_alike, assigned}
+use Rattle.step_laws.proofs.Registers.{Keeps, keeps_local, inside_kept, outers_put, parents_put, list_other, length_put, scope_other, same_above, put_alike, assigned}
 
 -- lists that differ in that of one number alone
 pub record OnlyIn (c : ℕ) (l l' : List Registers) : Type 0 where
@@ -65,55 +65,94 @@ leaves_end h fiber ls F hs l to p is n r (stops at main last bare root) =
     subst (λ (gs : List Level). Waits hs fiber l is p gs) (sym bare) last
 leaves_end h fiber ls F hs l to p is n r (returns at next) = to p is next
 
--- what waits is untouched, where no frame of it has the list
+-- the lists of frames are such ones
+abbrev Lists : (ℕ → Type 0) → List Level → Type 0
+Lists P [] = Unit {0}
+Lists P (frame f ∷ ls) = P f.list × Lists P ls
+Lists P (machine.iteration a it v ∷ ls) = Lists P ls
+
+abbrev ListsIn : (ℕ → Type 0) → List (fibers.Fiber (List Level)) → Type 0
+ListsIn P [] = Unit {0}
+ListsIn P (f ∷ fs) = Lists P f.kept × ListsIn P fs
+
+-- where no frame has a list, each is another one; and any is some list
+others_only : (c : ℕ) (ls : List Level) → uses c ls ≡ 0 → Lists (λ n. n ≢ c) ls
+others_only c [] u = tt
+others_only c (frame f ∷ ls) u =
+    let a = apart_from c f.list (uses c ls) u in ((λ (e : f.list ≡ c). a.0 (sym e)), others_only c ls a.1)
+others_only c (machine.iteration a it v ∷ ls) u = others_only c ls u
+
+others_in : (c : ℕ) (fs : List (fibers.Fiber (List Level))) → uses_in c fs ≡ 0 → ListsIn (λ n. n ≢ c) fs
+others_in c [] u = tt
+others_in c (f ∷ fs) u = (others_only c f.kept (omega (arith, u)), others_in c fs (omega (arith, u)))
+
+any_only : (ls : List Level) → Lists (λ n. Unit {0}) ls
+any_only [] = tt
+any_only (frame f ∷ ls) = (tt, any_only ls)
+any_only (machine.iteration a it v ∷ ls) = any_only ls
+
+any_in : (fs : List (fibers.Fiber (List Level))) → ListsIn (λ n. Unit {0}) fs
+any_in [] = tt
+any_in (f ∷ fs) = (any_only f.kept, any_in fs)
+
+-- what waits is untouched, where the sites of its lists keep what stands above their locals
+module _ (hs : List Site) (l l' : List Registers) (P : ℕ → Type 0)
+    (kept : (h : Site) → IsSite hs h → P h.list → (r : ℕ) → Keeps h l l' r) where
+  waits_by : (fiber : fibers.Name) (ks : List Item) (place : Place) (ls : List Level) → Lists P ls
+      → Waits hs fiber l ks place ls → Waits hs fiber l' ks place ls
+  waits_by fiber ks place [] u w = w
+  waits_by fiber ks place (frame f ∷ ls) u w = record {
+    h = w.h;
+    x = w.x;
+    at = w.at;
+    n = w.n;
+    is = w.is;
+    site = w.site;
+    after = w.after;
+    room = w.room;
+    there = w.there;
+    around = w.around;
+    next = inside_kept w.h l l' (λ b p is i t. Ends w.h fiber ls (λ q js. Waits hs fiber l js q ls) b p is i t)
+        (λ b p is i t. Ends w.h fiber ls (λ q js. Waits hs fiber l' js q ls) b p is i t)
+        (ends_kept w.h fiber ls (λ q js. Waits hs fiber l js q ls) (λ q js. Waits hs fiber l' js q ls)
+        (λ q js. waits_by fiber js q ls u.1)) ks w.n w.x.waits w.around
+        (kept w.h w.site (subst (λ (q : Frame). P q.list) w.is u.0) w.x.waits) w.next;
+  }
+  waits_by fiber ks place (machine.iteration a it v ∷ ls) u w = record {
+    others = w.others;
+    back = w.back;
+    is = w.is;
+    next = waits_by fiber w.others w.back ls u w.next;
+  }
+
+  fibers_by : (fs : List (fibers.Fiber Kept)) (gs : List (fibers.Fiber (List Level))) → ListsIn P gs
+      → FibersAre hs l fs gs → FibersAre hs l' fs gs
+  fibers_by [] [] u a = a
+  fibers_by [] (g ∷ gs) u a = absurd a
+  fibers_by (f ∷ fs) [] u a = absurd a
+  fibers_by (f ∷ fs) (g ∷ gs) u a =
+      let i = a.0 in (
+        record {
+          name = i.name;
+          wait = i.wait;
+          resumer = i.resumer;
+          rooted = i.rooted;
+          some = i.some;
+          waits = waits_by f.name f.kept.items f.kept.place g.kept u.0 i.waits;
+        },
+        fibers_by fs gs u.1 a.1,
+      )
+
 pub waits_kept : (hs : List Site) (fiber : fibers.Name) (l l' : List Registers) (c : ℕ) → OnlyIn c l l'
     → (ks : List Item) (place : Place) (ls : List Level) → uses c ls ≡ 0 → Waits hs fiber l ks place ls
     → Waits hs fiber l' ks place ls
-waits_kept hs fiber l l' c o ks place [] u w = w
-waits_kept hs fiber l l' c o ks place (frame f ∷ ls) u w =
-    let a = apart_from c f.list (uses c ls) u in
-    let ne : w.h.list ≢ c = λ (e : w.h.list ≡ c). a.0 (sym (ap (λ (q : Frame). q.list) w.is ∙ e)) in
-    record {
-      h = w.h;
-      x = w.x;
-      at = w.at;
-      n = w.n;
-      is = w.is;
-      site = w.site;
-      after = w.after;
-      room = w.room;
-      there = w.there;
-      around = w.around;
-      next = inside_kept w.h l l' (λ b p is i t. Ends w.h fiber ls (λ q js. Waits hs fiber l js q ls) b p is i t)
-          (λ b p is i t. Ends w.h fiber ls (λ q js. Waits hs fiber l' js q ls) b p is i t)
-          (ends_kept w.h fiber ls (λ q js. Waits hs fiber l js q ls) (λ q js. Waits hs fiber l' js q ls)
-          (λ q js. waits_kept hs fiber l l' c o js q ls a.1)) ks w.n w.x.waits w.around
-          (keeps_other w.h l l' c w.x.waits o ne) w.next;
-    }
-waits_kept hs fiber l l' c o ks place (machine.iteration a it v ∷ ls) u w = record {
-  others = w.others;
-  back = w.back;
-  is = w.is;
-  next = waits_kept hs fiber l l' c o w.others w.back ls u w.next;
-}
+waits_kept hs fiber l l' c o ks place ls u w =
+    waits_by hs l l' (λ n. n ≢ c) (λ h is ne r. keeps_other h l l' c r o ne) fiber ks place ls (others_only c ls u) w
 
 fibers_kept : (hs : List Site) (l l' : List Registers) (c : ℕ) → OnlyIn c l l' → (fs : List (fibers.Fiber Kept))
     (gs : List (fibers.Fiber (List Level))) → uses_in c gs ≡ 0 → FibersAre hs l fs gs → FibersAre hs l' fs gs
-fibers_kept hs l l' c o [] [] u a = a
-fibers_kept hs l l' c o [] (g ∷ gs) u a = absurd a
-fibers_kept hs l l' c o (f ∷ fs) [] u a = absurd a
-fibers_kept hs l l' c o (f ∷ fs) (g ∷ gs) u a =
-    let i = a.0 in (
-      record {
-        name = i.name;
-        wait = i.wait;
-        resumer = i.resumer;
-        rooted = i.rooted;
-        some = i.some;
-        waits = waits_kept hs f.name l l' c o f.kept.items f.kept.place g.kept (omega (arith, u)) i.waits;
-      },
-      fibers_kept hs l l' c o fs gs (omega (arith, u)) a.1,
-    )
+fibers_kept hs l l' c o fs gs u a =
+    fibers_by hs l l' (λ n. n ≢ c) (λ h is ne r. keeps_other h l l' c r o ne) fs gs (others_in c gs u) a
 
 -- The items of the frame that runs, where its list changes behind them.
 pub frame_kept : (g : Ground) (h : Site) (l l' : List Registers) (ks : List Item) (n r : ℕ) (around : Option Loop)
@@ -138,7 +177,7 @@ same_elsewhere : (h : Site) (cs cs' : List Scope) (l l' : List Registers) → Sa
 unfolding slot_at
 same_elsewhere h cs cs' l l' s scope scopes list lists = record {
   scope = omega (arith, s.scope, scopes);
-  owned = subst (Owned h) (sym scope) s.owned;
+  mirrors = subst (Mirrors h) (sym scope) s.mirrors;
   present = omega (arith, s.present, lists);
   long = ap (λ (g : Registers). length g.slots) list ∙ s.long;
   self = ap (λ (g : Registers). read (get_or g.slots 0 (V Nil))) list ∙ s.self;
@@ -177,6 +216,14 @@ sites_changed s p hs cs cs' l l' w h a site same scopes lists elsewhere o outsid
       runs = i.runs;
       home = i.home;
     }
+
+-- a register of a local of any body is written: what each body keeps above its locals stays
+low_kept : (hs : List Site) (l : List Registers) (g : Site) (i : ℕ) (v : Value) → IsSite hs g → g.list < length l
+    → i < g.first → (d : Site) → IsSite hs d → (r : ℕ) → Keeps d l (put l g.list i (V v)) r
+low_kept hs l g i v site lt low d is r =
+    ⊎_elim (λ e. subst (λ (q : Site). Keeps q l (put l g.list i (V v)) r) (sym (site_is hs g d site is e))
+    (keeps_local g l r i (V v) lt low))
+    (λ ne. keeps_other d l (put l g.list i (V v)) g.list r (put_only l g.list i v) ne) (cases_eq d.list g.list)
 
 -- activations that are there stay
 pub activation_kept : (made : Option (ℕ × List ℕ)) (w u : World) (a : ℕ) → GrowsBy made w u → 1 ≤ a
@@ -321,12 +368,71 @@ module _ {s : Source} {p : Program} where
       let cs' = put_in m.scopes h.list (x) v in
       let o = put_only k.lists h.list (register h x) v in
       changed g h m (with_variable m (x) v) k (record k { lists = l' }) b b.all.world refl refl refl
-      (subst (λ (cs : List Scope). SitesAre s p g.sites cs l' m.world) (sym (assigned h m x v there known i.same.owned))
+      (subst (λ (cs : List Scope). SitesAre s p g.sites cs l' m.world) (sym (assigned h m x v there known i.same.mirrors))
       (sites_changed s p g.sites m.scopes cs' k.lists l' m.world h b.all.sites b.site
       (put_alike h m.scopes k.lists x v i.static i.same known (omega (arith, known.low, i.static.room)))
       (length-set m.scopes h.list _) (length_put k.lists h.list (register h x) (V v))
       (λ n ne. scope_other m.scopes h.list n (x) v ne) o
       (outers_put k.lists h.list (register h x) (V v)) (parents_put m.scopes h.list x v))) o
+
+  -- a local of a body around is assigned, that has this site
+  pub assigned_out : (g : Ground) (h d : Site) (m : source.Memory) (k : machine.Memory) → Running s p g h m k → (x : Local)
+      (v : Value) → IsSite g.sites d → Known d x → scope_of m x ≡ d.list
+      → Running s p g h (with_variable m x v) (record k { lists = put k.lists d.list (register d x) (V v) })
+  unfolding with_variable
+  assigned_out g h d m k b x v site known found =
+      let i = b.all.sites.each d site in
+      let l' = put k.lists d.list (register d x) (V v) in
+      let cs' = put_in m.scopes d.list x v in
+      let a = b.all.fibers in
+      let kept = low_kept g.sites k.lists d (register d x) v site i.same.present known.low in
+      let sites = sites_changed s p g.sites m.scopes cs' k.lists l' m.world d b.all.sites site
+      (put_alike d m.scopes k.lists x v i.static i.same known (omega (arith, known.low, i.static.room)))
+      (length-set m.scopes d.list _) (length_put k.lists d.list (register d x) (V v))
+      (λ n ne. scope_other m.scopes d.list n x v ne) (put_only k.lists d.list (register d x) v)
+      (outers_put k.lists d.list (register d x) (V v)) (parents_put m.scopes d.list x v) in
+      record {
+        all = record {
+          world = b.all.world;
+          sites = subst (λ (n : ℕ). SitesAre s p g.sites (put_in m.scopes n x v) l' m.world) (sym found) sites;
+          fibers = record {
+            running = a.running;
+            running_too = a.running_too;
+            resumer = a.resumer;
+            rooted = a.rooted;
+            others = fibers_by g.sites k.lists l' (λ n. Unit {0}) (λ q is u r. kept q is r) m.fibers.others k.fibers.others
+                (any_in k.fibers.others) a.others;
+          };
+          apart = b.all.apart;
+        };
+        site = b.site;
+        free = b.free;
+      }
+
+  -- and what waits in the frame that runs
+  pub frame_out : (g : Ground) (h d : Site) (m : source.Memory) (k : machine.Memory) → Running s p g h m k → (x : Local)
+      (v : Value) → IsSite g.sites d → Known d x → (ks : List Item) (n r : ℕ) (around : Option Loop)
+      → InFrame g h k.lists ks n r around → InFrame g h (put k.lists d.list (register d x) (V v)) ks n r around
+  frame_out g h d m k b x v site known ks n r around a =
+      let i = b.all.sites.each d site in
+      let l = k.lists in
+      let l' = put l d.list (register d x) (V v) in
+      let kept = low_kept g.sites l d (register d x) v site i.same.present known.low in
+      inside_kept h l l' (λ c p is i t. Ends h g.fiber g.below (λ q js. Waits g.sites g.fiber l js q g.below) c p is i t)
+      (λ c p is i t. Ends h g.fiber g.below (λ q js. Waits g.sites g.fiber l' js q g.below) c p is i t)
+      (ends_kept h g.fiber g.below (λ q js. Waits g.sites g.fiber l js q g.below)
+      (λ q js. Waits g.sites g.fiber l' js q g.below)
+      (λ q js. waits_by g.sites l l' (λ n. Unit {0}) (λ q is u r. kept q is r) g.fiber js q g.below (any_only g.below)))
+      ks n r around (kept h b.site r) a
+
+  -- and in its registers above the locals
+  pub slot_out : (g : Ground) (h d : Site) (m : source.Memory) (k : machine.Memory) → Running s p g h m k → (x : Local)
+      (v : Value) → IsSite g.sites d → Known d x → (r : ℕ) → h.first ≤ r
+      → slot_at (put k.lists d.list (register d x) (V v)) h.list r ≡ slot_at k.lists h.list r
+  slot_out g h d m k b x v site known r above =
+      let i = b.all.sites.each d site in
+      (low_kept g.sites k.lists d (register d x) v site i.same.present known.low h b.site (r + 1)).same r above
+      (omega arith)
 
   -- The frame that runs begins to wait, and one that waits runs again.
 

@@ -1,5 +1,5 @@
 -- The step law, by cases on the focus, and the theorem for a main program.
-use Rattle.std.proofs.Common.{◌≡◌, ◌<◌, ℕ, zero, suc, List, [], ◌∷◌, refl, sym, ap, ◌∙◌, subst, arith, length, length-set, get_or, get_or-set_same, get_or-set_other, replicate, Bool, true, false, true≢false, inl}
+use Rattle.std.proofs.Common.{◌≡◌, ◌<◌, ℕ, zero, suc, List, [], ◌∷◌, refl, sym, ap, ◌∙◌, subst, arith, length, length-set, get_or, get_or-set_same, get_or-set_other, replicate, Bool, true, false, true≢false}
 use Rattle.std.specs.Prelude.{Option, Some, None, unwrap_or, if◌then◌else◌, slice_get}
 use Rattle.std.proofs.lemmas.List.{length-replicate}
 use Rattle.rb_value.specs.declared.value.Value.{Value}
@@ -30,7 +30,11 @@ use Rattle.def_core.specs.Sound.{OptionIs}
 use Rattle.eval_laws.specs.Procs.{HasProc}
 use Rattle.step_laws.proofs.Symbols.{opening_objects}
 use Rattle.step_laws.proofs.Procless.{are_bodiless, has_none, opening_bodiless}
-use Rattle.step_laws.specs.Around.{further_slots}
+use Rattle.scope_resolver.specs.declared.seek.Search.TheVariants.{Past}
+use Rattle.scope_resolver.specs.Layout.{Scopes, named_slots, seek}
+use Rattle.step_laws.specs.Around.{is_found, first_slots, further_slots}
+use Rattle.step_laws.proofs.Parameters.{sought, lined_nils}
+use Rattle.step_laws.proofs.Begun.{mirrored_by}
 use Rattle.step_laws.specs.Site.{Site, LineAt, register, opening_store}
 use Rattle.step_laws.specs.Covers.{Covers}
 use Rattle.step_laws.specs.Calm.{IsCalm, StaysCalm}
@@ -370,6 +374,7 @@ module _ (s : Source) (p : Program) (input : List ℕ) (c : IsCodeOf s p) where
   static = record {
     apart = c.apart;
     some = c.some;
+    low = c.low;
     room = c.room;
     no_catches = c.no_catches;
   }
@@ -386,7 +391,12 @@ module _ (s : Source) (p : Program) (input : List ℕ) (c : IsCodeOf s p) where
       let long : length nils ≡ registers = length-replicate registers (V Nil) in
       record {
         scope = omega arith;
-        owned = inl refl;
+        mirrors = λ x.
+            mirrored_by x (λ i. Nil) (all_nil (locals_of (body_at s 0)))
+            (seek (form.named x) (named_slots (locals_of (body_at s 0))) (Past 1))
+            (sought (form.named x) (named_slots (locals_of (body_at s 0))) 1 (λ i. Nil) (all_nil (locals_of (body_at s 0)))
+            (lined_nils (locals_of (body_at s 0)) 1 (λ i. Nil) (λ i le. refl)))
+            ∙ sym (ap (λ (z : Scopes). is_found (seek (form.named x) (first_slots z) (Past 1))) c.scopes);
         present = omega arith;
         long = length-set nils 0 (V (Obj main_object)) ∙ long;
         self = ap read (get_or-set_same nils 0 (V (Obj main_object)) (V Nil) (omega (arith, long, c.some, c.room)));
@@ -426,7 +436,7 @@ module _ (s : Source) (p : Program) (input : List ℕ) (c : IsCodeOf s p) where
       alone : (d : Site) (n : ℕ) → slice_get (h ∷ []) n ≡ Some d
           → Linked (h ∷ []) (further_slots d.context.scopes) (get_or (None ∷ []) n None)
       alone d zero e = subst (λ (q : Site). further_slots q.context.scopes ≡ [])
-          (ap (λ (o : Option Site). unwrap_or o h) e) c.alone
+          (ap (λ (o : Option Site). unwrap_or o h) e) (ap further_slots c.scopes)
       alone d (suc n) e = absurd (cc e)
 
       main : SiteIs s p h (record { parent = None; variables = all_nil (locals_of (body_at s 0)) } ∷ [])

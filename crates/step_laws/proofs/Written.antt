@@ -18,11 +18,13 @@ use Rattle.gen_parts.specs.declared.emitter.Spot.{Spot}
 use Rattle.gen_parts.specs.Pieces.{Piece, past, nothing, both, puts, makes, does}
 use Rattle.gen_forms.specs.Gen.{Context, gen, others_in_turn, first_register, opening}
 use Rattle.code_laws.proofs.Shares.{Noted, Noted_all, Fits, many, many_all, many_body}
+use Rattle.code_laws.specs.Bound.{Knows}
+use Rattle.code_laws.proofs.Binding.{method_knows, block_knows}
 use Rattle.code_laws.proofs.Operating.{AreShort}
 use Rattle.def_eval.specs.Source.{Source, over, over_body, over_forms, over_items, how_many, in_order, span, span_forms, parameters_of, locals_of}
 use Rattle.step_laws.specs.Plain.{IsPlain, ArePlainItems}
 use Rattle.step_laws.specs.Bodies.{AreSingle}
-use Rattle.step_laws.specs.Tops.{AreNamed, within_closed, IsPlainMethod, IsPlainBlock, IsPlainReceiver, IsPlainCall, IsLast, assigns_it, returns_it, AreTops, no_tops, form_before, method_before, call_before, value_before, list_before}
+use Rattle.step_laws.specs.Tops.{AreNamed, IsPlainBody, IsPlainReceiver, IsPlainCall, IsLast, assigns_it, returns_it, AreTops, no_tops, form_before, method_before, call_before, value_before, list_before}
 use Rattle.step_laws.proofs.Found.{both_true}
 use Rattle.eval_laws.specs.Kinds.{Kind, of_program, of_block, of_method, of_class, kinds, kinds_body, kinds_forms, kinds_items, kinds_receiver}
 use Rattle.eval_laws.specs.Standing.{FormStands, FormsStand, BlockStands}
@@ -30,14 +32,14 @@ use Rattle.eval_laws.proofs.Sizes.{size}
 use Rattle.eval_laws.proofs.Forming.{body_from}
 use Rattle.step_laws.proofs.Bodiless.{no_bodies, none_in_items}
 use Rattle.step_laws.proofs.Fitting.{Around as Fit, none_around, w as body_room}
-use Rattle.step_laws.specs.Around.{slots_for, Around}
+use Rattle.step_laws.specs.Around.{Around}
 use Rattle.step_laws.proofs.Around.{method_alone}
 use Rattle.step_laws.proofs.Nested.{block_stands, last_stands, first_closed, Closed, Inside, inside_past, inside_less, block_sees, inside_new}
 use Rattle.step_laws.proofs.Catchless.{IsBare, bare}
-use Rattle.step_laws.proofs.Making.{last_tables, last_span, last_many, form_spot, spot_body, body_irep, inner_bodies, code_of_method, turn_bodies, form_span, method_span, call_made, none_in_receiver, call_span, call_number, tops_span, list_span, form_many, method_many, call_many, tops_many}
+use Rattle.step_laws.proofs.Making.{last_tables, last_span, last_many, form_spot, spot_body, body_irep, inner_bodies, code_of_method, turn_bodies, form_span, method_span, call_made, none_in_receiver, call_span, tops_span, list_span, form_many, method_many, call_many, tops_many}
 
--- A body of a method or a block of the source, and its body in the code. Its form is one within what is around it, and
--- within its own locals.
+-- A body of a method or a block of the source, and its body in the code. Its form is one within what is around it, all of
+-- which is bound.
 pub record Written (s : Source) (k : BodyKind) (n : ℕ) (b : Body) (i : Irep) : Type 0 where
   pub around : Scopes
   pub out : Fit k around
@@ -47,9 +49,7 @@ pub record Written (s : Source) (k : BodyKind) (n : ℕ) (b : Body) (i : Irep) :
   pub in_block : within.loops ≡ true → k ≡ kind.Block
   pub formed : is_form within (form_of b) ≡ true
   pub stands : FormStands s within (n + 1) (form_of b)
-  pub inner : program.Around
-  pub known : inner.known ≡ all_parameters (parameters_of b) ++ locals_of b
-  pub closed : is_form inner (form_of b) ≡ true
+  pub knows : Knows (scopes_in k b around) within
   pub single : AreSingle (parameters_of b)
   pub defaults : has_defaults (parameters_of b).optional (form_of b) ≡ true
   pub named : AreNamed (all_parameters (parameters_of b) ++ locals_of b)
@@ -103,7 +103,8 @@ nth_written s n (suc j) (l ∷ ks) (c ∷ bs) (h ∷ is) k b i w e =
 
 -- Where forms in turn stand: the scopes around, each of which has few locals, are no more than the bodies before, and with
 -- those in the forms these are few.
-pub record Reaches (src : Source) (c : Context) (s : Spot) (es : Forms) : Type 0 where
+pub record Reaches (src : Source) (a : program.Around) (c : Context) (s : Spot) (es : Forms) : Type 0 where
+  pub knows : Knows c.scopes a
   pub inside : Inside src c.scopes s.body (s.body + span_forms es)
   pub short : AreShort c.scopes
   pub deep : length c.scopes ≤ s.body
@@ -111,7 +112,7 @@ pub record Reaches (src : Source) (c : Context) (s : Spot) (es : Forms) : Type 0
 
 -- what is shown of forms in turn
 abbrev AllMade : Source → Forms → Type 0
-AllMade src es = (t : Tally) (a : program.Around) (c : Context) (s : Spot) (r : ℕ) → Reaches src c s es
+AllMade src es = (t : Tally) (a : program.Around) (c : Context) (s : Spot) (r : ℕ) → Reaches src a c s es
     → FormsStand src a s.body es → Noted_all t es → are_forms a es ≡ true
     → AllWritten src s.body (kinds_forms es) (over_forms in_order es) (others_in_turn c s r es).bodies
 
@@ -132,9 +133,10 @@ of_one src f c s r all =
 inner_written : (src : Source) (k : BodyKind) (sc : Scopes) (out : Fit k sc) (n : ℕ) (p : form.Parameters)
     (ls : List Local) (f : CoreForm) → Fits (form.body p ls f) → (a : program.Around) → length (seen_around k sc) ≤ n
     → n + (1 + many f) ≤ 65536 → Inside src (scopes_in k (form.body p ls f) sc) (n + 1) (n + 1 + span f)
+    → Knows (scopes_in k (form.body p ls f) sc) a
     → FormStands src a (n + 1) f → is_form a f ≡ true → AllMade src (form.more f form.none)
     → AllWritten src (n + 1) (kinds f) (over in_order f) (inner_bodies k sc n (form.body p ls f))
-inner_written src k sc out n p ls f fits a deep few nested st formed made =
+inner_written src k sc out n p ls f fits a deep few nested knows st formed made =
     let b = form.body p ls f in
     let t = tally b in
     let c = opening k b sc t in
@@ -143,6 +145,7 @@ inner_written src k sc out n p ls f fits a deep few nested st formed made =
     let number = spot_body n (length p.optional) in
     subst (λ (i : ℕ). AllWritten src i (kinds f) (over in_order f) (inner_bodies k sc n b)) number
     (of_one src f c sp r (made t a c sp r (record {
+      knows = knows;
       inside = subst (λ (i : ℕ). Inside src c.scopes i (i + span_forms (form.more f form.none))) (sym number)
           (inside_less src c.scopes (n + 1) (n + 1 + span f) (n + 1 + span_forms (form.more f form.none)) (omega arith) nested);
       short = (body_room k sc out p ls f fits).able.each;
@@ -161,7 +164,7 @@ no_kinds e is = empty (kinds e) ((size e).kinds ∙ no_bodies how_many (λ x. re
 
 -- A definition makes its body and those in it.
 method_written : (src : Source) (t : Tally) (a : program.Around) (c : Context) (s : Spot) (r : ℕ) (x : Name) (f : Body)
-    → IsPlainMethod f → (tops : AreTops (form.more (form_of f) form.none)) → AllMade src (form.more (form_of f) form.none)
+    → IsPlainBody f → (tops : AreTops (form.more (form_of f) form.none)) → AllMade src (form.more (form_of f) form.none)
     → s.body + many (form.define x f) ≤ 65536 → FormStands src a s.body (form.define x f) → Noted t (form.define x f)
     → is_form a (form.define x f) ≡ true
     → AllWritten src s.body (kinds (form.define x f)) (over in_order (form.define x f)) (gen c s r (form.define x f)).bodies
@@ -173,6 +176,7 @@ method_written src t a c s r x (form.body p ls f) m tops made few st n h =
     let formed = (both_true (has_defaults p.optional f) (is_form (within_method p ls) f) h).1 in
     let out = none_around kind.Method (omega arith) in
     let alone = method_alone src s.body st.1.4 in
+    let knows = method_knows p ls f [] m.single.one_block in
     subst (λ (is : List Irep). AllWritten src s.body (of_method ∷ kinds f) (b ∷ over in_order f) is)
     (sym (code_of_method c.scopes k b m))
     (subst (λ (i : ℕ). AllWritten src s.body (of_method ∷ kinds f) (b ∷ over in_order f)
@@ -186,9 +190,7 @@ method_written src t a c s r x (form.body p ls f) m tops made few st n h =
         in_block = λ e. absurd (cc e);
         formed = formed;
         stands = st.1.2;
-        inner = within_method p ls;
-        known = refl;
-        closed = formed;
+        knows = knows;
         single = m.single;
         defaults = m.defaults;
         named = m.named;
@@ -198,7 +200,7 @@ method_written src t a c s r x (form.body p ls f) m tops made few st n h =
       },
       inner_written src kind.Method [] out s.body p ls f n.1 (within_method p ls) (omega arith) few
           (inside_new src s.body of_method [] (scopes_in kind.Method b []) b (body_from src s.body b st.1.0) st.1.4 alone refl)
-          st.1.2 formed made,
+          knows st.1.2 formed made,
     ))
 
 kinds_in_receiver : (e : Receiver) → IsPlainReceiver e → kinds_receiver e ≡ []
@@ -227,19 +229,20 @@ call_bodies e x is f m =
     (none_in_items in_order (λ y. refl) refl is m.items)
 
 call_written : (src : Source) (t : Tally) (a : program.Around) (c : Context) (s : Spot) (r : ℕ) (e : Receiver) (x : Name)
-    (is : Items) (f : Body) → IsPlainCall e is → IsPlainBlock f → (tops : AreTops (form.more (form_of f) form.none))
+    (is : Items) (f : Body) → IsPlainCall e is → IsPlainBody f → (tops : AreTops (form.more (form_of f) form.none))
     → AllMade src (form.more (form_of f) form.none) → AreShort c.scopes → length c.scopes ≤ s.body
-    → s.body + many_body f ≤ 65536 → Around src s.body c.scopes → BlockStands src a s.body f
+    → s.body + many_body f ≤ 65536 → Around src s.body c.scopes → Knows c.scopes a → BlockStands src a s.body f
     → Noted t (form.call e x is (form.there (form.function f)))
     → is_form a (form.call e x is (form.there (form.function f))) ≡ true
     → AllWritten src s.body (kinds (form.call e x is (form.there (form.function f))))
     (over in_order (form.call e x is (form.there (form.function f))))
     (gen c s r (form.call e x is (form.there (form.function f)))).bodies
-call_written src t a c s r e x is (form.body p ls f) m block tops made short deep few sees st n h =
+call_written src t a c s r e x is (form.body p ls f) m block tops made short deep few sees around st n h =
     let b = form.body p ls f in
     let second = (both_true (is_receiver a e) (are_items a is && is_block a b) h).1 in
     let third = (both_true (are_items a is) (is_block a b) second).1 in
     let formed = (both_true (has_defaults p.optional f) (is_form (within_block a p ls) f) third).1 in
+    let knows = block_knows p ls f c.scopes a block.single.one_block around in
     let out : Fit kind.Block c.scopes = record { short = short; few = omega (arith, deep, few) } in
     subst (λ (ks : List Kind). AllWritten src s.body ks (over in_order (form.call e x is (form.there (form.function b))))
     (gen c s r (form.call e x is (form.there (form.function b)))).bodies) (sym (call_kinds e x is b m))
@@ -256,9 +259,7 @@ call_written src t a c s r e x is (form.body p ls f) m block tops made short dee
         in_block = λ i. refl;
         formed = formed;
         stands = st.2;
-        inner = within_closed (all_parameters p ++ ls);
-        known = refl;
-        closed = block.closed;
+        knows = knows;
         single = block.single;
         defaults = block.defaults;
         named = block.named;
@@ -268,7 +269,7 @@ call_written src t a c s r e x is (form.body p ls f) m block tops made short dee
       },
       inner_written src kind.Block c.scopes out s.body p ls f n.3.1 (within_block a p ls) deep few
           (inside_new src s.body of_block c.scopes (scopes_in kind.Block b c.scopes) b (body_from src s.body b st.0) st.4 sees
-          refl) st.2 formed made,
+          refl) knows st.2 formed made,
     )))
 
 -- What is shown of the form whose value is taken is so of what takes it.
@@ -311,11 +312,12 @@ call_sees src a scopes n m e x is (form.body p ls f) plain st le w =
     block_sees src scopes n m w (omega (arith, le, first, items)) block.4
 
 -- what follows a form reaches no further
-reaches_on : (src : Source) (c : Context) (s : Spot) (q : Piece) (e : CoreForm) (es : Forms) → length q.bodies ≤ many e
-    → span e ≡ length q.bodies → Closed src s.body (s.body + span e) → Reaches src c s (form.more e es)
-    → Reaches src c (past s q) es
+reaches_on : (src : Source) (a : program.Around) (c : Context) (s : Spot) (q : Piece) (e : CoreForm) (es : Forms) → length q.bodies ≤ many e
+    → span e ≡ length q.bodies → Closed src s.body (s.body + span e) → Reaches src a c s (form.more e es)
+    → Reaches src a c (past s q) es
 unfolding past
-reaches_on src c s q e es le long closed w = record {
+reaches_on src a c s q e es le long closed w = record {
+  knows = w.knows;
   inside = inside_past src c.scopes s q e es long closed w.inside;
   short = w.short;
   deep = omega (arith, w.deep);
@@ -337,7 +339,7 @@ tops_written (form_before {e} {es} is tops) src t a c s r w st n h =
     (others_in_turn c (past s q) r es).bodies
     (none_written src s.body (kinds e) (over in_order e) q.bodies (no_kinds e is)
     (no_bodies in_order (λ y. refl) refl e is) (bare e is c s r).2) refl
-    (tops_written tops src t a c (past s q) r (reaches_on src c s q e es (form_many e is c s r) (form_span e is c s r) (first_closed (form_before {e = e} {es = es} is tops) src a s.body st) w)
+    (tops_written tops src t a c (past s q) r (reaches_on src a c s q e es (form_many e is c s r) (form_span e is c s r) (first_closed (form_before {e = e} {es = es} is tops) src a s.body st) w)
     (forms_stand_on src a s q e es (form_span e is c s r) st.1) n.1 parts.1)
 tops_written (method_before {x} {f} {es} m body tops) src t a c s r w st n h =
     let whole = form.define x f in
@@ -348,7 +350,7 @@ tops_written (method_before {x} {f} {es} m body tops) src t a c s r w st n h =
     (method_written src t a c s r x f m body (λ u b d v i z g o k. tops_written body src u b d v i z g o k)
     (omega (arith, w.few)) st.0 n.0 parts.0) refl
     (tops_written tops src t a c (past s q) r
-    (reaches_on src c s q whole es (method_many x f m (λ d v i. tops_many body d v i) c s r)
+    (reaches_on src a c s q whole es (method_many x f m (λ d v i. tops_many body d v i) c s r)
     (method_span x f m (λ d v i. tops_span body d v i) c s r)
     (first_closed (method_before {x = x} {f = f} {es = es} m body tops) src a s.body st) w)
     (forms_stand_on src a s q whole es (method_span x f m (λ d v i. tops_span body d v i) c s r) st.1) n.1 parts.1)
@@ -360,9 +362,9 @@ tops_written (call_before {e} {x} {is} {f} {es} m block body tops) src t a c s r
     q.bodies (others_in_turn c (past s q) r es).bodies
     (call_written src t a c s r e x is f m block body (λ u b d v i z g o k. tops_written body src u b d v i z g o k)
     w.short w.deep (omega (arith, w.few)) (call_sees src a c.scopes s.body (s.body + span_forms (form.more whole es)) e x is f
-    m st.0 (omega arith) w.inside) (block_stands src a s.body e x is f m st.0) n.0 parts.0) refl
+    m st.0 (omega arith) w.inside) w.knows (block_stands src a s.body e x is f m st.0) n.0 parts.0) refl
     (tops_written tops src t a c (past s q) r
-    (reaches_on src c s q whole es (call_many e x is f m block (λ d v i. tops_many body d v i) c s r)
+    (reaches_on src a c s q whole es (call_many e x is f m block (λ d v i. tops_many body d v i) c s r)
     (call_span e x is f m block (λ d v i. tops_span body d v i) c s r)
     (first_closed (call_before {e = e} {x = x} {is = is} {f = f} {es = es} m block body tops) src a s.body st) w)
     (forms_stand_on src a s q whole es (call_span e x is f m block (λ d v i. tops_span body d v i) c s r) st.1) n.1
@@ -375,6 +377,7 @@ tops_written (value_before {f} {e} {es} is inner tops) src t a c s r w st n h =
     (others_in_turn c (past s q) r es).bodies
     (last_written is src c s r (of_one src e c s r (tops_written inner src t a c s r
     (record {
+      knows = w.knows;
       inside = inside_less src c.scopes s.body (s.body + span_forms (form.more f es))
           (s.body + span_forms (form.more e form.none)) (omega (arith, last_wide is)) w.inside;
       short = w.short;
@@ -383,7 +386,7 @@ tops_written (value_before {f} {e} {es} is inner tops) src t a c s r w st n h =
     }) (last_stands is src a s.body st.0, tt)
     (last_noted is t n.0, tt) (ap (λ (x : Bool). x && true) (last_formed is a parts.0))))) refl
     (tops_written tops src t a c (past s q) r
-    (reaches_on src c s q f es (last_many is (λ d v i. tops_many inner d v i) c s r)
+    (reaches_on src a c s q f es (last_many is (λ d v i. tops_many inner d v i) c s r)
     (last_span is (λ d v i. tops_span inner d v i) c s r)
     (first_closed (value_before {f = f} {e = e} {es = es} is inner tops) src a s.body st) w)
     (forms_stand_on src a s q f es (last_span is (λ d v i. tops_span inner d v i) c s r) st.1) n.1 parts.1)
@@ -395,6 +398,7 @@ tops_written (list_before {fs} {es} inner tops) src t a c s r w st n h =
     (subst (λ (is : List Irep). AllWritten src s.body (kinds_forms fs) (over_forms in_order fs) is)
     (sym (turn_bodies c s r fs)) (tops_written inner src t a c s r
     (record {
+      knows = w.knows;
       inside = inside_less src c.scopes s.body (s.body + span_forms (form.more (form.seq fs) es)) (s.body + span_forms fs)
           (omega arith) w.inside;
       short = w.short;
@@ -402,6 +406,6 @@ tops_written (list_before {fs} {es} inner tops) src t a c s r w st n h =
       few = omega (arith, w.few);
     }) st.0 n.0.1 parts.0)) refl
     (tops_written tops src t a c (past s q) r
-    (reaches_on src c s q (form.seq fs) es (omega (arith, tops_many inner c s r, ap length (turn_bodies c s r fs)))
+    (reaches_on src a c s q (form.seq fs) es (omega (arith, tops_many inner c s r, ap length (turn_bodies c s r fs)))
     (list_span fs inner c s r) (first_closed (list_before {fs = fs} {es = es} inner tops) src a s.body st) w)
     (forms_stand_on src a s q (form.seq fs) es (list_span fs inner c s r) st.1) n.1 parts.1)

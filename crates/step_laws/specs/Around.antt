@@ -1,7 +1,9 @@
 -- The body that a block of a source stands in, and the slots that its code sees around its own.
-use Rattle.std.specs.Prelude.{◌≡◌, ◌<◌, ◌≤◌, ℕ, ◌+◌, List, [], ◌∷◌, Option, Some, None}
+use Rattle.std.specs.Prelude.{◌≡◌, ◌<◌, ◌≤◌, ℕ, ◌+◌, [], ◌∷◌, Bool, true, false}
 use Rattle.ir_core.specs.CoreForm.{Body}
 use Rattle.scope_resolver.specs.declared.body_kind.BodyKind.TheVariants as kind
+use Rattle.scope_resolver.specs.declared.seek.Search.{Search}
+use Rattle.scope_resolver.specs.declared.seek.Search.TheVariants.{Found, Past}
 use Rattle.scope_resolver.specs.Layout.{Slots, Scopes, slots_of}
 use Rattle.def_eval.specs.Source.{Source, body_at, form_of, span}
 use Rattle.eval_laws.specs.Kinds.{Kind, of_program, of_block, of_method, of_class, IsKind}
@@ -27,6 +29,11 @@ pub data Around (s : Source) : ℕ → Scopes → Type 0 where
   alone : {n : ℕ} {scopes : Scopes} → (k : Kind) → IsKind s n k → (k ≡ of_block → ⊥) → scopes ≡ [] → Around s n scopes
   inside : {n : ℕ} {scopes : Scopes} → (i : ℕ) (k : Kind) (others : Scopes) → IsKind s n of_block → Innermost s n i
       → IsKind s i k → Around s i others → scopes ≡ slots_for k (body_at s i) ∷ others → Around s n scopes
+
+-- whether a local is found among slots
+abbrev pub is_found : Search → Bool
+is_found (Found n) = true
+is_found (Past n) = false
 
 -- the slots of a body, and those that it sees around them
 abbrev pub first_slots : Scopes → Slots

@@ -1,5 +1,5 @@
 -- The code behind each part of a form that waits for its value, and the registers that hold what it keeps.
-use Rattle.std.specs.Prelude.{◌≡◌, ◌≢◌, ◌⊎◌, ◌<◌, ◌≤◌, ℕ, ◌+◌, List, [], ◌∷◌, length, Bool, true, false, nat_lt, Option, Some, None}
+use Rattle.std.specs.Prelude.{◌≡◌, ◌≢◌, ◌⊎◌, ◌<◌, ◌≤◌, ℕ, suc, ◌+◌, List, [], ◌∷◌, length, Bool, true, false, nat_lt, Option, Some, None}
 use Rattle.rb_value.specs.declared.value.Value.{Value}
 use Rattle.rb_value.specs.declared.value.Value.TheVariants.{Obj}
 use Rattle.rb_value.specs.declared.value.ObjId.{ObjId}
@@ -7,7 +7,9 @@ use Rattle.rb_value.specs.declared.exit.Slot.TheVariants.{V}
 use Rattle.rite_code.specs.declared.operation.Operation.{Operation}
 use Rattle.rite_code.specs.declared.operation.Operation.TheVariants as op
 use Rattle.ir_counts.specs.Tables.{item_count}
-use Rattle.ir_core.specs.CoreForm.{Name, Local, CoreForm, function, Body, Maybe, absent, there, Forms, none, more, Items, Pairs, Branches}
+use Rattle.ir_core.specs.CoreForm.{Name, Local, named, CoreForm, function, Body, Maybe, absent, there, Forms, none, more, Items, Pairs, Branches}
+use Rattle.scope_resolver.specs.Layout.{place_of}
+use Rattle.step_laws.specs.Around.{first_slots}
 use Rattle.gen_parts.specs.declared.line.Line.TheVariants as line
 use Rattle.gen_parts.specs.declared.emitter.Spot.{Spot}
 use Rattle.gen_parts.specs.declared.emitter.Held.TheVariants as held
@@ -30,6 +32,8 @@ use Rattle.step_laws.specs.Standing.{high, Stands}
 pub record Static (h : Site) : Type 0 where
   pub apart : (x y : Local) → Known h x → Known h y → same_local x y ≡ false → register h x ≢ register h y
   pub some : 0 < h.first
+  -- its own slots stand below the registers of its form
+  pub low : 1 + length (first_slots h.context.scopes) ≤ h.first
   pub room : h.first ≤ (body_at h.program h.body).registers
   pub no_catches : (body_at h.program h.body).catches ≡ []
 
@@ -121,6 +125,19 @@ pub record LocalBehind (h : Site) (a : Action) (vs : List Value) (es : Forms) (l
   pub last : es ≡ none
   pub known : Known h name
   pub move : LineAt h n (line.Does (op.Move (register h name) low))
+  pub ends : n + 1 ≡ end
+
+-- or to one of a body around
+pub record OuterBehind (h : Site) (a : Action) (vs : List Value) (es : Forms) (low n r end : ℕ) : Type 0 where
+  pub at : low ≡ r
+  pub name : Name
+  pub action : a ≡ assign (named name)
+  pub first : vs ≡ []
+  pub last : es ≡ none
+  pub between : ℕ
+  pub level : (place_of h.context.scopes (named name)).levels ≡ suc between
+  pub there : 1 ≤ register h (named name)
+  pub sets : LineAt h n (line.Does (op.SetUpVar low (register h (named name)) between))
   pub ends : n + 1 ≡ end
 
 -- and to a global variable
@@ -223,6 +240,7 @@ pub record FarBehind (h : Site) (a : Action) (vs : List Value) (es : Forms) (low
 pub data OperandBehind (h : Site) (l : List Registers) (a : Action) (vs : List Value) (es : Forms) (low n r end : ℕ)
     (around : Option Loop) : Type 0 where
   to_local : LocalBehind h a vs es low n r end → OperandBehind h l a vs es low n r end around
+  to_outer : OuterBehind h a vs es low n r end → OperandBehind h l a vs es low n r end around
   to_global : GlobalBehind h a vs es low n r end → OperandBehind h l a vs es low n r end around
   strict : StrictBehind h l a vs es low n r end around → OperandBehind h l a vs es low n r end around
   breaks : BreakBehind h a vs es low n r around → OperandBehind h l a vs es low n r end around

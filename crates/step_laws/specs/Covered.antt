@@ -8,7 +8,7 @@ use Rattle.ir_counts.specs.Tables.{item_count}
 use Rattle.ir_core.specs.CoreForm.{Name, CoreForm, nil, truth, falsehood, self_ref, int, str, sym, local, own, exception, set_local, ivar, set_ivar, gvar, set_gvar, constant, top_constant, in_constant, set_constant, set_in_constant, array, hash, range, text, intern, seq, cond, and_form, or_form, while_form, call, yield_form, super_form, function, lambda, begin_form, return_form, break_form, next_form, retry, define, define_on, class_form, module_form, singleton_class, alias_form, undef_form, defined, item, rest_of, tail_of, absent, there, Forms, none, more, Items, no_items, plain, splat, Pairs, no_pairs, pair, Branches, no_branches, branch, to, on_self, bare}
 use Rattle.gen_forms.specs.Gen.{is_within, integer_entry, text_entry, operates}
 use Rattle.def_machine.specs.State.{body_at}
-use Rattle.step_laws.specs.Site.{Site, Room, Known, IsThere, Named}
+use Rattle.step_laws.specs.Site.{Site, Room, Reaches, IsThere, Named}
 use Rattle.step_laws.specs.Strict.{IsSome}
 
 -- the pool has the integer where no instruction can hold it
@@ -60,10 +60,10 @@ abbrev mutual
   Covered h r (int z) = Room h r × IsPooled h z
   Covered h r (str t) = Room h r × IsTexted h t
   Covered h r (sym x) = Room h r × Named h x
-  Covered h r (local x) = Room h r × Known h x
+  Covered h r (local x) = Room h r × Reaches h x
   Covered h r (own x) = ⊥
   Covered h r exception = ⊥
-  Covered h r (set_local x e) = Covered h r e × Known h x
+  Covered h r (set_local x e) = Covered h r e × Reaches h x
   Covered h r (ivar x) = Room h r × Named h x
   Covered h r (set_ivar x e) = Room h r × Covered h r e × Named h x
   Covered h r (gvar x) = Room h r × Named h x

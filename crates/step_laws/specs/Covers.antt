@@ -14,7 +14,7 @@ use Rattle.def_eval.specs.Scopes.{shape_of}
 use Rattle.def_machine.specs.State.{body_at}
 use Rattle.def_machine.specs.Turn.{fetch, shape_by}
 use Rattle.eval_laws.specs.Standing.{past_receiver, past_items}
-use Rattle.step_laws.specs.Site.{Site, within, Room, Known, Named}
+use Rattle.step_laws.specs.Site.{Site, within, Room, Reaches, Named}
 use Rattle.step_laws.specs.Around.{Around}
 use Rattle.step_laws.specs.Covered.{Covered, CoveredItems}
 
@@ -69,7 +69,7 @@ abbrev mutual
   Covers h loop r spot j (local x) = Covered h r (local x)
   Covers h loop r spot j (own x) = Covered h r (own x)
   Covers h loop r spot j exception = Covered h r exception
-  Covers h loop r spot j (set_local x e) = Covers h loop r spot j e × Known h x
+  Covers h loop r spot j (set_local x e) = Covers h loop r spot j e × Reaches h x
   Covers h loop r spot j (ivar x) = Covered h r (ivar x)
   Covers h loop r spot j (set_ivar x e) = Covered h r (set_ivar x e)
   Covers h loop r spot j (gvar x) = Covered h r (gvar x)

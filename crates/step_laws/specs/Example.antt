@@ -280,3 +280,47 @@ keeper = plain_body (a ∷ []) (seq (three (define (codes "alone") one_alone)
 
 abbrev pub IsValueWitness : Body → Type 0
 IsValueWitness b = Prints b (codes "1\n4\n")
+
+-- def keep(&h)
+--   h
+-- end
+-- def counter
+--   a = 0
+--   keep do
+--     a = a + 1
+--   end
+-- end
+-- a = counter()
+-- a.call
+-- i = 0
+-- [3, 4].each do |h|
+--   i = i + h
+-- end
+-- puts i, a.call
+abbrev pub keep : Body
+keep = body (record { required = []; optional = []; rest = []; post = []; block = h ∷ [] }) [] (local h)
+
+abbrev pub step : Body
+step = plain_body [] (set_local a (on (local a) (codes "+") (int (pos 1))))
+
+abbrev pub counter : Body
+counter = plain_body (a ∷ []) (seq (two (set_local a (int (pos 0)))
+    (call on_self (codes "keep") no_items (there (function step)))))
+
+abbrev pub summing : Body
+summing =
+    body (record { required = h ∷ []; optional = []; rest = []; post = []; block = [] }) []
+    (set_local i (on (local i) (codes "+") (local h)))
+
+abbrev pub ticks : CoreForm
+ticks = call (to (local a)) (codes "call") no_items absent
+
+abbrev pub counting : Body
+counting = plain_body (a ∷ i ∷ []) (seq (more (define (codes "keep") keep) (more (define (codes "counter") counter)
+    (more (set_local a (call on_self (codes "counter") no_items absent)) (more ticks (more (set_local i (int (pos 0)))
+    (two (call (to (array (plain (int (pos 3)) (plain (int (pos 4)) no_items)))) (codes "each") no_items
+    (there (function summing)))
+    (call on_self (codes "puts") (plain (local i) (plain ticks no_items)) absent))))))))
+
+abbrev pub IsClosureWitness : Body → Type 0
+IsClosureWitness b = Prints b (codes "7\n2\n")

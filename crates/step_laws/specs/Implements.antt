@@ -1,5 +1,5 @@
 -- What it means that code implements a source, and what is asked of the code of a main program.
-use Rattle.std.specs.Prelude.{◌≡◌, ◌≢◌, ◌<◌, ◌≤◌, ℕ, List, [], length, Bool, false, None}
+use Rattle.std.specs.Prelude.{◌≡◌, ◌≢◌, ◌<◌, ◌≤◌, ℕ, ◌+◌, List, [], ◌∷◌, length, Bool, false, None}
 use Rattle.rb_value.specs.declared.value.Value.TheVariants.{Obj}
 use Rattle.rb_store.specs.Opening.{main_object, with_names}
 use Rattle.rite_code.specs.Code.{Program}
@@ -11,7 +11,7 @@ use Rattle.path_eval.specs.Steps.{Follows}
 use Rattle.def_calls.specs.World.{main_program}
 use Rattle.def_calls.specs.Rows
 use Rattle.def_calls.specs.Seen.{over}
-use Rattle.def_eval.specs.Source.{Source, body_at, form_of, all_names}
+use Rattle.def_eval.specs.Source.{Source, body_at, form_of, locals_of, all_names}
 use Rattle.def_eval.specs.Configuration.{opening, seen}
 use Rattle.def_eval.specs.Scopes.{same_local}
 use Rattle.def_eval.specs.Transition.{go}
@@ -20,7 +20,8 @@ use Rattle.def_machine.specs.State.{all_symbols, start, shown}
 use Rattle.def_machine.specs.Turn.{turn}
 use Rattle.eval_laws.specs.Kinds.{IsKind, of_method, of_block}
 use Rattle.step_laws.specs.Site.{Site, at_line, LineAt, Lines, Known, register}
-use Rattle.step_laws.specs.Around.{further_slots}
+use Rattle.scope_resolver.specs.Layout.{named_slots}
+use Rattle.step_laws.specs.Around.{first_slots}
 use Rattle.step_laws.specs.Covers.{Covers}
 use Rattle.step_laws.specs.Bodies.{BodyCode, ProcCode}
 
@@ -55,8 +56,9 @@ pub record IsCodeOf (s : Source) (p : Program) : Type 0 where
   pub room : first ≤ (machine.body_at p 0).registers
   pub no_catches : (machine.body_at p 0).catches ≡ []
   pub outside : context.loop ≡ None
-  -- nothing is around it
-  pub alone : further_slots context.scopes ≡ []
+  -- its locals have slots, and nothing is around them
+  pub scopes : context.scopes ≡ named_slots (locals_of (body_at s 0)) ∷ []
+  pub low : 1 + length (first_slots context.scopes) ≤ first
   pub covered : Covers (main_site s p wide at context first) None first (first_spot 0) 1 (form_of (body_at s 0))
   pub code : Lines (main_site s p wide at context first) 0
       (gen context (first_spot 0) first (form_of (body_at s 0))).lines

@@ -1,6 +1,6 @@
 -- When a configuration of the evaluation and a state of the machine are alike: the fiber that runs, whose focus goes
 -- with its frame or its iteration, all that waits below, each other fiber, and each scope with its list of registers.
-use Rattle.std.specs.Prelude.{◌≡◌, ◌⊎◌, ◌<◌, ◌≤◌, ℕ, ◌+◌, List, [], ◌∷◌, length, Bool, true, false, Option, Some, None, is_some, unwrap_or, nat_eq, if◌then◌else◌, slice_get, get_or}
+use Rattle.std.specs.Prelude.{◌≡◌, ◌<◌, ◌≤◌, ℕ, ◌+◌, List, [], ◌∷◌, length, Bool, true, false, Option, Some, None, is_some, unwrap_or, nat_eq, if◌then◌else◌, slice_get, get_or}
 use Rattle.rb_value.specs.declared.value.Value.{Value}
 use Rattle.rb_value.specs.declared.value.Value.TheVariants.{Nil}
 use Rattle.rb_value.specs.declared.value.ObjId.{ObjId}
@@ -8,7 +8,7 @@ use Rattle.rb_value.specs.declared.exit.Exit.TheVariants.{Raise}
 use Rattle.rb_value.specs.declared.exit.Slot.TheVariants.{V}
 use Rattle.rite_code.specs.Code.{Program}
 use Rattle.rite_code.specs.declared.operation.Operation.TheVariants as op
-use Rattle.ir_core.specs.CoreForm.{Local, named, hidden, pattern, rest, CoreForm}
+use Rattle.ir_core.specs.CoreForm.{Name, Local, named, CoreForm}
 use Rattle.gen_parts.specs.declared.line.Line.TheVariants as line
 use Rattle.gen_parts.specs.declared.emitter.Spot.{Spot}
 use Rattle.gen_forms.specs.declared.context.Loop.{Loop}
@@ -29,11 +29,12 @@ use Rattle.def_machine.specs.State.{Registers, Frame, Level, frame, State, On, O
 use Rattle.def_machine.specs.Unwind.{receive, throw}
 use Rattle.def_machine.specs.Turn.{turn}
 use Rattle.scope_laws.specs.Numbers.{parents, outers}
-use Rattle.scope_resolver.specs.Layout.{Scopes}
+use Rattle.scope_resolver.specs.declared.seek.Search.TheVariants.{Past}
+use Rattle.scope_resolver.specs.Layout.{Scopes, seek}
 use Rattle.def_core.specs.Sound.{OptionIs}
 use Rattle.def_eval.specs.Entering.{first_of}
 use Rattle.eval_laws.specs.Procs.{HasProc}
-use Rattle.step_laws.specs.Around.{Around, further_slots}
+use Rattle.step_laws.specs.Around.{is_found, Around, first_slots, further_slots}
 use Rattle.step_laws.specs.Site.{Site, within, place_in, at_line, LineAt, Room, register, Known}
 use Rattle.step_laws.specs.Covers.{Covers}
 use Rattle.step_laws.specs.Calm.{StaysCalm}
@@ -157,21 +158,15 @@ Leaving hs fiber l (iteration a it p ∷ ks) ls = record {
 }
 Leaving hs fiber l (ensuring o ∷ ks) ls = ⊥
 
--- a local of the source is a variable of the scope
-abbrev pub IsOwn : Scope → Local → Type 0
-IsOwn c (named x) = is_some (value_in c.variables (named x)) ≡ true
-IsOwn c (hidden d) = Unit {0}
-IsOwn c (pattern k) = Unit {0}
-IsOwn c rest = Unit {0}
-
--- the locals of a body are those of its scope, where there is one around it
-abbrev pub Owned : Site → Scope → Type 0
-Owned h c = (c.parent ≡ None) ⊎ ((x : Local) → Known h x → IsOwn c x)
+-- the names that a scope has are those that its body has slots of
+abbrev pub Mirrors : Site → Scope → Type 0
+Mirrors h c = (x : Name) → is_some (value_in c.variables (named x))
+    ≡ is_found (seek (named x) (first_slots h.context.scopes) (Past 1))
 
 -- The scope and the list of registers of a body.
 pub record Same (h : Site) (cs : List Scope) (l : List Registers) : Type 0 where
   pub scope : h.list < length cs
-  pub owned : Owned h (scope_at cs h.list)
+  pub mirrors : Mirrors h (scope_at cs h.list)
   pub present : h.list < length l
   pub long : length (list_at l h.list).slots ≡ (body_at h.program h.body).registers
   pub self : value_at l h.list 0 ≡ h.self

@@ -1,5 +1,5 @@
 -- Where the code of a body stands, and what its activation has: what is the same all over a body.
-use Rattle.std.specs.Prelude.{◌≡◌, ◌<◌, ◌≤◌, ℕ, ◌+◌, List, [], ◌∷◌, get_or, position, bytes_eq, is_some, Bool, true, Option, Some}
+use Rattle.std.specs.Prelude.{◌≡◌, ◌<◌, ◌≤◌, ℕ, suc, ◌+◌, List, [], ◌∷◌, get_or, position, bytes_eq, is_some, Bool, true, Option, Some}
 use Rattle.rb_value.specs.declared.value.Value.{Value}
 use Rattle.rb_value.specs.declared.value.SymId.{SymId}
 use Rattle.rite_code.specs.Code.{Program}
@@ -81,6 +81,12 @@ pub record Known (h : Site) (x : Local) : Type 0 where
   pub level : (place_of h.context.scopes x).levels ≡ 0
   pub behind_self : 1 ≤ register h x
   pub low : register h x < h.first
+
+-- or one of the source that has a register of a body around, so many levels out
+pub data Reaches (h : Site) (x : Local) : Type 0 where
+  of_the_body : Known h x → Reaches h x
+  of_one_around : (y : Name) (d : ℕ) → x ≡ named y → (place_of h.context.scopes x).levels ≡ suc d → 1 ≤ register h x
+      → Reaches h x
 
 -- Names: those of the program are symbols of the store from its opening on.
 

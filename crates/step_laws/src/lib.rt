@@ -2,13 +2,13 @@
 //! for a form goes with the evaluation of the form, transition by transition. There is no code here.
 //!
 //! - `specs::Covered`: the forms whose code is followed: nil, true, false, self, integers, strings, symbols, variables and
-//!   constants with their assignments, locals, Arrays with splats, Hashes, Ranges, texts, sequences, branches, `and` and
+//!   constants with their assignments, locals of the body and of those around it, Arrays with splats, Hashes, Ranges, texts, sequences, branches, `and` and
 //!   `or`, loops, `break`, `next`, `return`, elements of multiple assignments, `defined?`, other names of methods,
 //!   calls of a name alone, calls of a value and of self with plain items and no block, `yield` with plain items.
 //!   Operators are calls by look-up and row, and `puts` is the iteration that it is, plan by plan.
 //! - `specs::Plain`: the same as a condition on a form alone
-//! - `specs::Tops`: programs of such forms, of methods, and of calls with blocks that name their own locals alone, at the
-//!   top of which and of each body in them the same stands
+//! - `specs::Tops`: programs of such forms, of methods, and of calls with blocks, at the top of which and of each body in
+//!   them the same stands
 //! - `specs::Simple`: those over nil, true, false and integers, with operators and `puts`, whose evaluation calls no body
 //! - `specs::Covers`: what defines a method, block literals and calls with them besides, at the top of a body, in a
 //!   sequence there, or as what is assigned to a local or leaves a body
@@ -48,7 +48,7 @@ ghost use Rattle.step_laws.specs.Relation.{Alike, Shared};
 ghost use Rattle.step_laws.specs.Simple.{IsSimple};
 ghost use Rattle.step_laws.specs.Tops.{IsPlainProgram};
 ghost use Rattle.step_laws.specs.Implements.{IsCodeOf, Implements};
-ghost use Rattle.step_laws.specs.Example.{countdown, gatherer, chooser, visitor, yielder, seeker, defaulter, keeper, IsWitness, IsPlainWitness, IsMethodWitness, IsBlockWitness, IsYieldWitness, IsExitWitness, IsDefaultWitness, IsValueWitness};
+ghost use Rattle.step_laws.specs.Example.{countdown, gatherer, chooser, visitor, yielder, seeker, defaulter, keeper, counting, IsWitness, IsPlainWitness, IsMethodWitness, IsBlockWitness, IsYieldWitness, IsExitWitness, IsDefaultWitness, IsValueWitness, IsClosureWitness};
 
 /// From a configuration and a state that are alike a transition is matched by few turns, after which they are alike again;
 /// what waits below the running frame, and in other fibers, may be anything that is alike. Both begin alike.
@@ -87,8 +87,7 @@ pub fn simple_code_implements()
 {}
 
 /// The code that gen_forms gives for a program within the limits is code of it, its methods and its blocks, where at its
-/// top and at that of each body stand plain forms, methods, calls with blocks that name no locals but their own, and what
-/// assigns or returns the value of one. Its evaluation enters no other bodies, and the code implements it for every input.
+/// top and at that of each body stand plain forms, methods, calls with blocks, and what assigns or returns the value of one. Its evaluation enters no other bodies, and the code implements it for every input.
 #[tactic(auto, using(crate::proofs::Coded::program_is_code, crate::proofs::Coded::program_implements))]
 pub fn plain_programs_are_implemented()
     ensures coded { (b : Body) → IsProgram b → first_excess (need b) ≡ None → IsPlainProgram b
@@ -160,4 +159,11 @@ pub fn a_program_has_defaults()
 #[tactic(auto, using(crate::proofs::Methods::keeps_values))]
 pub fn a_program_keeps_values()
     ensures { IsValueWitness keeper }
+{}
+
+/// There is one with a block that sets a local of the method around it and outlives that, and with one that adds to a local
+/// of the program; both sides come to the same end.
+#[tactic(auto, using(crate::proofs::Methods::counts))]
+pub fn a_program_counts_by_a_closure()
+    ensures { IsClosureWitness counting }
 {}
