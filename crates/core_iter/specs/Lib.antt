@@ -10,3 +10,4 @@ pub mod Pairs
 pub mod Filling
 pub mod Visiting
 pub mod Rows
+pub mod Called

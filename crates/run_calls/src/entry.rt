@@ -1,4 +1,6 @@
 //! What a call enters.
+ghost use Rattle.std.specs.Prelude.{◌≡◌};
+ghost use Rattle.run_calls.specs.Entering as entering;
 
 use crate::activation::Activation;
 use core_iter::core_calls::Call;
@@ -46,7 +48,9 @@ pub struct Request<'a> {
 
 impl Entry {
     /// The same, where what is entered is given a name before the arguments.
-    pub(crate) fn after(self, name: SymId) -> Entry {
+    pub(crate) fn after(self, name: SymId) -> Entry
+        ensures { result ≡ entering.after_name name self }
+    {
         match self {
             Entry::Answers(given) => Entry::Answers(given),
             Entry::Enters(opening) => Entry::Enters(Opening {

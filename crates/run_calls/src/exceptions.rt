@@ -4,6 +4,7 @@ ghost use Rattle.def_calls.specs.Calls as defined;
 ghost use Rattle.def_calls.specs.World.{World, with_store};
 ghost use Rattle.heap.specs.Operands.{own};
 ghost use Rattle.run_values.specs.Answers.{answered};
+ghost use Rattle.run_calls.specs.Exceptions as exceptions;
 
 use core_iter::heap::{Given, Heap};
 use def_core::Cause;
@@ -34,7 +35,9 @@ pub struct Unrescued {
 }
 
 /// The status that an exception ends the program with: 0 where it has none, or a negative one.
-fn status_of(heap: &Heap, exception: ObjId) -> u64 {
+fn status_of(heap: &Heap, exception: ObjId) -> u64
+    ensures { result ≡ exceptions.status_of heap.now.store exception }
+{
     match heap.detail_of(exception) {
         Value::Int(number) => u64::try_from(number).unwrap_or(0),
         _ => 0,
@@ -42,7 +45,9 @@ fn status_of(heap: &Heap, exception: ObjId) -> u64 {
 }
 
 /// The message of an exception, or the name of its class where it has none.
-fn message_or_name(heap: &Heap, exception: ObjId) -> Result<Vec<u8>, AllocError> {
+fn message_or_name(heap: &Heap, exception: ObjId) -> Result<Vec<u8>, AllocError>
+    ensures { IfOk result (λ text. text.items ≡ exceptions.message_or_name heap.now.store exception) }
+{
     match heap.message_of(exception) {
         Value::Nil => {
             let class = heap.plain_class_of(Value::Obj(exception));
@@ -53,7 +58,9 @@ fn message_or_name(heap: &Heap, exception: ObjId) -> Result<Vec<u8>, AllocError>
 }
 
 /// What is seen of an exception that nothing rescued.
-pub fn seen_of(heap: &Heap, exception: ObjId) -> Result<Unrescued, AllocError> {
+pub fn seen_of(heap: &Heap, exception: ObjId) -> Result<Unrescued, AllocError>
+    ensures { IfOk result (λ seen. exceptions.SeenOf heap.now.store exception seen) }
+{
     let class = heap.plain_class_of(Value::Obj(exception));
     Ok(Unrescued {
         exits: heap.is_below(class, CoreClass::SystemExit),

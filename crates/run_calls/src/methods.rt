@@ -1,6 +1,8 @@
 //! What the call of a method enters.
-ghost use Rattle.std.specs.Prelude.{◌≡◌};
+ghost use Rattle.std.specs.Prelude.{◌≡◌, IfOk};
 ghost use Rattle.run_calls.specs.Activations as activations;
+ghost use Rattle.core_iter.specs.Called.calls.{FollowsBy};
+ghost use Rattle.run_calls.specs.Entering as entering;
 
 use crate::activation::{Activation, Runs};
 use crate::entry::{Entry, Opening, Request};
@@ -37,7 +39,10 @@ pub fn method_running(
 
 /// The body of a method, which is around no other.
 #[inline(always)]
-fn body_opening(owner: ObjId, body: u32, classes: u64, request: Request<'_>) -> Opening {
+fn body_opening(owner: ObjId, body: u32, classes: u64, request: Request<'_>) -> Opening
+    ensures { result ≡ entering.body_opening owner body classes request.entry.name
+        (entering.sent request.entry.call.receiver request.entry.call.args.now request.entry.call.block request.entry.next) }
+{
     Opening {
         body,
         outer: None,
@@ -56,7 +61,10 @@ fn body_opening(owner: ObjId, body: u32, classes: u64, request: Request<'_>) -> 
 }
 
 /// Raises since another number of arguments is wanted.
-fn miscounted(heap: &mut Heap, given: usize, wanted: u64) -> Result<Given, AllocError> {
+#[tactic(auto, unfolding(heap::specs::Told::told))]
+fn miscounted(heap: &mut Heap, given: usize, wanted: u64) -> Result<Given, AllocError>
+    ensures { IfOk result (λ g. FollowsBy (entering.miscounted given wanted) heap.old g heap.new) }
+{
     heap.fail(Cause::WrongCount {
         given: given as u64,
         least: wanted,
@@ -65,7 +73,10 @@ fn miscounted(heap: &mut Heap, given: usize, wanted: u64) -> Result<Given, Alloc
 }
 
 /// Gives the value of an instance variable, to a call without arguments.
-fn read_variable(heap: &mut Heap, name: SymId, call: Call<'_>) -> Result<Given, AllocError> {
+fn read_variable(heap: &mut Heap, name: SymId, call: Call<'_>) -> Result<Given, AllocError>
+    ensures { IfOk result (λ g. entering.Counted 0 heap.old call.entry.args.now
+        (entering.Reads heap.old call.entry.receiver name) g heap.new) }
+{
     if call.args.is_empty() {
         Ok(Given::Gives(heap.instance_variable(call.receiver, name)))
     } else {
@@ -74,7 +85,10 @@ fn read_variable(heap: &mut Heap, name: SymId, call: Call<'_>) -> Result<Given, 
 }
 
 /// Sets an instance variable to the argument of a call that has one.
-fn write_variable(heap: &mut Heap, name: SymId, call: Call<'_>) -> Result<Given, AllocError> {
+fn write_variable(heap: &mut Heap, name: SymId, call: Call<'_>) -> Result<Given, AllocError>
+    ensures { IfOk result (λ g. entering.Counted 1 heap.old call.entry.args.now
+        (entering.Sets heap.old call.entry.receiver name call.entry.args.now) g heap.new) }
+{
     if call.args.len() == 1 {
         heap.set_instance_variable(call.receiver, name, argument(call.args, 0))
     } else {
@@ -83,7 +97,9 @@ fn write_variable(heap: &mut Heap, name: SymId, call: Call<'_>) -> Result<Given,
 }
 
 /// Raises since a method is undefined.
-fn undefined(heap: &mut Heap, name: SymId, receiver: Value) -> Result<Given, AllocError> {
+fn undefined(heap: &mut Heap, name: SymId, receiver: Value) -> Result<Given, AllocError>
+    ensures { IfOk result (λ g. FollowsBy (entering.undefined heap.old name receiver) heap.old g heap.new) }
+{
     let class = heap.plain_class_of(receiver);
     heap.fail(Cause::UndefinedMethod { name, class })
 }
@@ -94,7 +110,11 @@ pub fn enter_found(
     heap: &mut Heap,
     found: &Found,
     request: Request<'_>,
-) -> Result<Entry, AllocError> {
+) -> Result<Entry, AllocError>
+    ensures { IfOk result (λ e. entering.EntersFound found.now request.entry.name heap.old
+        (entering.sent request.entry.call.receiver request.entry.call.args.now request.entry.call.block request.entry.next) e
+        heap.new) }
+{
     let call = request.call;
     match found.method {
         Method::Body { code, scope } => Ok(Entry::Enters(body_opening(

@@ -1,4 +1,6 @@
 //! What a call by a name enters.
+ghost use Rattle.std.specs.Prelude.{◌≡◌, IfOk, not};
+ghost use Rattle.run_calls.specs.Entering as entering;
 
 use crate::activation::Activation;
 use crate::entry::{Entry, Request};
@@ -19,12 +21,16 @@ pub enum Naming {
 }
 
 /// Whether a name may be that of a variable: it ends with no mark.
-fn may_be_variable(heap: &Heap, name: SymId) -> bool {
+fn may_be_variable(heap: &Heap, name: SymId) -> bool
+    ensures { result ≡ not (entering.is_marked (entering.text_of heap.now name)) }
+{
     !matches!(heap.symbol_name(name).last().copied(), Some(b'?' | b'!'))
 }
 
 /// Why a call fails that finds nothing.
-fn undefined(heap: &Heap, naming: Naming, name: SymId, receiver: Value) -> Cause {
+fn undefined(heap: &Heap, naming: Naming, name: SymId, receiver: Value) -> Cause
+    ensures { result ≡ entering.unknown_in heap.now naming name receiver }
+{
     let class = heap.plain_class_of(receiver);
     match naming {
         Naming::ByBareName if may_be_variable(heap, name) => Cause::UndefinedName { name, class },
@@ -33,7 +39,9 @@ fn undefined(heap: &Heap, naming: Naming, name: SymId, receiver: Value) -> Cause
 }
 
 /// Why a method that is found isn't allowed.
-fn forbidden(heap: &Heap, visibility: Visibility, name: SymId, receiver: Value) -> Cause {
+fn forbidden(heap: &Heap, visibility: Visibility, name: SymId, receiver: Value) -> Cause
+    ensures { result ≡ entering.forbidden visibility name (entering.plain_class heap.now receiver) }
+{
     let class = heap.plain_class_of(receiver);
     match visibility {
         Visibility::Public => Cause::UndefinedMethod { name, class },
@@ -49,7 +57,11 @@ fn enter_allowed(
     caller: Value,
     found: &Found,
     request: Request<'_>,
-) -> Result<Entry, AllocError> {
+) -> Result<Entry, AllocError>
+    ensures { IfOk result (λ e. entering.EntersAllowed found.now caller request.entry.name heap.old
+        (entering.sent request.entry.call.receiver request.entry.call.args.now request.entry.call.block request.entry.next) e
+        heap.new) }
+{
     if heap.allowed(caller, request.call.receiver, found) {
         enter_found(heap, found, request)
     } else {
@@ -66,7 +78,11 @@ pub fn enter_named(
     naming: Naming,
     found: Option<Found>,
     request: Request<'_>,
-) -> Result<Entry, AllocError> {
+) -> Result<Entry, AllocError>
+    ensures { IfOk result (λ e. entering.EntersBy found caller.now.receiver naming request.entry.name heap.old
+        (entering.sent request.entry.call.receiver request.entry.call.args.now request.entry.call.block request.entry.next) e
+        heap.new) }
+{
     match found {
         Some(found) => enter_allowed(heap, caller.receiver, &found, request),
         None => {
@@ -83,7 +99,11 @@ pub fn send_by_core(
     public: bool,
     found: Option<Found>,
     request: Request<'_>,
-) -> Result<Entry, AllocError> {
+) -> Result<Entry, AllocError>
+    ensures { IfOk result (λ e. entering.EntersUnchecked found public request.entry.name heap.old
+        (entering.sent request.entry.call.receiver request.entry.call.args.now request.entry.call.block request.entry.next) e
+        heap.new) }
+{
     let receiver = request.call.receiver;
     match found {
         Some(found) => if !public || found.visibility == Visibility::Public {
@@ -100,7 +120,9 @@ pub fn send_by_core(
 }
 
 /// The method above the one that an activation runs.
-fn above(heap: &Heap, running: &Activation) -> Option<Found> {
+fn above(heap: &Heap, running: &Activation) -> Option<Found>
+    ensures { result ≡ entering.above heap.now running.now }
+{
     match (running.owner, running.name) {
         (Some(owner), Some(name)) => {
             heap.find_super(heap.class_of(running.receiver), owner, name)
@@ -114,7 +136,11 @@ fn enter_above(
     heap: &mut Heap,
     running: &Activation,
     request: Request<'_>,
-) -> Result<Entry, AllocError> {
+) -> Result<Entry, AllocError>
+    ensures { IfOk result (λ e. entering.EntersAbove (entering.above heap.old running.now) request.entry.name heap.old
+        (entering.sent request.entry.call.receiver request.entry.call.args.now request.entry.call.block request.entry.next) e
+        heap.new) }
+{
     match above(heap, running) {
         Some(found) => enter_found(heap, &found, request),
         None => {
@@ -134,7 +160,9 @@ pub fn enter_super(
     running: &Activation,
     call: Call<'_>,
     next: u64,
-) -> Result<Entry, AllocError> {
+) -> Result<Entry, AllocError>
+    ensures { IfOk result (λ e. entering.EntersSuper running.now heap.old (entering.sent call.entry.receiver call.entry.args.now call.entry.block next) e heap.new) }
+{
     match running.name {
         Some(name) => enter_above(heap, running, Request { name, call, next }),
         None => Ok(Entry::Answers(heap.fail(Cause::SuperOutside)?)),
