@@ -1,3 +1,4 @@
 pub mod Holding
 pub mod Readying
 pub mod Throwing
+pub mod Unopened

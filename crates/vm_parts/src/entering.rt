@@ -357,11 +357,8 @@ pub fn enter_block(
     parts: &mut Parts,
     beat: Beat,
 ) -> Result<Flow, AllocError>
-    ensures { calling.has_room (beside.of parts.old) ≡ true
-        → is_some (entering.proc_of (beside.of parts.old) beat.callee) ≡ true
-        → IfOk result (λ flow. calling.CallsProc code.now (beside.with_seen (beside.of parts.old)
-        (calling.passed_kept (beside.of parts.old).seen beat.passed)) hot.old beat.callee None
-        (calling.passed_arguments (beside.of parts.old).seen beat.passed) flow hot.new (beside.of parts.new)) }
+    ensures { IfOk result (λ flow. calling.CallsWith code.now (beside.of parts.old) hot.old beat.callee beat.passed flow
+        hot.new (beside.of parts.new)) }
 {
     let arguments = keep_passed(parts, beat.passed)?;
     enter_called(code, hot, parts, beat.callee, None, &arguments)
@@ -376,16 +373,36 @@ pub fn enter_called(
     block: Option<ObjId>,
     arguments: &Arguments,
 ) -> Result<Flow, AllocError>
-    ensures { calling.has_room (beside.of parts.old) ≡ true
-        → is_some (entering.proc_of (beside.of parts.old) callee) ≡ true
-        → IfOk result (λ flow. calling.CallsProc code.now (beside.of parts.old) hot.old callee block arguments.now flow
-        hot.new (beside.of parts.new)) }
+    ensures { IfOk result (λ flow. calling.CallsCallee code.now (beside.of parts.old) hot.old callee block arguments.now
+        flow hot.new (beside.of parts.new)) }
+{
+    if parts.frames.has_room() {
+        enter_with_room(code, hot, parts, callee, block, arguments)
+    } else {
+        enter_other(code, hot, parts, callee, block, arguments)
+    }
+}
+
+/// Calls a Proc, for which there is room, for the innermost level that waits.
+#[inline(always)]
+#[tactic(auto, using(crate::proofs::Unopened::unopened))]
+fn enter_with_room(
+    code: &Loaded,
+    hot: &mut Frame,
+    parts: &mut Parts,
+    callee: ObjId,
+    block: Option<ObjId>,
+    arguments: &Arguments,
+) -> Result<Flow, AllocError>
+    ensures { IfOk result (λ flow. calling.CallsWithRoom code.now (beside.of parts.old) hot.old callee block
+        arguments.now flow hot.new (beside.of parts.new)) }
 {
     let number = parts.next_activation()?;
-    if parts.frames.has_room() && open_proc(code, hot, parts, number, callee, block, arguments)? {
-        return Ok(Flow::Stays);
+    if open_proc(code, hot, parts, number, callee, block, arguments)? {
+        Ok(Flow::Stays)
+    } else {
+        enter_other(code, hot, parts, callee, block, arguments)
     }
-    enter_other(code, hot, parts, callee, block, arguments)
 }
 
 /// The values that a block is called with, as arguments.
@@ -415,7 +432,10 @@ fn enter_other(
     callee: ObjId,
     block: Option<ObjId>,
     arguments: &Arguments,
-) -> Result<Flow, AllocError> {
+) -> Result<Flow, AllocError>
+    ensures { IfOk result (λ flow. calling.CallsOther code.now (beside.of parts.old) hot.old callee block arguments.now
+        flow hot.new (beside.of parts.new)) }
+{
     let next = parts.next_activation()?;
     let call = Call {
         receiver: Value::Nil,
