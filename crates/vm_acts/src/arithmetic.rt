@@ -1,15 +1,17 @@
 //! Operators with instructions of their own: on Integers straight on, while the methods of Integer by their names are
 //! the core ones, and else as calls.
+ghost use Rattle.std.specs.Prelude.{◌≡◌, IfOk, OnOk};
+ghost use Rattle.vm_parts.specs.Beside as beside;
+ghost use Rattle.vm_acts.specs.Arithmetic as arithmetic;
 
 use crate::calls::{Named, call_named};
 use def_core::Found;
-use rb_value::{CoreClass, Method, SymId, Visibility};
+use rb_value::{CoreClass, Method, SymId, Value, Visibility};
 use std::alloc::AllocError;
 use vm_parts::flow::Flow;
 use vm_parts::integer_operators::{Operator, operated};
 use vm_parts::loaded::Loaded;
 use vm_parts::parts::{Parts, behind, put};
-use vm_parts::quick_calls::CoreCalls;
 use vm_parts::run_calls::Naming;
 use vm_parts::run_rows::iter_items::ItemsRow;
 use vm_parts::run_rows::iter_items::iter_comparing::ComparingRow;
@@ -31,22 +33,28 @@ const OPERATORS: [Operator; 9] = [
     Operator::AtLeast,
 ];
 
-/// Whether what is found is the core method of an operator, which everyone may call.
-fn is_core(found: Option<Found>, operator: Operator) -> bool {
-    match found {
-        Some(found) => found.visibility == Visibility::Public
-            && found.method == Method::Core(operator.row()),
-        None => false,
+/// The number of the core method that is found, where everyone may call it.
+fn core_method(found: Option<Found>) -> Option<u16>
+    ensures { result ≡ arithmetic.core_method found }
+{
+    let found = found?;
+    match (found.visibility, found.method) {
+        (Visibility::Public, Method::Core(number)) => Some(number),
+        _ => None,
     }
 }
 
-/// Whether all operators of Integer are the core methods. What is found is kept in the cache.
-fn all_core(parts: &mut Parts) -> Result<bool, AllocError> {
+/// Whether these operators of Integer are the core methods. What is found is kept in the cache.
+fn all_core(parts: &mut Parts, operators: &[Operator]) -> Result<bool, AllocError>
+    ensures core { IfOk result (λ core. core ≡ arithmetic.all_core parts.old.heap.store parts.old.operators
+        operators.now) }
+    ensures same { beside.of parts.new ≡ beside.of parts.old }
+{
     let integer = parts.heap.class_object(CoreClass::Integer);
-    'operators: for operator in &OPERATORS {
+    'operators: for operator in operators {
         let name = parts.operators.symbol(*operator);
         let found = parts.heap.find(integer, name)?;
-        if !is_core(found, *operator) {
+        if core_method(found) != Some(operator.row()) {
             return Ok(false);
         }
     }
@@ -54,70 +62,66 @@ fn all_core(parts: &mut Parts) -> Result<bool, AllocError> {
 }
 
 /// Whether what a class finds under a name is the core method of a row, which everyone may call.
-fn finds_row(
-    parts: &mut Parts,
-    class: CoreClass,
-    name: SymId,
-    row: Row,
-) -> Result<bool, AllocError> {
+fn finds_row(parts: &mut Parts, class: CoreClass, name: SymId, row: Row) -> Result<bool, AllocError>
+    ensures found { IfOk result (λ found. found ≡ arithmetic.finds_row parts.old.heap.store class name row) }
+    ensures same { beside.of parts.new ≡ beside.of parts.old }
+{
     let class = parts.heap.class_object(class);
-    match parts.heap.find(class, name)? {
-        Some(found) => match found.method {
-            Method::Core(number) => {
-                Ok(found.visibility == Visibility::Public && row_at(number) == row)
-            }
-            _ => Ok(false),
-        },
+    let found = parts.heap.find(class, name)?;
+    match core_method(found) {
+        Some(number) => Ok(row_at(number) == row),
         None => Ok(false),
     }
 }
 
-/// Whether all methods of core calls are the core methods. What is found is kept in the cache.
-fn all_calls_core(parts: &mut Parts) -> Result<bool, AllocError> {
-    let CoreCalls {
-        element,
-        store,
-        append,
-        are_core: _,
-    } = parts.operators.calls;
-    let element_of_hash = Row::Star(StarRow::Items(ItemsRow::Compares(ComparingRow::HashElement)));
-    let append_to_text = Row::OfTable(Some(CoreRow::String(StringMethod::Append)));
-    let of_array = finds_row(
-        parts,
-        CoreClass::Array,
-        element,
-        array_row(ArrayRow::Element),
-    )? && finds_row(
-        parts,
-        CoreClass::Array,
-        store,
-        array_row(ArrayRow::SetElement),
-    )? && finds_row(parts, CoreClass::Array, append, array_row(ArrayRow::Append))?;
-    let of_hash = finds_row(parts, CoreClass::Hash, element, element_of_hash)?
-        && finds_row(
-            parts,
-            CoreClass::Hash,
-            store,
-            Row::Plain(PlainRow::Hash(HashRow::Store)),
-        )?;
-    let of_string = finds_row(parts, CoreClass::String, append, append_to_text)?;
-    Ok(of_array && of_hash && of_string)
+/// Whether the methods of Array by the names of core calls are the core ones.
+fn array_calls_core(parts: &mut Parts) -> Result<bool, AllocError>
+    ensures core { IfOk result (λ core. core ≡ arithmetic.array_calls_core parts.old.heap.store
+        parts.old.operators.calls) }
+    ensures same { beside.of parts.new ≡ beside.of parts.old }
+{
+    let calls = parts.operators.calls;
+    let element = Row::Plain(PlainRow::Array(ArrayRow::Element));
+    let store = Row::Plain(PlainRow::Array(ArrayRow::SetElement));
+    let append = Row::Plain(PlainRow::Array(ArrayRow::Append));
+    Ok(
+        finds_row(parts, CoreClass::Array, calls.element, element)?
+            && finds_row(parts, CoreClass::Array, calls.store, store)?
+            && finds_row(parts, CoreClass::Array, calls.append, append)?,
+    )
 }
 
-/// A row of Array.
-fn array_row(row: ArrayRow) -> Row {
-    Row::Plain(PlainRow::Array(row))
+/// Whether all methods of core calls are the core methods. What is found is kept in the cache.
+fn all_calls_core(parts: &mut Parts) -> Result<bool, AllocError>
+    ensures core { IfOk result (λ core. core ≡ arithmetic.all_calls_core parts.old.heap.store
+        parts.old.operators.calls) }
+    ensures same { beside.of parts.new ≡ beside.of parts.old }
+{
+    let calls = parts.operators.calls;
+    let element = Row::Star(StarRow::Items(ItemsRow::Compares(ComparingRow::HashElement)));
+    let store = Row::Plain(PlainRow::Hash(HashRow::Store));
+    let append = Row::OfTable(Some(CoreRow::String(StringMethod::Append)));
+    Ok(
+        array_calls_core(parts)?
+            && finds_row(parts, CoreClass::Hash, calls.element, element)?
+            && finds_row(parts, CoreClass::Hash, calls.store, store)?
+            && finds_row(parts, CoreClass::String, calls.append, append)?,
+    )
 }
 
 /// Notes whether the operators of Integer, and the methods of core calls, are the core methods under the heap's count of
 /// changes.
 #[cold]
-fn look(parts: &mut Parts) -> Result<bool, AllocError> {
+#[tactic(auto, unfolding(vm_parts::specs::Known::is_last))]
+fn look(parts: &mut Parts) -> Result<bool, AllocError>
+    ensures core { IfOk result (λ core. core ≡ arithmetic.are_core_now (beside.of parts.old)) }
+    ensures noted { OnOk result (beside.of parts.new ≡ arithmetic.looked (beside.of parts.old)) }
+{
     let changes = parts.heap.changes();
     if changes == u64::MAX {
         return Ok(false);
     }
-    let are_core = all_core(parts)?;
+    let are_core = all_core(parts, &OPERATORS)?;
     let calls_are_core = all_calls_core(parts)?;
     parts.operators.are_core = are_core;
     parts.operators.calls.are_core = calls_are_core;
@@ -127,7 +131,10 @@ fn look(parts: &mut Parts) -> Result<bool, AllocError> {
 
 /// Whether the operators of Integer are the core methods.
 #[inline(always)]
-fn are_core(parts: &mut Parts) -> Result<bool, AllocError> {
+fn are_core(parts: &mut Parts) -> Result<bool, AllocError>
+    ensures core { IfOk result (λ core. core ≡ arithmetic.are_core (beside.of parts.old)) }
+    ensures noted { OnOk result (beside.of parts.new ≡ arithmetic.noted (beside.of parts.old)) }
+{
     if parts.operators.seen_under == Some(parts.heap.changes()) {
         Ok(parts.operators.are_core)
     } else {
@@ -142,7 +149,10 @@ fn operate_by_call(
     parts: &mut Parts,
     operator: Operator,
     a: u16,
-) -> Result<Flow, AllocError> {
+) -> Result<Flow, AllocError>
+    ensures { IfOk result (λ flow. arithmetic.CallsOperator code.now (beside.of parts.old) hot.old operator a flow
+        hot.new (beside.of parts.new)) }
+{
     let name = parts.operators.symbol(operator);
     let named = Named {
         naming: Naming::ByName,
@@ -154,6 +164,24 @@ fn operate_by_call(
     call_named(code, hot, parts, &named)
 }
 
+/// What an operator gives for registers `a` and `a + 1` straight on; nothing, where its method has to be called.
+#[inline(always)]
+fn given_straight(
+    hot: &Frame,
+    parts: &mut Parts,
+    operator: Operator,
+    a: u16,
+) -> Result<Option<Value>, AllocError>
+    ensures given { IfOk result (λ value. value ≡ arithmetic.straight (beside.of parts.old) hot.now operator a) }
+    ensures noted { OnOk result (beside.of parts.new ≡ arithmetic.noted (beside.of parts.old)) }
+{
+    if !are_core(parts)? {
+        return Ok(None);
+    }
+    let right = parts.get(hot, behind(a));
+    Ok(operated(operator, parts.get(hot, a), right))
+}
+
 /// An operator's instruction on registers `a` and `a + 1`.
 pub fn operate(
     code: &Loaded,
@@ -161,13 +189,15 @@ pub fn operate(
     parts: &mut Parts,
     operator: Operator,
     a: u16,
-) -> Result<Flow, AllocError> {
-    if are_core(parts)? {
-        let right = parts.get(hot, behind(a));
-        if let Some(value) = operated(operator, parts.get(hot, a), right) {
+) -> Result<Flow, AllocError>
+    ensures { IfOk result (λ flow. arithmetic.Operates code.now (beside.of parts.old) hot.old operator a flow hot.new
+        (beside.of parts.new)) }
+{
+    match given_straight(hot, parts, operator, a)? {
+        Some(value) => {
             put(hot, parts, a, value);
-            return Ok(Flow::Stays);
+            Ok(Flow::Stays)
         }
+        None => operate_by_call(code, hot, parts, operator, a),
     }
-    operate_by_call(code, hot, parts, operator, a)
 }

@@ -1,4 +1,11 @@
 //! Arrays, Strings, Hashes, Ranges and Symbols.
+ghost use Rattle.std.specs.Prelude.{IfOk, codes};
+ghost use Rattle.vm_parts.specs.Answering as answering;
+ghost use Rattle.vm_parts.specs.Below.changes.{appended};
+ghost use Rattle.vm_parts.specs.Beside as beside;
+ghost use Rattle.vm_parts.specs.Code.{pool_item};
+ghost use Rattle.vm_acts.specs.Answering as acts;
+ghost use Rattle.vm_acts.specs.Collections as collections;
 
 use rb_value::{ObjId, Value};
 use rite_code::PoolItem;
@@ -18,7 +25,10 @@ pub fn new_array(
     parts: &mut Parts,
     a: u16,
     n: u16,
-) -> Result<Flow, AllocError> {
+) -> Result<Flow, AllocError>
+    ensures { IfOk result (λ flow. collections.ArrayMade (beside.of parts.old) hot.old
+        (collections.row (beside.of parts.old) hot.old a n) a flow hot.new (beside.of parts.new)) }
+{
     let values = parts.frames.row(hot, a, n)?;
     let array = parts.heap.make_array(values)?;
     put(hot, parts, a, array);
@@ -26,7 +36,10 @@ pub fn new_array(
 }
 
 /// Puts values after the elements of a value that is an Array.
-fn append(heap: &mut Heap, array: Option<ObjId>, values: &[Value]) -> Result<Given, AllocError> {
+fn append(heap: &mut Heap, array: Option<ObjId>, values: &[Value]) -> Result<Given, AllocError>
+    ensures { IfOk result (λ given. answering.ChangesOr array (codes "ARYPUSH")
+        (λ id. appended heap.old id values.now) heap.old given heap.new) }
+{
     match array {
         Some(id) => {
             heap.append(id, values)?;
@@ -43,7 +56,12 @@ pub fn push_row(
     parts: &mut Parts,
     a: u16,
     n: u16,
-) -> Result<Flow, AllocError> {
+) -> Result<Flow, AllocError>
+    ensures { IfOk result (λ flow. answering.Gets code.now (beside.of parts.old) hot.old
+        (collections.Appended parts.old.heap (beside.value_at (beside.of parts.old) hot.old a)
+        (collections.row (beside.of parts.old) hot.old (beside.next_register a) n)) a flow hot.new
+        (beside.of parts.new)) }
+{
     let value = parts.get(hot, a);
     let array = parts.heap.an_array(value);
     let first = behind(a);
@@ -57,7 +75,12 @@ pub fn push_splatted(
     hot: &mut Frame,
     parts: &mut Parts,
     a: u16,
-) -> Result<Flow, AllocError> {
+) -> Result<Flow, AllocError>
+    ensures { IfOk result (λ flow. answering.Gets code.now (beside.of parts.old) hot.old
+        (collections.Splatted parts.old.heap (beside.value_at (beside.of parts.old) hot.old a)
+        (beside.value_at (beside.of parts.old) hot.old (beside.next_register a))) a flow hot.new
+        (beside.of parts.new)) }
+{
     let value = parts.get(hot, behind(a));
     let given = match parts.heap.an_array(parts.get(hot, a)) {
         Some(id) => {
@@ -77,7 +100,11 @@ pub fn get_rest(
     a: u16,
     front: u16,
     end: i32,
-) -> Result<Flow, AllocError> {
+) -> Result<Flow, AllocError>
+    ensures { IfOk result (λ flow. answering.AnswersBy code.now (beside.of parts.old) hot.old
+        (collections.rest_of parts.old.heap (beside.value_at (beside.of parts.old) hot.old a) front end) a flow hot.new
+        (beside.of parts.new)) }
+{
     let value = parts.get(hot, a);
     let front = usize::from(front);
     let count = end.unsigned_abs() as usize;
@@ -90,12 +117,11 @@ pub fn get_rest(
 }
 
 /// INTERN: the Symbol whose name the String in register `a` is.
-pub fn intern(
-    code: &Loaded,
-    hot: &mut Frame,
-    parts: &mut Parts,
-    a: u16,
-) -> Result<Flow, AllocError> {
+pub fn intern(code: &Loaded, hot: &mut Frame, parts: &mut Parts, a: u16) -> Result<Flow, AllocError>
+    ensures { IfOk result (λ flow. answering.AnswersBy code.now (beside.of parts.old) hot.old
+        (collections.symbol_of parts.old.heap (beside.value_at (beside.of parts.old) hot.old a)) a flow hot.new
+        (beside.of parts.new)) }
+{
     let value = parts.get(hot, a);
     let given = parts.heap.make_symbol(value)?;
     after(code, hot, parts, given, a)
@@ -108,7 +134,10 @@ pub fn new_text(
     parts: &mut Parts,
     a: u16,
     place: u16,
-) -> Result<Flow, AllocError> {
+) -> Result<Flow, AllocError>
+    ensures { IfOk result (λ flow. collections.TextMade (pool_item code.now hot.old.body place) (beside.of parts.old)
+        hot.old a flow hot.new (beside.of parts.new)) }
+{
     match code.pool_item(hot.body, place) {
         Some(PoolItem::Text(text)) => {
             let text = parts.heap.make_text(text.as_slice())?;
@@ -125,7 +154,12 @@ pub fn push_text(
     hot: &mut Frame,
     parts: &mut Parts,
     a: u16,
-) -> Result<Flow, AllocError> {
+) -> Result<Flow, AllocError>
+    ensures { IfOk result (λ flow. answering.Gets code.now (beside.of parts.old) hot.old
+        (collections.TextAppended parts.old.heap (beside.value_at (beside.of parts.old) hot.old a)
+        (beside.value_at (beside.of parts.old) hot.old (beside.next_register a))) a flow hot.new
+        (beside.of parts.new)) }
+{
     let value = parts.get(hot, behind(a));
     let given = match parts.heap.a_string(parts.get(hot, a)) {
         Some(id) => {
@@ -163,7 +197,10 @@ pub fn new_hash(
     parts: &mut Parts,
     a: u16,
     n: u16,
-) -> Result<Flow, AllocError> {
+) -> Result<Flow, AllocError>
+    ensures { IfOk result (λ flow. acts.GetsSome code.now (beside.of parts.old) hot.old a flow hot.new (beside.of
+        parts.new)) }
+{
     let count = n.saturating_add(n);
     let given = match parts.heap.make_hash()? {
         Value::Obj(id) => add_pairs(&mut parts.heap, id, parts.frames.window(hot, a, count))?,
@@ -179,7 +216,10 @@ pub fn push_pairs(
     parts: &mut Parts,
     a: u16,
     n: u16,
-) -> Result<Flow, AllocError> {
+) -> Result<Flow, AllocError>
+    ensures { IfOk result (λ flow. acts.GetsSome code.now (beside.of parts.old) hot.old a flow hot.new (beside.of
+        parts.new)) }
+{
     let value = parts.get(hot, a);
     let hash = parts.heap.a_hash(value);
     let first = behind(a);
@@ -198,7 +238,12 @@ pub fn new_range(
     parts: &mut Parts,
     a: u16,
     exclusive: bool,
-) -> Result<Flow, AllocError> {
+) -> Result<Flow, AllocError>
+    ensures { IfOk result (λ flow. answering.AnswersBy code.now (beside.of parts.old) hot.old
+        (collections.range (beside.value_at (beside.of parts.old) hot.old a)
+        (beside.value_at (beside.of parts.old) hot.old (beside.next_register a)) exclusive) a flow hot.new
+        (beside.of parts.new)) }
+{
     let first = parts.get(hot, a);
     let last = parts.get(hot, behind(a));
     let given = parts.heap.make_range(first, last, exclusive)?;

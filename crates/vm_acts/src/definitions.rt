@@ -1,4 +1,12 @@
 //! Classes, modules and methods, and what `defined?` tells.
+ghost use Rattle.std.specs.Prelude.{◌≡◌, IfOk};
+ghost use Rattle.rb_value.specs.declared.value.Value.TheVariants.{Obj};
+ghost use Rattle.rb_value.specs.declared.value.ObjId.{ObjId};
+ghost use Rattle.vm_parts.specs.Answering as answering;
+ghost use Rattle.vm_parts.specs.Beside as beside;
+ghost use Rattle.vm_parts.specs.Code.{symbol};
+ghost use Rattle.vm_acts.specs.Answering as acts;
+ghost use Rattle.vm_acts.specs.Definitions as defining;
 
 use def_core::{BindKind, Cause};
 use rb_value::{CoreClass, ObjId, SymId, Value};
@@ -18,7 +26,10 @@ fn around(hot: &Frame, parts: &Parts) -> ObjId {
 }
 
 /// OCLASS: Object or StandardError.
-pub fn core_class(hot: &mut Frame, parts: &mut Parts, a: u16, b: u16) -> Result<Flow, AllocError> {
+pub fn core_class(hot: &mut Frame, parts: &mut Parts, a: u16, b: u16) -> Result<Flow, AllocError>
+    ensures { IfOk result (λ flow. answering.Puts (beside.of parts.old) hot.old (Obj (defining.core_class b)) a flow
+        hot.new (beside.of parts.new)) }
+{
     let class = if b == 0 {
         CoreClass::Object
     } else {
@@ -36,7 +47,11 @@ pub fn class_of_name(
     parts: &mut Parts,
     a: u16,
     name: u32,
-) -> Result<Flow, AllocError> {
+) -> Result<Flow, AllocError>
+    ensures { IfOk result (λ flow. answering.AnswersBy code.now (beside.of parts.old) hot.old (defining.class_opened
+        parts.old.heap (beside.value_at (beside.of parts.old) hot.old a) (symbol code.now name) (beside.value_at
+        (beside.of parts.old) hot.old (beside.next_register a))) a flow hot.new (beside.of parts.new)) }
+{
     let scope = parts.get(hot, a);
     let parent = parts.get(hot, behind(a));
     let given = parts.heap.open_class(scope, code.symbol(name), parent)?;
@@ -50,7 +65,11 @@ pub fn module_of_name(
     parts: &mut Parts,
     a: u16,
     name: u32,
-) -> Result<Flow, AllocError> {
+) -> Result<Flow, AllocError>
+    ensures { IfOk result (λ flow. answering.AnswersBy code.now (beside.of parts.old) hot.old (defining.module_opened
+        parts.old.heap (beside.value_at (beside.of parts.old) hot.old a) (symbol code.now name)) a flow hot.new
+        (beside.of parts.new)) }
+{
     let scope = parts.get(hot, a);
     let given = parts.heap.open_module(scope, code.symbol(name))?;
     after(code, hot, parts, given, a)
@@ -64,7 +83,10 @@ fn enter_space(
     a: u16,
     body: u32,
     class: ObjId,
-) -> Result<Flow, AllocError> {
+) -> Result<Flow, AllocError>
+    ensures { IfOk result (λ flow. defining.EntersSpace code.now (beside.of parts.old) hot.old a body class flow hot.new
+        (beside.of parts.new)) }
+{
     let number = parts.next_activation()?;
     let activation = open_space(&mut parts.heap, parts.frames.activation(), class)?;
     let arguments = parts.frames.no_arguments();
@@ -87,7 +109,10 @@ fn enter_object(
     a: u16,
     body: u32,
     class: ObjId,
-) -> Result<Flow, AllocError> {
+) -> Result<Flow, AllocError>
+    ensures { IfOk result (λ flow. defining.EntersObject code.now (beside.of parts.old) hot.old a body class flow
+        hot.new (beside.of parts.new)) }
+{
     if parts.frames.is_full() {
         let given = parts.heap.fail(Cause::StackTooDeep)?;
         after(code, hot, parts, given, a)
@@ -103,7 +128,10 @@ pub fn execute_body(
     parts: &mut Parts,
     a: u16,
     body: u32,
-) -> Result<Flow, AllocError> {
+) -> Result<Flow, AllocError>
+    ensures { IfOk result (λ flow. defining.Executes code.now (beside.of parts.old) hot.old a body flow hot.new
+        (beside.of parts.new)) }
+{
     match parts.heap.space_in(parts.get(hot, a)) {
         Some(class) => enter_object(code, hot, parts, a, body, class),
         None => {
@@ -121,7 +149,11 @@ pub fn method(
     a: u16,
     name: u32,
     body: u32,
-) -> Result<Flow, AllocError> {
+) -> Result<Flow, AllocError>
+    ensures { IfOk result (λ flow. answering.AnswersBy code.now (beside.of parts.old) hot.old (defining.method_defined
+        (beside.of parts.old) (beside.value_at (beside.of parts.old) hot.old a) (symbol code.now name) body) a flow
+        hot.new (beside.of parts.new)) }
+{
     let name = code.symbol(name);
     let classes = parts.frames.activation().classes;
     let given = match parts.heap.space_in(parts.get(hot, a)) {
@@ -138,7 +170,10 @@ pub fn alias(
     parts: &mut Parts,
     new: u32,
     old: u32,
-) -> Result<Flow, AllocError> {
+) -> Result<Flow, AllocError>
+    ensures { IfOk result (λ flow. defining.Aliases code.now (beside.of parts.old) hot.old (symbol code.now new) (symbol
+        code.now old) flow hot.new (beside.of parts.new)) }
+{
     let class = around(hot, parts);
     let given = parts
         .heap
@@ -152,7 +187,10 @@ pub fn undefine(
     hot: &mut Frame,
     parts: &mut Parts,
     name: u32,
-) -> Result<Flow, AllocError> {
+) -> Result<Flow, AllocError>
+    ensures { IfOk result (λ flow. defining.Undefines code.now (beside.of parts.old) hot.old (symbol code.now name) flow
+        hot.new (beside.of parts.new)) }
+{
     let class = around(hot, parts);
     let given = parts.heap.undefine_method(class, code.symbol(name))?;
     only(code, hot, parts, given)
@@ -164,17 +202,43 @@ pub fn singleton(
     hot: &mut Frame,
     parts: &mut Parts,
     a: u16,
-) -> Result<Flow, AllocError> {
+) -> Result<Flow, AllocError>
+    ensures { IfOk result (λ flow. answering.AnswersBy code.now (beside.of parts.old) hot.old (defining.singleton
+        parts.old.heap (beside.value_at (beside.of parts.old) hot.old a)) a flow hot.new (beside.of parts.new)) }
+{
     let value = parts.get(hot, a);
     let given = parts.heap.singleton_class(value)?;
     after(code, hot, parts, given, a)
 }
 
 /// TCLASS: the class in which a method is defined.
-pub fn target_class(hot: &mut Frame, parts: &mut Parts, a: u16) -> Result<Flow, AllocError> {
+pub fn target_class(hot: &mut Frame, parts: &mut Parts, a: u16) -> Result<Flow, AllocError>
+    ensures { IfOk result (λ flow. (class : ObjId) × answering.Puts (beside.of parts.old) hot.old (Obj class) a flow
+        hot.new (beside.of parts.new)) }
+{
     let class = around(hot, parts);
     put(hot, parts, a, Value::Obj(class));
     Ok(Flow::Stays)
+}
+
+/// Whether a global variable was set.
+fn is_set(parts: &Parts, name: SymId) -> bool
+    ensures { result ≡ defining.is_set (beside.of parts.now) name }
+{
+    match parts.globals.get(&name.0).copied() {
+        Some(_) => true,
+        None => false,
+    }
+}
+
+/// What `defined?` tells of a global variable.
+fn tell_global(parts: &mut Parts, name: SymId) -> Result<Given, AllocError>
+    ensures told { IfOk result (λ given. answering.Follows (defining.global_told (beside.of parts.old) name)
+        parts.old.heap given parts.new.heap) }
+    ensures alone { beside.of parts.new ≡ acts.with_heap (beside.of parts.old) parts.new.heap }
+{
+    let is_set = is_set(parts, name);
+    parts.heap.tell(is_set, b"global-variable")
 }
 
 /// What `defined?` tells of a name.
@@ -184,18 +248,22 @@ fn told_of_name(
     a: u16,
     kind: u16,
     name: SymId,
-) -> Result<Given, AllocError> {
+) -> Result<Given, AllocError>
+    ensures told { IfOk result (λ given. defining.TellsName (beside.of parts.old) hot.now a kind name given
+        parts.new.heap) }
+    ensures alone { beside.of parts.new ≡ acts.with_heap (beside.of parts.old) parts.new.heap }
+{
     let own = parts.get(hot, 0);
     let value = parts.get(hot, a);
-    let is_set = parts.globals.get(&name.0).is_some();
-    let heap = &mut parts.heap;
     match kind {
-        0 => heap.tell_variable(own, name),
-        1 => heap.tell(is_set, b"global-variable"),
-        2 => heap.tell_constant(parts.frames.activation().classes, name),
-        3 => heap.tell_constant_in(value, name),
-        4 => heap.tell_method(own, own, name),
-        _ => heap.tell_method(own, value, name),
+        0 => parts.heap.tell_variable(own, name),
+        1 => tell_global(parts, name),
+        2 => parts
+            .heap
+            .tell_constant(parts.frames.activation().classes, name),
+        3 => parts.heap.tell_constant_in(value, name),
+        4 => parts.heap.tell_method(own, own, name),
+        _ => parts.heap.tell_method(own, value, name),
     }
 }
 
@@ -207,7 +275,10 @@ pub fn tell(
     a: u16,
     kind: u16,
     name: u32,
-) -> Result<Flow, AllocError> {
+) -> Result<Flow, AllocError>
+    ensures { IfOk result (λ flow. defining.Tells code.now (beside.of parts.old) hot.old a kind (symbol code.now name)
+        flow hot.new (beside.of parts.new)) }
+{
     let running = *parts.frames.activation();
     let given = if kind < 6 {
         told_of_name(hot, parts, a, kind, code.symbol(name))?

@@ -1,4 +1,7 @@
 //! Instructions that leave.
+ghost use Rattle.std.specs.Prelude.{◌≡◌, IfOk};
+ghost use Rattle.vm_parts.specs.Beside as beside;
+ghost use Rattle.vm_acts.specs.Leaving as leaving;
 
 use def_core::Cause;
 use rb_value::Exit;
@@ -18,7 +21,10 @@ pub fn return_value(
     hot: &mut Frame,
     parts: &mut Parts,
     a: u16,
-) -> Result<Flow, AllocError> {
+) -> Result<Flow, AllocError>
+    ensures { IfOk result (λ flow. leaving.Returns code.now (beside.of parts.old) hot.old a flow hot.new (beside.of
+        parts.new)) }
+{
     let value = parts.get(hot, a);
     if !code.catches(hot.body) {
         leave(&mut parts.heap, &mut parts.frames, hot);
@@ -32,7 +38,9 @@ pub fn return_value(
 }
 
 /// Whether an activation is under way in the fiber that runs.
-fn is_under_way(hot: &Frame, parts: &Parts, activation: u64) -> bool {
+fn is_under_way(hot: &Frame, parts: &Parts, activation: u64) -> bool
+    ensures { result ≡ leaving.is_under_way (beside.of parts.now) hot.now activation }
+{
     activation == hot.number || parts.frames.waits_for(activation)
 }
 
@@ -42,7 +50,10 @@ pub fn return_home(
     hot: &mut Frame,
     parts: &mut Parts,
     a: u16,
-) -> Result<Flow, AllocError> {
+) -> Result<Flow, AllocError>
+    ensures { IfOk result (λ flow. leaving.ReturnsHome code.now (beside.of parts.old) hot.old a flow hot.new (beside.of
+        parts.new)) }
+{
     let home = parts.frames.activation().home;
     if is_under_way(hot, parts, home) {
         let exit = Exit::Return {
@@ -62,7 +73,10 @@ pub fn break_call(
     hot: &mut Frame,
     parts: &mut Parts,
     a: u16,
-) -> Result<Flow, AllocError> {
+) -> Result<Flow, AllocError>
+    ensures { IfOk result (λ flow. leaving.Breaks code.now (beside.of parts.old) hot.old a flow hot.new (beside.of
+        parts.new)) }
+{
     match break_target(&parts.heap, hot.number, parts.frames.activation().runs) {
         Some(target) if is_under_way(hot, parts, target) => {
             let exit = Exit::Break {
@@ -79,7 +93,9 @@ pub fn break_call(
 }
 
 /// EXCEPT: a register takes the exit that came to its place.
-pub fn take_exit(hot: &mut Frame, parts: &mut Parts, a: u16) -> Result<Flow, AllocError> {
+pub fn take_exit(hot: &mut Frame, parts: &mut Parts, a: u16) -> Result<Flow, AllocError>
+    ensures { IfOk result (λ flow. leaving.TakesExit (beside.of parts.old) hot.old a flow hot.new (beside.of parts.new)) }
+{
     parts.frames.take_pending(hot, a)?;
     step(hot);
     Ok(Flow::Stays)
@@ -91,7 +107,10 @@ pub fn go_on_if(
     hot: &mut Frame,
     parts: &mut Parts,
     a: u16,
-) -> Result<Flow, AllocError> {
+) -> Result<Flow, AllocError>
+    ensures { IfOk result (λ flow. leaving.GoesOnIf code.now (beside.of parts.old) hot.old a flow hot.new (beside.of
+        parts.new)) }
+{
     match parts.frames.kept(hot, a) {
         Some(exit) => throw_here(code, hot, parts, exit),
         None => {
@@ -107,7 +126,10 @@ pub fn jump_out(
     hot: &mut Frame,
     parts: &mut Parts,
     to: u32,
-) -> Result<Flow, AllocError> {
+) -> Result<Flow, AllocError>
+    ensures { IfOk result (λ flow. leaving.JumpsOut code.now (beside.of parts.old) hot.old to flow hot.new (beside.of
+        parts.new)) }
+{
     let exit = Exit::Jump {
         activation: hot.number,
         target: to,
@@ -122,7 +144,10 @@ pub fn is_rescued(
     parts: &mut Parts,
     a: u16,
     b: u16,
-) -> Result<Flow, AllocError> {
+) -> Result<Flow, AllocError>
+    ensures { IfOk result (λ flow. leaving.Rescues code.now (beside.of parts.old) hot.old a b flow hot.new (beside.of
+        parts.new)) }
+{
     let value = parts.get(hot, a);
     let class = parts.get(hot, b);
     let given = is_of(&mut parts.heap, value, class)?;

@@ -1,4 +1,7 @@
 //! LAMBDA and BLOCK: Procs of the bodies inside.
+ghost use Rattle.std.specs.Prelude.{◌≡◌, IfOk};
+ghost use Rattle.vm_parts.specs.Beside as beside;
+ghost use Rattle.vm_acts.specs.Procs as procs;
 
 use crate::parameters::shape_of;
 use code_instructions::Instruction;
@@ -12,7 +15,9 @@ use vm_parts::run_calls::Activation;
 use vm_parts::vm_frames::Frame;
 
 /// The shape of a body's parameters, which its first instruction tells.
-fn shape_by(code: &Loaded, body: u32) -> Shape {
+fn shape_by(code: &Loaded, body: u32) -> Shape
+    ensures { result ≡ procs.shape_of_body code.now body }
+{
     match code.instructions(body).first() {
         Some(Instruction::Enter { parameters }) => shape_of(*parameters),
         _ => Shape {
@@ -31,7 +36,9 @@ fn contents_of(
     scopes: Vec<u64>,
     body: u32,
     lambda: bool,
-) -> ProcContents {
+) -> ProcContents
+    ensures { result ≡ procs.contents code.now running.now scopes.items body lambda }
+{
     ProcContents {
         code: body,
         shape: shape_by(code, body),
@@ -55,7 +62,10 @@ pub fn make_proc(
     a: u16,
     body: u32,
     lambda: bool,
-) -> Result<Flow, AllocError> {
+) -> Result<Flow, AllocError>
+    ensures { IfOk result (λ flow. procs.Makes code.now (beside.of parts.old) hot.old a body lambda flow hot.new
+        (beside.of parts.new)) }
+{
     parts.frames.capture(hot)?;
     let scopes = parts.frames.lists_around(hot)?;
     let contents = contents_of(code, parts.frames.activation(), scopes, body, lambda);
