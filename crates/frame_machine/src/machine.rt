@@ -1,4 +1,10 @@
 //! The machine.
+ghost use Rattle.std.specs.Prelude.{◌≡◌, Ok, Err, IfOk, OnOk, OnErr};
+ghost use Rattle.vm_acts.specs.Ends.{End};
+ghost use Rattle.frame_machine.specs.declared.running.At.{At};
+ghost use Rattle.frame_machine.specs.Standing as states;
+ghost use Rattle.frame_machine.specs.declared.machine.Standing.TheVariants as stands;
+ghost use Rattle.frame_machine.specs.declared.machine.StepFault.TheVariants as fault;
 
 use crate::iterating::answer_read;
 use crate::reading::{Line, Lines};
@@ -87,7 +93,9 @@ pub struct Machine {
 }
 
 /// What an end is to the caller of a run.
-fn ran_by(end: End) -> Ran {
+fn ran_by(end: End) -> Ran
+    ensures { result ≡ states.ran_by end }
+{
     match end {
         End::Ended(status) => Ran::Ended(status),
         End::Uncaught(exception) => Ran::Uncaught(exception),
@@ -110,7 +118,9 @@ impl Machine {
     }
 
     /// How many turns were made.
-    pub fn turns(&self) -> u64 {
+    pub fn turns(&self) -> u64
+        ensures { result ≡ self.now.turns }
+    {
         self.turns
     }
 
@@ -160,7 +170,9 @@ impl Machine {
     }
 
     /// What a read gives: a String with the line, nil at the end, or an exception.
-    fn read_line<S: Source>(&mut self, input: &mut S) -> Result<Given, StepFault> {
+    fn read_line<S: Source>(&mut self, input: &mut S) -> Result<Given, StepFault>
+        ensures apart { states.Apart self.old self.new }
+    {
         match self.lines.next(self.alloc, input)? {
             Line::Text(text) => Ok(Given::Gives(self.parts.heap.make_string(text)?)),
             Line::End => Ok(Given::Gives(Value::Nil)),
@@ -169,7 +181,9 @@ impl Machine {
     }
 
     /// How the machine stands where the program ends. An exception whose message the program says is asked for it before.
-    fn stands_at(&mut self, end: End) -> Result<Standing, AllocError> {
+    fn stands_at(&mut self, end: End) -> Result<Standing, AllocError>
+        ensures apart { states.Apart self.old self.new }
+    {
         if !self.reported && begin_report(&mut self.parts, end)? {
             self.reported = true;
             Ok(Standing::At(At::Waiting))
@@ -179,7 +193,9 @@ impl Machine {
     }
 
     /// How the machine stands by what comes next.
-    fn stands(&mut self, flow: Flow) -> Result<Standing, AllocError> {
+    fn stands(&mut self, flow: Flow) -> Result<Standing, AllocError>
+        ensures apart { states.Apart self.old self.new }
+    {
         match flow {
             Flow::Stays => Ok(Standing::At(At::Hand)),
             Flow::Wakes => Ok(Standing::At(At::Waiting)),
@@ -188,7 +204,9 @@ impl Machine {
     }
 
     /// The read of the iteration that is the innermost level that waits.
-    fn read<S: Source>(&mut self, input: &mut S) -> Result<Standing, StepFault> {
+    fn read<S: Source>(&mut self, input: &mut S) -> Result<Standing, StepFault>
+        ensures apart { states.Apart self.old self.new }
+    {
         let given = self.read_line(input)?;
         let flow = answer_read(&self.code, &mut self.parts, given)?;
         Ok(self.stands(flow)?)
@@ -201,7 +219,9 @@ impl Machine {
         budget: u64,
         input: &mut S,
         out: &mut O,
-    ) -> Result<(Standing, u64), StepFault> {
+    ) -> Result<(Standing, u64), StepFault>
+        ensures apart { states.Apart self.old self.new }
+    {
         match run_turns(&self.code, at, &mut self.hot, &mut self.parts, budget)? {
             Pause::Spent(at) => Ok((Standing::At(at), 0)),
             Pause::Ends { end, left } => Ok((self.stands_at(end)?, left)),
@@ -223,7 +243,9 @@ impl Machine {
         budget: u64,
         input: &mut S,
         out: &mut O,
-    ) -> Result<(Standing, u64), StepFault> {
+    ) -> Result<(Standing, u64), StepFault>
+        ensures apart { states.Apart self.old self.new }
+    {
         let mut at = at;
         let mut left = budget;
         'pauses: for _ in 0..budget {
@@ -246,7 +268,14 @@ impl Machine {
         budget: u64,
         input: &mut S,
         out: &mut O,
-    ) -> Result<Ran, StepFault> {
+    ) -> Result<Ran, StepFault>
+        ensures counts { (at : At) → self.old.standing ≡ stands.At at → OnOk result (states.Counts self.old self.new budget) }
+        ensures over { (e : End) → self.old.standing ≡ stands.Over e → (result ≡ Ok (states.ran_by e))
+            × (self.new ≡ self.old) }
+        ensures told { IfOk result (λ ran. ran ≡ states.told self.new.standing) }
+        ensures err { OnErr result ((self.new.standing ≡ stands.Stopped) × (self.new.turns ≡ self.old.turns)) }
+        ensures stopped { self.old.standing ≡ stands.Stopped → (result ≡ Err fault.Stopped) × (self.new ≡ self.old) }
+    {
         match mem::replace(&mut self.standing, Standing::Stopped) {
             Standing::At(at) => {
                 let (after, left) = self.run_from(at, budget, input, out)?;
@@ -259,7 +288,10 @@ impl Machine {
     }
 
     /// Stands so, and tells it.
-    fn stand(&mut self, standing: Standing) -> Ran {
+    fn stand(&mut self, standing: Standing) -> Ran
+        ensures told { result ≡ states.told standing }
+        ensures stands { self.new ≡ states.standing_at self.old standing }
+    {
         let ran = match &standing {
             Standing::Over(end) => ran_by(*end),
             _ => Ran::Spent,
@@ -273,7 +305,12 @@ impl Machine {
         &mut self,
         input: &mut S,
         out: &mut O,
-    ) -> Result<Turn, StepFault> {
+    ) -> Result<Turn, StepFault>
+        ensures counts { (at : At) → self.old.standing ≡ stands.At at → OnOk result (states.Counts self.old self.new 1) }
+        ensures told { IfOk result (λ turn. turn ≡ states.turn_by (states.told self.new.standing)) }
+        ensures err { OnErr result ((self.new.standing ≡ stands.Stopped) × (self.new.turns ≡ self.old.turns)) }
+        ensures stopped { self.old.standing ≡ stands.Stopped → (result ≡ Err fault.Stopped) × (self.new ≡ self.old) }
+    {
         match self.run(1, input, out)? {
             Ran::Spent => Ok(Turn::Going),
             Ran::Ended(status) => Ok(Turn::Ended(status)),
