@@ -56,7 +56,7 @@ outside 'class A; p "#@@x"; end' ClassVariable
 outside 'p $!' SpecialGlobal
 outside 'class A; p @@x; end' ClassVariable
 # After a name and white space a mark that white space doesn't follow may begin an argument or stand between operands.
-outside 'puts /a/' Ambiguous
+outside 'x = 4; p x /2' Ambiguous
 outside 'puts ?a' Ambiguous
 outside 'puts %(a)' Ambiguous
 # Operators.

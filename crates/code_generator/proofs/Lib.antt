@@ -25,3 +25,4 @@ pub mod Programs
 pub mod Budgets
 pub mod Scopes
 pub mod Within
+pub mod Choices

@@ -1,5 +1,5 @@
 -- The form that a core form stands for, where the generator builds it.
-use Rattle.std.specs.Prelude.{ℕ, ◌-◌, nat_le, Bool, true, false, ◌&&◌, [], length, Option, Some, None, codes, bytes_eq, if◌then◌else◌}
+use Rattle.std.specs.Prelude.{ℕ, suc, ◌-◌, nat_le, Bool, true, false, ◌&&◌, [], length, Option, Some, None, codes, bytes_eq, if◌then◌else◌}
 use Rattle.ir_core.specs.CoreForm as core
 use Rattle.ir_core.specs.CoreForm.{Local, CoreForm, Body, Items, Branches, Receiver}
 use Rattle.path_core.specs.Form.{Name, give_nil, give_true, give_int, call_operator, call_puts, Form, strict, local, set_local, seq, cond, while_form, Forms, none, more, one, two}
@@ -47,6 +47,15 @@ abbrev pub loop_of : Bool → Option Form → Option Form → Option Form
 loop_of true t b = None
 loop_of false t b = t >>= (λ test. b >>= (λ body. Some (while_form test body)))
 
+-- how many branches a choice has
+abbrev pub branch_count : Branches → ℕ
+branch_count core.no_branches = 0
+branch_count (core.branch t b bs) = suc (branch_count bs)
+
+-- the form of a choice, where it has at most a thousand branches: one by more of them is too deep
+abbrev pub if_few : Branches → Option Form → Option Form
+if_few bs f = if nat_le (branch_count bs) 1000 then f else None
+
 abbrev mutual
   pub form_of : CoreForm → Option Form
   form_of core.nil = Some (strict give_nil none)
@@ -55,7 +64,7 @@ abbrev mutual
   form_of (core.local x) = read_of x
   form_of (core.set_local x e) = set_of x (form_of e)
   form_of (core.seq es) = lines_of (all_of es)
-  form_of (core.cond bs o) = cond_of bs (form_of o)
+  form_of (core.cond bs o) = if_few bs (cond_of bs (form_of o))
   form_of (core.while_form first t b) = loop_of first (form_of t) (form_of b)
   form_of (core.call r x is core.absent) = called r x (all_items is)
   form_of _ = None

@@ -2,7 +2,7 @@
 ghost use Rattle.ir_core.specs.View.{term_view};
 
 use crate::formed::{Formed, Made};
-use crate::parts::{call_tree, cond_tree, local_tree, seq_tree, set_tree, while_tree};
+use crate::parts::{call_tree, choice_tree, local_tree, seq_tree, set_tree, while_tree};
 use crate::tree::Tree;
 use ir_core::Term;
 use std::alloc::Global;
@@ -20,7 +20,7 @@ impl Formed for Term {
             Term::Local(variable) => local_tree(alloc, variable),
             Term::SetLocal(variable, value) => set_tree(alloc, variable, value),
             Term::Seq(list) => seq_tree(alloc, list),
-            Term::Cond(branches, otherwise) => cond_tree(alloc, branches, otherwise),
+            Term::Cond(branches, otherwise) => choice_tree(alloc, branches, otherwise),
             Term::While {
                 body_first,
                 test,

@@ -3,7 +3,7 @@ ghost use Rattle.std.specs.Prelude.{◌≡◌, IfOk};
 ghost use Rattle.ir_core.specs.CoreForm as core;
 ghost use Rattle.ir_core.specs.View.{local_of};
 ghost use Rattle.ir_core.specs.PartsBy as by;
-ghost use Rattle.code_generator.specs.Built.{all_items, all_of, cond_of, form_of, lines_of, loop_of, read_of, set_of};
+ghost use Rattle.code_generator.specs.Built.{all_items, all_of, cond_of, form_of, if_few, lines_of, loop_of, read_of, set_of};
 ghost use Rattle.code_generator.specs.Emission.{form_in, forms_in, item_form_by};
 
 use crate::formed::{Formed, Made};
@@ -13,6 +13,9 @@ use ir_core::{Local, Receiver};
 use rb_base::Bytes;
 use rb_syntax::{Branch, Item};
 use std::alloc::{AllocError, Global};
+
+/// The most branches of a choice.
+const BRANCHES: usize = 1000;
 
 /// The read of a local of the source.
 pub fn local_tree(alloc: Global, variable: &Local) -> Made
@@ -115,11 +118,7 @@ pub fn call_tree<T: Formed>(
 }
 
 /// The choice by branches, made from the last to the first.
-pub fn cond_tree<T: Formed>(
-    alloc: Global,
-    branches: &Vec<Branch<Box<T>>>,
-    otherwise: &Box<T>,
-) -> Made
+fn cond_tree<T: Formed>(alloc: Global, branches: &Vec<Branch<Box<T>>>, otherwise: &Box<T>) -> Made
     ensures { IfOk result (λ tree.
         cond_of (by.branches_by T.core branches.now.items) (form_of (by.core_by T.core otherwise.now)) ≡ form_in tree) }
 {
@@ -133,6 +132,23 @@ pub fn cond_tree<T: Formed>(
         tree = node::cond(alloc, test, body, tree)?;
     }
     Ok(tree)
+}
+
+/// The choice by branches, where there are not too many: a choice by many of them is as deep as it is long.
+#[tactic(auto, using(crate::proofs::Choices::many_are_none))]
+pub fn choice_tree<T: Formed>(
+    alloc: Global,
+    branches: &Vec<Branch<Box<T>>>,
+    otherwise: &Box<T>,
+) -> Made
+    ensures { IfOk result (λ tree. if_few (by.branches_by T.core branches.now.items)
+        (cond_of (by.branches_by T.core branches.now.items) (form_of (by.core_by T.core otherwise.now)))
+        ≡ form_in tree) }
+{
+    if branches.len() > BRANCHES {
+        return Ok(None);
+    }
+    cond_tree(alloc, branches, otherwise)
 }
 
 /// The loop while a test holds, where it is asked first.

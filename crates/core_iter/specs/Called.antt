@@ -6,6 +6,8 @@ pub use Rattle.run_rows.specs.declared.row.Row.{Row}
 pub use Rattle.run_rows.specs.declared.row.Row.TheVariants as row
 pub use Rattle.run_rows.specs.declared.row.PlainRow.{PlainRow}
 pub use Rattle.run_rows.specs.declared.row.PlainRow.TheVariants as plain
+pub use Rattle.run_rows.specs.declared.row.KernelRow.{KernelRow}
+pub use Rattle.run_rows.specs.declared.row.KernelRow.TheVariants as kernel
 pub use Rattle.run_rows.specs.declared.row.StarRow.{StarRow}
 pub use Rattle.run_rows.specs.declared.row.StarRow.TheVariants as star
 

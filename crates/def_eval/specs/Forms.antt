@@ -78,8 +78,15 @@ own_block (by_bare_name x) m = None
 own_block to_proc m = None
 own_block to_super m = (running m).block
 
+-- super without a block asks whether its method has one, as `defined?` does, and lets go of the answer
+abbrev pub asked : Sending → Memory → Memory
+asked (by_name x) m = m
+asked (by_bare_name x) m = m
+asked to_proc m = m
+asked to_super m = with_world m (definitions.yield_told m.world (running m)).world
+
 abbrev pub with_arguments : Source → ℕ → Sending → Value → List Value → Maybe → List Item → Memory → Config
-with_arguments s n k recv args absent ks m = perform_call s k recv args (own_block k m) ks m
+with_arguments s n k recv args absent ks m = perform_call s k recv args (own_block k m) ks (asked k m)
 with_arguments s n k recv args (there e) ks m = Run (perform n e) (part (block k recv args) ∷ ks) m
 
 -- more than 253 items are passed in an Array

@@ -65,7 +65,7 @@ abbrev pub do_otherwise : ℕ → Maybe → Value → List Item → Memory → C
 do_otherwise n absent v ks m = Run (give v) ks m
 do_otherwise n (there e) v ks m = Run (perform n e) (part chosen ∷ ks) m
 
--- Clauses (11.5.2.5): the first with a class of the exception takes it; without classes StandardError stands there.
+-- Clauses (11.5.2.5): the first with a class of the exception takes it; where no class stands StandardError is given.
 
 abbrev pub do_clause_body : ℕ → CoreForm → Rescue → List Item → Memory → Config
 do_clause_body n b r ks m = Run (perform n b) (part (clause_body r) ∷ ks) m
@@ -86,14 +86,10 @@ take_if a (world.gives v) n e es t b r ks m further =
     if is_true v then take_exception (n + span_forms es) e t b r ks m else further
 take_if a (world.raises x) n e es t b r ks m further = after a ks m
 
-abbrev pub is_standard : Memory → ObjId → Answer
-is_standard m e = is_of m.world (Obj e) (Obj (core class.StandardError))
-
 unfoldable pub next_clause : ℕ → ObjId → Clauses → Rescue → List Item → Memory → Config
 next_clause n e no_clauses r ks m = Run (travel (raise e)) ks m
 next_clause n e (clause none t b cs) r ks m =
-    take_if (is_standard m e) (is_standard m e).result n e none t b r ks m
-    (next_clause (n + span_maybe t + span b) e cs r ks m)
+    Run (give (Obj (core class.StandardError))) (part (clause_class n e none t b cs r) ∷ ks) m
 next_clause n e (clause (more c es) t b cs) r ks m =
     Run (perform n c) (part (clause_class (n + span c) e es t b cs r) ∷ ks) m
 

@@ -15,6 +15,7 @@ use Rattle.ir_core.specs.CoreForm.{Name, Maybe, absent, there, Items, no_items, 
 use Rattle.ir_core.specs.Program.{Around}
 use Rattle.def_calls.specs.World.{World, with_store, fail}
 use Rattle.def_calls.specs.Calls as calls
+use Rattle.def_calls.specs.Definitions.{yield_told}
 use Rattle.def_calls.specs.Calls.{Sending, by_name, by_bare_name, to_proc, to_super}
 use Rattle.def_calls.specs.Values.{elements_or_itself}
 use Rattle.def_eval.specs.Source.{Source, span}
@@ -25,17 +26,18 @@ use Rattle.def_eval.specs.Entering.{symbol}
 use Rattle.def_eval.specs.Forms.{self_of, perform_call, own_block, with_arguments, packed, next_item, gathered, next_element, gather, has_splat, do_call, do_receiver, do_yield}
 use Rattle.world_laws.specs.Fine.{Keeps}
 use Rattle.world_laws.specs.Outcomes.{SendingIs}
-use Rattle.world_laws.proofs.Growing.{value_stays}
+use Rattle.world_laws.proofs.Growing.{value_stays, role_stays}
 use Rattle.world_laws.proofs.Stores.{keeps_object}
 use Rattle.world_laws.proofs.Answers.{fails_with}
 use Rattle.world_laws.proofs.Values.{elements_or_itself_are}
 use Rattle.world_laws.proofs.Calling.{call_is}
+use Rattle.world_laws.proofs.Classes.{yield_told_is}
 use Rattle.eval_laws.specs.Standing.{IsNamed, MaybeStands, ItemsStand, ReceiverStands, past_items, past_receiver}
 use Rattle.eval_laws.specs.Fits.{Past, GatheringFits, Fits, bodies}
 use Rattle.eval_laws.proofs.Tests.{either}
 use Rattle.eval_laws.proofs.Staying.{sending_stays, gathering_stays}
 use Rattle.world_laws.proofs.Plans.{values_stay}
-use Rattle.eval_laws.proofs.Going.{Under, Text, text_then, running_is, symbol_is, goes, after_fits, does_part}
+use Rattle.eval_laws.proofs.Going.{Under, Text, under_then, text_then, running_is, symbol_is, goes, after_fits, does_part}
 use Rattle.eval_laws.proofs.Entered.{entry_fits}
 
 -- what a call has so far: what it calls, its receiver and its arguments
@@ -68,11 +70,24 @@ module _ (s : Source) (early : Past) where
   own_block_is to_proc ks m u = tt
   own_block_is to_super ks m u = (running_is s early m u.memory).block
 
+  block_later : (m : Memory) (w : World) → Keeps (bodies s early.Known m.scopes) m.world w → (o : Option ObjId)
+      → OptionIs (Is (census m.world.store) Proc) o → OptionIs (Is (census w.store) Proc) o
+  block_later m w keeps None is = tt
+  block_later m w keeps (Some p) is = role_stays m.world w keeps.extends Proc p is
+
   arguments_done : (n : ℕ) (k : Sending) (recv : Value) (args : List Value) (b : Maybe) (ks : List Item) (m : Memory)
       (a : Around) → Text s early ks m a → Called m k recv args → MaybeStands s a n b
       → Fits s early (with_arguments s n k recv args b ks m)
-  arguments_done n k recv args absent ks m a t h stands =
-      performs k recv args (own_block k m) ks m t.under h (own_block_is k ks m t.under)
+  arguments_done n (by_name x) recv args absent ks m a t h stands = performs (by_name x) recv args None ks m t.under h tt
+  arguments_done n (by_bare_name x) recv args absent ks m a t h stands =
+      performs (by_bare_name x) recv args None ks m t.under h tt
+  arguments_done n to_proc recv args absent ks m a t h stands = performs to_proc recv args None ks m t.under h tt
+  arguments_done n to_super recv args absent ks m a t h stands =
+      let w = (yield_told m.world (running m)).world in
+      let told = yield_told_is (bodies s early.Known m.scopes) m.world t.under.memory.world (running m) in
+      performs to_super recv args (own_block to_super m) ks (with_world m w) (under_then s early ks m w t.under told.keeps)
+      (called_later m w to_super recv args told.keeps h)
+      (block_later m w told.keeps (own_block to_super m) (own_block_is to_super ks m t.under))
   arguments_done n k recv args (there e) ks m a t h stands =
       does_part s early (eval.block k recv args) n e ks m a t (h.sending, h.receiver, h.arguments) stands
 

@@ -6,7 +6,8 @@ use Rattle.rb_value.specs.declared.value.ObjId.{ObjId}
 use Rattle.rb_value.specs.Value.{is_true}
 use Rattle.rb_value.specs.declared.core_class.CoreClass.TheVariants as class
 use Rattle.def_core.specs.Store.{core}
-use Rattle.def_core.specs.Sound.{census}
+use Rattle.def_core.specs.Sound.{census, ClassOrModule}
+use Rattle.class_model.proofs.Lineages.{any_of, core_is_class}
 use Rattle.ir_core.specs.CoreForm.{CoreForm, Maybe, absent, there, Forms, none, more, Clauses, no_clauses, clause}
 use Rattle.ir_core.specs.Program.{Around, within_clause, within_target}
 use Rattle.def_calls.specs.World.{Answer, Result, gives, raises}
@@ -14,7 +15,7 @@ use Rattle.def_calls.specs.Calls.{is_of}
 use Rattle.def_eval.specs.Source.{Source, span, span_maybe, span_forms}
 use Rattle.def_eval.specs.Configuration as eval
 use Rattle.def_eval.specs.Configuration.{Rescue, Item, Memory, Config, Run}
-use Rattle.def_eval.specs.Giving.{do_clause_body, take_exception, next_class, take_if, is_standard, next_clause, match_class, begin_rescue}
+use Rattle.def_eval.specs.Giving.{do_clause_body, take_exception, next_class, take_if, next_clause, match_class, begin_rescue}
 use Rattle.world_laws.specs.Fine.{IsException}
 use Rattle.world_laws.specs.Outcomes.{AnswerIs}
 use Rattle.world_laws.proofs.Ending.{is_of_is}
@@ -109,11 +110,12 @@ module _ (s : Source) (early : Past) (ks : List Item) (m : Memory) (a : Around) 
   unfolding next_clause
   clauses_done n e no_clauses r is h rescue = goes s early (eval.travel (eval.raise e)) ks m x.under is
   clauses_done n e (clause none t b cs) r is h rescue =
-      taken_if (is_standard m e) n e none t b cs r (next_clause (n + span_maybe t + span b) e cs r ks m)
-      (is_of_is (bodies s early.Known m.scopes) m.world x.under.memory.world (Obj e) (Obj (core class.StandardError))) is
-      (record { classes = h.0; target = h.1; body = h.2; others = h.3 }) rescue
-      (clauses_done (n + span_maybe t + span b) e cs r is
-      (behind_absent s n (λ i. ClausesStand s a (i + span_maybe t + span b) cs) h.3) rescue)
+      let st = m.world.store in
+      let over = over_part s early (eval.clause_class n e none t b cs r) ks m a x (is, h.0, h.1, h.2, h.3, rescue) in
+      goes s early (eval.give (Obj (core class.StandardError)))
+      (eval.part (eval.clause_class n e none t b cs r) ∷ ks) m over.under
+      (any_of st ClassOrModule (core class.StandardError)
+      (core_is_class st x.under.memory.world.store class.StandardError refl))
   clauses_done n e (clause (more c es) t b cs) r is h rescue =
       class_asked n e c es t b cs r is (record { classes = h.0; target = h.1; body = h.2; others = h.3 }) rescue
 

@@ -1,6 +1,6 @@
 -- What files tell at one moment, and what of it stays.
-use Rattle.std.specs.Prelude.{◌≡◌, ◌≢◌, ℕ, List, Option, Bool}
-use Rattle.rb_base.specs.Outside.{Rose, SameCounts}
+use Rattle.std.specs.Prelude.{◌≡◌, ◌≢◌, ℕ, List, Option, Bool, IsTrue}
+use Rattle.rb_base.specs.Outside.{Rose, SameCounts, IsLoaded}
 
 pub record Disk : Type 0 where
   -- whether the files tell what they hold, and what the file of a name holds
@@ -31,3 +31,11 @@ LoadFailed before after file = Rose (before.load_faults file) (after.load_faults
 abbrev pub StoreFailed : Disk → Disk → List ℕ → Type 0
 StoreFailed before after file =
     Rose (before.store_faults file) (after.store_faults file) × SameFilesBut file before after
+
+-- the text of a source: what its file holds, up to 16777217 bytes, where the files tell
+abbrev pub IsSource : Disk → List ℕ → List ℕ → Type 0
+IsSource before source text = IsTrue before.tells → IsLoaded (before.file source) 16777217 text
+
+-- what a file of code holds, up to 4294967296 bytes, where the files tell
+abbrev pub IsBytes : Disk → List ℕ → List ℕ → Type 0
+IsBytes before file bytes = IsTrue before.tells → IsLoaded (before.file file) 4294967296 bytes

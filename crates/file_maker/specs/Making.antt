@@ -19,6 +19,9 @@ use Rattle.code_verifier.specs.Checks.{Bad, first_bad}
 use Rattle.code_verifier.specs.Verified.{IsVerified}
 use Rattle.code_generator.specs.Built.{code_built}
 use Rattle.gen_forms.specs.Making.{coded_program}
+use Rattle.def_eval.specs.Source.{source_of}
+use Rattle.step_laws.specs.Implements.{Implements}
+use Rattle.step_laws.specs.Plain.{IsPlainProgram}
 use Rattle.file_maker.specs.declared.made.Made.{Made}
 use Rattle.file_maker.specs.declared.made.Made.TheVariants.{FirstPath, Refused, File}
 
@@ -47,10 +50,14 @@ file_of c = canonical (code_of c)
 abbrev pub IsPastLimit : Body → Refusal → Type 0
 IsPastLimit c cause = (e : Excess) × (first_excess (need c) ≡ Some e) × (cause ≡ refusals.TooLarge e.what e.count)
 
--- the bytes are the file of the core, which spells its code, and that is verified
+-- if the core is that of a program of plain forms, the code implements its source for every input
+abbrev pub MeansItsSource : Body → Program → Type 0
+MeansItsSource c code = IsPlainProgram c → (input : List ℕ) → Implements (source_of c) code input
+
+-- the bytes are the file of the core, which spells its code; that is verified, and means what the source means
 abbrev pub IsFileOf : Body → List ℕ → Program → Type 0
 IsFileOf c bytes code = (code_built c ≡ None) × (first_excess (need c) ≡ None) × (bytes ≡ file_of c)
-    × (code ≡ code_of c) × (loaded (file_of c) ≡ Ok code) × IsVerified code
+    × (code ≡ code_of c) × (loaded (file_of c) ≡ Ok code) × IsVerified code × MeansItsSource c code
 
 -- what becomes of a core: it has no form beyond those of the first path; it is refused; or it has its file
 abbrev pub IsMadeOf : Body → Made → Type 0

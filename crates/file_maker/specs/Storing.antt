@@ -1,19 +1,14 @@
 -- What is stored of the source in a file, and what is read of a file of code.
 use Rattle.std.specs.Prelude.{◌≡◌, ◌⊎◌, ℕ, List, IsTrue, Option, Some, None, Result, Ok, Err}
-use Rattle.rb_base.specs.Outside.{IsLoaded}
 use Rattle.rb_refusal.specs.declared.refusal.Refusal.{Refusal}
 use Rattle.ir_core.specs.CoreForm.{Body}
 use Rattle.rb_front.specs.Front.{core_of}
 use Rattle.rite_code.specs.Code.{Program}
-use Rattle.file_maker.specs.Disk.{Disk, SameFilesBut, NoFileFault, Untouched, LoadFailed, StoreFailed}
+use Rattle.file_maker.specs.Disk.{Disk, SameFilesBut, NoFileFault, Untouched, LoadFailed, StoreFailed, IsSource, IsBytes}
 use Rattle.file_maker.specs.Making.{IsMade, IsChecked, IsFileOf}
 use Rattle.file_maker.specs.declared.made.Made.TheVariants as made
 use Rattle.file_maker.specs.declared.storing.NotMade.{NotMade}
 use Rattle.file_maker.specs.declared.storing.NotMade.TheVariants.{Refused, FileFault, NoMemory}
-
--- the text of a source: what its file holds, up to 16777217 bytes, where the files tell
-abbrev pub IsSource : Disk → List ℕ → List ℕ → Type 0
-IsSource before source text = IsTrue before.tells → IsLoaded (before.file source) 16777217 text
 
 -- the file holds the bytes of the file of the source's text, which spell that code; no other file changed, no call failed
 abbrev pub IsStored : Disk → Disk → List ℕ → List ℕ → Program → Type 0
@@ -38,10 +33,6 @@ Stores before after source file (Some (Err (Refused cause))) = IsRefused before 
 Stores before after source file (Some (Err FileFault)) = StoreFailed before after file
 Stores before after source file (Some (Err NoMemory)) = Untouched before after
 Stores before after source file (Some (Ok code)) = IsStored before after source file code
-
--- what a file of code holds, up to 4294967296 bytes, where the files tell
-abbrev pub IsBytes : Disk → List ℕ → List ℕ → Type 0
-IsBytes before file bytes = IsTrue before.tells → IsLoaded (before.file file) 4294967296 bytes
 
 -- that becomes of the bytes of the file, and nothing is done
 abbrev pub IsRead : Disk → Disk → List ℕ → Result Program Refusal → Type 0

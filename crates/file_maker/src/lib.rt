@@ -1,7 +1,7 @@
 //! From a source to its file, through the generator of all forms; and from the bytes of a file to verified code.
 //!
-//! What becomes of a text, and why bytes are refused, stands in specs/Making.antt. That the code means what the source
-//! means isn't said here. What is stored and loaded stands in specs/Storing.antt.
+//! What becomes of a text, why bytes are refused, and that the code of a program of plain forms implements its source for
+//! every input, stands in specs/Making.antt. What is stored and loaded stands in specs/Storing.antt.
 //!
 //! Types: [`Made`], [`NotMade`]; trait [`OfFiles`]. Calls: [`make_file`], [`check_file`]; [`store_file`], [`load_file`].
 #![tactic(auto)]

@@ -21,9 +21,10 @@ use rb_refusal::Refusal;
 use rite_code::Code;
 use rite_file::{files_spell_programs, write};
 use std::alloc::{AllocError, Global};
+use step_laws::plain_programs_are_implemented;
 
 /// The file of the core of a program whose counts are within their limits. By the laws its code is whole and verified, so
-/// that neither is tested here, and its file is short enough.
+/// that neither is tested here, its file is short enough, and it implements a source of plain forms for every input.
 fn file_of_core(alloc: Global, core: &Program) -> Result<Made, AllocError>
     requires unbuilt { code_built (body_view core.now) ≡ None }
     requires within { first_excess (need (body_view core.now)) ≡ None }
@@ -34,6 +35,7 @@ fn file_of_core(alloc: Global, core: &Program) -> Result<Made, AllocError>
     laws_of_code();
     code_fits_a_file();
     files_spell_programs();
+    plain_programs_are_implemented();
     let code = Code::new(2, main_code(alloc, core)?);
     let bytes = write(alloc, &code)?;
     Ok(Made::File(bytes, Verified::new(code)))
@@ -60,7 +62,8 @@ fn make_of_core(alloc: Global, core: &Program) -> Result<Made, AllocError>
 
 /// What becomes of the text of a source. One that the front refuses goes the first path, which tells of it, and so does
 /// one that has no form beyond those of that path. It is refused exactly for the first count past its limit: else it has
-/// its file. The error is that memory ran out.
+/// its file. The code in the file of a program of plain forms (specs/Plain of step_laws) implements its source for every
+/// input. The error is that memory ran out.
 #[tactic(auto, using(crate::proofs::Refused::refused_has_none))]
 pub fn make_file(alloc: Global, text: &[u8]) -> Result<Made, AllocError>
     ensures made { IfOk result (IsMade text.now) }

@@ -1,1 +1,4 @@
+pub mod Runs
 pub mod Standing
+pub mod Turns
+pub mod Waking

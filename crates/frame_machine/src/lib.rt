@@ -5,14 +5,11 @@
 //! Types: [`Machine`], [`Ran`], [`Turn`], [`StepFault`]. Calls: [`start`], and those of [`Machine`].
 #![tactic(auto)]
 
-mod enumerating;
-mod in_place;
-mod iterating;
 pub mod machine;
 mod reading;
-mod reporting;
 mod running;
 mod starting;
+mod waking;
 
 pub use machine::{Machine, Ran, StepFault, Turn};
 pub use starting::start;

@@ -1,14 +1,18 @@
 //! The machine.
-ghost use Rattle.std.specs.Prelude.{◌≡◌, Ok, Err, IfOk, OnOk, OnErr};
+ghost use Rattle.std.specs.Prelude.{◌≡◌, ◌≤◌, ◌-◌, Ok, Err, IfOk, OnOk, OnErr};
+ghost use Rattle.rb_base.specs.Outside.{with_more};
+ghost use Rattle.vm_acts.specs.Parts.beside as beside;
+ghost use Rattle.vm_acts.specs.Parts.flow.{Stays};
 ghost use Rattle.vm_acts.specs.Ends.{End};
+ghost use Rattle.frame_machine.specs.Runs as runs;
+ghost use Rattle.frame_machine.specs.Turns as turns;
+ghost use Rattle.frame_machine.specs.declared.running.At.TheVariants.{Hand};
 ghost use Rattle.frame_machine.specs.declared.running.At.{At};
 ghost use Rattle.frame_machine.specs.Standing as states;
 ghost use Rattle.frame_machine.specs.declared.machine.Standing.TheVariants as stands;
 ghost use Rattle.frame_machine.specs.declared.machine.StepFault.TheVariants as fault;
 
-use crate::iterating::answer_read;
 use crate::reading::{Line, Lines};
-use crate::reporting::begin_report;
 use crate::running::{At, Pause, run_turns};
 use def_core::Cause;
 use rb_base::{Sink, Source, write_all};
@@ -22,6 +26,7 @@ use vm_acts::vm_frames::{Frame, Frames};
 use vm_acts::vm_parts::flow::{End, Flow};
 use vm_acts::vm_parts::loaded::Loaded;
 use vm_acts::vm_parts::parts::Parts;
+use vm_iterations::{answer_read, begin_report};
 
 /// What one turn comes to.
 #[derive(Clone, Copy, Debug, PartialEq, Eq)]
@@ -102,9 +107,23 @@ fn ran_by(end: End) -> Ran
     }
 }
 
+/// Writes bytes that an iteration wants to go out.
+fn write_out<O: Sink>(out: &mut O, bytes: Vec<u8>) -> Result<(), StepFault>
+    ensures { OnOk result (O.taken out.new ≡ with_more (O.taken out.old) bytes.items) }
+{
+    if write_all(out, &bytes).is_err() {
+        Err(StepFault::OutputFault)
+    } else {
+        Ok(())
+    }
+}
+
 impl Machine {
     /// A machine at a frame, before its first turn.
-    pub(crate) fn new(alloc: Global, code: Loaded, parts: Parts, hot: Frame) -> Machine {
+    pub(crate) fn new(alloc: Global, code: Loaded, parts: Parts, hot: Frame) -> Machine
+        ensures is_new { runs.IsNew result }
+        ensures stands { runs.stand_at result Hand ≡ turns.stand Stays hot (beside.of parts) }
+    {
         Machine {
             alloc,
             code,
@@ -172,6 +191,8 @@ impl Machine {
     /// What a read gives: a String with the line, nil at the end, or an exception.
     fn read_line<S: Source>(&mut self, input: &mut S) -> Result<Given, StepFault>
         ensures apart { states.Apart self.old self.new }
+        ensures given { IfOk result (λ given. runs.GivesLine self.old.parts.heap given self.new.parts.heap) }
+        ensures alone { runs.ReadsAlone self.old self.new }
     {
         match self.lines.next(self.alloc, input)? {
             Line::Text(text) => Ok(Given::Gives(self.parts.heap.make_string(text)?)),
@@ -180,12 +201,25 @@ impl Machine {
         }
     }
 
+    /// Whether the exception by which the program ends is asked for its message now, which the program says. That is done once.
+    fn asks(&mut self, end: End) -> Result<bool, AllocError>
+        ensures apart { states.Apart self.old self.new }
+        ensures asked { IfOk result (λ asked. asked ≡ runs.is_asked self.old end) }
+        ensures left { OnOk result (runs.Asks end self.old self.new) }
+    {
+        if self.reported {
+            return Ok(false);
+        }
+        self.reported = begin_report(&mut self.parts, end)?;
+        Ok(self.reported)
+    }
+
     /// How the machine stands where the program ends. An exception whose message the program says is asked for it before.
     fn stands_at(&mut self, end: End) -> Result<Standing, AllocError>
         ensures apart { states.Apart self.old self.new }
+        ensures ends { IfOk result (λ standing. runs.EndsSo end standing self.old self.new) }
     {
-        if !self.reported && begin_report(&mut self.parts, end)? {
-            self.reported = true;
+        if self.asks(end)? {
             Ok(Standing::At(At::Waiting))
         } else {
             Ok(Standing::Over(self.end_of(end)?))
@@ -195,6 +229,7 @@ impl Machine {
     /// How the machine stands by what comes next.
     fn stands(&mut self, flow: Flow) -> Result<Standing, AllocError>
         ensures apart { states.Apart self.old self.new }
+        ensures stands { IfOk result (λ standing. runs.StandsBy flow standing self.old self.new) }
     {
         match flow {
             Flow::Stays => Ok(Standing::At(At::Hand)),
@@ -206,6 +241,7 @@ impl Machine {
     /// The read of the iteration that is the innermost level that waits.
     fn read<S: Source>(&mut self, input: &mut S) -> Result<Standing, StepFault>
         ensures apart { states.Apart self.old self.new }
+        ensures reads { IfOk result (λ standing. runs.ReadsSo standing self.old self.new) }
     {
         let given = self.read_line(input)?;
         let flow = answer_read(&self.code, &mut self.parts, given)?;
@@ -221,14 +257,15 @@ impl Machine {
         out: &mut O,
     ) -> Result<(Standing, u64), StepFault>
         ensures apart { states.Apart self.old self.new }
+        ensures goes { IfOk result (λ r. runs.Goes self.old at budget r.1 r.0 self.new (O.taken out.old) (O.taken
+            out.new)) }
+        ensures fewer { IfOk result (λ r. r.1 ≤ budget - 1) }
     {
         match run_turns(&self.code, at, &mut self.hot, &mut self.parts, budget)? {
             Pause::Spent(at) => Ok((Standing::At(at), 0)),
             Pause::Ends { end, left } => Ok((self.stands_at(end)?, left)),
             Pause::Writes { bytes, left } => {
-                if write_all(out, &bytes).is_err() {
-                    return Err(StepFault::OutputFault);
-                }
+                write_out(out, bytes)?;
                 Ok((Standing::At(At::Waiting), left))
             }
             Pause::Reads { left } => Ok((self.read(input)?, left)),
@@ -245,10 +282,13 @@ impl Machine {
         out: &mut O,
     ) -> Result<(Standing, u64), StepFault>
         ensures apart { states.Apart self.old self.new }
+        ensures goes { IfOk result (λ r. runs.Goes self.old at budget r.1 r.0 self.new (O.taken out.old) (O.taken
+            out.new)) }
+        ensures spends { IfOk result (λ r. runs.Spends r.0 r.1) }
     {
         let mut at = at;
         let mut left = budget;
-        'pauses: for _ in 0..budget {
+        'pauses: for made in 0..budget {
             if left == 0 {
                 break 'pauses;
             }
@@ -270,6 +310,8 @@ impl Machine {
         out: &mut O,
     ) -> Result<Ran, StepFault>
         ensures counts { (at : At) → self.old.standing ≡ stands.At at → OnOk result (states.Counts self.old self.new budget) }
+        ensures ran { (at : At) → self.old.standing ≡ stands.At at → OnOk result (runs.RunsFor self.old at budget self.new
+            (O.taken out.old) (O.taken out.new)) }
         ensures over { (e : End) → self.old.standing ≡ stands.Over e → (result ≡ Ok (states.ran_by e))
             × (self.new ≡ self.old) }
         ensures told { IfOk result (λ ran. ran ≡ states.told self.new.standing) }
@@ -308,6 +350,8 @@ impl Machine {
     ) -> Result<Turn, StepFault>
         ensures counts { (at : At) → self.old.standing ≡ stands.At at → OnOk result (states.Counts self.old self.new 1) }
         ensures told { IfOk result (λ turn. turn ≡ states.turn_by (states.told self.new.standing)) }
+        ensures ran { (at : At) → self.old.standing ≡ stands.At at → OnOk result (runs.RunsFor self.old at 1 self.new
+            (O.taken out.old) (O.taken out.new)) }
         ensures err { OnErr result ((self.new.standing ≡ stands.Stopped) × (self.new.turns ≡ self.old.turns)) }
         ensures stopped { self.old.standing ≡ stands.Stopped → (result ≡ Err fault.Stopped) × (self.new ≡ self.old) }
     {

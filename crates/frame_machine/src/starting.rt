@@ -1,4 +1,6 @@
 //! A machine before its first turn.
+ghost use Rattle.std.specs.Prelude.{IfOk};
+ghost use Rattle.frame_machine.specs.Runs as runs;
 
 use crate::machine::Machine;
 use code_instructions::{IndexedCode, index_code};
@@ -8,7 +10,7 @@ use pair_table::PairTable;
 use rb_value::Value;
 use std::alloc::{AllocError, Global};
 use vm_acts::fiber_switch::Fibers;
-use vm_acts::heap::Site;
+use vm_acts::heap::{Heap, Site};
 use vm_acts::run_calls::{Activation, Runs};
 use vm_acts::run_rows::opening_heap;
 use vm_acts::vm_frames::{Frame, Frames};
@@ -58,31 +60,64 @@ fn sites_for(alloc: Global, count: usize) -> Result<Vec<Site>, AllocError> {
     Ok(sites)
 }
 
-/// The heap with the names of the code, and all else that is empty.
-fn opened(alloc: Global, code: IndexedCode) -> Result<(Loaded, Parts), AllocError> {
-    let mut heap = opening_heap(alloc)?;
-    let loaded = Loaded::load(&mut heap, code)?;
-    let operators = Operators::of(&mut heap)?;
-    let names = Names::of(&mut heap)?;
-    let sites = sites_for(alloc, loaded.instruction_count())?;
-    let parts = Parts {
+/// Levels of one fiber, of which there are none yet.
+fn no_levels(alloc: Global) -> Result<(Frames, Fibers), AllocError> {
+    let frames = Frames::new(alloc)?;
+    Ok((frames, Fibers::new(alloc)?))
+}
+
+/// What calls and constants were found to be, which is nothing yet.
+fn nothing_found(alloc: Global) -> Result<(KnownCalls, KnownConstants), AllocError> {
+    let known = KnownCalls::new(alloc)?;
+    Ok((known, KnownConstants::new(alloc)?))
+}
+
+/// The parts around a heap, which are empty, for so many instructions.
+fn parts_around(
+    alloc: Global,
+    heap: Heap,
+    operators: Operators,
+    names: Names,
+    count: usize,
+) -> Result<Parts, AllocError> {
+    let (frames, fibers) = no_levels(alloc)?;
+    let (known, constants) = nothing_found(alloc)?;
+    let sites = sites_for(alloc, count)?;
+    Ok(Parts {
         heap,
-        frames: Frames::new(alloc)?,
-        fibers: Fibers::new(alloc)?,
+        frames,
+        fibers,
         globals: PairTable::new(alloc),
         sites,
-        known: KnownCalls::new(alloc)?,
-        constants: KnownConstants::new(alloc)?,
+        known,
+        constants,
         operators,
         names,
         activations: 1,
         end: End::Ended(0),
-    };
+    })
+}
+
+/// The parts with a heap, which has the names that the machine asks for, and all else that is empty.
+fn parts_with(alloc: Global, heap: Heap, count: usize) -> Result<Parts, AllocError> {
+    let mut heap = heap;
+    let operators = Operators::of(&mut heap)?;
+    let names = Names::of(&mut heap)?;
+    parts_around(alloc, heap, operators, names, count)
+}
+
+/// The code, and the parts with a heap that has its names.
+fn opened(alloc: Global, code: IndexedCode) -> Result<(Loaded, Parts), AllocError> {
+    let mut heap = opening_heap(alloc)?;
+    let loaded = Loaded::load(&mut heap, code)?;
+    let parts = parts_with(alloc, heap, loaded.instruction_count())?;
     Ok((loaded, parts))
 }
 
 /// A machine before the first turn of verified code. An `Err` only where memory runs out.
-pub fn start(alloc: Global, code: Verified) -> Result<Machine, AllocError> {
+pub fn start(alloc: Global, code: Verified) -> Result<Machine, AllocError>
+    ensures { IfOk result runs.IsNew }
+{
     let indexed = index_code(alloc, code)?;
     let (loaded, mut parts) = opened(alloc, indexed)?;
     let frame = main_frame(&loaded, &mut parts)?;

@@ -25,6 +25,25 @@ fn several_lines(rt: HostRuntime) -> Result<(), Fail> {
     )
 }
 
+/// Lines that end with a carriage return and a newline; a place is one in the text, whose carriage returns count.
+#[test]
+fn carriage_returns(rt: HostRuntime) -> Result<(), Fail> {
+    all_read(
+        &rt,
+        rt.alloc(),
+        &[
+            ("1\r\n2\r\n", "(1; 2)"),
+            ("'a\r\nb'", "'a\nb'"),
+            ("\"a\rb\\\r\nc\"", "'a\rbc'"),
+            ("<<X\r\na\r\nX\r\n", "'a\n'"),
+            ("=begin\r\n=end\r\n1 \\\r\n + 2", "1.+(2)"),
+            ("1\r\n)", "Syntax { at: 3 }"),
+            ("\r\n1\r\n\r\n1.5", "Outside { what: Float, at: 7 }"),
+            ("1\r)", "Syntax { at: 2 }"),
+        ],
+    )
+}
+
 #[test]
 fn outside(rt: HostRuntime) -> Result<(), Fail> {
     all_read(

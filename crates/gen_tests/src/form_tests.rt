@@ -245,6 +245,41 @@ sym 3 \"b\"
 }
 
 #[test]
+fn breaks_through_an_ensure_part(rt: HostRuntime) -> Result<(), Fail> {
+    all_listed(
+        &rt,
+        rt.alloc(),
+        &[(
+            "while a
+  begin
+    break 1
+  ensure
+    b
+  end
+end",
+            "irep 0 locals 1 registers 9 children 0
+00000 JMP 6
+00003 JMP 36
+00006 SSEND 1 0 254
+00010 JMPNOT 1 34
+00014 LOADI 1 1
+00017 MOVE 1 1
+00020 JMPUW 3
+00023 EXCEPT 2
+00025 SSEND 3 1 254
+00029 RAISEIF 2
+00031 JMP 6
+00034 LOADNIL 1
+00036 STOP
+catch ensure 14 23 23
+sym 0 \"a\"
+sym 1 \"b\"
+",
+        )],
+    )
+}
+
+#[test]
 fn splats(rt: HostRuntime) -> Result<(), Fail> {
     all_listed(
         &rt,

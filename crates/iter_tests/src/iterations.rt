@@ -134,14 +134,34 @@ fn seen_of(
     Ok(seen)
 }
 
-fn visited(
-    heap: &mut Heap,
+/// A visit of a receiver with arguments, and what it calls its block with.
+#[derive(Clone, Copy)]
+struct Visit<'a> {
     row: VisitRow,
     receiver: Value,
-    args: &[Value],
-) -> Result<Vec<u8>, AllocError> {
-    let seen = seen_of(heap, StarRow::Visit(row), receiver, args)?;
-    Ok(seen.text)
+    args: &'a [Value],
+    calls: &'a [u8],
+}
+
+/// A visit without arguments, and what it calls its block with.
+fn plain_visit<'a>(row: VisitRow, receiver: Value, calls: &'a [u8]) -> Visit<'a> {
+    Visit {
+        row,
+        receiver,
+        args: &[],
+        calls,
+    }
+}
+
+/// The place of the first of the visits that calls its block with something else, if there is one.
+fn first_other(heap: &mut Heap, visits: &[Visit<'_>]) -> Result<Option<usize>, AllocError> {
+    'visits: for (place, visit) in visits.iter().enumerate() {
+        let seen = seen_of(heap, StarRow::Visit(visit.row), visit.receiver, visit.args)?;
+        if !reads(&seen.text, visit.calls) {
+            return Ok(Some(place));
+        }
+    }
+    Ok(None)
 }
 
 /// An Array of these Integers.
@@ -156,24 +176,28 @@ fn array(heap: &mut Heap, numbers: &[i64]) -> Result<Value, AllocError> {
 #[test]
 fn integers_count(rt: HostRuntime) -> Result<(), Fail> {
     let mut heap = opening_heap(rt.alloc())?;
-    let times = visited(&mut heap, VisitRow::Times, Value::Int(3), &[])?;
-    assert!(rt; reads(&times, b"0 1 2 "));
-    let down = visited(&mut heap, VisitRow::Downto, Value::Int(3), &[Value::Int(1)])?;
-    assert!(rt; reads(&down, b"3 2 1 "));
-    let steps = visited(
-        &mut heap,
-        VisitRow::Step,
-        Value::Int(1),
-        &[Value::Int(8), Value::Int(3)],
-    )?;
-    assert!(rt; reads(&steps, b"1 4 7 "));
-    let most = visited(
-        &mut heap,
-        VisitRow::Upto,
-        Value::Int(i64::MAX),
-        &[Value::Int(i64::MAX)],
-    )?;
-    assert!(rt; reads(&most, b"9223372036854775807 "));
+    let visits = [
+        plain_visit(VisitRow::Times, Value::Int(3), b"0 1 2 "),
+        Visit {
+            row: VisitRow::Downto,
+            receiver: Value::Int(3),
+            args: &[Value::Int(1)],
+            calls: b"3 2 1 ",
+        },
+        Visit {
+            row: VisitRow::Step,
+            receiver: Value::Int(1),
+            args: &[Value::Int(8), Value::Int(3)],
+            calls: b"1 4 7 ",
+        },
+        Visit {
+            row: VisitRow::Upto,
+            receiver: Value::Int(i64::MAX),
+            args: &[Value::Int(i64::MAX)],
+            calls: b"9223372036854775807 ",
+        },
+    ];
+    assert_eq!(rt; first_other(&mut heap, &visits)?, None);
     Ok(())
 }
 
@@ -181,12 +205,12 @@ fn integers_count(rt: HostRuntime) -> Result<(), Fail> {
 fn texts_are_walked_over(rt: HostRuntime) -> Result<(), Fail> {
     let mut heap = opening_heap(rt.alloc())?;
     let text = heap.make_text(b"a\nbc")?;
-    let bytes = visited(&mut heap, VisitRow::EachByte, text, &[])?;
-    assert!(rt; reads(&bytes, b"97 10 98 99 "));
-    let characters = visited(&mut heap, VisitRow::EachCharacter, text, &[])?;
-    assert!(rt; reads(&characters, b"a \n b c "));
-    let lines = visited(&mut heap, VisitRow::EachLine, text, &[])?;
-    assert!(rt; reads(&lines, b"a\n bc "));
+    let visits = [
+        plain_visit(VisitRow::EachByte, text, b"97 10 98 99 "),
+        plain_visit(VisitRow::EachCharacter, text, b"a \n b c "),
+        plain_visit(VisitRow::EachLine, text, b"a\n bc "),
+    ];
+    assert_eq!(rt; first_other(&mut heap, &visits)?, None);
     Ok(())
 }
 
@@ -194,14 +218,14 @@ fn texts_are_walked_over(rt: HostRuntime) -> Result<(), Fail> {
 fn arrays_are_visited(rt: HostRuntime) -> Result<(), Fail> {
     let mut heap = opening_heap(rt.alloc())?;
     let three = array(&mut heap, &[5, 6, 7])?;
-    let each = visited(&mut heap, VisitRow::EachElement, three, &[])?;
-    assert!(rt; reads(&each, b"5 6 7 "));
-    let places = visited(&mut heap, VisitRow::EachIndex, three, &[])?;
-    assert!(rt; reads(&places, b"0 1 2 "));
-    let deleted = visited(&mut heap, VisitRow::DeleteElements, three, &[])?;
-    assert!(rt; reads(&deleted, b"5 6 7 "));
-    let left = visited(&mut heap, VisitRow::EachElement, three, &[])?;
-    assert!(rt; left.is_empty());
+    let visits = [
+        plain_visit(VisitRow::EachElement, three, b"5 6 7 "),
+        plain_visit(VisitRow::EachIndex, three, b"0 1 2 "),
+        plain_visit(VisitRow::DeleteElements, three, b"5 6 7 "),
+        // (they are deleted)
+        plain_visit(VisitRow::EachElement, three, b""),
+    ];
+    assert_eq!(rt; first_other(&mut heap, &visits)?, None);
     Ok(())
 }
 
@@ -213,13 +237,16 @@ fn lines_are_written(rt: HostRuntime) -> Result<(), Fail> {
     let main = heap.main_object();
     let seen = seen_of(&mut heap, StarRow::Kernel(KernelRow::Puts), main, &[outer])?;
     assert!(rt; reads(&seen.text, b"1\n2\n\ntrue\n"));
-    let seen = seen_of(
-        &mut heap,
-        StarRow::Kernel(KernelRow::Inspect),
-        main,
-        &[Value::Nil],
-    )?;
-    assert!(rt; reads(&seen.text, b"nil\n"));
-    assert!(rt; seen.end == Some(Value::Nil));
+    Ok(())
+}
+
+#[test]
+fn what_is_inspected_is_given(rt: HostRuntime) -> Result<(), Fail> {
+    let mut heap = opening_heap(rt.alloc())?;
+    let main = heap.main_object();
+    let row = StarRow::Kernel(KernelRow::Inspect);
+    let seen = seen_of(&mut heap, row, main, &[Value::True])?;
+    assert!(rt; reads(&seen.text, b"true\n"));
+    assert!(rt; seen.end == Some(Value::True));
     Ok(())
 }

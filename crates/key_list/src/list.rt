@@ -60,6 +60,8 @@ impl<T: PartialEq> PartialEq for KeyList<T> {
 
     ghost laws = { lists_per T.laws };
 
+    // A call of its own, so that keys of other kinds are compared in place.
+    #[inline(never)]
     fn eq(&self, other: &KeyList<T>) -> bool {
         self.as_slice() == other.as_slice()
     }

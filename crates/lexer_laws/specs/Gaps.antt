@@ -60,11 +60,13 @@ BeginsName text at =
     (is_name_start (slice_index text at) ≡ true)
     ⊎ (0 < operator_name (slice_index text at) (slice_index text (at + 1)) (slice_index text (at + 2)))
 
--- the next token is a single dot before a name
+-- the next token is a single dot, and the one behind it a name
 pub record LeadsDot (text : List ℕ) (at dot : ℕ) : Type 0 where
   pub between : IsBetween text at dot
   pub dot_there : slice_index text dot ≡ 46
-  pub name : BeginsName text (dot + 1)
+  pub place : ℕ
+  pub behind : IsBetween text (dot + 1) place
+  pub name : BeginsName text place
 
 -- a newline is dropped where the token before can't end a statement, and up to a dot that leads a line
 pub record DropsNewline (text : List ℕ) (p q : Place) : Type 0 where

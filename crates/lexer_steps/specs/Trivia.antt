@@ -11,9 +11,6 @@ use Rattle.lexer_steps.specs.declared.trivia.Between.TheVariants.{Fresh, Inside,
 use Rattle.lexer_steps.specs.Scan.{comment_end, line_end}
 use Rattle.lexer_steps.specs.State.{State, pushed, spaced, lined}
 
-abbrev pub at_line : Between
-at_line = Fresh
-
 -- a comment of whole lines begins with a line that begins =begin, and ends with a line that begins =end
 abbrev pub begins_block : List ℕ → Bool
 begins_block xs = starts_with nat_eq xs (codes "=begin")
@@ -72,9 +69,10 @@ begins_name text at =
     is_name_start (slice_index text at)
     || nat_lt 0 (operator_name (slice_index text at) (slice_index text (at + 1)) (slice_index text (at + 2)))
 
--- a single dot and a name
+-- a single dot, and a name behind it and what is no token
 abbrev pub is_dot : List ℕ → ℕ → Bool
-is_dot text at = (slice_index text at == 46) && begins_name text (at + 1)
+is_dot text at =
+    (slice_index text at == 46) && begins_name text (next_token (at + 1) Inside (drop (at + 1) text))
 
 -- The end of a line, where the next line begins at next: a token where the token before can end a statement,
 -- unless the next token is a dot and a name.

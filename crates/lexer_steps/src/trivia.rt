@@ -151,16 +151,16 @@ fn passing_line(byte: u8) -> Between
     }
 }
 
-/// Where the next token begins after white space and comments, from the beginning of a line.
+/// Where the next token begins after white space and comments, from a place that lies so.
 #[tactic(auto, unfolding(crate::specs::Trivia::next_token))]
-fn next_token(text: &[u8], from: usize) -> usize
+fn next_token(text: &[u8], from: usize, start: Between) -> usize
     requires { from ≤ length text.now }
     ensures forward { from ≤ result }
     ensures within { result ≤ length text.now }
-    ensures value { result ≡ trivia.next_token from trivia.at_line (drop from text.now) }
+    ensures value { result ≡ trivia.next_token from start (drop from text.now) }
 {
     let mut at = from;
-    let mut between = Between::Fresh;
+    let mut between = start;
     'bytes: while at < text.len() {
         between = passing(between, text, at);
         if is_token(between) {
@@ -180,11 +180,11 @@ fn begins_name(text: &[u8], at: usize) -> bool
     is_name_start(first) || operator_name(first, byte_at(text, at + 1), byte_at(text, at + 2)) > 0
 }
 
-/// Whether a single dot and a name stand at a place.
+/// Whether a single dot stands at a place, and a name behind it and what is no token.
 fn is_dot(text: &[u8], at: usize) -> bool
     ensures value { result ≡ trivia.is_dot text.now at }
 {
-    byte_at(text, at) == b'.' && begins_name(text, at + 1)
+    byte_at(text, at) == b'.' && begins_name(text, next_token(text, at + 1, Between::Inside))
 }
 
 /// The end of a line, after which the next line begins at `next`.
@@ -204,7 +204,7 @@ pub fn newline_step(
 {
     let mut end = next;
     if lexer.context.can_end() {
-        let token = next_token(text, next);
+        let token = next_token(text, next, Between::Fresh);
         if is_dot(text, token) {
             end = token;
         } else {

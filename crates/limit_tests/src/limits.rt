@@ -128,6 +128,33 @@ fn bytes_of_code(rt: HostRuntime) -> Result<(), Fail> {
     is_too_large(&rt, rt.alloc(), &more, Count::Code, 4194304)
 }
 
+/// Forms, and a choice by so many branches, which are counted with 48 bytes of code each.
+fn choice(alloc: Global, before: &[u8], branches: u32) -> Result<Vec<u8>, Fail> {
+    let mut text = Vec::new(alloc);
+    text.extend_from_slice(before)?;
+    text.extend_from_slice(b"if nil\n1\n")?;
+    repeat(&mut text, b"elsif nil\n2\n", branches.wrapping_sub(1))?;
+    text.extend_from_slice(b"end\n")?;
+    Ok(text)
+}
+
+#[test]
+fn branches_of_a_choice(rt: HostRuntime) -> Result<(), Fail> {
+    is_made(&rt, rt.alloc(), &choice(rt.alloc(), b":a\n", 87379)?)?;
+    let more = choice(rt.alloc(), b":a\n", 87380)?;
+    is_too_large(&rt, rt.alloc(), &more, Count::Code, 4194320)
+}
+
+/// The first path goes as deep into a choice as it has branches, so it leaves those of more than a thousand to the second.
+#[test]
+fn branches_of_the_first_path(rt: HostRuntime) -> Result<(), Fail> {
+    let few = choice(rt.alloc(), b"", 1000)?;
+    let made = make_file(rt.alloc(), &few)?;
+    assert!(rt; matches!(made, Made::FirstPath), "first path");
+    is_made(&rt, rt.alloc(), &choice(rt.alloc(), b"", 1001)?)?;
+    is_made(&rt, rt.alloc(), &choice(rt.alloc(), b"", 80000)?)
+}
+
 /// A lambda with so many in it: with the program these are two bodies more.
 fn bodies(alloc: Global, inner: u32) -> Result<Vec<u8>, Fail> {
     let mut text = Vec::new(alloc);

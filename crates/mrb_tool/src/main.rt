@@ -1,6 +1,7 @@
 //! The program `rite`.
 #![tactic(auto)]
 
+use kept_files::KeptFiles;
 use rb_base::{Buffered, DiskFiles, StdSink, StdSource};
 use rite_tool::{Report, Stop, play, rite};
 use std::env;
@@ -12,7 +13,8 @@ fn main(rt: HostRuntime) -> ExitCode {
     let end = match given_words(&rt) {
         Ok(words) => {
             let alloc = rt.alloc();
-            let mut files = DiskFiles::new(&rt);
+            // Both calls read the source.
+            let mut files = KeptFiles::new(DiskFiles::new(&rt));
             let mut input = StdSource::new(rt.stdin());
             let mut out = Buffered::new(StdSink::new(rt.stdout()));
             match play(alloc, &words, &mut files, &mut input, &mut out, &mut err) {

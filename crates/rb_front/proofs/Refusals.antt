@@ -1,6 +1,8 @@
 -- The causes of the front exclude each other, and a text that is refused has no core.
 use Rattle.std.proofs.Common.{min, ◌≡◌, ◌≢◌, ℕ, ◌≤◌, ◌<◌, nat_le, true, false, List, length, Option, Some, None, Result, Ok, Err, refl, sym, ◌∙◌, ap, arith}
 use Rattle.std.proofs.lemmas.Bool.Decides.{nat_tests}
+use Rattle.line_ends.specs.Lines.{as_read, place_in}
+use Rattle.line_ends.proofs.Plain.{within}
 use Rattle.rb_syntax.specs.declared.token.Token.{Token}
 use Rattle.rb_lexer.specs.Lexing.{tokens_of}
 use Rattle.lexer_depth.specs.Levels.{deep}
@@ -10,7 +12,8 @@ use Rattle.std.specs.Option.{option_map}
 use Rattle.rb_parser.specs.Program.{tree_of, Misses}
 use Rattle.lower_outside.specs.Search.{found}
 use Rattle.lower_outside.specs.declared.construct.Found.{Found}
-use Rattle.rb_front.specs.Front.{IsTree, IsNoProgram, IsTooDeep, Refuses, core_within, core_of_tree, core_of_tokens, core_of}
+use Rattle.rb_front.specs.Front.{IsTree, IsNoProgram, IsTooDeep, HasNoCore, Refuses, core_within, core_of_tree, core_of_tokens, core_of_lines, core_of}
+use Rattle.rb_front.specs.Errors.{placed}
 use Rattle.rb_front.specs.declared.error.FrontError.{FrontError}
 use Rattle.rb_front.specs.declared.error.FrontError.TheVariants.{TooLong, Syntax, TooDeep, Outside, NoMemory}
 use Rattle.rb_front.proofs.Misplaced.{one_place, not_missed}
@@ -57,8 +60,8 @@ outside_core (Ok tokens) size n f (within, is, well) there =
     let fits : nat_le (deep tokens) 256 ≡ true = grind (arith, nat_tests) in
     rw fits (outside_tree (tree_of tokens size) n f is there)
 
--- a text within its size has the core of its tokens
-within_size : (text : List ℕ) → length text ≤ 16777216 → core_of text ≡ core_of_tokens (tokens_of text) (length text)
+-- a text within its size has the core of its lines
+within_size : (text : List ℕ) → length text ≤ 16777216 → core_of text ≡ core_of_lines (as_read text)
 unfolding core_of
 within_size text h =
     let fits : nat_le (length text) 16777216 ≡ true = grind (arith, nat_tests) in
@@ -73,12 +76,22 @@ past_size text h =
 -- a text that the front refuses has no core
 pub refused_core : (text : List ℕ) (e : FrontError) → e ≢ NoMemory → Refuses text e → core_of text ≡ None
 refused_core text TooLong other h = past_size text h
-refused_core text (Syntax at) other (size, none, within) =
-    within_size text size ∙ syntax_core (tokens_of text) (length text) at none
-refused_core text TooDeep other (size, deep) = within_size text size ∙ deep_core (tokens_of text) (length text) deep
-refused_core text (Outside what at) other (n, (size, tree), there) =
-    within_size text size ∙ outside_core (tokens_of text) (length text) n _ tree there
+refused_core text (Syntax at) other (size, (k, none, is, within)) =
+    within_size text size ∙ syntax_core (tokens_of (as_read text)) (length (as_read text)) k none
+refused_core text TooDeep other (size, past) =
+    within_size text size ∙ deep_core (tokens_of (as_read text)) (length (as_read text)) past
+refused_core text (Outside what at) other (size, (k, (n, tree, there), is)) =
+    within_size text size ∙ outside_core (tokens_of (as_read text)) (length (as_read text)) n _ tree there
 refused_core text NoMemory other h = absurd (other refl)
+
+-- a text within its size is refused where its lines have no core
+pub refused_lines : (text : List ℕ) (e : FrontError) → length text ≤ 16777216 → HasNoCore (as_read text) e
+    → Refuses text (placed text e)
+refused_lines text TooLong size h = absurd h
+refused_lines text (Syntax at) size h = (size, (at, h, refl, within text at))
+refused_lines text TooDeep size h = (size, h)
+refused_lines text (Outside what at) size h = (size, (at, h, refl))
+refused_lines text NoMemory size h = tt
 
 -- one place without a tree
 same_place : (r : Result (List Token) ℕ) (size a b : ℕ) → IsNoProgram r size a → IsNoProgram r size b → a ≡ b
@@ -112,31 +125,35 @@ same_construct n m f g same is too =
 pub one_front : (text : List ℕ) (e d : FrontError) → e ≢ NoMemory → d ≢ NoMemory → Refuses text e → Refuses text d
     → e ≡ d
 one_front text TooLong TooLong p q g h = refl
-one_front text TooLong (Syntax b) p q g (size, h, within) = absurd (omega arith)
+one_front text TooLong (Syntax b) p q g (size, h) = absurd (omega arith)
 one_front text TooLong TooDeep p q g (size, h) = absurd (omega arith)
-one_front text TooLong (Outside w b) p q g (n, (size, h), there) = absurd (omega arith)
+one_front text TooLong (Outside w b) p q g (size, h) = absurd (omega arith)
 one_front text TooLong NoMemory p q g h = absurd (q refl)
-one_front text (Syntax a) TooLong p q (size, g, within) h = absurd (omega arith)
-one_front text (Syntax a) (Syntax b) p q (size, g, within) (again, h, too) =
-    ap Syntax (same_place (tokens_of text) (length text) a b g h)
-one_front text (Syntax a) TooDeep p q (size, g, within) (again, h) =
-    absurd (not_deep (tokens_of text) (length text) a g h)
-one_front text (Syntax a) (Outside w b) p q (size, g, within) (n, (again, h), there) =
-    absurd (not_tree (tokens_of text) (length text) a n g h)
+one_front text (Syntax a) TooLong p q (size, g) h = absurd (omega arith)
+one_front text (Syntax a) (Syntax b) p q (size, (k, g, is, within)) (again, (l, h, too, also)) =
+    ap Syntax (is
+    ∙ ap (place_in text) (same_place (tokens_of (as_read text)) (length (as_read text)) k l g h) ∙ sym too)
+one_front text (Syntax a) TooDeep p q (size, (k, g, is, within)) (again, h) =
+    absurd (not_deep (tokens_of (as_read text)) (length (as_read text)) k g h)
+one_front text (Syntax a) (Outside w b) p q (size, (k, g, is, within)) (again, (l, (n, h, there), too)) =
+    absurd (not_tree (tokens_of (as_read text)) (length (as_read text)) k n g h)
 one_front text (Syntax a) NoMemory p q g h = absurd (q refl)
 one_front text TooDeep TooLong p q (size, g) h = absurd (omega arith)
-one_front text TooDeep (Syntax b) p q (size, g) (again, h, within) =
-    absurd (not_deep (tokens_of text) (length text) b h g)
+one_front text TooDeep (Syntax b) p q (size, g) (again, (l, h, too, within)) =
+    absurd (not_deep (tokens_of (as_read text)) (length (as_read text)) l h g)
 one_front text TooDeep TooDeep p q g h = refl
-one_front text TooDeep (Outside w b) p q (size, g) (n, (again, h), there) =
-    absurd (shallow (tokens_of text) (length text) n g h)
+one_front text TooDeep (Outside w b) p q (size, g) (again, (l, (n, h, there), too)) =
+    absurd (shallow (tokens_of (as_read text)) (length (as_read text)) n g h)
 one_front text TooDeep NoMemory p q g h = absurd (q refl)
-one_front text (Outside v a) TooLong p q (n, (size, g), here) h = absurd (omega arith)
-one_front text (Outside v a) (Syntax b) p q (n, (size, g), here) (again, h, within) =
-    absurd (not_tree (tokens_of text) (length text) b n h g)
-one_front text (Outside v a) TooDeep p q (n, (size, g), here) (again, h) =
-    absurd (shallow (tokens_of text) (length text) n h g)
-one_front text (Outside v a) (Outside w b) p q (n, (size, g), here) (m, (again, h), there) =
-    same_construct n m _ _ (same_node (tokens_of text) (length text) n m g h) here there
+one_front text (Outside v a) TooLong p q (size, g) h = absurd (omega arith)
+one_front text (Outside v a) (Syntax b) p q (size, (k, (n, g, here), is)) (again, (l, h, too, within)) =
+    absurd (not_tree (tokens_of (as_read text)) (length (as_read text)) l n h g)
+one_front text (Outside v a) TooDeep p q (size, (k, (n, g, here), is)) (again, h) =
+    absurd (shallow (tokens_of (as_read text)) (length (as_read text)) n h g)
+one_front text (Outside v a) (Outside w b) p q (size, (k, (n, g, here), is)) (again, (l, (m, h, there), too)) =
+    ap (Outside v) is
+    ∙ ap (placed text) (same_construct n m _ _
+    (same_node (tokens_of (as_read text)) (length (as_read text)) n m g h) here there)
+    ∙ sym (ap (Outside w) too)
 one_front text (Outside v a) NoMemory p q g h = absurd (q refl)
 one_front text NoMemory d p q g h = absurd (p refl)

@@ -1,6 +1,8 @@
-ghost use Rattle.std.specs.Prelude.{◌≡◌};
-ghost use Rattle.rb_front.specs.Errors.{lex_error, lower_error, parse_error};
+ghost use Rattle.std.specs.Prelude.{◌≡◌, ◌≤◌, length};
+ghost use Rattle.line_ends.specs.Lines as ends;
+ghost use Rattle.rb_front.specs.Errors.{lex_error, lower_error, parse_error, placed};
 
+use line_ends::place_in;
 use rb_lexer::LexError;
 use rb_lower::LowerError;
 use rb_parser::ParseError;
@@ -19,6 +21,34 @@ pub enum FrontError {
     Outside { what: Outside, at: u32 },
     /// Memory ran out.
     NoMemory,
+}
+
+/// The place in a text of what stands at `at` of its lines.
+fn place_of(text: &[u8], at: u32) -> u32
+    requires { length text.now ≤ 16777216 }
+    ensures value { result ≡ ends.place_in text.now at }
+    ensures within { result ≤ length text.now }
+{
+    place_in(text, at as usize) as u32
+}
+
+impl FrontError {
+    /// The same of a text, where this is of its lines: `at` is the place there.
+    pub(crate) fn placed_in(self, text: &[u8]) -> FrontError
+        requires { length text.now ≤ 16777216 }
+        ensures { result ≡ placed text.now self }
+    {
+        match self {
+            FrontError::Syntax { at } => FrontError::Syntax {
+                at: place_of(text, at),
+            },
+            FrontError::Outside { what, at } => FrontError::Outside {
+                what,
+                at: place_of(text, at),
+            },
+            FrontError::TooLong | FrontError::TooDeep | FrontError::NoMemory => self,
+        }
+    }
 }
 
 impl From<LexError> for FrontError {

@@ -2,8 +2,7 @@
 use Rattle.std.proofs.Common.{◌≡◌, ℕ, List, sym, ◌∙◌, subst, inr, Result, Ok, Err}
 use Rattle.rb_base.specs.Outside.{Rose}
 use Rattle.rite_code.specs.Code.{Program}
-use Rattle.file_maker.specs.Disk.{Disk, Untouched}
-use Rattle.file_maker.specs.Storing.{IsSource}
+use Rattle.file_maker.specs.Disk.{Disk, Untouched, IsSource}
 use Rattle.rite_tool.specs.Making.{Encodes, Built, NotMade, Stores, Builds}
 use Rattle.rite_tool.specs.declared.stop.Stop.{Stop}
 

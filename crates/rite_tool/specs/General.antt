@@ -31,7 +31,7 @@ text_of n played.Spent = texts.spent n
 text_of n (played.Refused cause) = texts.refused cause
 text_of n played.FileFault = texts.file_fault
 text_of n played.NoMemory = texts.no_memory
-text_of n played.InputFault = []
+text_of n played.InputFault = texts.input_fault
 text_of n played.OutputFault = []
 
 -- the counts of a run are told where they are wanted and the program came to an end or to its last turn

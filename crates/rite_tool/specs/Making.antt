@@ -11,8 +11,7 @@ use Rattle.rite_file.specs.File.{Spells}
 use Rattle.code_verifier.specs.Verified.{IsVerified}
 use Rattle.code_generator.specs.Implements.{Implements}
 use Rattle.rb_refusal.specs.declared.refusal.Refusal.{Refusal}
-use Rattle.file_maker.specs.Disk.{Disk, SameFilesBut, NoFileFault, Untouched, LoadFailed, StoreFailed}
-use Rattle.file_maker.specs.Storing.{IsSource}
+use Rattle.file_maker.specs.Disk.{Disk, SameFilesBut, NoFileFault, Untouched, LoadFailed, StoreFailed, IsSource}
 use Rattle.rite_tool.specs.declared.stop.Stop.{Stop}
 use Rattle.rite_tool.specs.declared.stop.Stop.TheVariants as stops
 

@@ -9,8 +9,7 @@ use Rattle.rite_file.specs.Refusal.{refusal_of}
 use Rattle.code_listing.specs.Listing.{listing_of}
 use Rattle.rb_refusal.specs.Writing.{Stream, Says}
 use Rattle.rb_refusal.specs.declared.refusal.Refusal.{Refusal}
-use Rattle.file_maker.specs.Disk.{Disk, Untouched, LoadFailed}
-use Rattle.file_maker.specs.Storing.{IsBytes}
+use Rattle.file_maker.specs.Disk.{Disk, Untouched, LoadFailed, IsBytes}
 use Rattle.rite_tool.specs.Told.{Silent}
 use Rattle.rite_tool.specs.declared.stop.Stop.{Stop}
 use Rattle.rite_tool.specs.declared.stop.Stop.TheVariants as stops

@@ -28,5 +28,8 @@ counts turns peak = line (codes "turns " ++ decimal turns ++ codes " peak " ++ d
 abbrev pub no_memory : List ℕ
 no_memory = line (codes "no memory")
 
+abbrev pub input_fault : List ℕ
+input_fault = line (codes "input fault")
+
 abbrev pub file_fault : List ℕ
 file_fault = line (codes "file fault")

@@ -102,9 +102,15 @@ abbrev pub of_file : ℕ → Bool → Option (List ℕ) → Option Run
 of_file n wanted None = None
 of_file n wanted (Some name) = Some (record { steps = n; counts = wanted; file = name })
 
--- what stands after the word run
+-- the same, unless they were wanted already
+abbrev pub stats_unless : Bool → List (List ℕ) → Bool × List (List ℕ)
+stats_unless true words = (true, words)
+stats_unless false words = stats_of words
+
+-- what stands after the word run: its options in either order, each at most once
 abbrev pub run_after : List (List ℕ) → Option Run
-run_after words = options_of words >>= λ o. of_file o.0 (stats_of o.1).0 (one_file (stats_of o.1).1)
+run_after words = options_of (stats_of words).1 >>= λ o. of_file o.0 (stats_unless (stats_of words).0 o.1).0
+    (one_file (stats_unless (stats_of words).0 o.1).1)
 
 -- the run that the words ask for, which are none of the commands
 abbrev pub run_of : List (List ℕ) → Option Run

@@ -5,7 +5,7 @@ ghost use Rattle.rb_refusal.specs.Writing.{Says};
 ghost use Rattle.rite_tool.specs.General as general;
 
 use crate::end::End;
-use crate::texts::{tell_file_fault, tell_no_memory, tell_refused, tell_spent};
+use crate::texts::{tell_file_fault, tell_input_fault, tell_no_memory, tell_refused, tell_spent};
 use crate::told::OfSink;
 use rb_base::{Failed, Sink, write_all};
 use rb_exec::Played;
@@ -32,11 +32,12 @@ pub fn tell<E: Sink>(played: &Played, steps: u64, err: &mut E) -> Result<(), Fai
         (⟦<E as OfSink>⟧.told err.old) (⟦<E as OfSink>⟧.told err.new) result }
 {
     match played {
-        Played::Ended(_) | Played::InputFault | Played::OutputFault => Ok(()),
+        Played::Ended(_) | Played::OutputFault => Ok(()),
         Played::Uncaught(line) => write_all(err, line),
         Played::Spent => tell_spent(err, steps),
         Played::Refused(refusal) => tell_refused(err, *refusal),
         Played::FileFault => tell_file_fault(err),
+        Played::InputFault => tell_input_fault(err),
         Played::NoMemory => tell_no_memory(err),
     }
 }

@@ -80,6 +80,13 @@ pub fn tell_no_memory<E: Sink>(err: &mut E) -> Result<(), Failed>
     write_all(err, b"no memory\n")
 }
 
+/// Writes that the input couldn't be read.
+pub fn tell_input_fault<E: Sink>(err: &mut E) -> Result<(), Failed>
+    ensures { Says texts.input_fault (⟦<E as OfSink>⟧.told err.old) (⟦<E as OfSink>⟧.told err.new) result }
+{
+    write_all(err, b"input fault\n")
+}
+
 /// Writes that a file wasn't read or written.
 pub fn tell_file_fault<E: Sink>(err: &mut E) -> Result<(), Failed>
     ensures { Says texts.file_fault (⟦<E as OfSink>⟧.told err.old) (⟦<E as OfSink>⟧.told err.new) result }

@@ -1,6 +1,6 @@
 //! What the words after the program's name mean.
 ghost use Rattle.std.specs.Prelude.{◌≡◌, ◌≤◌, IfSome, true, nat_le, if◌then◌else◌, map, string_bytes};
-ghost use Rattle.rite_tool.specs.Words.{is_digit, are_digits, is_numeral, value_after, most_turns, number_of, is_name, two_files, one_file, options_of, exec_of, command_of, stats_of, run_after, run_of, sample_size, sample_of};
+ghost use Rattle.rite_tool.specs.Words.{is_digit, are_digits, is_numeral, value_after, most_turns, number_of, is_name, two_files, one_file, options_of, exec_of, command_of, stats_of, stats_unless, run_after, run_of, sample_size, sample_of};
 ghost use Rattle.rite_tool.specs.Asked.{asked, run_asked};
 ghost use Rattle.std.specs.Option.{option_map};
 
@@ -92,8 +92,9 @@ pub fn read_run(words: &[String]) -> Option<Run<'_>>
 fn run_behind(words: &[String]) -> Option<Run<'_>>
     ensures { run_asked result ≡ run_after (map string_bytes words.now) }
 {
+    let (wanted, words) = stats(words);
     let (steps, words) = options(words)?;
-    let (counts, words) = stats(words);
+    let (counts, words) = stats_unless(wanted, words);
     let file = one_file(words)?;
     Some(Run {
         steps,
@@ -110,6 +111,13 @@ fn stats(words: &[String]) -> (bool, &[String])
         [word, rest @ ..] if word.as_bytes() == b"--stats".as_slice() => (true, rest),
         _ => (false, words),
     }
+}
+
+// The same, unless they were wanted already.
+fn stats_unless(wanted: bool, words: &[String]) -> (bool, &[String])
+    ensures { (result.0, map string_bytes result.1.now) ≡ stats_unless wanted (map string_bytes words.now) }
+{
+    if wanted { (true, words) } else { stats(words) }
 }
 
 /// The size of the sample that the words ask for, if they do.

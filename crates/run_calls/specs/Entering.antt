@@ -1,15 +1,13 @@
 -- What a call enters, and the heap that is left (ISO/IEC 30170:2012, 11.3 and 13.3).
-use Rattle.std.specs.Prelude.{◌≡◌, ℕ, ◌-◌, List, [], ◌∷◌, length, get_or, slice_get, codes, nat_eq, Bool, true, false, ◌||◌, if◌then◌else◌, Option, Some, None, option_map}
+use Rattle.std.specs.Prelude.{◌≡◌, ℕ, ◌-◌, List, [], ◌∷◌, length, get_or, slice_get, codes, nat_eq, Bool, true, false, if◌then◌else◌, Option, Some, None, option_map}
 use Rattle.rb_value.specs.declared.value.Value.{Value}
-use Rattle.rb_value.specs.declared.value.Value.TheVariants.{Nil, Sym, Obj}
+use Rattle.rb_value.specs.declared.value.Value.TheVariants.{Nil, Sym}
 use Rattle.rb_value.specs.declared.value.ObjId.{ObjId}
 use Rattle.rb_value.specs.declared.value.SymId.{SymId}
 use Rattle.rb_value.specs.declared.kind.Kind.{Kind}
 use Rattle.rb_value.specs.declared.kind.Kind.TheVariants as kind
 use Rattle.rb_value.specs.declared.method.Method.{Method}
 use Rattle.rb_value.specs.declared.method.Method.TheVariants as method
-use Rattle.rb_value.specs.declared.method.Visibility.{Visibility}
-use Rattle.rb_value.specs.declared.method.Visibility.TheVariants.{Public, Private, Protected}
 use Rattle.rb_value.specs.declared.procs.ProcContents.{ProcContents}
 use Rattle.def_core.specs.declared.bound.BindKind.{BindKind}
 use Rattle.def_core.specs.declared.bound.BindKind.TheVariants as bind
@@ -17,10 +15,12 @@ use Rattle.def_core.specs.declared.cause.Cause.{Cause}
 use Rattle.def_core.specs.declared.cause.Cause.TheVariants as cause
 use Rattle.def_core.specs.declared.found.Found.{Found}
 use Rattle.def_core.specs.Changes.{Interned, intern}
-use Rattle.def_core.specs.Classes.{class_of, plain_class_of}
+use Rattle.def_core.specs.Classes as classes
+use Rattle.def_core.specs.Classes.{plain_class_of}
 use Rattle.def_core.specs.Find.{find, allowed}
 use Rattle.def_core.specs.Store.{Store, name_at, object_at}
-use Rattle.def_calls.specs.Calls.{is_mark}
+use Rattle.def_calls.specs.Calls.{is_mark, is_public, forbidden}
+use Rattle.def_calls.specs.Rows.{method_missing_row}
 use Rattle.def_calls.specs.Values as values
 use Rattle.def_calls.specs.Views.{object_in}
 use Rattle.def_calls.specs.World.{World, Answer, fail, with_store}
@@ -238,12 +238,8 @@ EntersFound f name h p e after = EntersMethod f.method f.owner name h p e after
 -- Where nothing is found, or what is found isn't allowed: `method_missing` (13.3.4), and where that is the core method
 -- the exception of the cause.
 
--- the core method `method_missing` of Object has the first row after its class's
-abbrev pub missing_row : ℕ
-missing_row = 1
-
 abbrev pub fails_at_once : Method → Bool
-fails_at_once (method.Core r) = nat_eq r missing_row
+fails_at_once (method.Core r) = nat_eq r method_missing_row
 fails_at_once method.Undefined = true
 fails_at_once (method.Body b classes) = false
 fails_at_once (method.Reader n) = false
@@ -271,11 +267,16 @@ MissesBy None called c name h p e after = Failing c h e after
 MissesBy (Some f) called c name h p e after =
     When (fails_at_once f.method) (Failing c h e after) (EntersNamed called f name h p e after)
 
-abbrev pub found_for : Held → Value → SymId → Option Found
-found_for h recv name = find h.store.objects (class_of h.store.objects (own h.store recv)) name
+-- the class by which the methods of a value are found: one that names nothing of the store counts as nil
+abbrev pub class_of : Store → Value → ObjId
+class_of st v = classes.class_of st.objects (own st v)
+
+-- the method that a call of a name finds for a receiver
+abbrev pub found_for : Store → Value → SymId → Option Found
+found_for st recv name = find st.objects (class_of st recv) name
 
 abbrev pub MissesNamed : Interned → Cause → SymId → Held → Sent → Entry → Held → Type 0
-MissesNamed i c name h p e after = MissesBy (found_for (record h { store = i.store }) p.receiver i.symbol) i.symbol c
+MissesNamed i c name h p e after = MissesBy (found_for i.store p.receiver i.symbol) i.symbol c
     name (record h { store = i.store }) p e after
 
 abbrev pub Misses : Cause → SymId → Held → Sent → Entry → Held → Type 0
@@ -299,12 +300,7 @@ unknown ByBareName text name class =
 abbrev pub unknown_in : Held → Naming → SymId → Value → Cause
 unknown_in h naming name recv = unknown naming (text_of h name) name (plain_class h recv)
 
--- why a method that is found isn't allowed (13.3.5)
-abbrev pub forbidden : Visibility → SymId → ObjId → Cause
-forbidden Public name class = cause.UndefinedMethod name class
-forbidden Private name class = cause.PrivateMethod name class
-forbidden Protected name class = cause.ProtectedMethod name class
-
+-- what is found isn't allowed (13.3.5)
 abbrev pub Forbids : Found → SymId → Held → Sent → Entry → Held → Type 0
 Forbids f name h p e after = Misses (forbidden f.visibility name (plain_class h p.receiver)) name h p e after
 
@@ -320,11 +316,6 @@ EntersBy (Some f) caller naming name h p e after = EntersAllowed f caller name h
 
 -- by a core method: it isn't checked, or has to be public
 
-abbrev pub is_public : Visibility → Bool
-is_public Public = true
-is_public Private = false
-is_public Protected = false
-
 abbrev pub EntersUnchecked : Option Found → Bool → SymId → Held → Sent → Entry → Held → Type 0
 EntersUnchecked None public name h p e after = Misses (unknown_in h ByName name p.receiver) name h p e after
 EntersUnchecked (Some f) false name h p e after = EntersFound f name h p e after
@@ -337,7 +328,7 @@ abbrev pub above_in : Held → Value → Option ObjId → Option SymId → Optio
 above_in h self None name = None
 above_in h self (Some owner) None = None
 above_in h self (Some owner) (Some name) =
-    finding.find_super h.store (class_of h.store.objects (own h.store self)) owner name
+    finding.find_super h.store (class_of h.store self) owner name
 
 abbrev pub above : Held → Activation → Option Found
 above h a = above_in h a.receiver a.owner a.name

@@ -1,5 +1,6 @@
 //! What a call by a name enters.
 ghost use Rattle.std.specs.Prelude.{◌≡◌, IfOk, not};
+ghost use Rattle.def_calls.specs.Calls as calls;
 ghost use Rattle.run_calls.specs.Entering as entering;
 
 use crate::activation::Activation;
@@ -40,7 +41,7 @@ fn undefined(heap: &Heap, naming: Naming, name: SymId, receiver: Value) -> Cause
 
 /// Why a method that is found isn't allowed.
 fn forbidden(heap: &Heap, visibility: Visibility, name: SymId, receiver: Value) -> Cause
-    ensures { result ≡ entering.forbidden visibility name (entering.plain_class heap.now receiver) }
+    ensures { result ≡ calls.forbidden visibility name (entering.plain_class heap.now receiver) }
 {
     let class = heap.plain_class_of(receiver);
     match visibility {

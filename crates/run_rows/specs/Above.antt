@@ -7,6 +7,7 @@ pub use Rattle.row_table.specs.declared.line.CoreRow.TheVariants as core
 pub use Rattle.row_table.specs.declared.string.StringMethod.TheVariants as text
 pub use Rattle.rows_array.specs.declared.rows.ArrayRow.TheVariants as array
 pub use Rattle.rows_hash.specs.declared.rows.HashRow.TheVariants as hash
+pub use Rattle.rows_items.specs.Keyed as keyed
 pub use Rattle.straight_rows.specs.Straight as table
 pub use Rattle.run_rows.specs.Given as given
 pub use Rattle.run_rows.specs.Numbered.{row_at}

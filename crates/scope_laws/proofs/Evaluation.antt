@@ -139,9 +139,16 @@ module _ (s : Source) (P : List (Option ℕ)) where
       → To (forms.perform_call s k recv args b ks m)
   called k recv args b ks m h = entry_to _ b ks m h
 
+  asked_still : (k : Sending) (m : Memory) → Still m → Still (forms.asked k m)
+  asked_still (by_name x) m h = h
+  asked_still (by_bare_name x) m h = h
+  asked_still to_proc m h = h
+  asked_still to_super m h = h
+
   arguments_to : (n : ℕ) (k : Sending) (recv : Value) (args : List Value) (b : Maybe) (ks : List Item) (m : Memory)
       → Still m → To (forms.with_arguments s n k recv args b ks m)
-  arguments_to n k recv args absent ks m h = called k recv args (forms.own_block k m) ks m h
+  arguments_to n k recv args absent ks m h =
+      called k recv args (forms.own_block k m) ks (forms.asked k m) (asked_still k m h)
   arguments_to n k recv args (there e) ks m h = inl h
 
   packed_still : (m : Memory) (args : List Value) → Still m → Still (forms.packed m args)
@@ -369,10 +376,7 @@ module _ (s : Source) (P : List (Option ℕ)) where
       → To (giving.next_clause n e cs r ks m)
   unfolding giving.next_clause
   clauses_to n e no_clauses r ks m h = inl h
-  clauses_to n e (clause none t b cs) r ks m h =
-      let i = n + span_maybe t + span b in
-      taken_if (giving.is_standard m e) (giving.is_standard m e).result n e none t b r ks m
-      (giving.next_clause i e cs r ks m) h (clauses_to i e cs r ks m h)
+  clauses_to n e (clause none t b cs) r ks m h = inl h
   clauses_to n e (clause (more c es) t b cs) r ks m h = inl h
 
   class_next : (n : ℕ) (e : ObjId) (es : Forms) (t : Maybe) (b : CoreForm) (cs : Clauses) (r : Rescue)

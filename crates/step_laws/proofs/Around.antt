@@ -1,10 +1,10 @@
 -- A body sees the same slots around its own by whatever is shown of it.
-use Rattle.std.proofs.Common.{◌≡◌, ◌⊎◌, ◌<◌, ℕ, [], ◌∷◌, refl, sym, ap, ◌∙◌, subst, arith, ⊎_elim}
+use Rattle.std.proofs.Common.{◌≡◌, ◌<◌, ℕ, [], ◌∷◌, refl, sym, ap, ◌∙◌, subst, arith, ⊎_elim}
 use Rattle.std.specs.Prelude.{Option, unwrap_or}
 use Rattle.std.proofs.lemmas.Bool.{cases_lt}
 use Rattle.scope_resolver.specs.Layout.{Scopes}
 use Rattle.def_eval.specs.Source.{Source, body_at}
-use Rattle.eval_laws.specs.Kinds.{Kind, of_program, of_block, of_method, IsKind}
+use Rattle.eval_laws.specs.Kinds.{Kind, of_program, of_block, of_method, of_class, IsKind}
 use Rattle.step_laws.specs.Around.{slots_for, Innermost, Around, alone, inside}
 
 -- a number has one kind
@@ -53,3 +53,10 @@ program_no_block e = absurd (cc e)
 
 pub program_alone : (s : Source) (n : ℕ) → IsKind s n of_program → Around s n []
 program_alone s n is = alone of_program is program_no_block refl
+
+-- and that of a class or a module
+class_no_block : of_class ≡ of_block → ⊥
+class_no_block e = absurd (cc e)
+
+pub class_alone : (s : Source) (n : ℕ) → IsKind s n of_class → Around s n []
+class_alone s n is = alone of_class is class_no_block refl

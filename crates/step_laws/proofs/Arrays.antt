@@ -30,10 +30,9 @@ use Rattle.def_machine.specs.State.{Level, frame, State, slot_at, value_at}
 use Rattle.def_machine.specs.Turn.{act, on_object}
 use Rattle.step_laws.specs.Calm.{Grows, Quiet}
 use Rattle.step_laws.specs.Site.{Site, within, place_in, at_line, Room}
-use Rattle.step_laws.specs.Covered.{Covered, CoveredElements}
-use Rattle.step_laws.proofs.Covers.{at_top}
+use Rattle.step_laws.specs.Covers.{Covers, CoversElements}
 use Rattle.step_laws.proofs.Placed.{high, high-both, high-puts, high-nothing, line-past, Stands, moved, left, right, the_line, Rest, frame_at, turned}
-use Rattle.step_laws.specs.Behind.{Static, push}
+use Rattle.step_laws.specs.Behind.{Static, push, ElementBehind, in_literal}
 use Rattle.step_laws.specs.Relation.{Ground, InFrame, Common, Doing, GivesIn, Related, Step}
 use Rattle.step_laws.proofs.Matching.{by_one, in_loop, going, state_at, written, stays}
 use Rattle.step_laws.proofs.Literals.{aligned}
@@ -42,7 +41,8 @@ use Rattle.step_laws.proofs.Gathered.{kept}
 -- an item of the literal is about to be done
 item_on : (g : Ground) (h : Site) (j : ℕ) (id : ObjId) (spread : Bool) (e : CoreForm) (is : Items) (ks : List Item)
     (m : source.Memory) (k : machine.Memory) (x : Rest) (n low end : ℕ) (loop : Option Loop) (s : Spot)
-    → Common g h m k → m.place ≡ place_in h → Room h low → Covered h (low + 1) e → CoveredElements h (low + 1) is
+    → Common g h m k → m.place ≡ place_in h → Room h low → Covers h loop (low + 1) s j e
+    → CoversElements h loop low (past s (gen (within h loop) s (low + 1) e ⊕ does (push spread low))) (j + span e) is
     → s.line ≡ n
     → Stands h n ((gen (within h loop) s (low + 1) e ⊕ does (push spread low))
     ⊕ gather (within h loop) (past s (gen (within h loop) s (low + 1) e ⊕ does (push spread low))) low is)
@@ -69,7 +69,7 @@ item_on g h j id spread e is ks m k x n low end loop s both there room covered o
         loop = loop;
         s = s;
         here = here;
-        covered = at_top h loop (low + 1) s j e covered;
+        covered = covered;
         above = omega (arith, room.above);
         code = left h n p (does o) first;
         next = record {
@@ -77,7 +77,7 @@ item_on g h j id spread e is ks m k x n low end loop s both there room covered o
           end = end;
           above = room.above;
           below = omega arith;
-          behind = record {
+          behind = in_literal (record {
             at = refl;
             gathers = refl;
             held = held;
@@ -88,7 +88,7 @@ item_on g h j id spread e is ks m k x n low end loop s both there room covered o
             pushes = the_line h (n + high p) (line.Does o) (right h n p (does o) first);
             code = moved h (n + high one) (n + high p + 1) q (omega (arith, tall)) (right h n one q code);
             ends = omega (arith, ends, tall, high-both one q);
-          };
+          });
           outer = loop;
           inner = refl;
           next = next;
@@ -99,7 +99,7 @@ item_on g h j id spread e is ks m k x n low end loop s both there room covered o
 -- The next element is about to be done, or the Array is given.
 on_with : (g : Ground) (h : Site) (j : ℕ) (id : ObjId) (is : Items) (ks : List Item) (m : source.Memory) (k : machine.Memory)
     (x : Rest) (n low end : ℕ) (loop : Option Loop) (s : Spot) → Common g h m k → m.place ≡ place_in h → Room h low
-    → CoveredElements h (low + 1) is → s.line ≡ n → Stands h n (gather (within h loop) s low is)
+    → CoversElements h loop low s j is → s.line ≡ n → Stands h n (gather (within h loop) s low is)
     → n + high (gather (within h loop) s low is) ≡ end → slot_at k.lists h.list low ≡ V (Obj id)
     → InFrame g h k.lists ks end low loop → Related h (next_element h.source j new_array id is ks m) (state_at g h x n k)
 on_with g h j id no_items ks m k x n low end loop s both there room covered here code ends held next =
@@ -169,7 +169,7 @@ module _ (g : Ground) (h : Site) (static : Static h) (j : ℕ) (ks : List Item) 
       (moved h (d.n + high p) (d.n + 1) q (omega (arith, tall)) (right h d.n p q d.code))
       (omega (arith, tall, high-both p q)) t.held t.next)
 
-  element_of : (spread : Bool) (v : Value) (id : ObjId) (about : an_array m.world.store.objects (Obj id) ≡ Some id)
+  pub element_of : (spread : Bool) (v : Value) (id : ObjId) (about : an_array m.world.store.objects (Obj id) ≡ Some id)
       (low : ℕ) (held : slot_at k.lists h.list low ≡ V (Obj id)) (stands : slot_at k.lists h.list (low + 1) ≡ V v)
       (x : Rest) (n : ℕ)
       → with_element m id spread v ≡ source.with_world m (more g h x n low (aligned k m) id v held stands about spread)
@@ -178,12 +178,12 @@ module _ (g : Ground) (h : Site) (static : Static h) (j : ℕ) (ks : List Item) 
 
   pub give_element : (v : Value) (i : ℕ) (q : Gathering) (id : ObjId) (spread : Bool) (is : Items)
       (d : GivesIn g h v (part (elements i q id spread is) ∷ ks) m.place ls k.lists)
+      → ElementBehind h k.lists i q id spread is d.next.low d.n d.r d.next.end d.loop
       → an_array m.world.store.objects (Obj id) ≡ Some id
       → Quiet m (go h.source (Run (give v) (part (elements i q id spread is) ∷ ks) m))
       → Step h (Run (give v) (part (elements i q id spread is) ∷ ks) m) (state_at g h d.x d.n (aligned k m))
   unfolding do_give give_part
-  give_element v i q id spread is d about quiet =
-      let b = d.next.behind in
+  give_element v i q id spread is d b about quiet =
       let low = d.next.low in
       let c = Run (give v) (part (elements i q id spread is) ∷ ks) m in
       let stands : slot_at k.lists h.list (low + 1) ≡ V v =

@@ -8,12 +8,13 @@ use Rattle.rb_value.specs.declared.value.ObjId.{ObjId}
 use Rattle.rb_value.specs.declared.exit.Slot.{Slot}
 use Rattle.rb_value.specs.declared.exit.Slot.TheVariants.{V}
 use Rattle.rb_value.specs.Slot.{read}
-use Rattle.ir_core.specs.CoreForm.{Name, Local, named, hidden, pattern, rest, Parameters, Body, body}
+use Rattle.ir_core.specs.CoreForm.{Local, hidden, Parameters, Body, body}
 use Rattle.scope_resolver.specs.declared.body_kind.BodyKind.TheVariants as kind
 use Rattle.scope_resolver.specs.declared.place.Place.{Place}
 use Rattle.scope_resolver.specs.declared.seek.Search.{Search}
 use Rattle.scope_resolver.specs.declared.seek.Search.TheVariants.{Found, Past}
 use Rattle.scope_resolver.specs.Layout.{Slots, Scopes, named_slots, block_slot, parameter_slots, slots_of, seek, place_at, place_from, place_or_self, place_of}
+use Rattle.code_laws.specs.Bound.{IsSeen}
 use Rattle.def_eval.specs.Source.{parameters_of, locals_of}
 use Rattle.def_eval.specs.Configuration.{Scope, all_nil}
 use Rattle.def_eval.specs.Scopes.{same_local, no_scope, value_in, all_of, with_values, block_value, first_variables, scope_at}
@@ -24,6 +25,7 @@ use Rattle.step_laws.specs.Bodies.{body_of, BodyAt}
 use Rattle.step_laws.specs.Around.{is_found, first_slots as own_of}
 use Rattle.step_laws.specs.Relation.{Mirrors, Same}
 use Rattle.step_laws.proofs.Apart.{further_out}
+use Rattle.step_laws.proofs.Seen.{Sort, seen, unseen, sort, seen_place}
 use Rattle.step_laws.proofs.Parameters.{Lined, Sought, at, nowhere, sought, lined_values, lined_nils, lined_block, set_row, length_row, row_below, row_at, row_past}
 
 named_all : (p : Parameters)
@@ -79,7 +81,7 @@ lined_nothing (body p ls fm) one_block =
     (lined_block p.block Nil (named_slots ls) (all_nil ls) (1 + length (all_of p)) (λ i. Nil) one_block refl
     (lined_nils ls (1 + length (all_of p) + 1) (λ i. Nil) (λ i le. refl)))))
 
-nil_at : (n i : ℕ) → get_or (replicate n (V Nil)) i (V Nil) ≡ V Nil
+pub nil_at : (n i : ℕ) → get_or (replicate n (V Nil)) i (V Nil) ≡ V Nil
 nil_at zero i = refl
 nil_at (suc n) zero = refl
 nil_at (suc n) (suc i) = nil_at n i
@@ -106,38 +108,35 @@ abbrev own_slots : Site → Slots
 own_slots d = slots_of kind.Method (body_of d)
 
 found_slot : (d : Site) (m : BodyAt d) (f : ℕ → Value) (vs : List (Local × Value))
-    → Lined (own_slots d) 1 f vs → (x : Name) → Known d (named x)
-    → value_in vs (named x) ≡ Some (f (register d (named x)))
-found_slot d m f vs l x k = by (sought (named x) (own_slots d) 1 f vs l)
+    → Lined (own_slots d) 1 f vs → (x : Local) → IsSeen x → Known d x → value_in vs x ≡ Some (f (register d x))
+found_slot d m f vs l x is k = by (sought x (own_slots d) 1 f vs l)
   where
-    placed : (r : Search) → seek (named x) (own_slots d) (Past 1) ≡ r
-        → place_of d.context.scopes (named x) ≡ place_or_self (place_at r 0 (place_from (named x) m.around 1))
+    placed : (r : Search) → seek x (own_slots d) (Past 1) ≡ r
+        → place_of d.context.scopes x ≡ place_or_self (place_at r 0 (place_from x m.around 1))
     placed r e =
-        ap (λ (cs : Scopes). place_of cs (named x)) m.scopes
-        ∙ ap (λ (q : Search). place_or_self (place_at q 0 (place_from (named x) m.around 1))) e
+        ap (λ (cs : Scopes). place_of cs x) m.scopes ∙ seen_place (own_slots d ∷ m.around) x is
+        ∙ ap (λ (q : Search). place_or_self (place_at q 0 (place_from x m.around 1))) e
 
-    by : Sought (named x) 1 f vs (seek (named x) (own_slots d) (Past 1))
-        → value_in vs (named x) ≡ Some (f (register d (named x)))
+    by : Sought x 1 f vs (seek x (own_slots d) (Past 1)) → value_in vs x ≡ Some (f (register d x))
     by (at i le e v) =
         v ∙ ap (λ (j : ℕ). Some (f j)) (sym (ap (λ (q : Place). q.register) (placed (Found i) e)))
     by (nowhere i le e v) =
         let level = sym (ap (λ (q : Place). q.levels) (placed (Past i) e)) ∙ k.level in
-        let none = ap (λ (q : Place). q.register) (placed (Past i) e)
-        ∙ further_out (named x) m.around 1 (omega arith) level in
+        let none = ap (λ (q : Place). q.register) (placed (Past i) e) ∙ further_out x m.around 1 (omega arith) level in
         absurd (omega (arith, k.behind_self, none))
 
 -- variables that are lined up with the slots are those that the body has slots of
-pub mirrored_by : (x : Name) (f : ℕ → Value) (vs : List (Local × Value)) (q : Search) → Sought (named x) 1 f vs q
-    → is_some (value_in vs (named x)) ≡ is_found q
+pub mirrored_by : (x : Local) (f : ℕ → Value) (vs : List (Local × Value)) (q : Search) → Sought x 1 f vs q
+    → is_some (value_in vs x) ≡ is_found q
 mirrored_by x f vs q (at i le e v) = ap is_some v ∙ sym (ap is_found e)
 mirrored_by x f vs q (nowhere i le e v) = ap is_some v ∙ sym (ap is_found e)
 
 pub lined_mirrors : (d : Site) (m : BodyAt d) (f : ℕ → Value) (vs : List (Local × Value)) → Lined (own_slots d) 1 f vs
     → (c : Scope) → c.variables ≡ vs → Mirrors d c
-lined_mirrors d m f vs l c e x =
-    ap (λ (us : List (Local × Value)). is_some (value_in us (named x))) e
-    ∙ mirrored_by x f vs (seek (named x) (own_slots d) (Past 1)) (sought (named x) (own_slots d) 1 f vs l)
-    ∙ sym (ap (λ (z : Scopes). is_found (seek (named x) (own_of z) (Past 1))) m.scopes)
+lined_mirrors d m f vs l c e x is =
+    ap (λ (us : List (Local × Value)). is_some (value_in us x)) e
+    ∙ mirrored_by x f vs (seek x (own_slots d) (Past 1)) (sought x (own_slots d) 1 f vs l)
+    ∙ sym (ap (λ (z : Scopes). is_found (seek x (own_of z) (Past 1))) m.scopes)
 
 module _ (d : Site) (m : BodyAt d) (args : List Value) (blk : Option ObjId)
     (right : length args ≡ length (all_of (parameters_of (body_of d)))) where
@@ -184,13 +183,11 @@ module _ (d : Site) (m : BodyAt d) (args : List Value) (blk : Option ObjId)
       (first_variables (parameters_of (body_of d)) (locals_of (body_of d)) args blk)
   lined = lined_variables (body_of d) args blk value m.single.one_block right argument the_block others
 
-  -- what a local reads as, and its register
-  alike : (x : Local) → Known d x
-      → unwrap_or (value_in (first_variables (parameters_of (body_of d)) (locals_of (body_of d)) args blk) x) Nil
-      ≡ value (register d x)
-  alike (named x) k = ap (λ (o : Option Value). unwrap_or o Nil) (found_slot d m value
-      (first_variables (parameters_of (body_of d)) (locals_of (body_of d)) args blk) lined x k)
-  alike (hidden h) k = by (sought (hidden h) (slots_of kind.Method (body_of d)) 1 value
+  -- what a hidden local reads as, and its register
+  hidden_alike : (h : ℕ)
+      → unwrap_or (value_in (first_variables (parameters_of (body_of d)) (locals_of (body_of d)) args blk) (hidden h)) Nil
+      ≡ value (register d (hidden h))
+  hidden_alike h = by (sought (hidden h) (slots_of kind.Method (body_of d)) 1 value
       (first_variables (parameters_of (body_of d)) (locals_of (body_of d)) args blk) lined)
     where
       placed : register d (hidden h) ≡ 1 + length (slots_of kind.Method (body_of d)) + h
@@ -204,8 +201,23 @@ module _ (d : Site) (m : BodyAt d) (args : List Value) (blk : Option ObjId)
       by (nowhere i le e v) =
           ap (λ (o : Option Value). unwrap_or o Nil) v
           ∙ sym (others (register d (hidden h)) (omega (arith, placed, right, slots_enough (body_of d))))
-  alike (pattern q) k = absurd k.scoped
-  alike rest k = absurd k.scoped
+
+  -- and any local of the body
+  alike : (x : Local) → Known d x
+      → unwrap_or (value_in (first_variables (parameters_of (body_of d)) (locals_of (body_of d)) args blk) x) Nil
+      ≡ value (register d x)
+  alike x k = by (sort x)
+    where
+      by : Sort x
+          → unwrap_or (value_in (first_variables (parameters_of (body_of d)) (locals_of (body_of d)) args blk) x) Nil
+          ≡ value (register d x)
+      by (seen is) = ap (λ (o : Option Value). unwrap_or o Nil) (found_slot d m value
+          (first_variables (parameters_of (body_of d)) (locals_of (body_of d)) args blk) lined x is k)
+      by (unseen h e) =
+          ap (λ (z : Local).
+          unwrap_or (value_in (first_variables (parameters_of (body_of d)) (locals_of (body_of d)) args blk) z) Nil) e
+          ∙ hidden_alike h
+          ∙ sym (ap (λ (z : Local). value (register d z)) e)
 
   mirrored : (c : Scope)
       → c.variables ≡ first_variables (parameters_of (body_of d)) (locals_of (body_of d)) args blk → Mirrors d c
@@ -262,7 +274,7 @@ nil_values (y ∷ ys) x o e = by (nil_values ys x o e) (same_local x y)
     by further true = refl
     by further false = further
 
-all_nils : (xs : List Local) (x : Local) → unwrap_or (value_in (all_nil xs) x) Nil ≡ Nil
+pub all_nils : (xs : List Local) (x : Local) → unwrap_or (value_in (all_nil xs) x) Nil ≡ Nil
 all_nils [] x = refl
 all_nils (y ∷ ys) x = by (all_nils ys x) (same_local x y)
   where

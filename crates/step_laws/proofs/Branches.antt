@@ -25,12 +25,13 @@ use Rattle.def_machine.specs.State as machine
 use Rattle.def_machine.specs.State.{Level, frame, On, slot_at}
 use Rattle.def_machine.specs.Turn.{turn, target, act_at}
 use Rattle.step_laws.specs.Site.{Site, within, place_in, at_line, LineAt}
-use Rattle.step_laws.specs.Covered.{Covered, CoveredBranches}
+use Rattle.eval_laws.specs.Standing.{past_branches}
+use Rattle.step_laws.specs.Covers.{past_choices, Covers, CoversBranches}
 use Rattle.step_laws.specs.Measure.{measure}
-use Rattle.step_laws.proofs.Covers.{at_top}
 use Rattle.step_laws.proofs.Placed.{high, high-both, high-puts, line-past, line-behind, Stands, moved, left, right, the_line, Rest, frame_at, leads, jumped}
 use Rattle.step_laws.specs.Behind.{Static, after_test}
 use Rattle.step_laws.specs.Relation.{Ground, InFrame, Common, Doing, GivesIn, Related, Step}
+use Rattle.step_laws.proofs.Focused.{doing_in}
 use Rattle.step_laws.proofs.Matching.{by_none, by_one, in_loop, going, state_at, stays}
 use Rattle.step_laws.proofs.Literals.{aligned}
 
@@ -79,15 +80,18 @@ jumped_if g h x n r to k v b l stands e =
     }) ∷ g.below) k) (ap (λ (u : Slot). is_true (read u)) stands ∙ e)
     ∙ place_unless g h x n to k b
 
+-- where the code behind a branch begins
+abbrev after_body : Context → Spot → ℕ → CoreForm → Spot
+after_body c s r b = behind (past (behind s) (gen c (behind s) r b))
+
 -- What stands behind a test.
 pub record Tested (h : Site) (n r end : ℕ) (c : Context) (s : Spot) (b : CoreForm) (bs : Branches) (o : CoreForm)
     : Type 0 where
-  pub further : Spot
-  pub skip : LineAt h n (line.JumpNot r further.line)
+  pub skip : LineAt h n (line.JumpNot r (after_body c s r b).line)
   pub body : Stands h (n + 1) (gen c (behind s) r b)
   pub leave : LineAt h (n + 1 + high (gen c (behind s) r b)) (line.Jump end)
-  pub others : Stands h further.line (chosen_code c further r bs (λ d t i. gen d t i o))
-  pub ends : further.line + high (chosen_code c further r bs (λ d t i. gen d t i o)) ≡ end
+  pub others : Stands h (after_body c s r b).line (chosen_code c (after_body c s r b) r bs (λ d t i. gen d t i o))
+  pub ends : (after_body c s r b).line + high (chosen_code c (after_body c s r b) r bs (λ d t i. gen d t i o)) ≡ end
 
 tested : (h : Site) (n r end : ℕ) (c : Context) (s : Spot) (b : CoreForm) (bs : Branches) (o : CoreForm)
     → s.line ≡ n → Stands h n (after_test c s r b bs o) → n + high (after_test c s r b bs o) ≡ end
@@ -117,7 +121,6 @@ tested h n r end c s b bs o here code ends =
       further_line,
     ) in
     record {
-      further = further;
       skip = the_line h n (line.JumpNot r further.line) (left h n skip (q ⊕ leap ⊕ others) code);
       body = left h (n + 1) q (leap ⊕ others) later;
       leave = subst (λ (i : ℕ). LineAt h (n + 1 + high q) (line.Jump i)) (line-past further others ∙ ends')
@@ -154,29 +157,31 @@ module _ (g : Ground) (h : Site) (static : Static h) (ks : List Item) (m : sourc
     (k : machine.Memory) (both : Common g h m (aligned k m)) where
   -- the branches that are left, at line n
   branches : (x : Rest) (n r : ℕ) (loop : Option Loop) (s : Spot) (j : ℕ) (bs : Branches) (o : CoreForm)
-      → m.place ≡ place_in h → s.line ≡ n → CoveredBranches h r bs × Covered h r o → h.first ≤ r
+      → m.place ≡ place_in h → s.line ≡ n → CoversBranches h loop r s j bs × Covers h loop r (past_choices h loop r s bs) (past_branches j bs) o
+      → h.first ≤ r
       → Stands h n (chosen_code (within h loop) s r bs (λ d t i. gen d t i o))
       → InFrame g h k.lists ks (n + high (chosen_code (within h loop) s r bs (λ d t i. gen d t i o))) r loop
       → Related h (next_branch j bs o ks m) (state_at g h x n (aligned k m))
-  branches x n r loop s j no_branches o there here covered above code next = (
-    g,
-    h,
-    both,
-    record {
-      x = x;
-      n = n;
-      r = r;
-      is = refl;
-      there = there;
-      loop = loop;
-      s = s;
-      here = here;
-      covered = at_top h loop r s j o covered.1;
-      above = above;
-      code = code;
-      next = next;
-    },
-  )
+  branches x n r loop s j no_branches o there here covered above code next =
+      doing_in h.source h.program j o ks m (frame (frame_at h x n) ∷ g.below) (aligned k m) (
+        g,
+        h,
+        both,
+        record {
+          x = x;
+          n = n;
+          r = r;
+          is = refl;
+          there = there;
+          loop = loop;
+          s = s;
+          here = here;
+          covered = covered.1;
+          above = above;
+          code = code;
+          next = next;
+        },
+      )
   branches x n r loop s j (branch t b bs) o there here covered above code next =
       let p = gen (within h loop) s r t in
       let q = after_test (within h loop) (past s p) r b bs o in (
@@ -192,7 +197,7 @@ module _ (g : Ground) (h : Site) (static : Static h) (ks : List Item) (m : sourc
           loop = loop;
           s = s;
           here = here;
-          covered = at_top h loop r s j t covered.0.0;
+          covered = covered.0.0;
           above = above;
           code = left h n p q code;
           next = record {
@@ -239,7 +244,7 @@ module _ (g : Ground) (h : Site) (static : Static h) (ks : List Item) (m : sourc
       let stands = subst (λ (i : ℕ). slot_at k.lists h.list i ≡ V v) (sym d.next.behind.at) d.stands in
       by_one h c (state_at g h d.x d.n (aligned k m)) (state_at g h d.x (d.n + 1) (aligned k m))
       (going (give v) (part (test j b bs o) ∷ ks) m (frame (frame_at h d.x d.n) ∷ g.below) (aligned k m) refl)
-      (jumped_not g h d.x d.n d.next.low y.further.line (aligned k m) v true y.skip stands e)
+      (jumped_not g h d.x d.n d.next.low (after_body (within h d.loop) d.next.behind.s d.next.low b).line (aligned k m) v true y.skip stands e)
       (subst (λ (u : Bool). Related h (choose u j b bs o ks m) (state_at g h d.x (d.n + 1) (aligned k m))) (sym e) (
         g,
         h,
@@ -253,7 +258,7 @@ module _ (g : Ground) (h : Site) (static : Static h) (ks : List Item) (m : sourc
           loop = d.loop;
           s = behind d.next.behind.s;
           here = omega (arith, line-behind d.next.behind.s, d.next.behind.here);
-          covered = at_top h d.loop d.next.low (behind d.next.behind.s) j b d.next.behind.covered.0;
+          covered = d.next.behind.covered.0;
           above = d.next.above;
           code = y.body;
           next = record {
@@ -270,12 +275,13 @@ module _ (g : Ground) (h : Site) (static : Static h) (ks : List Item) (m : sourc
       ))
   chosen_by v j b bs o d y false e =
       let c = Run (give v) (part (test j b bs o) ∷ ks) m in
+      let further = after_body (within h d.loop) d.next.behind.s d.next.low b in
       let stands = subst (λ (i : ℕ). slot_at k.lists h.list i ≡ V v) (sym d.next.behind.at) d.stands in
-      by_one h c (state_at g h d.x d.n (aligned k m)) (state_at g h d.x y.further.line (aligned k m))
+      by_one h c (state_at g h d.x d.n (aligned k m)) (state_at g h d.x further.line (aligned k m))
       (going (give v) (part (test j b bs o) ∷ ks) m (frame (frame_at h d.x d.n) ∷ g.below) (aligned k m) refl)
-      (jumped_not g h d.x d.n d.next.low y.further.line (aligned k m) v false y.skip stands e)
-      (subst (λ (u : Bool). Related h (choose u j b bs o ks m) (state_at g h d.x y.further.line (aligned k m))) (sym e)
-      (branches d.x y.further.line d.next.low d.loop y.further (j + span b) bs o d.there refl
+      (jumped_not g h d.x d.n d.next.low further.line (aligned k m) v false y.skip stands e)
+      (subst (λ (u : Bool). Related h (choose u j b bs o ks m) (state_at g h d.x further.line (aligned k m))) (sym e)
+      (branches d.x further.line d.next.low d.loop further (j + span b) bs o d.there refl
       (d.next.behind.covered.1, d.next.behind.covered.2) d.next.above y.others
       (subst (λ (i : ℕ). InFrame g h k.lists ks i d.next.low d.loop) (sym y.ends)
       (in_loop g h k.lists ks d.next.end d.next.low d.loop d.next.outer d.next.inner d.next.next))))
@@ -320,7 +326,7 @@ module _ (g : Ground) (h : Site) (static : Static h) (ks : List Item) (m : sourc
           loop = d.loop;
           s = d.s;
           here = d.here;
-          covered = at_top h d.loop d.r d.s j a d.covered.0;
+          covered = d.covered.0;
           above = d.above;
           code = left h d.n p q d.code;
           next = record {
@@ -362,7 +368,7 @@ module _ (g : Ground) (h : Site) (static : Static h) (ks : List Item) (m : sourc
           loop = d.loop;
           s = d.s;
           here = d.here;
-          covered = at_top h d.loop d.r d.s j a d.covered.0;
+          covered = d.covered.0;
           above = d.above;
           code = left h d.n p q d.code;
           next = record {
@@ -387,28 +393,29 @@ module _ (g : Ground) (h : Site) (static : Static h) (ks : List Item) (m : sourc
 
   -- the second operand is done, or the value of the first is that of the whole
   second : (x : Rest) (v : Value) (n r end : ℕ) (loop : Option Loop) (s : Spot) (j : ℕ) (e : CoreForm) (l : ℕ → Line)
-      → m.place ≡ place_in h → s.line ≡ n → Covered h r e → h.first ≤ r
+      → m.place ≡ place_in h → s.line ≡ n → Covers h loop r (behind s) j e → h.first ≤ r
       → Guarded h n r end (within h loop) s e l → InFrame g h k.lists ks end r loop
       → Related h (Run (perform j e) ks m) (state_at g h x (n + 1) (aligned k m))
-  second x v n r end loop s j e l there here covered above q next = (
-    g,
-    h,
-    both,
-    record {
-      x = x;
-      n = n + 1;
-      r = r;
-      is = refl;
-      there = there;
-      loop = loop;
-      s = behind s;
-      here = omega (arith, line-behind s, here);
-      covered = at_top h loop r (behind s) j e covered;
-      above = above;
-      code = q.code;
-      next = subst (λ (i : ℕ). InFrame g h k.lists ks i r loop) (sym q.ends) next;
-    },
-  )
+  second x v n r end loop s j e l there here covered above q next =
+      doing_in h.source h.program j e ks m (frame (frame_at h x (n + 1)) ∷ g.below) (aligned k m) (
+        g,
+        h,
+        both,
+        record {
+          x = x;
+          n = n + 1;
+          r = r;
+          is = refl;
+          there = there;
+          loop = loop;
+          s = behind s;
+          here = omega (arith, line-behind s, here);
+          covered = covered;
+          above = above;
+          code = q.code;
+          next = subst (λ (i : ℕ). InFrame g h k.lists ks i r loop) (sym q.ends) next;
+        },
+      )
 
   and_by : (v : Value) (j : ℕ) (e : CoreForm) (d : GivesIn g h v (part (and_then j e) ∷ ks) m.place ls k.lists)
       → Guarded h d.n d.next.low d.next.end (within h d.loop) d.next.behind.s e (line.JumpNot d.next.low)

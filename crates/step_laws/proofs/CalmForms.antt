@@ -19,7 +19,7 @@ use Rattle.def_eval.specs.Source.{Source, span}
 use Rattle.def_eval.specs.Configuration.{arguments_of, break, Action, assign, leave_call, leave_round, Part, operands, receiver, items, block, elements, hash_key, hash_value, pieces, rest, test, chosen, and_then, or_else, loop_test, loop_body, rescued, clause_class, clause_target, clause_body, ensured, Item, part, perform, give, Memory, with_world, Run}
 use Rattle.def_eval.specs.Scopes.{scope_at, scope_of, variable, with_variable, running}
 use Rattle.def_eval.specs.Entering.{symbol, do_all}
-use Rattle.def_eval.specs.Forms.{has_splat, in_loop, leave_to, leave_from, gather, self_of, perform_call, own_block, with_arguments, next_item, do_call, next_branch, do_loop, next_operand, finish as finish_action, do_form}
+use Rattle.def_eval.specs.Forms.{has_splat, in_loop, leave_to, leave_from, gather, self_of, perform_call, own_block, asked, with_arguments, next_item, do_call, next_branch, do_loop, next_operand, finish as finish_action, do_form}
 use Rattle.def_eval.specs.Giving.{choose, go_right, go_left, turn_loop, give_part}
 use Rattle.step_laws.specs.Site.{number}
 use Rattle.step_laws.specs.Simple.{IsSimple, AreSimple, AreSimpleItems, AreSimpleBranches}
@@ -63,15 +63,15 @@ module _ (s : Source) (ks : List Item) (m : Memory) (kept : Kept s m.world) (all
       sent_fine : (l : Memory) → Kept s l.world → l.world.out ≡ m.world.out
           → l.world.activations ≡ m.world.activations → length l.scopes ≡ length m.scopes
           → ScopesAre l.scopes → l.fibers.resumer ≡ None → ItemsAre s l.world ks l.place → (q : Sending)
-          → Sent s q recv → Fine s m (perform_call s q recv vs (own_block q l) ks l)
+          → Sent s q recv → Fine s m (perform_call s q recv vs (own_block q l) ks (asked q l))
       sent_fine l kept out same scopes all alone under q (operator x e is i) =
-          subst (λ (p : Sending). Fine s m (perform_call s p recv vs (own_block p l) ks l)) (sym e)
+          subst (λ (p : Sending). Fine s m (perform_call s p recv vs (own_block p l) ks (asked p l))) (sym e)
           (entry_fine s IsImmediate m l ks
           (calls.call l.world (activation_at l.world l.place.activation) (by_name (number s x)) recv vs None)
           (operator_entry s l.world (activation_at l.world l.place.activation) x recv vs kept is i) kept out same
           scopes all alone under (λ v j. given_to v ks j))
       sent_fine l kept out same scopes all alone under q (puts e is) =
-          subst (λ (p : Sending). Fine s m (perform_call s p recv vs (own_block p l) ks l)) (sym e)
+          subst (λ (p : Sending). Fine s m (perform_call s p recv vs (own_block p l) ks (asked p l))) (sym e)
           (subst (λ (u : Value). Fine s m (perform_call s (by_name (number s (codes "puts"))) u vs None ks l)) (sym is)
           (entry_fine s IsImmediate m l ks
           (calls.call l.world (activation_at l.world l.place.activation) (by_name (number s (codes "puts")))

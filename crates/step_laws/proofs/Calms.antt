@@ -9,7 +9,7 @@ use Rattle.rb_value.specs.declared.core_class.CoreClass.TheVariants as class
 use Rattle.def_core.specs.Store.{core}
 use Rattle.rite_code.specs.Code.{Program}
 use Rattle.ir_core.specs.CoreForm.{Local}
-use Rattle.def_calls.specs.World.{World, activation_at}
+use Rattle.def_calls.specs.World.{World, Activation, activation_at}
 use Rattle.def_calls.specs.Calls.{close}
 use Rattle.def_calls.specs.Definitions.{space_in}
 use Rattle.def_calls.specs.Fibers.{Onward}
@@ -17,14 +17,16 @@ use Rattle.def_calls.specs.Rows
 use Rattle.def_eval.specs.Source.{Source, body_at, form_of, locals_of}
 use Rattle.def_eval.specs.Configuration.{Exit, Part, operands, receiver, items, block, elements, hash_key, hash_value, pieces, rest, test, chosen, and_then, or_else, loop_test, loop_body, rescued, clause_class, clause_target, clause_body, ensured, Item, part, activation, iteration, ensuring, Kept as KeptFiber, Focus, perform, give, travel, Memory, Config, Run, Halt, all_nil, opening}
 use Rattle.def_eval.specs.Giving.{end_fiber, do_give}
+use Rattle.def_eval.specs.Scopes.{running}
 use Rattle.def_eval.specs.Transition.{go, go_times}
 use Rattle.step_laws.specs.Site.{opening_store}
-use Rattle.step_laws.specs.Calm.{IsAbout, IsWithin, IsAboutNext, Leaves, IsCalm, StaysCalm}
+use Rattle.step_laws.specs.Calm.{IsAbout, IsWithin, HasObject, IsAboutNext, Leaves, IsBlock, BlockFor, IsCalm, StaysCalm}
 use Rattle.step_laws.specs.Simple.{IsSimple}
 use Rattle.step_laws.proofs.Symbols.{steady_name, opening_objects}
 use Rattle.step_laws.proofs.Found.{object_there}
 use Rattle.step_laws.proofs.Outcomes.{Kept}
 use Rattle.step_laws.proofs.Tame.{VariablesAre, ScopesAre, PartIs, ItemsAre, GivenTo, MemoryIs, IsTame, Fine, peaceful, quiet_given, given_to, same_grows, core_closed, main_is, main_closed, IsExit, raised, left, anew}
+use Rattle.step_laws.proofs.Spaced.{opens_none}
 use Rattle.step_laws.proofs.CalmForms.{perform_fine, part_fine}
 use Rattle.step_laws.proofs.CalmPuts.{iteration_fine}
 use Rattle.step_laws.proofs.CalmExits.{no_more, travel_fine, loop_left_fine, round_left_fine}
@@ -86,8 +88,9 @@ about s (ensured j f) objects at = absurd at
 
 about_next : (s : Source) (f : Focus) (ks : List Item) (m : Memory) → MemoryIs s f ks m → IsAboutNext f ks m
 about_next s (perform j e) ks m t =
-    subst (IsWithin m.world) (sym (ap (activation_at m.world) t.focus.1 ∙ main_is s m.world t.kept))
-    (ap (λ (os : List Object). space_in os (Obj (core class.Object))) t.kept.objects ∙ object_there t.kept.more)
+    let there : HasObject m.world =
+    ap (λ (os : List Object). space_in os (Obj (core class.Object))) t.kept.objects ∙ object_there t.kept.more in
+    (subst (IsWithin m.world) (sym (ap (activation_at m.world) t.focus.1 ∙ main_is s m.world t.kept)) there, there)
 about_next s (give v) [] m t = tt
 about_next s (give v) (part p ∷ ks) m t = about s p m.world.store.objects t.items.0
 about_next s (give v) (activation a p ∷ ks) m t = tt
@@ -104,13 +107,30 @@ leaves_core s (travel x) (activation a p ∷ ks) m t = tt
 leaves_core s (travel x) (iteration a it p ∷ ks) m t = core_closed m.world a t.items.1.runs
 leaves_core s (travel x) (ensuring o ∷ ks) m t = tt
 
+-- nothing that runs has a block
+none_passed : (s : Source) (m : Memory) → Kept s m.world → m.place.activation ≡ 1
+    → IsBlock m.world.store.objects (running m).block
+none_passed s m kept e =
+    subst (λ (a : Activation). IsBlock m.world.store.objects a.block)
+    (sym (ap (activation_at m.world) e ∙ main_is s m.world kept)) tt
+
+block_for : (s : Source) (f : Focus) (ks : List Item) (m : Memory) → MemoryIs s f ks m → BlockFor f ks m
+block_for s (perform j e) ks m t = none_passed s m t.kept t.focus.1
+block_for s (give v) [] m t = tt
+block_for s (give v) (part p ∷ ks) m t = none_passed s m t.kept t.items.1
+block_for s (give v) (activation a p ∷ ks) m t = tt
+block_for s (give v) (iteration a it p ∷ ks) m t = tt
+block_for s (give v) (ensuring o ∷ ks) m t = tt
+block_for s (travel x) ks m t = tt
+
 calm_of : (s : Source) (p : Program) (c : Config) → IsTame s c → IsCalm s p c
 calm_of s p (Halt e) t = tt
 calm_of s p (Run f ks m) t = (
   record { names = λ x e. steady_name s m.world.store x t.kept.symbols e },
   about_next s f ks m t,
   leaves_core s f ks m t,
-  peaceful s p f ks m (go_fine s f ks m t),
+  peaceful s p f ks m (block_for s f ks m t) (go_fine s f ks m t),
+  opens_none s f ks m t,
 )
 
 tame_next : (s : Source) (c : Config) → IsTame s c → IsTame s (go s c)

@@ -1,7 +1,7 @@
 -- The code of a program of plain forms, methods of such forms and calls with a block of such forms within the limits is
 -- code of it.
 use Rattle.std.proofs.Common.{◌≡◌, ◌<◌, ◌≤◌, ℕ, zero, suc, ◌+◌, List, [], ◌∷◌, ◌++◌, length, map, arith, refl, sym, ap, ◌∙◌, subst, Bool, true}
-use Rattle.std.specs.Prelude.{◌&&◌, slice_get, Some, None}
+use Rattle.std.specs.Prelude.{slice_get, Some, None}
 use Rattle.std.proofs.lemmas.List.{append-nil}
 use Rattle.std.proofs.lemmas.Option.{get_or_from_slice_get}
 use Rattle.rite_code.specs.Code.{Program, program}
@@ -9,7 +9,7 @@ use Rattle.rite_code.specs.declared.code.Irep.{Irep}
 use Rattle.rite_code.specs.declared.operation.Operation.TheVariants as op
 use Rattle.ir_core.specs.CoreForm as form
 use Rattle.ir_core.specs.CoreForm.{Name, Local, Parameters, CoreForm, Body, form_of}
-use Rattle.ir_core.specs.Program.{IsProgram, is_form, are_forms, has_no_parameters, within_program}
+use Rattle.ir_core.specs.Program.{IsProgram, is_form, has_no_parameters, within_program}
 use Rattle.ir_walk.specs.Walk.{walked}
 use Rattle.ir_walk.specs.Width.{width}
 use Rattle.ir_walk.specs.declared.extent.Extent.TheVariants as extent
@@ -22,7 +22,7 @@ use Rattle.gen_parts.specs.declared.line.Line.TheVariants as line
 use Rattle.gen_parts.specs.declared.line.Catch.{Catch}
 use Rattle.gen_parts.specs.Pieces.{Piece, nothing, both, puts, does, ◌⊕◌}
 use Rattle.gen_parts.specs.Assembly.{places, entry_by, assembled}
-use Rattle.gen_forms.specs.Gen.{Context, gen, others_in_turn, first_spot}
+use Rattle.gen_forms.specs.Gen.{Context, gen, first_spot}
 use Rattle.gen_forms.specs.Open.{coded}
 use Rattle.gen_forms.specs.Making.{coded_program}
 use Rattle.code_laws.proofs.Shares.{Fits, many}
@@ -32,14 +32,14 @@ use Rattle.code_laws.proofs.Binding.{main_knows}
 use Rattle.text_set.specs.Sets.{is_among}
 use Rattle.rb_store.specs.Opening.{with_names}
 use Rattle.def_calls.specs.Rows
-use Rattle.def_eval.specs.Source.{over, in_order, span, span_forms, body_at as source_body, no_parameters, parameters_of, source_of, all_names}
+use Rattle.def_eval.specs.Source.{over, in_order, span, body_at as source_body, no_parameters, parameters_of, source_of, all_names}
 use Rattle.def_eval.specs.Scopes.{shape_of}
 use Rattle.def_machine.specs.State.{body_at, no_body, all_symbols}
 use Rattle.step_laws.specs.Site.{Site, LineAt, Lines, IsThere, opening_store}
 use Rattle.step_laws.specs.Simple.{IsSimple}
 use Rattle.step_laws.specs.Covers.{Covers}
-use Rattle.step_laws.specs.Bodies.{BodyCode, ProcCode}
-use Rattle.step_laws.specs.Tops.{AreTops, IsPlainProgram, no_tops, form_before}
+use Rattle.step_laws.specs.Bodies.{BodyCode, ProcCode, ClassCode}
+use Rattle.step_laws.specs.Plain.{IsPlain, IsPlainProgram}
 use Rattle.step_laws.specs.Implements.{main_site, IsCodeOf, Implements}
 use Rattle.step_laws.proofs.Placed.{high, Stands, left, right, the_line}
 use Rattle.step_laws.proofs.Apart.{apart}
@@ -48,21 +48,26 @@ use Rattle.step_laws.proofs.Plainly.{simple_plain}
 use Rattle.step_laws.proofs.Whole.{implements}
 use Rattle.step_laws.proofs.Steady.{peace_is_calm}
 use Rattle.step_laws.proofs.Alone.{stays_peaceful}
-use Rattle.eval_laws.specs.Kinds.{Kind, IsKind, of_program, of_method, of_block, kinds}
+use Rattle.eval_laws.specs.Kinds.{Kind, IsKind, of_program, of_method, of_block, of_class, kinds}
 use Rattle.step_laws.proofs.Around.{program_alone}
-use Rattle.step_laws.proofs.Nested.{Inside, inside_less, inside_new}
+use Rattle.step_laws.proofs.Nested.{Inside, inside_new}
 use Rattle.eval_laws.proofs.Sources.{program_stands}
 use Rattle.step_laws.proofs.Numbered.{kind_within}
 use Rattle.step_laws.proofs.Found.{both_true}
 use Rattle.step_laws.proofs.Naming.{one_more, names_written, all_known}
-use Rattle.step_laws.proofs.Making.{tops_catchless}
-use Rattle.step_laws.proofs.Written.{Written, WrittenAs, AllWritten, nth_written, of_one, tops_written}
-use Rattle.step_laws.proofs.Topped as topped
+use Rattle.step_laws.proofs.Catchless.{bodies_of}
+use Rattle.step_laws.proofs.Written.{Written, WrittenClass, WrittenAs, AllWritten, nth_written}
+use Rattle.step_laws.proofs.Writing.{written}
+use Rattle.step_laws.proofs.Spans.{counted}
+use Rattle.step_laws.proofs.Children as children
+use Rattle.step_laws.proofs.Children.{Settled}
+use Rattle.step_laws.proofs.Covered.{cover}
 use Rattle.step_laws.proofs.Laid.{first_place}
 use Rattle.step_laws.proofs.Fitting as fitting
 use Rattle.step_laws.proofs.Fitting.{of_main}
 use Rattle.step_laws.proofs.Covering.{Has}
 use Rattle.step_laws.proofs.Coding as coding
+use Rattle.step_laws.proofs.ClassCoding.{CodedClass, class_coded}
 
 fits_main : (p : Parameters) (ls : List Local) (f : CoreForm) → Counted (form.body p ls f)
     → Fits (form.body p ls f)
@@ -114,8 +119,22 @@ block_of s c n (form.body p ls f) is version mine w there = (
   refl,
 )
 
+class_of : (s : List Body) (c : Program) (n : ℕ) (b : Body) → IsKind s n of_class → c.version ≡ 2 → source_body s n ≡ b
+    → WrittenClass s n b (body_at c n) → ((x : Name) → is_among x (tally b).symbols ≡ true → IsThere s x)
+    → CodedClass s c n
+class_of s c n (form.body p ls f) is version mine w there = record {
+  parameters = p;
+  locals = ls;
+  form_of_it = f;
+  version = version;
+  mine = mine;
+  plays = is;
+  written = w;
+  there = there;
+}
+
 module _ (p : Parameters) (ls : List Local) (f : CoreForm) (program_is : IsProgram (form.body p ls f))
-    (limits : first_excess (need (form.body p ls f)) ≡ None) (tops : AreTops (form.more f form.none)) where
+    (limits : first_excess (need (form.body p ls f)) ≡ None) (plain : IsPlain f) where
   abbrev b : Body
   b = form.body p ls f
 
@@ -133,9 +152,6 @@ module _ (p : Parameters) (ls : List Local) (f : CoreForm) (program_is : IsProgr
 
   formed : is_form (within_program ls) f ≡ true
   formed = (both_true (has_no_parameters p) (is_form (within_program ls) f) program_is).1
-
-  all_formed : are_forms (within_program ls) (form.more f form.none) ≡ true
-  all_formed = ap (λ (x : Bool). x && true) formed
 
   few : many f ≤ 65535
   few = omega (arith, within.few)
@@ -171,29 +187,25 @@ module _ (p : Parameters) (ls : List Local) (f : CoreForm) (program_is : IsProgr
 
   no_catches : (body_at code 0).catches ≡ []
   unfolding coded assembled both puts nothing
-  no_catches = ap (λ (cs : List Catch). map (entry_by at) cs) (tops_catchless tops around (first_spot 0) start)
+  no_catches = ap (λ (cs : List Catch). map (entry_by at) (cs ++ [])) (bodies_of f plain around (first_spot 0) start).catches
 
   -- The other bodies.
 
   -- its forms stand in it
-  nested : Inside (source_of b) around.scopes 1 (1 + span_forms (form.more f form.none))
+  nested : Inside (source_of b) around.scopes 1 (1 + span f)
   unfolding source_body
-  nested =
-      inside_less (source_of b) around.scopes 1 (1 + span f) (1 + span_forms (form.more f form.none)) (omega arith)
-      (inside_new (source_of b) 0 of_program [] around.scopes b refl refl (program_alone (source_of b) 0 refl) refl)
+  nested = inside_new (source_of b) 0 of_program [] around.scopes b refl refl (program_alone (source_of b) 0 refl) refl
 
-  written : AllWritten (source_of b) 1 (kinds f) (over in_order f) (q.bodies ++ [])
-  unfolding both nothing
-  written =
+  all_written : AllWritten (source_of b) 1 (kinds f) (over in_order f) (q.bodies ++ [])
+  all_written =
       subst (λ (is : List Irep). AllWritten (source_of b) 1 (kinds f) (over in_order f) is) (sym (append-nil q.bodies))
-      (of_one (source_of b) f around (first_spot 0) start (tops_written tops (source_of b) t (within_program ls) around
-      (first_spot 0) start (record {
+      (written (source_of b) f plain t (within_program ls) 1 around fits.1 formed (program_stands b program_is) (record {
         knows = main_knows p ls f;
         inside = nested;
         short = (fitting.w kind.Main [] of_main p ls f fits).able.each;
         deep = omega arith;
-        few = omega (arith, within.few);
-      }) (program_stands b program_is, tt) (fits.1, tt) all_formed))
+        few = omega (arith, within.few, counted f);
+      }) (first_spot 0) start refl)
 
   nth_there : (n : ℕ) (x : Name) → n < length (source_of b)
       → is_among x (tally (source_body (source_of b) n)).symbols ≡ true
@@ -207,7 +219,7 @@ module _ (p : Parameters) (ls : List Local) (f : CoreForm) (program_is : IsProgr
   nth_at j k e =
       subst (λ (n : ℕ). WrittenAs (source_of b) k n (source_body (source_of b) (suc j)) (body_at code (suc j))) (omega arith)
       (nth_written (source_of b) 1 j (kinds f) (over in_order f) (q.bodies ++ []) k (form.body no_parameters [] form.nil)
-      no_body written e)
+      no_body all_written e)
 
   coded_method : (n : ℕ) → IsKind (source_of b) n of_method → coding.Coded (source_of b) code n
   coded_method zero e = absurd (cc e)
@@ -222,8 +234,14 @@ module _ (p : Parameters) (ls : List Local) (f : CoreForm) (program_is : IsProgr
       block_of (source_of b) code (suc j) (source_body (source_of b) (suc j)) e refl refl (nth_at j of_block e)
       (λ x there. nth_there (suc j) x (kind_within b (suc j) of_block e) there)
 
+  coded_class : (n : ℕ) → IsKind (source_of b) n of_class → CodedClass (source_of b) code n
+  coded_class zero e = absurd (cc e)
+  coded_class (suc j) e =
+      class_of (source_of b) code (suc j) (source_body (source_of b) (suc j)) e refl refl (nth_at j of_class e)
+      (λ x there. nth_there (suc j) x (kind_within b (suc j) of_class e) there)
+
   -- the code of each block begins with its parameters
-  shapes : topped.Shapes (source_of b) code
+  shapes : children.Shapes (source_of b) code
   unfolding source_body
   shapes n g e is =
       coding.begins_with (source_of b) code n (coded_block n is).0
@@ -236,12 +254,15 @@ module _ (p : Parameters) (ls : List Local) (f : CoreForm) (program_is : IsProgr
   blocks : (n : ℕ) → IsKind (source_of b) n of_block → ProcCode (source_of b) code n
   blocks n e = let g = coded_block n e in coding.block_coded (source_of b) code n g.0 shapes g.1
 
+  classes : (n : ℕ) → IsKind (source_of b) n of_class → ClassCode (source_of b) code n
+  classes n e = class_coded (source_of b) code n (coded_class n e) shapes
+
   -- both sides have the same symbols
   names_are : with_names Rows.opening (all_names (source_of b)) ≡ with_names Rows.opening (all_symbols code.bodies)
   unfolding coded assembled both puts
   names_are =
       one_more p ls f (over in_order f) (q.bodies ++ [])
-      (λ st. names_written (source_of b) 1 (kinds f) (over in_order f) (q.bodies ++ []) written st) Rows.opening
+      (λ st. names_written (source_of b) 1 (kinds f) (over in_order f) (q.bodies ++ []) all_written st) Rows.opening
 
   has : Has site (named_slots ls) ls t (start + width f)
   unfolding coded assembled both puts source_body
@@ -259,15 +280,19 @@ module _ (p : Parameters) (ls : List Local) (f : CoreForm) (program_is : IsProgr
     there = λ x e. nth_there 0 x (omega arith) e;
   }
 
-  all_stand : topped.Stands (body_at code 0).children (first_spot 0)
-      (others_in_turn around (first_spot 0) start (form.more f form.none)).children
+  settled : Settled site (first_spot 0) 1 (span f) q
   unfolding coded assembled both puts nothing
-  all_stand = record { before = []; after = []; are = sym (append-nil (q.children ++ [])); count = refl }
+  settled = record {
+    inside = nested;
+    number = λ lt. refl;
+    stands = record { before = []; after = []; are = refl; count = refl };
+  }
 
   covers : Covers site None start (first_spot 0) 1 f
   covers =
-      (topped.tops_cover site (named_slots ls) ls t (start + width f) has shapes tops (first_spot 0) start (width f)
-      (within_program ls) (within_program ls) refl (program_stands b program_is, tt) (fits.1, tt) all_formed (omega arith) (omega arith, tt) (omega arith) all_stand nested).0
+      cover site (named_slots ls) ls t (start + width f) has shapes f None start (first_spot 0) 1 (within_program ls)
+      (refl, λ e. tt) plain
+      fits.1 formed (omega arith) (omega arith) (program_stands b program_is) settled
 
   code_of_it : IsCodeOf (source_of b) code
   unfolding coded assembled both puts high Stands source_body
@@ -290,6 +315,7 @@ module _ (p : Parameters) (ls : List Local) (f : CoreForm) (program_is : IsProgr
         (the_line site (0 + high q) (line.Does op.Stop) (right site 0 q (does op.Stop) both_stand));
     methods = methods;
     blocks = blocks;
+    classes = classes;
     names = names_are;
   }
 
@@ -312,7 +338,7 @@ program_implements b input h limits plain =
 
 pub simple_is_code : (b : Body) → IsProgram b → first_excess (need b) ≡ None → IsSimple (form_of b)
     → IsCodeOf (source_of b) (program 2 (coded_program b))
-simple_is_code b h limits simple = program_is_code b h limits (form_before (simple_plain (form_of b) simple) no_tops)
+simple_is_code b h limits simple = program_is_code b h limits (simple_plain (form_of b) simple)
 
 pub simple_implements : (b : Body) (input : List ℕ) → IsProgram b → first_excess (need b) ≡ None
     → IsSimple (form_of b) → Implements (source_of b) (program 2 (coded_program b)) input

@@ -1,8 +1,7 @@
 -- The code of a method or a block of a program within the limits is code of it, where the blocks in it begin with their
 -- parameters.
 use Rattle.std.proofs.Common.{◌≡◌, ◌≤◌, ℕ, ◌+◌, List, [], ◌∷◌, ◌++◌, length, map, arith, refl, sym, ap, ◌∙◌, subst, Bool, true, ◌⊎◌}
-use Rattle.std.specs.Prelude.{◌&&◌, Option, Some, None}
-use Rattle.std.proofs.lemmas.List.{append-nil}
+use Rattle.std.specs.Prelude.{Option, Some, None}
 use Rattle.rite_code.specs.Code.{Program}
 use Rattle.rite_code.specs.declared.code.Irep.{Irep}
 use Rattle.rite_code.specs.Instruction.{Instruction}
@@ -24,24 +23,24 @@ use Rattle.gen_parts.specs.declared.line.Catch.{Catch}
 use Rattle.gen_parts.specs.declared.emitter.Spot.{Spot}
 use Rattle.gen_parts.specs.Pieces.{Piece, nothing, both, puts, does}
 use Rattle.gen_parts.specs.Assembly.{places, entry_by, instruction_before}
-use Rattle.gen_forms.specs.Gen.{Context, gen, others_in_turn, parameters}
+use Rattle.gen_forms.specs.Gen.{Context, gen, parameters}
+use Rattle.code_laws.specs.Bound.{IsSeen}
 use Rattle.code_laws.proofs.Shares.{Fits, many}
 use Rattle.code_laws.proofs.Entering.{Inner}
-use Rattle.def_eval.specs.Source.{Source, span, span_forms, body_at as source_body, parameters_of}
+use Rattle.def_eval.specs.Source.{Source, span, body_at as source_body, parameters_of}
 use Rattle.def_calls.specs.World.{Runs, main_program}
 use Rattle.def_eval.specs.Scopes.{shape_of}
 use Rattle.eval_laws.specs.Kinds.{Kind, IsKind}
-use Rattle.eval_laws.specs.Standing.{FormStands}
 use Rattle.step_laws.specs.Around.{slots_for}
 use Rattle.def_machine.specs.State.{body_at}
 use Rattle.def_machine.specs.Turn.{fetch, shape_by}
 use Rattle.rb_value.specs.declared.value.Value.{Value}
 use Rattle.rb_value.specs.declared.value.Value.TheVariants.{Nil}
 use Rattle.step_laws.specs.Site.{Site, at_line, LineAt, Lines, IsThere}
-use Rattle.step_laws.specs.Simple.{IsNamedLocal}
 use Rattle.step_laws.specs.Covers.{Covers}
 use Rattle.step_laws.specs.Bodies.{AreSingle, FormAt, DefaultsAt, BodyAt, BodyCode, ProcCode}
-use Rattle.step_laws.specs.Tops.{AreNamed}
+use Rattle.step_laws.specs.Far.{MayReturn}
+use Rattle.step_laws.specs.Plain.{AreSeen}
 use Rattle.step_laws.proofs.Placed.{high, Stands, high-both, high-puts, moved, left, right, the_line}
 use Rattle.step_laws.proofs.Apart.{apart}
 use Rattle.step_laws.proofs.Laid.{first_place}
@@ -49,51 +48,54 @@ use Rattle.step_laws.proofs.Bound.{shape_is_too}
 use Rattle.step_laws.proofs.Fitting as fitting
 use Rattle.step_laws.proofs.Fitting.{Around}
 use Rattle.step_laws.proofs.Covering.{Has}
-use Rattle.step_laws.proofs.Making.{form_by, form_spot, spot_body, spot_child, SameTables, tables_of, tops_catchless}
+use Rattle.step_laws.proofs.Making.{form_by, form_spot, spot_body, spot_child, SameTables, tables_of}
+use Rattle.step_laws.proofs.Catchless.{bodies_of}
 use Rattle.step_laws.proofs.Fronts.{front_of}
-use Rattle.step_laws.proofs.Nested.{Inside, inside_less, inside_new}
+use Rattle.step_laws.proofs.Nested.{inside_new}
 use Rattle.step_laws.proofs.Written.{Written}
-use Rattle.step_laws.proofs.Topped as topped
+use Rattle.step_laws.proofs.Children as children
+use Rattle.step_laws.proofs.Children.{Settled}
+use Rattle.step_laws.proofs.Covered.{cover}
 
--- Slots of named locals alone: a hidden one is sought past them all.
+-- Slots of no hidden locals: such a one is sought past them all.
 abbrev NoneHidden : Slots → Type 0
 NoneHidden [] = Unit {0}
 NoneHidden (None ∷ ss) = NoneHidden ss
-NoneHidden (Some x ∷ ss) = IsNamedLocal x × NoneHidden ss
+NoneHidden (Some x ∷ ss) = IsSeen x × NoneHidden ss
 
 sought_past : (d n : ℕ) (ss : Slots) → NoneHidden ss → seek (hidden d) ss (Past n) ≡ Past (n + length ss)
 sought_past d n [] h = ap Past (omega arith)
 sought_past d n (None ∷ ss) h = sought_past d (n + 1) ss h ∙ ap Past (omega arith)
 sought_past d n (Some (named x) ∷ ss) h = sought_past d (n + 1) ss h.1 ∙ ap Past (omega arith)
 sought_past d n (Some (hidden e) ∷ ss) h = absurd h.0
-sought_past d n (Some (pattern k) ∷ ss) h = absurd h.0
-sought_past d n (Some rest ∷ ss) h = absurd h.0
+sought_past d n (Some (pattern k) ∷ ss) h = sought_past d (n + 1) ss h.1 ∙ ap Past (omega arith)
+sought_past d n (Some rest ∷ ss) h = sought_past d (n + 1) ss h.1 ∙ ap Past (omega arith)
 
 both_hidden : (ss ts : Slots) → NoneHidden ss → NoneHidden ts → NoneHidden (ss ++ ts)
 both_hidden [] ts a b = b
 both_hidden (None ∷ ss) ts a b = both_hidden ss ts a b
 both_hidden (Some x ∷ ss) ts a b = (a.0, both_hidden ss ts a.1 b)
 
-named_parts : (xs ys : List Local) → AreNamed (xs ++ ys) → AreNamed xs × AreNamed ys
-named_parts [] ys a = (tt, a)
-named_parts (x ∷ xs) ys a = let parts = named_parts xs ys a.1 in ((a.0, parts.0), parts.1)
+seen_parts : (xs ys : List Local) → AreSeen (xs ++ ys) → AreSeen xs × AreSeen ys
+seen_parts [] ys a = (tt, a)
+seen_parts (x ∷ xs) ys a = let parts = seen_parts xs ys a.1 in ((a.0, parts.0), parts.1)
 
-named_hidden : (xs : List Local) → AreNamed xs → NoneHidden (named_slots xs)
-named_hidden [] a = tt
-named_hidden (x ∷ xs) a = (a.0, named_hidden xs a.1)
+none_hidden_in : (xs : List Local) → AreSeen xs → NoneHidden (named_slots xs)
+none_hidden_in [] a = tt
+none_hidden_in (x ∷ xs) a = (a.0, none_hidden_in xs a.1)
 
-block_hidden : (xs : List Local) → AreNamed xs → NoneHidden (block_slot xs)
+block_hidden : (xs : List Local) → AreSeen xs → NoneHidden (block_slot xs)
 block_hidden [] a = tt
 block_hidden (x ∷ xs) a = (a.0, tt)
 
-slots_hidden : (p : Parameters) (ls : List Local) (f : CoreForm) → AreNamed (all_parameters p ++ ls)
+slots_hidden : (p : Parameters) (ls : List Local) (f : CoreForm) → AreSeen (all_parameters p ++ ls)
     → NoneHidden (slots_of kind.Method (form.body p ls f))
 slots_hidden p ls f a =
-    let own = named_parts (all_parameters p) ls a in
-    let last = named_parts (p.required ++ p.optional ++ p.rest ++ p.post) p.block own.0 in
-    let third = named_parts (p.required ++ p.optional ++ p.rest) p.post last.0 in
-    let second = named_parts (p.required ++ p.optional) p.rest third.0 in
-    let first = named_parts p.required p.optional second.0 in
+    let own = seen_parts (all_parameters p) ls a in
+    let last = seen_parts (p.required ++ p.optional ++ p.rest ++ p.post) p.block own.0 in
+    let third = seen_parts (p.required ++ p.optional ++ p.rest) p.post last.0 in
+    let second = seen_parts (p.required ++ p.optional) p.rest third.0 in
+    let first = seen_parts p.required p.optional second.0 in
     let required = named_slots p.required in
     let optional = named_slots p.optional in
     let others = named_slots p.rest in
@@ -102,11 +104,18 @@ slots_hidden p ls f a =
     (both_hidden (required ++ optional ++ others ++ post) (block_slot p.block)
     (both_hidden (required ++ optional ++ others) post
     (both_hidden (required ++ optional) others
-    (both_hidden required optional (named_hidden p.required first.0) (named_hidden p.optional first.1))
-    (named_hidden p.rest second.1))
-    (named_hidden p.post third.1))
+    (both_hidden required optional (none_hidden_in p.required first.0) (none_hidden_in p.optional first.1))
+    (none_hidden_in p.rest second.1))
+    (none_hidden_in p.post third.1))
     (block_hidden p.block last.1))
-    (named_hidden ls own.1)
+    (none_hidden_in ls own.1)
+
+-- a return may stand in them
+may_return : (k : BodyKind) → has_parameters k ≡ true → MayReturn k
+may_return kind.Main e = tt
+may_return kind.Method e = tt
+may_return kind.Block e = tt
+may_return kind.Class e = absurd (cc e)
 
 -- A body of a method or a block of a source, and its body in the code.
 pub record Coded (s : Source) (c : Program) (n : ℕ) : Type 0 where
@@ -256,41 +265,34 @@ module _ (s : Source) (c : Program) (n : ℕ) (g : Coded s c n) (activation list
   no_catches =
       ap (λ (i : Irep). i.catches) g.written.is
       ∙ ap (λ (cs : List Catch). map (entry_by (at s c n g)) (cs ++ [])) (tables s c n g).catches
-      ∙ ap (λ (cs : List Catch). map (entry_by (at s c n g)) cs)
-      (tops_catchless g.written.tops (around s c n g) (spot s c n g) (first s c n g))
+      ∙ ap (λ (cs : List Catch). map (entry_by (at s c n g)) (cs ++ []))
+      (bodies_of (f s c n g) g.written.plain (around s c n g) (spot s c n g) (first s c n g)).catches
 
-  children_stand : topped.Stands (body_at c n).children (spot s c n g)
-      (others_in_turn (around s c n g) (spot s c n g) (first s c n g) (form.more (f s c n g) form.none)).children
-  unfolding both puts nothing
-  children_stand = record {
-    before = [];
-    after = [];
-    are = ap (λ (i : Irep). i.children) g.written.is ∙ ap (λ (ns : List ℕ). ns ++ []) (tables s c n g).children
-        ∙ sym (append-nil ((code s c n g).children ++ []));
-    count = sym (spot_child n (optional s c n g));
-  }
-
-  -- its forms stand in it
-  nested : Inside s h.context.scopes (spot s c n g).body ((spot s c n g).body + span_forms (form.more (f s c n g) form.none))
-  nested =
+  settled : Settled h (spot s c n g) (n + 1) (span (f s c n g)) (code s c n g)
+  unfolding both puts
+  settled =
       let number = spot_body n (optional s c n g) in
       let others = seen_around g.kind_of (sc s c n g) in
-      subst (λ (i : ℕ). Inside s h.context.scopes i (i + span_forms (form.more (f s c n g) form.none))) (sym number)
-      (inside_less s h.context.scopes (n + 1) (n + 1 + span (f s c n g)) (n + 1 + span_forms (form.more (f s c n g) form.none))
-      (omega arith)
-      (inside_new s n g.role others h.context.scopes (b s c n g) g.mine g.plays g.written.sees
-      (ap (λ (z : Slots). z ∷ others) (sym g.slots_too))))
+      record {
+        -- its forms stand in it
+        inside = inside_new s n g.role others h.context.scopes (b s c n g) g.mine g.plays g.written.sees
+            (ap (λ (z : Slots). z ∷ others) (sym g.slots_too));
+        number = λ lt. number;
+        stands = record {
+          before = [];
+          after = [];
+          are = ap (λ (i : Irep). i.children) g.written.is
+              ∙ ap (λ (ns : List ℕ). ns ++ []) (tables s c n g).children;
+          count = sym (spot_child n (optional s c n g));
+        };
+      }
 
-  covers : topped.Shapes s c → Covers h None (first s c n g) (spot s c n g) (n + 1) (f s c n g)
+  covers : children.Shapes s c → Covers h None (first s c n g) (spot s c n g) (n + 1) (f s c n g)
   covers shapes =
-      let number = spot_body n (optional s c n g) in
-      subst (λ (i : ℕ). Covers h None (first s c n g) (spot s c n g) i (f s c n g)) number
-      (topped.tops_cover h (ss s c n g) g.written.within.known (t s c n g)
-      (first s c n g + width (f s c n g)) has shapes g.written.tops (spot s c n g) (first s c n g)
-      (width (f s c n g)) g.written.within g.written.within refl
-      (subst (λ (i : ℕ). FormStands s g.written.within i (f s c n g)) (sym number) g.written.stands, tt)
-      ((fits s c n g).1, tt) (ap (λ (x : Bool). x && true) g.written.formed) (omega arith)
-      (omega arith, tt) (omega arith) children_stand nested).0
+      cover h (ss s c n g) g.written.within.known (t s c n g) (first s c n g + width (f s c n g)) has shapes (f s c n g) None
+      (first s c n g) (spot s c n g) (n + 1) g.written.within (refl, λ e. may_return g.kind_of g.enters)
+      g.written.plain (fits s c n g).1 g.written.formed
+      (omega arith) (omega arith) g.written.stands settled
 
   enters_there : LineAt h 0 (line.Does (op.Enter (parameters (p s c n g))))
   enters_there =
@@ -314,7 +316,7 @@ module _ (s : Source) (c : Program) (n : ℕ) (g : Coded s c n) (activation list
       (the_line h (0 + high (lines s c n g)) (line.Does back)
       (right h 0 (lines s c n g) (does back) all_stand))
 
-  at_run : topped.Shapes s c → BodyAt h
+  at_run : children.Shapes s c → BodyAt h
   at_run shapes =
       let registers = ap (λ (i : Irep). i.registers) g.written.is in
       let same = ap length (slots_are s c n g) in
@@ -338,7 +340,7 @@ module _ (s : Source) (c : Program) (n : ℕ) (g : Coded s c n) (activation list
         none_hidden = of_body s c n g (λ (d : Body). (i : ℕ) → seek (hidden i) (slots_of kind.Method d) (Past 1)
             ≡ Past (1 + length (slots_of kind.Method d)))
             (λ i. sought_past i 1 (slots_of kind.Method (b s c n g))
-            (slots_hidden (p s c n g) (ls s c n g) (f s c n g) g.written.named));
+            (slots_hidden (p s c n g) (ls s c n g) (f s c n g) g.written.seen));
         outside = refl;
         enters = of_body s c n g (λ (d : Body). LineAt h 0 (line.Does (op.Enter (parameters (parameters_of d)))))
             enters_there;
@@ -352,7 +354,7 @@ module _ (s : Source) (c : Program) (n : ℕ) (g : Coded s c n) (activation list
             }));
       }
 
-pub body_coded : (s : Source) (c : Program) (n : ℕ) → Coded s c n → topped.Shapes s c → BodyCode s c n
+pub body_coded : (s : Source) (c : Program) (n : ℕ) → Coded s c n → children.Shapes s c → BodyCode s c n
 body_coded s c n g shapes = record {
   wide = wide s c n g;
   at = at s c n g;
@@ -361,7 +363,7 @@ body_coded s c n g shapes = record {
   everywhere = λ activation list self runs. at_run s c n g activation list self runs shapes;
 }
 
-pub block_coded : (s : Source) (c : Program) (n : ℕ) (g : Coded s c n) → topped.Shapes s c → g.kind_of ≡ kind.Block
+pub block_coded : (s : Source) (c : Program) (n : ℕ) (g : Coded s c n) → children.Shapes s c → g.kind_of ≡ kind.Block
     → ProcCode s c n
 unfolding body_coded
 block_coded s c n g shapes e = record { code = body_coded s c n g shapes; of_block = e }

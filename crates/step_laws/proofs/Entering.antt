@@ -1,6 +1,6 @@
 -- The body of a method or a block is entered: its frame is opened and ENTER binds its arguments, in one transition and two
 -- turns, behind which a jump leads past the defaults that aren't needed.
-use Rattle.std.proofs.Common.{◌≡◌, ◌⊎◌, inl, inr, ℕ, zero, suc, ◌+◌, ◌-◌, ◌<◌, ◌≤◌, List, [], ◌∷◌, ◌++◌, refl, sym, ap, ◌∙◌, subst, arith, length, length-append, get_or}
+use Rattle.std.proofs.Common.{◌≡◌, ◌⊎◌, inl, inr, ℕ, zero, suc, ◌+◌, ◌-◌, ◌<◌, ◌≤◌, List, [], ◌∷◌, ◌++◌, refl, sym, ap, ◌∙◌, subst, arith, length, length-append, get_or, true}
 use Rattle.std.specs.Prelude.{if◌then◌else◌, Option, Some, None}
 use Rattle.std.proofs.lemmas.List.{get_or_push}
 use Rattle.rb_value.specs.declared.value.Value.{Value}
@@ -12,12 +12,14 @@ use Rattle.rb_value.specs.declared.method.Shape.{Shape}
 use Rattle.rite_code.specs.Code.{Program}
 use Rattle.rite_code.specs.declared.operation.Operation.TheVariants as op
 use Rattle.ir_core.specs.CoreForm.{CoreForm, seq, Forms, more, Parameters, Body}
+use Rattle.scope_resolver.specs.declared.body_kind.BodyKind.{BodyKind}
+use Rattle.scope_resolver.specs.declared.body_kind.BodyKind.TheVariants as kind
 use Rattle.scope_resolver.specs.Layout.{Scopes}
 use Rattle.gen_parts.specs.declared.line.Line.TheVariants as line
 use Rattle.gen_parts.specs.declared.emitter.Spot.{Spot}
 use Rattle.gen_parts.specs.Pieces.{behind}
 use Rattle.gen_forms.specs.declared.context.Loop.{Loop}
-use Rattle.gen_forms.specs.Gen.{gen, others_in_turn, first_spot, parameters}
+use Rattle.gen_forms.specs.Gen.{gen, others_in_turn, first_spot, parameters, return_by}
 use Rattle.path_eval.specs.Steps.{times}
 use Rattle.def_core.specs.declared.cause.Cause.{Cause}
 use Rattle.def_core.specs.declared.cause.Cause.TheVariants as cause
@@ -31,7 +33,7 @@ use Rattle.def_eval.specs.Source.{Source, body_at, form_of, parameters_of, local
 use Rattle.def_eval.specs.Configuration as source
 use Rattle.def_eval.specs.Configuration.{Scope, raise, Item, activation, travel, Config, Run, seen}
 use Rattle.def_eval.specs.Scopes.{shape_of, all_of, first_variables, block_value}
-use Rattle.def_eval.specs.Entering.{after, after_result, begin_body, first_of, next_place, open_bound, open_body}
+use Rattle.def_eval.specs.Entering.{after_result, begin_body, first_of, next_place, open_bound, open_body}
 use Rattle.def_eval.specs.Transition.{go}
 use Rattle.def_machine.specs.State as machine
 use Rattle.def_machine.specs.State.{Registers, Level, frame, State, On, fresh_registers, slot_at, shown}
@@ -41,6 +43,7 @@ use Rattle.def_machine.specs.Turn.{turn, enter_by, skip, block_value as block_va
 use Rattle.step_laws.specs.Site.{Site, place_in, at_line, LineAt}
 use Rattle.step_laws.specs.Covers.{Covers, CoversAll}
 use Rattle.step_laws.specs.Calm.{Quiet}
+use Rattle.step_laws.specs.Far.{ends_itself}
 use Rattle.step_laws.specs.Standing.{high, Stands, Rest, frame_at}
 use Rattle.step_laws.specs.Bodies.{FormAt, behind_jumps, start_of, DefaultsAt, BodyAt, IsCalled, by_method, by_proc, OpensBody}
 use Rattle.step_laws.specs.Around.{further_slots}
@@ -93,6 +96,13 @@ three_turns s p c t u v z e one e' two e'' three r = record {
     between (suc zero) l = inr (ap shown one ∙ e')
     between (suc (suc zero)) l = inr (ap shown (ap (turn p) one ∙ two) ∙ e'')
     between (suc (suc (suc j))) l = absurd (omega arith)
+
+-- a return that ends its own activation is one instruction
+returns_by : (k : BodyKind) → ends_itself k ≡ true → return_by k 0 ≡ op.Return 0
+returns_by kind.Main e = refl
+returns_by kind.Method e = refl
+returns_by kind.Block e = absurd (cc e)
+returns_by kind.Class e = absurd (cc e)
 
 module _ (s : Source) (p : Program) (c : Config) (ls : List Level) (k : machine.Memory) (m : source.Memory)
     (from : Origin s c ls k m) (o : Opening) (w : World) (ks : List Item) (m' : source.Memory) (g : Ground)
@@ -183,7 +193,7 @@ module _ (s : Source) (p : Program) (c : Config) (ls : List Level) (k : machine.
         opened = omega (arith, ap length e, length-append acts (o.activation ∷ []));
         self = ap (λ (q : Activation). q.self) last;
         runs = ap (λ (q : Activation). q.runs) last;
-        home = λ r e. ap (λ (q : Activation). q.home) last ∙ is.home r e;
+        home = λ e. ap (λ (q : Activation). q.home) last ∙ is.home 0 (returns_by is.code.context.kind_of e);
       }
 
   first_same : (ns : List ℕ) → first_of_machine ns ≡ first_of ns

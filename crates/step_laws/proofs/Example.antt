@@ -23,16 +23,16 @@ gathers = record {
   program = refl;
   within = refl;
   plain = (
-    ((tt, ((tt, tt), tt)), tt),
+    (tt, ((tt, tt), tt)),
     (
-      ((tt, tt, tt), tt),
+      (tt, tt, tt),
       (
-        (((tt, tt), tt), tt),
+        (tt, tt),
         (
-          (tt, (((tt, (tt, tt), refl), tt), ((((tt, (tt, tt), refl), tt, tt), tt), (tt, tt)))),
+          (tt, ((tt, (tt, tt), tt, tt), ((((tt, (tt, tt), tt, tt), tt, tt), tt), (tt, tt)))),
           (
-            (((tt, (tt, tt), refl), (tt, ((tt, (tt, tt)), tt))), refl),
-            ((tt, (tt, tt), refl), tt),
+            (((tt, (tt, tt), tt, tt), (tt, ((tt, (tt, tt)), tt))), tt, tt),
+            ((tt, (tt, tt), tt, tt), tt),
           ),
         ),
       ),

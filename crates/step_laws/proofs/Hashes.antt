@@ -31,10 +31,9 @@ use Rattle.def_machine.specs.State.{Level, frame, State, slot_at}
 use Rattle.def_machine.specs.Unwind.{after as after_machine}
 use Rattle.def_machine.specs.Turn.{turn, act, on_object, and_then, add_pairs}
 use Rattle.step_laws.specs.Site.{Site, within, place_in, at_line, LineAt, Room}
-use Rattle.step_laws.specs.Covered.{CoveredPairs}
+use Rattle.step_laws.specs.Covers.{CoversPairs}
 use Rattle.step_laws.specs.Calm.{Grows, Quiet}
 use Rattle.step_laws.specs.Measure.{measure}
-use Rattle.step_laws.proofs.Covers.{at_top}
 use Rattle.step_laws.proofs.Placed.{high, high-both, high-puts, high-nothing, line-past, Stands, moved, left, right, the_line, Rest, frame_at, turned}
 use Rattle.step_laws.specs.Behind.{Static}
 use Rattle.step_laws.specs.Relation.{Ground, over_levels, InFrame, Common, Doing, GivesIn, raised, Related, Step}
@@ -47,7 +46,7 @@ use Rattle.step_laws.proofs.Gathered.{kept}
 -- The next key is about to be done, or the Hash is given.
 on_with : (g : Ground) (h : Site) (j : ℕ) (id : ObjId) (ps : Pairs) (ks : List Item) (m : source.Memory) (k : machine.Memory)
     (x : Rest) (n low end : ℕ) (loop : Option Loop) (s : Spot) → Common g h m k → m.place ≡ place_in h → Room h low
-    → CoveredPairs h low ps → s.line ≡ n → Stands h n (gather_pairs (within h loop) s low ps)
+    → CoversPairs h loop low s j ps → s.line ≡ n → Stands h n (gather_pairs (within h loop) s low ps)
     → n + high (gather_pairs (within h loop) s low ps) ≡ end → slot_at k.lists h.list low ≡ V (Obj id)
     → InFrame g h k.lists ks end low loop → Related h (next_pair j id ps ks m) (state_at g h x n k)
 on_with g h j id no_pairs ks m k x n low end loop s both there room covered here code ends held next =
@@ -76,7 +75,7 @@ on_with g h j id (pair a b ps) ks m k x n low end loop s both there room covered
         loop = loop;
         s = s;
         here = here;
-        covered = at_top h loop (low + 1) s j a covered.0;
+        covered = covered.0;
         above = omega (arith, room.above);
         code = left h n p q two;
         next = record {
@@ -181,7 +180,7 @@ module _ (g : Ground) (h : Site) (static : Static h) (ks : List Item) (m : sourc
           loop = d.loop;
           s = b.s;
           here = b.here;
-          covered = at_top h d.loop (low + 1 + 1) b.s j e b.covered.0;
+          covered = b.covered.0;
           above = omega (arith, b.room.above);
           code = b.value;
           next = record {

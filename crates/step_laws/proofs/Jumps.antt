@@ -71,10 +71,10 @@ left_to g h static x n to k l =
 same_target : (a b : Loop) → Some a ≡ Some b → a ≡ b
 same_target a b e = ap (λ (o : Option Loop). unwrap_or o a) e
 
-way_at : (g : Ground) (h : Site) (l : List Registers) (t b : CoreForm) (ks : List Item) (low end : ℕ) (target : Loop)
-    (around outer : Option Loop) (loop : LoopAt h low t b end) → around ≡ loop.loop → around ≡ Some target
-    → InFrame g h l ks end low outer → LoopWay g h l t b ks target
-way_at g h l t b ks low end target around outer loop inside e a = record {
+way_at : (g : Ground) (h : Site) (l : List Registers) (j : ℕ) (t b : CoreForm) (ks : List Item) (low end : ℕ)
+    (target : Loop) (around outer : Option Loop) (loop : LoopAt h low j t b end) → around ≡ loop.loop → around ≡ Some target
+    → InFrame g h l ks end low outer → LoopWay g h l j t b ks target
+way_at g h l j t b ks low end target around outer loop inside e a = record {
   low = low;
   end = end;
   loop = loop;
@@ -113,9 +113,9 @@ way_of g h l (part (and_then j f) ∷ ks) n r target around e a =
 way_of g h l (part (or_else j f) ∷ ks) n r target around e a =
     way_of g h l ks a.end a.low target a.outer (a.inner ∙ e) a.next
 way_of g h l (part (loop_test j t b) ∷ ks) n r target around e a =
-    way_at g h l t b ks a.low a.end target around a.outer a.behind.loop a.behind.inside e a.next
+    way_at g h l j t b ks a.low a.end target around a.outer a.behind.loop a.behind.inside e a.next
 way_of g h l (part (loop_body j t b) ∷ ks) n r target around e a =
-    way_at g h l t b ks a.low a.end target around a.outer a.behind.loop a.behind.inside e a.next
+    way_at g h l j t b ks a.low a.end target around a.outer a.behind.loop a.behind.inside e a.next
 way_of g h l (part (rescued j t cs o) ∷ ks) n r target around e a = absurd a.behind
 way_of g h l (part (clause_class j f es t d cs q) ∷ ks) n r target around e a = absurd a.behind
 way_of g h l (part (clause_target j f t q) ∷ ks) n r target around e a = absurd a.behind
@@ -127,8 +127,8 @@ way_of g h l (ensuring o ∷ ks) n r target around e a = absurd a
 
 -- what is so of a way is so behind a part that it passes
 along : (g : Ground) (h : Site) (l : List Registers) (ks : List Item) (target : Loop) (P : Stop → Type 0) (p : Stop)
-    → (Way g h l ks target → P passes) → ((n : ℕ) (t b : CoreForm) → LoopWay g h l t b ks target → P (loops n t b))
-    → WayBy p (Way g h l ks target) (λ t b. LoopWay g h l t b ks target) → P p
+    → (Way g h l ks target → P passes) → ((n : ℕ) (t b : CoreForm) → LoopWay g h l n t b ks target → P (loops n t b))
+    → WayBy p (Way g h l ks target) (λ j t b. LoopWay g h l j t b ks target) → P p
 along g h l ks target P passes f q w = f w
 along g h l ks target P (loops n t b) f q w = q n t b w
 along g h l ks target P (rescues n r) f q w = absurd w
@@ -162,7 +162,7 @@ way_kept : (g : Ground) (h : Site) (l : List Registers) (ks : List Item) (target
 way_kept g h l [] target u lt free w = absurd w
 way_kept g h l (part k ∷ ks) target u lt free w =
     along g h l ks target (λ p. WayBy p (Way g h (put l h.list target.value (V u)) ks target)
-    (λ t b. LoopWay g h (put l h.list target.value (V u)) t b ks target)) (stop_of k)
+    (λ j t b. LoopWay g h (put l h.list target.value (V u)) j t b ks target)) (stop_of k)
     (λ v. way_kept g h l ks target u lt free v) (λ n t b v. record {
       low = v.low;
       end = v.end;
@@ -385,7 +385,7 @@ module _ (g : Ground) (h : Site) (static : Static h) (ks : List Item) (m : sourc
     conf = Run (travel e) (part p ∷ ks) m
 
     -- the exit comes to the loop
-    at_loop : (n : ℕ) (t b : CoreForm) → LoopWay g h k.lists t b ks q.target
+    at_loop : (n : ℕ) (t b : CoreForm) → LoopWay g h k.lists n t b ks q.target
         → go h.source conf ≡ travel_loop e n t b ks m → LeavesTo h k.lists e q.n q.target
         → Step h conf (state_at g h q.x q.n (aligned k m))
     at_loop n t b w goes (to_end v is leaves held) =
@@ -434,7 +434,7 @@ module _ (g : Ground) (h : Site) (static : Static h) (ks : List Item) (m : sourc
     unfolding do_travel
     leap_on = by (stop_of p) q.way refl
       where
-        by : (o : Stop) → WayBy o (Way g h k.lists ks q.target) (λ t b. LoopWay g h k.lists t b ks q.target)
+        by : (o : Stop) → WayBy o (Way g h k.lists ks q.target) (λ j t b. LoopWay g h k.lists j t b ks q.target)
             → go h.source conf ≡ travel_part e o ks m → Step h conf (state_at g h q.x q.n (aligned k m))
         by passes w goes =
             by_none h conf (state_at g h q.x q.n (aligned k m))

@@ -97,7 +97,7 @@ module _ (g : Ground) (h : Site) (ks : List Item) (m : source.Memory) (ls : List
       → 2 + size e ≤ size f → Covers h d.loop d.r d.s j e → (o : Operation)
       → Stands h d.n (gen (within h d.loop) d.s d.r e ⊕ does o)
       → ((n : ℕ) → LineAt h n (line.Does o)
-      → OperandBehind h k.lists a [] none d.r n d.r (d.n + high (gen (within h d.loop) d.s d.r f)) d.loop)
+      → OperandBehind h k.lists (j + span e) a [] none d.r n d.r (d.n + high (gen (within h d.loop) d.s d.r f)) d.loop)
       → Step h (Run (perform j f) ks m) (state_at g h d.x d.n (aligned k m))
   begins_last j f e a d goes less covered o code behind =
       let p = gen (within h d.loop) d.s d.r e in

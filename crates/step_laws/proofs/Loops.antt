@@ -20,9 +20,8 @@ use Rattle.def_eval.specs.Giving.{turn_loop, give_part, do_give}
 use Rattle.def_machine.specs.State as machine
 use Rattle.def_machine.specs.State.{Level, frame, slot_at}
 use Rattle.def_machine.specs.Turn.{turn}
-use Rattle.step_laws.specs.Site.{Site, within, place_in, LineAt, Room}
-use Rattle.step_laws.specs.Covered.{Covered}
-use Rattle.step_laws.proofs.Covers.{at_top}
+use Rattle.step_laws.specs.Site.{Site, within, place_in, LineAt}
+use Rattle.step_laws.specs.Covers.{Covers}
 use Rattle.step_laws.proofs.Placed.{high, high-both, high-puts, line-past, line-behind, Stands, moved, left, right, the_line, Rest, frame_at, turned, jumped}
 use Rattle.step_laws.specs.Behind.{Static, LoopAt}
 use Rattle.step_laws.specs.Relation.{Ground, InFrame, Common, Doing, GivesIn, Related, Step}
@@ -31,24 +30,24 @@ use Rattle.step_laws.proofs.Literals.{aligned}
 use Rattle.step_laws.proofs.Branches.{jumped_not, jumped_if}
 
 -- The line where a loop is entered.
-abbrev pub entry : Bool → {h : Site} {r : ℕ} {t b : CoreForm} {end : ℕ} → LoopAt h r t b end → ℕ
+abbrev pub entry : Bool → {h : Site} {r j : ℕ} {t b : CoreForm} {end : ℕ} → LoopAt h r j t b end → ℕ
 entry false l = l.test_spot.line
 entry true l = l.body_spot.line
 
-pub record Entered (first : Bool) (h : Site) (n r : ℕ) (t b : CoreForm) (end : ℕ) : Type 0 where
-  pub loop : LoopAt h r t b end
+pub record Entered (first : Bool) (h : Site) (n r j : ℕ) (t b : CoreForm) (end : ℕ) : Type 0 where
+  pub loop : LoopAt h r j t b end
   pub enters : LineAt h n (line.Jump (entry first loop))
 
-module _ (h : Site) (n r end : ℕ) (o : Option Loop) (s : Spot) (t b : CoreForm) (here : s.line ≡ n) (room : Room h r)
-    (covers : Covered h r t × Covered h r b) where
+module _ (h : Site) (n r end j : ℕ) (o : Option Loop) (s : Spot) (t b : CoreForm) (here : s.line ≡ n) where
   -- the jump out of the loop leads to its end
   leads : (at out to : ℕ) → at ≡ out → to ≡ end → LineAt h at (line.Jump to) → LineAt h out (line.Jump end)
   leads at out to e f l = subst (λ (i : ℕ). LineAt h i (line.Jump end)) e (subst (λ (i : ℕ). LineAt h at (line.Jump i)) f l)
 
-  test_first : Stands h n (loop_code false (λ d u i. gen d u i t) (λ d u i. gen d u i b) (within h o) s r)
+  test_first : Covers h o r s j (while_form false t b)
+      → Stands h n (loop_code false (λ d u i. gen d u i t) (λ d u i. gen d u i b) (within h o) s r)
       → n + high (loop_code false (λ d u i. gen d u i t) (λ d u i. gen d u i b) (within h o) s r) ≡ end
-      → Entered false h n r t b end
-  test_first code ends =
+      → Entered false h n r j t b end
+  test_first covers code ends =
       let start = behind (behind s) in
       let target : Loop = record { value = r; out = (behind s).line; round = start.line } in
       let inside : Option Loop = Some target in
@@ -93,9 +92,9 @@ module _ (h : Site) (n r end : ℕ) (o : Option Loop) (s : Spot) (t b : CoreForm
               (the_line h (n + high enter) (line.Jump (past start whole).line) (left h (n + high enter) out whole rest));
           test_spot = start;
           body_spot = v;
-          room = room;
-          test_covered = covers.0;
-          body_covered = covers.1;
+          room = covers.0;
+          test_covered = covers.1;
+          body_covered = covers.2;
           test = left h start.line p (skip ⊕ body) tests;
           body = left h v.line q back at_body;
           out = z;
@@ -127,10 +126,11 @@ module _ (h : Site) (n r end : ℕ) (o : Option Loop) (s : Spot) (t b : CoreForm
         enters = the_line h n (line.Jump start.line) (left h n enter (out ⊕ whole) code);
       }
 
-  body_first : Stands h n (loop_code true (λ d u i. gen d u i t) (λ d u i. gen d u i b) (within h o) s r)
+  body_first : Covers h o r s j (while_form true t b)
+      → Stands h n (loop_code true (λ d u i. gen d u i t) (λ d u i. gen d u i b) (within h o) s r)
       → n + high (loop_code true (λ d u i. gen d u i t) (λ d u i. gen d u i b) (within h o) s r) ≡ end
-      → Entered true h n r t b end
-  body_first code ends =
+      → Entered true h n r j t b end
+  body_first covers code ends =
       let round = behind (behind s) in
       let target : Loop = record { value = r; out = (behind s).line; round = round.line } in
       let inside : Option Loop = Some target in
@@ -175,9 +175,9 @@ module _ (h : Site) (n r end : ℕ) (o : Option Loop) (s : Spot) (t b : CoreForm
               (the_line h (n + high enter) (line.Jump (past round whole).line) (left h (n + high enter) out whole rest));
           test_spot = w;
           body_spot = v;
-          room = room;
-          test_covered = covers.0;
-          body_covered = covers.1;
+          room = covers.0;
+          test_covered = covers.1;
+          body_covered = covers.2;
           test = left h w.line p again tests;
           body = moved h (round.line + high leap) v.line q (omega (arith, e3, body_line))
               (right h round.line leap q bodies);
@@ -212,7 +212,7 @@ module _ (h : Site) (n r end : ℕ) (o : Option Loop) (s : Spot) (t b : CoreForm
 module _ (g : Ground) (h : Site) (static : Static h) (ks : List Item) (m : source.Memory) (ls : List Level)
     (k : machine.Memory) (both : Common g h m (aligned k m)) where
   -- the test is about to be done, and the body
-  pub at_test : (x : Rest) (r end : ℕ) (outer : Option Loop) (j : ℕ) (t b : CoreForm) (l : LoopAt h r t b end)
+  pub at_test : (x : Rest) (r end : ℕ) (outer : Option Loop) (j : ℕ) (t b : CoreForm) (l : LoopAt h r j t b end)
       → m.place ≡ place_in h → InFrame g h k.lists ks end r outer
       → Related h (Run (perform j t) (part (loop_test j t b) ∷ ks) m) (state_at g h x l.test_spot.line (aligned k m))
   at_test x r end outer j t b l there next = (
@@ -228,7 +228,7 @@ module _ (g : Ground) (h : Site) (static : Static h) (ks : List Item) (m : sourc
       loop = l.loop;
       s = l.test_spot;
       here = refl;
-      covered = at_top h l.loop r l.test_spot j t l.test_covered;
+      covered = l.test_covered;
       above = l.room.above;
       code = l.test;
       next = record {
@@ -244,10 +244,10 @@ module _ (g : Ground) (h : Site) (static : Static h) (ks : List Item) (m : sourc
     },
   )
 
-  at_body : (x : Rest) (r end : ℕ) (outer : Option Loop) (i j : ℕ) (t b : CoreForm) (l : LoopAt h r t b end)
+  at_body : (x : Rest) (r end : ℕ) (outer : Option Loop) (j : ℕ) (t b : CoreForm) (l : LoopAt h r j t b end)
       → m.place ≡ place_in h → InFrame g h k.lists ks end r outer
-      → Related h (Run (perform i b) (part (loop_body j t b) ∷ ks) m) (state_at g h x l.body_spot.line (aligned k m))
-  at_body x r end outer i j t b l there next = (
+      → Related h (Run (perform (j + span t) b) (part (loop_body j t b) ∷ ks) m) (state_at g h x l.body_spot.line (aligned k m))
+  at_body x r end outer j t b l there next = (
     g,
     h,
     both,
@@ -260,7 +260,7 @@ module _ (g : Ground) (h : Site) (static : Static h) (ks : List Item) (m : sourc
       loop = l.loop;
       s = l.body_spot;
       here = refl;
-      covered = at_top h l.loop r l.body_spot i b l.body_covered;
+      covered = l.body_covered;
       above = l.room.above;
       code = l.body;
       next = record {
@@ -281,8 +281,7 @@ module _ (g : Ground) (h : Site) (static : Static h) (ks : List Item) (m : sourc
   unfolding do_form
   do_while j false t b d =
       let whole = loop_code false (λ c u i. gen c u i t) (λ c u i. gen c u i b) (within h d.loop) d.s d.r in
-      let e = test_first h d.n d.r (d.n + high whole) d.loop d.s t b d.here d.covered.0
-      (d.covered.1, d.covered.2) d.code refl in
+      let e = test_first h d.n d.r (d.n + high whole) j d.loop d.s t b d.here d.covered d.code refl in
       by_one h (Run (perform j (while_form false t b)) ks m) (state_at g h d.x d.n (aligned k m))
       (state_at g h d.x e.loop.test_spot.line (aligned k m))
       (going (perform j (while_form false t b)) ks m (frame (frame_at h d.x d.n) ∷ g.below) (aligned k m) refl)
@@ -290,20 +289,19 @@ module _ (g : Ground) (h : Site) (static : Static h) (ks : List Item) (m : sourc
       (at_test d.x d.r (d.n + high whole) d.loop j t b e.loop d.there d.next)
   do_while j true t b d =
       let whole = loop_code true (λ c u i. gen c u i t) (λ c u i. gen c u i b) (within h d.loop) d.s d.r in
-      let e = body_first h d.n d.r (d.n + high whole) d.loop d.s t b d.here d.covered.0
-      (d.covered.1, d.covered.2) d.code refl in
+      let e = body_first h d.n d.r (d.n + high whole) j d.loop d.s t b d.here d.covered d.code refl in
       by_one h (Run (perform j (while_form true t b)) ks m) (state_at g h d.x d.n (aligned k m))
       (state_at g h d.x e.loop.body_spot.line (aligned k m))
       (going (perform j (while_form true t b)) ks m (frame (frame_at h d.x d.n) ∷ g.below) (aligned k m) refl)
       (jumped h d.x d.n e.loop.body_spot.line g.below (aligned k m) e.enters)
-      (at_body d.x d.r (d.n + high whole) d.loop (j + span t) j t b e.loop d.there d.next)
+      (at_body d.x d.r (d.n + high whole) d.loop j t b e.loop d.there d.next)
 
   -- where the test leads to
-  tested_to : (v : Value) (x : Rest) (r end : ℕ) (t b : CoreForm) (l : LoopAt h r t b end)
+  tested_to : (v : Value) (x : Rest) (r end j : ℕ) (t b : CoreForm) (l : LoopAt h r j t b end)
       → slot_at k.lists h.list r ≡ V v → (u : Bool) → is_true v ≡ u
       → turn h.program (state_at g h x (l.test_spot.line + high (gen (within h l.loop) l.test_spot r t)) (aligned k m))
       ≡ state_at g h x (if u then l.body_spot.line else l.out) (aligned k m)
-  tested_to v x r end t b l stands u e = by l.branches u e
+  tested_to v x r end j t b l stands u e = by l.branches u e
     where
       n : ℕ
       n = l.test_spot.line + high (gen (within h l.loop) l.test_spot r t)
@@ -333,9 +331,9 @@ module _ (g : Ground) (h : Site) (static : Static h) (ks : List Item) (m : sourc
       (state_at g h d.x l.body_spot.line (aligned k m))
       (going (give v) (part (loop_test j t b) ∷ ks) m (frame (frame_at h d.x d.n) ∷ g.below) (aligned k m) refl)
       (ap (λ (i : ℕ). turn h.program (state_at g h d.x i (aligned k m))) (sym d.next.behind.here)
-      ∙ tested_to v d.x r d.next.end t b l stands true e)
+      ∙ tested_to v d.x r d.next.end j t b l stands true e)
       (subst (λ (u : Bool). Related h (turn_loop u j t b ks m) (state_at g h d.x l.body_spot.line (aligned k m))) (sym e)
-      (at_body d.x r d.next.end d.next.outer (j + span t) j t b l d.there d.next.next))
+      (at_body d.x r d.next.end d.next.outer j t b l d.there d.next.next))
   test_by v j t b d false e =
       let l = d.next.behind.loop in
       let r = d.next.low in
@@ -345,7 +343,7 @@ module _ (g : Ground) (h : Site) (static : Static h) (ks : List Item) (m : sourc
       (state_at g h d.x l.out (aligned k m)) (state_at g h d.x (l.out + 1) (written h (aligned k m) r Nil))
       (going (give v) (part (loop_test j t b) ∷ ks) m (frame (frame_at h d.x d.n) ∷ g.below) (aligned k m) refl)
       (ap (λ (i : ℕ). turn h.program (state_at g h d.x i (aligned k m))) (sym d.next.behind.here)
-      ∙ tested_to v d.x r d.next.end t b l stands false e)
+      ∙ tested_to v d.x r d.next.end j t b l stands false e)
       (going (give v) (part (loop_test j t b) ∷ ks) m (frame (frame_at h d.x l.out) ∷ g.below) (aligned k m) refl)
       (turned h d.x l.out o g.below (aligned k m) l.load)
       (subst (λ (u : Bool). Related h (turn_loop u j t b ks m)
@@ -364,7 +362,7 @@ module _ (g : Ground) (h : Site) (static : Static h) (ks : List Item) (m : sourc
   unfolding do_give give_part
   give_loop_body v j t b d = by d.next.behind.loop.back
     where
-      l : LoopAt h d.next.low t b d.next.end
+      l : LoopAt h d.next.low j t b d.next.end
       l = d.next.behind.loop
 
       n : ℕ

@@ -20,15 +20,19 @@ use Rattle.step_laws.specs.Measure.{poise, measure}
 use Rattle.step_laws.proofs.Placed.{Rest, frame_at}
 use Rattle.step_laws.specs.Behind.{Static}
 use Rattle.step_laws.specs.Relation.{Ground, InFrame, Running, GivesIn, Giving, Alike, Advances, Related, Step}
+use Rattle.step_laws.proofs.Focused.{given_in}
 use Rattle.step_laws.proofs.Registers.{slot_same, keeps_above}
 use Rattle.step_laws.proofs.Untouched.{put_only, frame_kept, same_here, written_here}
 
 -- of any source and code
 
--- A transition that is matched by no more than three turns.
-pub record Soon (s : Source) (p : Program) (c : Config) (t : State) : Type 0 where
+-- A transition that is matched by no more than so many turns.
+pub record Within (n : ℕ) (s : Source) (p : Program) (c : Config) (t : State) : Type 0 where
   pub advances : Advances s p c t
-  pub soon : advances.turns ≤ 3
+  pub soon : advances.turns ≤ n
+
+abbrev pub Soon : Source → Program → Config → State → Type 0
+Soon s p c t = Within 3 s p c t
 
 pub soon_none : (s : Source) (p : Program) (c : Config) (t : State) → measure (go s c) < measure c → Alike s p (go s c) t
     → Soon s p c t
@@ -69,14 +73,17 @@ pub one_turn : (s : Source) (p : Program) (c : Config) (t u : State) → shown t
 one_turn s p c t u e one r = (soon_one s p c t u e one r).advances
 
 -- and one more from a turn before
-pub one_before : (s : Source) (p : Program) (c : Config) (t u : State) → shown t ≡ seen c → turn p t ≡ u → Soon s p c u
-    → Advances s p c t
-one_before s p c t u e one a = record {
-  turns = suc a.advances.turns;
-  few = omega (arith, a.soon);
-  related = subst (λ (q : State). Alike s p (go s c) (times a.advances.turns (turn p) q)) (sym one) a.advances.related;
-  between = between;
-  falls = λ z. absurd (cc z);
+pub one_more : (n : ℕ) → n ≤ 30 → (s : Source) (p : Program) (c : Config) (t u : State) → shown t ≡ seen c → turn p t ≡ u
+    → Within n s p c u → Within (suc n) s p c t
+one_more n le s p c t u e one a = record {
+  advances = record {
+    turns = suc a.advances.turns;
+    few = omega (arith, a.soon, le);
+    related = subst (λ (q : State). Alike s p (go s c) (times a.advances.turns (turn p) q)) (sym one) a.advances.related;
+    between = between;
+    falls = λ z. absurd (cc z);
+  };
+  soon = omega (arith, a.soon);
 }
   where
     between : (j : ℕ) → j < suc a.advances.turns → (shown (times j (turn p) t) ≡ seen c)
@@ -85,6 +92,18 @@ one_before s p c t u e one a = record {
     between (suc j) l =
         subst (λ (q : State). (shown (times j (turn p) q) ≡ seen c) ⊎ (shown (times j (turn p) q) ≡ seen (go s c))) (sym one)
         (a.advances.between j (omega (arith, l)))
+
+pub one_before : (s : Source) (p : Program) (c : Config) (t u : State) → shown t ≡ seen c → turn p t ≡ u → Soon s p c u
+    → Advances s p c t
+one_before s p c t u e one a = (one_more 3 (omega arith) s p c t u e one a).advances
+
+-- no more turns than so many more
+pub widen : (n i : ℕ) → n ≤ i → (s : Source) (p : Program) (c : Config) (t : State) → Within n s p c t → Within i s p c t
+widen n i le s p c t a = record { advances = a.advances; soon = omega (arith, a.soon, le) }
+
+-- no more than three turns later
+pub later : (s : Source) (p : Program) (c : Config) (t : State) → Soon s p c t → Within 6 s p c t
+later s p c t a = widen 3 6 (omega arith) s p c t a
 
 -- of those of a site
 
@@ -151,7 +170,7 @@ module _ {s : Source} {p : Program} where
       (k : machine.Memory) (n r : ℕ) (around : Option Loop) → InFrame g h k.lists ks n r around → Running s p g h m k
       → GivesIn g h v ks m.place ls k.lists → Giving s p v ks m ls k
   gives_in g h v [] m ls k n r around a b d = absurd a
-  gives_in g h v (part q ∷ ks) m ls k n r around a b d = (g, h, b, d)
+  gives_in g h v (part q ∷ ks) m ls k n r around a b d = given_in s p v q ks m ls k (g, h, b, d)
   gives_in g h v (activation c q ∷ ks) m ls k n r around a b d = (g, h, b, d)
   gives_in g h v (iteration c it q ∷ ks) m ls k n r around a b d = absurd a
   gives_in g h v (ensuring o ∷ ks) m ls k n r around a b d = absurd a

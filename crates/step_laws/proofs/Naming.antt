@@ -31,7 +31,7 @@ symbols_are : (s : Source) (k : Kind) (n : ℕ) (p : form.Parameters) (ls : List
 symbols_are s of_program n p ls f i w = absurd w
 symbols_are s of_block n p ls f i w = ap (λ (j : Irep). j.symbols) w.is
 symbols_are s of_method n p ls f i w = ap (λ (j : Irep). j.symbols) w.is
-symbols_are s of_class n p ls f i w = absurd w
+symbols_are s of_class n p ls f i w = ap (λ (j : Irep). j.symbols) w.is
 
 pub names_written : (s : Source) (n : ℕ) (ks : List Kind) (bs : List Body) (is : List Irep) → AllWritten s n ks bs is
     → (st : Store) → with_names st (all_names bs) ≡ with_names st (all_symbols is)

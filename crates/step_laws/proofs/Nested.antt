@@ -1,22 +1,19 @@
 -- Where forms stand in turn in a body of a source: the bodies in those before are behind them.
-use Rattle.std.proofs.Common.{◌≡◌, ◌<◌, ◌≤◌, ℕ, ◌+◌, [], ◌∷◌, length, refl, sym, ap, ◌∙◌, subst, arith, ⊎_elim}
+use Rattle.std.proofs.Common.{◌≡◌, ◌<◌, ◌≤◌, ℕ, ◌+◌, List, ◌∷◌, sym, ap, ◌∙◌, subst, arith, true, false, ⊎_elim}
 use Rattle.std.specs.Prelude.{slice_get, Some}
 use Rattle.std.proofs.lemmas.Bool.{cases_lt}
 use Rattle.ir_core.specs.CoreForm as form
-use Rattle.ir_core.specs.CoreForm.{Name, CoreForm, Body, Forms, Items, Receiver, form_of}
+use Rattle.ir_core.specs.CoreForm.{CoreForm, Body, Maybe, Forms, Items, Pairs, Branches, form_of}
 use Rattle.ir_core.specs.Program as program
+use Rattle.ir_core.specs.Program.{within_loop, within_block, within_method, within_class}
 use Rattle.scope_resolver.specs.Layout.{Scopes}
-use Rattle.gen_parts.specs.declared.emitter.Spot.{Spot}
-use Rattle.gen_parts.specs.Pieces.{Piece, past}
-use Rattle.def_eval.specs.Source.{Source, body_at, span, span_forms, how_many}
+use Rattle.def_eval.specs.Source.{Source, body_at, over_body, over_maybe, over_forms, over_items, over_pairs, over_branches, over_asked, span, how_many}
 use Rattle.eval_laws.specs.Kinds.{Kind, of_block, IsKind}
-use Rattle.eval_laws.specs.Standing.{FormsStand, FormStands, BlockStands}
+use Rattle.eval_laws.specs.Standing.{past_items, past_branches, FormStands, MaybeStands, FormsStand, ItemsStand, PairsStand, BranchesStand}
 use Rattle.eval_laws.proofs.Forming.{body_from}
-use Rattle.step_laws.specs.Plain.{IsPlain}
+use Rattle.step_laws.specs.Plain.{IsPlain, IsPlainBlock, ArePlain, ArePlainItems, ArePlainPairs, ArePlainBranches, IsPlainMaybe}
 use Rattle.step_laws.specs.Around.{slots_for, inside_of, Around, inside}
-use Rattle.step_laws.specs.Tops.{IsPlainCall, IsLast, assigns_it, returns_it, AreTops, no_tops, form_before, method_before, call_before, value_before, list_before}
-use Rattle.step_laws.proofs.Bodiless.{no_bodies, none_in_items}
-use Rattle.step_laws.proofs.Making.{none_in_receiver, call_number}
+use Rattle.step_laws.proofs.Spans.{none_asked, behind_items, behind_branches}
 
 -- the bodies with these numbers have none past the last of them
 pub record Closed (s : Source) (n m : ℕ) : Type 0 where
@@ -45,87 +42,186 @@ body_closed s n f e a = record {
         ap (inside_of s) is ∙ ap (λ (b : Body). span (form_of b)) (body_from s n f e) in
         omega (arith, is, same)
 
--- what stands of a block, and of the form whose value is taken
-pub block_stands : (s : Source) (a : program.Around) (n : ℕ) (e : Receiver) (x : Name) (is : Items) (b : Body)
-    → IsPlainCall e is → FormStands s a n (form.call e x is (form.there (form.function b))) → BlockStands s a n b
-block_stands s a n e x is b m st = subst (λ (i : ℕ). BlockStands s a i b) (call_number n e is m) st.3
+-- Bodies one after the other.
 
-pub last_stands : {f e : CoreForm} → IsLast f e → (s : Source) (a : program.Around) (n : ℕ) → FormStands s a n f
-    → FormStands s a n e
-last_stands (assigns_it is) s a n st = st.1
-last_stands returns_it s a n st = st
+pub none_at : (s : Source) (n : ℕ) → Closed s n (n + 0)
+none_at s n = none_closed s n (n + 0) (omega arith)
 
--- The bodies in forms at the top of a body are closed.
+pub then_closed : (s : Source) (n i k : ℕ) → Closed s n (n + i) → Closed s (n + i) (n + i + k) → Closed s n
+    (n + (i + k))
+then_closed s n i k a b =
+    subst (Closed s n) (omega arith) (both_closed s n (n + i) (n + i + k) (omega arith) a b)
 
--- those in the form of a body
-abbrev InnerClosed : Source → ℕ → CoreForm → Type 0
-InnerClosed s n f = (a : program.Around) → FormStands s a n f → Closed s n (n + span f)
+-- behind a name
+named_closed : (s : Source) (n k : ℕ) → Closed s n (n + k) → Closed s n (n + (0 + k))
+named_closed s n k a = subst (Closed s n) (omega arith) a
 
-method_closed : (s : Source) (a : program.Around) (n : ℕ) (x : Name) (f : Body)
-    → FormStands s a n (form.define x f) → InnerClosed s (n + 1) (form_of f) → Closed s n (n + span (form.define x f))
-method_closed s a n x (form.body p ls f) st inner =
-    subst (Closed s n) (omega arith)
-    (body_closed s n (form.body p ls f) st.1.0 (inner (program.within_method p ls) st.1.2))
+-- what is so from a number on is so from the same one
+pub closed_from : (s : Source) (n m k : ℕ) → n ≡ m → Closed s n (n + k) → Closed s m (m + k)
+closed_from s n m k e a = subst (λ (i : ℕ). Closed s i (i + k)) e a
 
-block_closed : (s : Source) (a : program.Around) (n : ℕ) (e : Receiver) (x : Name) (is : Items) (f : Body)
-    → IsPlainCall e is → BlockStands s a n f → InnerClosed s (n + 1) (form_of f)
-    → Closed s n (n + span (form.call e x is (form.there (form.function f))))
-block_closed s a n e x is (form.body p ls f) m st inner =
-    let first = none_in_receiver how_many (λ y. refl) refl e m.receiver in
-    let items = none_in_items how_many (λ y. refl) refl is m.items in
-    subst (Closed s n) (omega (arith, first, items))
-    (body_closed s n (form.body p ls f) st.0 (inner (program.within_block a p ls) st.2))
+-- The bodies in a plain form that stands in a source are closed.
+module _ (s : Source) where
+  -- a receiver, items and a block
+  called_closed : (n i : ℕ) (is' : Items) (m : Maybe) → Closed s n (n + i)
+      → Closed s (n + i) (n + i + over_items how_many is')
+      → Closed s (past_items (n + i) is') (past_items (n + i) is' + over_maybe how_many m)
+      → Closed s n (n + (0 + (i + (over_items how_many is' + over_maybe how_many m))))
+  called_closed n i is' m x y z =
+      let c = over_items how_many is' in
+      let k = over_maybe how_many m in
+      named_closed s n (i + (c + k))
+      (then_closed s n i (c + k) x
+      (then_closed s (n + i) c k y
+      (closed_from s (past_items (n + i) is') (n + i + c) k (behind_items (n + i) is') z)))
 
-last_closed : {f e : CoreForm} → IsLast f e → (s : Source) (n : ℕ) → Closed s n (n + span e) → Closed s n (n + span f)
-last_closed (assigns_it is) s n c = c
-last_closed returns_it s n c = c
+  whole_closed : (n : ℕ) (p : form.Parameters) (ls : List form.Local) (f : CoreForm)
+      → slice_get s n ≡ Some (form.body p ls f) → Closed s (n + 1) (n + 1 + span f)
+      → Closed s n (n + over_body how_many (form.body p ls f))
+  whole_closed n p ls f e inner = subst (Closed s n) (omega arith) (body_closed s n (form.body p ls f) e inner)
 
-then_closed : (s : Source) (n : ℕ) (e : CoreForm) (es : Forms) → Closed s n (n + span e)
-    → Closed s (n + span e) (n + span e + span_forms es) → Closed s n (n + span_forms (form.more e es))
-then_closed s n e es a b =
-    subst (Closed s n) (omega arith) (both_closed s n (n + span e) (n + span e + span_forms es) (omega arith) a b)
+  mutual
+    pub closed : (e : CoreForm) → IsPlain e → (a : program.Around) (n : ℕ) → FormStands s a n e → Closed s n
+        (n + span e)
+    closed form.nil is a n st = none_at s n
+    closed form.truth is a n st = none_at s n
+    closed form.falsehood is a n st = none_at s n
+    closed form.self_ref is a n st = none_at s n
+    closed (form.int z) is a n st = none_at s n
+    closed (form.str t) is a n st = none_at s n
+    closed (form.sym x) is a n st = none_at s n
+    closed (form.local x) is a n st = none_at s n
+    closed (form.own x) is a n st = absurd is
+    closed form.exception is a n st = absurd is
+    closed (form.set_local x e) is a n st = closed e is a n st.1
+    closed (form.ivar x) is a n st = none_at s n
+    closed (form.set_ivar x e) is a n st = named_closed s n (span e) (closed e is a n st.1)
+    closed (form.gvar x) is a n st = none_at s n
+    closed (form.set_gvar x e) is a n st = named_closed s n (span e) (closed e is a n st.1)
+    closed (form.constant x) is a n st = none_at s n
+    closed (form.top_constant x) is a n st = none_at s n
+    closed (form.in_constant e x) is a n st = named_closed s n (span e) (closed e is a n st.1)
+    closed (form.set_constant x e) is a n st = named_closed s n (span e) (closed e is a n st.1)
+    closed (form.set_in_constant e x v) is a n st = named_closed s n (span e + span v)
+        (then_closed s n (span e) (span v) (closed e is.0 a n st.1) (closed v is.1 a (n + span e) st.2))
+    closed (form.array is') is a n st = closed_items is' is a n st
+    closed (form.hash ps) is a n st = closed_pairs ps is a n st
+    closed (form.range b c x) is a n st = then_closed s n (span b) (span c) (closed b is.0 a n st.0)
+        (closed c is.1 a (n + span b) st.1)
+    closed (form.text es) is a n st = closed_forms es is a n st
+    closed (form.intern e) is a n st = closed e is a n st
+    closed (form.seq es) is a n st = closed_forms es is a n st
+    closed (form.cond bs o) is a n st = then_closed s n (over_branches how_many bs) (span o)
+        (closed_branches bs is.0 a n st.0) (closed_from s (past_branches n bs) (n + over_branches how_many bs) (span o)
+        (behind_branches n bs) (closed o is.1 a (past_branches n bs) st.1))
+    closed (form.and_form b c) is a n st = then_closed s n (span b) (span c) (closed b is.0 a n st.0)
+        (closed c is.1 a (n + span b) st.1)
+    closed (form.or_form b c) is a n st = then_closed s n (span b) (span c) (closed b is.0 a n st.0)
+        (closed c is.1 a (n + span b) st.1)
+    closed (form.while_form false b c) is a n st = then_closed s n (span b) (span c)
+        (closed b is.0 (within_loop a) n st.0) (closed c is.1 (within_loop a) (n + span b) st.1)
+    closed (form.while_form true b c) is a n st = then_closed s n (span b) (span c)
+        (closed b is.0 (within_loop a) n st.0) (closed c is.1 (within_loop a) (n + span b) st.1)
+    closed (form.call (form.to e) x is' m) is a n st = called_closed n (span e) is' m (closed e is.0 a n st.1)
+        (closed_items is' is.1 a (n + span e) st.2) (closed_block m is.3 a (past_items (n + span e) is') st.3)
+    closed (form.call form.on_self x is' m) is a n st = called_closed n 0 is' m (none_at s n)
+        (closed_from s n (n + 0) (over_items how_many is') (omega arith) (closed_items is' is.0 a n st.2))
+        (closed_from s (past_items n is') (past_items (n + 0) is') (over_maybe how_many m)
+        (ap (λ (i : ℕ). past_items i is') (omega arith)) (closed_block m is.2 a (past_items n is') st.3))
+    closed (form.call form.bare x form.no_items form.absent) is a n st = none_at s n
+    closed (form.call form.bare x form.no_items (form.there b)) is a n st = absurd is
+    closed (form.call form.bare x (form.plain e is') b) is a n st = absurd is
+    closed (form.call form.bare x (form.splat e is') b) is a n st = absurd is
+    closed (form.yield_form is') is a n st = closed_items is' is a n st
+    closed (form.super_form is' form.absent) is a n st =
+        then_closed s n (over_items how_many is') 0 (closed_items is' is.1 a n st.0) (none_at s (n + over_items how_many is'))
+    closed (form.super_form is' (form.there b)) is a n st =
+        then_closed s n (over_items how_many is') (span b) (closed_items is' is.0 a n st.0)
+        (closed_from s (past_items n is') (n + over_items how_many is') (span b) (behind_items n is')
+        (closed b is.2 a (past_items n is') st.1))
+    closed (form.function (form.body p ls f)) is a n st = whole_closed n p ls f st.0
+        (closed f is.1 (within_block a p ls) (n + 1) st.2)
+    closed (form.lambda (form.body p ls f)) is a n st =
+        whole_closed n p ls f st.0 (closed f is.1 (within_block a p ls) (n + 1) st.2)
+    closed (form.begin_form b cs o e) is a n st = absurd is
+    closed (form.return_form e) is a n st = closed e is a n st
+    closed (form.break_form e) is a n st = closed e is a n st
+    closed (form.next_form e) is a n st = closed e is a n st
+    closed form.retry is a n st = absurd is
+    closed (form.define x (form.body p ls f)) is a n st = named_closed s n (over_body how_many (form.body p ls f))
+        (whole_closed n p ls f st.1.0 (closed f is.1 (within_method p ls) (n + 1) st.1.2))
+    closed (form.define_on e x (form.body p ls f)) is a n st =
+        let k = over_body how_many (form.body p ls f) in
+        named_closed s n (span e + k) (then_closed s n (span e) k (closed e is.0 a n st.1)
+        (whole_closed (n + span e) p ls f st.2.0 (closed f is.2 (within_method p ls) (n + span e + 1) st.2.2)))
+    closed (form.class_form k x p (form.body ps ls f)) is a n st =
+        let i = over_maybe how_many k in
+        let j = over_maybe how_many p in
+        let b = over_body how_many (form.body ps ls f) in
+        named_closed s n (i + (j + b)) (then_closed s n i (j + b) (closed_maybe k is.0 a n st.1)
+        (then_closed s (n + i) j b (closed_maybe p is.1 a (n + i) st.2)
+        (whole_closed (n + i + j) ps ls f st.3.0 (closed f is.2 (within_class ls) (n + i + j + 1) st.3.1))))
+    closed (form.module_form k x (form.body ps ls f)) is a n st =
+        let i = over_maybe how_many k in
+        let b = over_body how_many (form.body ps ls f) in
+        named_closed s n (i + b) (then_closed s n i b (closed_maybe k is.0 a n st.1)
+        (whole_closed (n + i) ps ls f st.2.0 (closed f is.1 (within_class ls) (n + i + 1) st.2.1)))
+    closed (form.singleton_class e (form.body ps ls f)) is a n st =
+        let b = over_body how_many (form.body ps ls f) in
+        then_closed s n (span e) b (closed e is.0 a n st.0)
+        (whole_closed (n + span e) ps ls f st.1.0 (closed f is.1 (within_class ls) (n + span e + 1) st.1.1))
+    closed (form.alias_form x y) is a n st = none_closed s n (n + (0 + 0)) (omega arith)
+    closed (form.undef_form x) is a n st = none_at s n
+    closed (form.defined q x form.absent) is a n st = none_closed s n (n + (over_asked how_many q x + 0))
+        (omega (arith, none_asked q x))
+    closed (form.defined q x (form.there e)) is a n st = subst (Closed s n) (omega (arith, none_asked q x))
+        (closed e is.0 a n st.1)
+    closed (form.item e q) is a n st = closed e is a n st
+    closed (form.rest_of e from post) is a n st = closed e is a n st
+    closed (form.tail_of e from count) is a n st = closed e is.0 a n st
 
-one_closed : (s : Source) (n : ℕ) (e : CoreForm) → Closed s n (n + span_forms (form.more e form.none))
-    → Closed s n (n + span e)
-one_closed s n e c = subst (Closed s n) (omega arith) c
+    pub closed_maybe : (m : Maybe) → IsPlainMaybe m → (a : program.Around) (n : ℕ) → MaybeStands s a n m
+        → Closed s n (n + over_maybe how_many m)
+    closed_maybe form.absent is a n st = none_at s n
+    closed_maybe (form.there b) is a n st = closed b is a n st
 
-plain_closed : (s : Source) (n : ℕ) (e : CoreForm) → IsPlain e → Closed s n (n + span e)
-plain_closed s n e is = none_closed s n (n + span e) (omega (arith, no_bodies how_many (λ y. refl) refl e is))
+    pub closed_block : (m : Maybe) → IsPlainBlock m → (a : program.Around) (n : ℕ) → MaybeStands s a n m
+        → Closed s n (n + over_maybe how_many m)
+    closed_block form.absent is a n st = none_at s n
+    closed_block (form.there b) is a n st = closed b is a n st
 
-pub tops_closed : {es : Forms} → AreTops es → (s : Source) (a : program.Around) (n : ℕ) → FormsStand s a n es
-    → Closed s n (n + span_forms es)
-tops_closed no_tops s a n st = none_closed s n (n + 0) (omega arith)
-tops_closed (form_before {e} {es} is tops) s a n st =
-    then_closed s n e es (plain_closed s n e is) (tops_closed tops s a (n + span e) st.1)
-tops_closed (method_before {x} {f} {es} m body tops) s a n st =
-    then_closed s n (form.define x f) es
-    (method_closed s a n x f st.0 (λ b i. one_closed s (n + 1) (form_of f) (tops_closed body s b (n + 1) (i, tt))))
-    (tops_closed tops s a (n + span (form.define x f)) st.1)
-tops_closed (call_before {e} {x} {is} {f} {es} m block body tops) s a n st =
-    let whole = form.call e x is (form.there (form.function f)) in
-    then_closed s n whole es
-    (block_closed s a n e x is f m (block_stands s a n e x is f m st.0)
-    (λ b i. one_closed s (n + 1) (form_of f) (tops_closed body s b (n + 1) (i, tt))))
-    (tops_closed tops s a (n + span whole) st.1)
-tops_closed (value_before {f} {e} {es} is inner tops) s a n st =
-    then_closed s n f es
-    (last_closed is s n (one_closed s n e (tops_closed inner s a n (last_stands is s a n st.0, tt))))
-    (tops_closed tops s a (n + span f) st.1)
-tops_closed (list_before {fs} {es} inner tops) s a n st =
-    then_closed s n (form.seq fs) es (tops_closed inner s a n st.0) (tops_closed tops s a (n + span (form.seq fs)) st.1)
+    pub closed_forms : (es : Forms) → ArePlain es → (a : program.Around) (n : ℕ) → FormsStand s a n es
+        → Closed s n (n + over_forms how_many es)
+    closed_forms form.none is a n st = none_at s n
+    closed_forms (form.more e es) is a n st =
+        then_closed s n (span e) (over_forms how_many es) (closed e is.0 a n st.0)
+        (closed_forms es is.1 a (n + span e) st.1)
 
--- and those of the first form
-pub first_closed : {e : CoreForm} {es : Forms} → AreTops (form.more e es) → (s : Source) (a : program.Around) (n : ℕ)
-    → FormsStand s a n (form.more e es) → Closed s n (n + span e)
-first_closed (form_before {e} {es} is tops) s a n st = plain_closed s n e is
-first_closed (method_before {x} {f} {es} m body tops) s a n st =
-    method_closed s a n x f st.0 (λ b i. one_closed s (n + 1) (form_of f) (tops_closed body s b (n + 1) (i, tt)))
-first_closed (call_before {e} {x} {is} {f} {es} m block body tops) s a n st =
-    block_closed s a n e x is f m (block_stands s a n e x is f m st.0)
-    (λ b i. one_closed s (n + 1) (form_of f) (tops_closed body s b (n + 1) (i, tt)))
-first_closed (value_before {f} {e} {es} is inner tops) s a n st =
-    last_closed is s n (one_closed s n e (tops_closed inner s a n (last_stands is s a n st.0, tt)))
-first_closed (list_before {fs} {es} inner tops) s a n st = tops_closed inner s a n st.0
+    pub closed_items : (is' : Items) → ArePlainItems is' → (a : program.Around) (n : ℕ) → ItemsStand s a n is'
+        → Closed s n (n + over_items how_many is')
+    closed_items form.no_items is a n st = none_at s n
+    closed_items (form.plain e is') is a n st =
+        then_closed s n (span e) (over_items how_many is') (closed e is.0 a n st.0)
+        (closed_items is' is.1 a (n + span e) st.1)
+    closed_items (form.splat e is') is a n st =
+        then_closed s n (span e) (over_items how_many is') (closed e is.0 a n st.0)
+        (closed_items is' is.1 a (n + span e) st.1)
+
+    pub closed_pairs : (ps : Pairs) → ArePlainPairs ps → (a : program.Around) (n : ℕ) → PairsStand s a n ps
+        → Closed s n (n + over_pairs how_many ps)
+    closed_pairs form.no_pairs is a n st = none_at s n
+    closed_pairs (form.pair b c ps) is a n st =
+        then_closed s n (span b) (span c + over_pairs how_many ps) (closed b is.0 a n st.0)
+        (then_closed s (n + span b) (span c) (over_pairs how_many ps) (closed c is.1 a (n + span b) st.1)
+        (closed_pairs ps is.2 a (n + span b + span c) st.2))
+
+    pub closed_branches : (bs : Branches) → ArePlainBranches bs → (a : program.Around) (n : ℕ) → BranchesStand s a n bs
+        → Closed s n (n + over_branches how_many bs)
+    closed_branches form.no_branches is a n st = none_at s n
+    closed_branches (form.branch b c bs) is a n st =
+        then_closed s n (span b) (span c + over_branches how_many bs) (closed b is.0 a n st.0)
+        (then_closed s (n + span b) (span c) (over_branches how_many bs) (closed c is.1 a (n + span b) st.1)
+        (closed_branches bs is.2 a (n + span b + span c) st.2))
 
 -- The forms with bodies from number n up to m stand in a body whose code sees these slots, in turn behind others.
 pub record Inside (s : Source) (scopes : Scopes) (n m : ℕ) : Type 0 where
@@ -140,7 +236,7 @@ pub record Inside (s : Source) (scopes : Scopes) (n m : ℕ) : Type 0 where
   pub closed : Closed s (body + 1) n
 
 -- what follows
-pub inside_on : (s : Source) (scopes : Scopes) (n m q : ℕ) → n ≤ q → Closed s n q → Inside s scopes n m
+inside_on : (s : Source) (scopes : Scopes) (n m q : ℕ) → n ≤ q → Closed s n q → Inside s scopes n m
     → Inside s scopes q m
 inside_on s scopes n m q le c w = record {
   body = w.body;
@@ -155,7 +251,7 @@ inside_on s scopes n m q le c w = record {
 }
 
 -- fewer of them
-pub inside_less : (s : Source) (scopes : Scopes) (n m q : ℕ) → q ≤ m → Inside s scopes n m → Inside s scopes n q
+inside_less : (s : Source) (scopes : Scopes) (n m q : ℕ) → q ≤ m → Inside s scopes n m → Inside s scopes n q
 inside_less s scopes n m q le w = record {
   body = w.body;
   kind = w.kind;
@@ -168,17 +264,16 @@ inside_less s scopes n m q le w = record {
   closed = w.closed;
 }
 
--- so where the code of the first form ends
-pub inside_past : (s : Source) (scopes : Scopes) (t : Spot) (q : Piece) (e : CoreForm) (es : Forms)
-    → span e ≡ length q.bodies → Closed s t.body (t.body + span e)
-    → Inside s scopes t.body (t.body + span_forms (form.more e es))
-    → Inside s scopes (past t q).body ((past t q).body + span_forms es)
-unfolding past
-inside_past s scopes t q e es long closed w =
-    subst (λ (i : ℕ). Inside s scopes i (i + span_forms es)) (omega (arith, long))
-    (inside_less s scopes (t.body + span e) (t.body + span_forms (form.more e es)) (t.body + span e + span_forms es)
-    (omega arith)
-    (inside_on s scopes t.body (t.body + span_forms (form.more e es)) (t.body + span e) (omega arith) closed w))
+-- the first of them, and those behind some
+pub inside_first : (s : Source) (scopes : Scopes) (n k i : ℕ) → i ≤ k → Inside s scopes n (n + k)
+    → Inside s scopes n (n + i)
+inside_first s scopes n k i le w = inside_less s scopes n (n + k) (n + i) (omega (arith, le)) w
+
+pub inside_then : (s : Source) (scopes : Scopes) (n k i r : ℕ) → i + r ≤ k → Closed s n (n + i)
+    → Inside s scopes n (n + k) → Inside s scopes (n + i) (n + i + r)
+inside_then s scopes n k i r le closed w =
+    inside_less s scopes (n + i) (n + k) (n + i + r) (omega (arith, le))
+    (inside_on s scopes n (n + k) (n + i) (omega arith) closed w)
 
 -- a block among them sees these slots
 pub block_sees : (s : Source) (scopes : Scopes) (n m : ℕ) → Inside s scopes n m → n < m → IsKind s n of_block

@@ -13,8 +13,9 @@ use Rattle.def_eval.specs.Transition.{go}
 use Rattle.def_machine.specs.State as machine
 use Rattle.def_machine.specs.State.{Level}
 use Rattle.step_laws.specs.Site.{Site}
-use Rattle.step_laws.specs.Calm.{IsSteady, Quiet}
-use Rattle.step_laws.specs.Behind.{Static, OperandBehind, to_local, to_outer, to_global, strict, breaks, begins_round, leaves_body, ends_body, goes_far}
+use Rattle.step_laws.specs.Calm.{IsSteady, Quiet, Peace}
+use Rattle.step_laws.specs.Spaces.{Opening}
+use Rattle.step_laws.specs.Behind.{Static, OperandBehind, to_local, to_outer, to_global, strict, breaks, begins_round, leaves_body, ends_body, goes_far, defines_method, opens_space, opens_without, opens_under}
 use Rattle.step_laws.specs.Relation.{Ground, Common, Doing, GivesIn, Step}
 use Rattle.step_laws.proofs.Matching.{state_at}
 use Rattle.step_laws.proofs.Literals.{aligned}
@@ -23,6 +24,8 @@ use Rattle.step_laws.proofs.Globals.{give_global}
 use Rattle.step_laws.proofs.Returns.{give_return, give_round}
 use Rattle.step_laws.proofs.Far.{give_far}
 use Rattle.step_laws.proofs.Jumps.{give_break, give_next}
+use Rattle.step_laws.proofs.Receivers.{give_define_on}
+use Rattle.step_laws.proofs.Classes.{give_last, give_scope, give_under}
 use Rattle.step_laws.proofs.Strict.{one_operand, two_operands, give_strict}
 
 module _ (g : Ground) (h : Site) (static : Static h) (j : ℕ) (ks : List Item) (m : source.Memory) (ls : List Level)
@@ -104,11 +107,15 @@ module _ (g : Ground) (h : Site) (static : Static h) (j : ℕ) (ks : List Item) 
 
   pub give_operand : (v : Value) (i : ℕ) (a : Action) (vs : List Value) (es : Forms)
       (d : GivesIn g h v (part (operands i a vs es) ∷ ks) m.place ls k.lists)
-      → Quiet m (go h.source (Run (give v) (part (operands i a vs es) ∷ ks) m))
+      → Peace h.source h.program (give v) (part (operands i a vs es) ∷ ks) m
+      → Opening (give v) (part (operands i a vs es) ∷ ks) m
       → Step h (Run (give v) (part (operands i a vs es) ∷ ks) m) (state_at g h d.x d.n (aligned k m))
-  give_operand v i a vs es d quiet = by d.next.behind
+  give_operand v i a vs es d peace opening = by d.next.behind
     where
-      by : OperandBehind h k.lists a vs es d.next.low d.n d.r d.next.end d.loop
+      quiet : Quiet m (go h.source (Run (give v) (part (operands i a vs es) ∷ ks) m))
+      quiet = peace.quiet
+
+      by : OperandBehind h k.lists i a vs es d.next.low d.n d.r d.next.end d.loop
           → Step h (Run (give v) (part (operands i a vs es) ∷ ks) m) (state_at g h d.x d.n (aligned k m))
       by (to_local b) = give_local g h static ks m ls k both v i a vs es d b
       by (to_outer b) = give_outer g h static ks m ls k both v i a vs es d b
@@ -117,5 +124,9 @@ module _ (g : Ground) (h : Site) (static : Static h) (j : ℕ) (ks : List Item) 
       by (begins_round b) = give_next g h static ks m ls k both v i a vs es d b
       by (leaves_body b) = give_return g h static ks m ls k both v i a vs es d b
       by (ends_body b) = give_round g h static ks m ls k both v i a vs es d b
+      by (defines_method b) = give_define_on g h static ks m ls k both v i a vs es d b quiet
+      by (opens_space b) = give_last g h static ks m ls k both v i a vs es d peace opening b
+      by (opens_without b) = give_scope g h static ks m ls k both v i a vs es d peace opening b
+      by (opens_under b) = give_under g h static ks m ls k both v i a vs es d peace opening b
       by (goes_far b) = give_far g h static ks m ls k both v i a vs es d b quiet
       by (strict b) = give_strict g h static ks m ls k both steady d.there v i a vs es d b quiet

@@ -68,7 +68,7 @@ not_bare : (n : ℕ) → nat_lt 253 n ≡ false → nat_eq n 254 ≡ false
 not_bare n h = grind (arith, nat_tests)
 
 -- values that stand in a row
-row_is : (f : Frame) (m : Memory) (r : ℕ) (vs : List Value) → Holds m.lists f.list r vs → row f m r (length vs) ≡ vs
+pub row_is : (f : Frame) (m : Memory) (r : ℕ) (vs : List Value) → Holds m.lists f.list r vs → row f m r (length vs) ≡ vs
 row_is f m r [] s = refl
 row_is f m r (v ∷ vs) s =
     ap (λ (u : Value). u ∷ row f m (r + 1) (length vs)) (ap read s.0)

@@ -14,7 +14,7 @@ use Rattle.def_eval.specs.Configuration.{all_nil}
 use Rattle.def_eval.specs.Scopes.{same_local, value_in, with_values}
 
 -- both sides compare locals alike
-same_is : (x y : Local) → are_same x y ≡ same_local x y
+pub same_is : (x y : Local) → are_same x y ≡ same_local x y
 same_is (named x) (named y) = refl
 same_is (named x) (hidden d) = refl
 same_is (named x) (pattern k) = refl

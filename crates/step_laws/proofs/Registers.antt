@@ -1,26 +1,26 @@
 -- A write to one register, and what it leaves.
-use Rattle.std.proofs.Common.{◌≡◌, ◌≢◌, ℕ, zero, suc, ◌+◌, ◌<◌, ◌≤◌, List, [], ◌∷◌, refl, sym, ap, ◌∙◌, subst, arith, length, get_or, set, Bool, true, false, length-set, get_or-set_same, get_or-set_other, true≢false, map}
+use Rattle.std.proofs.Common.{◌≡◌, ◌≢◌, ℕ, zero, suc, ◌+◌, ◌<◌, ◌≤◌, List, [], ◌∷◌, refl, sym, ap, ◌∙◌, subst, arith, length, get_or, set, Bool, true, false, length-set, get_or-set_same, get_or-set_other, map}
 use Rattle.std.specs.Prelude.{Option, Some, None, unwrap_or, is_some, if◌then◌else◌}
-use Rattle.std.proofs.lemmas.Bool.{eq-eqb, eqb-true}
-use Rattle.std.proofs.lemmas.Slice.Eq.{bytes_eq-Decides}
 use Rattle.rb_value.specs.declared.value.Value.{Value}
 use Rattle.rb_value.specs.declared.value.Value.TheVariants.{Nil}
 use Rattle.rb_value.specs.declared.exit.Slot.{Slot}
 use Rattle.rb_value.specs.declared.exit.Slot.TheVariants.{V}
 use Rattle.rb_value.specs.Slot.{read}
-use Rattle.ir_core.specs.CoreForm.{Name, Local, named, hidden, pattern, rest, Forms}
+use Rattle.ir_core.specs.CoreForm.{Local, Forms}
 use Rattle.gen_forms.specs.declared.context.Loop.{Loop}
 use Rattle.def_eval.specs.Configuration.{Place, Scope, Action, Part, operands, receiver, items, block, elements, hash_key, hash_value, pieces, rest as rest_part, test, chosen, and_then, or_else, loop_test, loop_body, rescued, clause_class, clause_target, clause_body, ensured, Item, part, activation, iteration, ensuring, Memory}
 use Rattle.def_eval.specs.Scopes.{same_local, value_in, put_value, no_scope, scope_at, outward, scopes_around, first_with, scope_of, variable, put_in, with_variable}
 use Rattle.def_machine.specs.State.{Registers, no_registers, body_at, list_at, slot_at, value_at, put}
 use Rattle.scope_laws.specs.Numbers.{parents, outers}
 use Rattle.step_laws.specs.Site.{Site, place_in, register, Known}
-use Rattle.step_laws.specs.Behind.{Static, Holds, HoldsCall, OperandBehind, Behind, to_local, to_outer, to_global, strict, breaks, begins_round, leaves_body, ends_body, goes_far}
+use Rattle.step_laws.specs.Behind.{Static, Holds, HoldsCall, OperandBehind, in_literal, in_call, Behind, to_local, to_outer, to_global, strict, breaks, begins_round, leaves_body, ends_body, goes_far, defines_method, opens_space, opens_without, opens_under}
 use Rattle.scope_resolver.specs.declared.seek.Search.TheVariants.{Past}
 use Rattle.scope_resolver.specs.Layout.{seek}
 use Rattle.step_laws.specs.Around.{is_found, first_slots}
 use Rattle.step_laws.specs.Relation.{Inside, Mirrors, Same}
+use Rattle.code_laws.specs.Bound.{IsSeen}
 use Rattle.step_laws.proofs.Apart.{own_place}
+use Rattle.step_laws.proofs.Seen.{Sort, seen, unseen, sort, seen_scope, same, is_same}
 
 pub list_same : (l : List Registers) (n i : ℕ) (v : Slot) → n < length l
     → list_at (put l n i v) n ≡ record (list_at l n) { slots = set (list_at l n).slots i v }
@@ -89,25 +89,34 @@ holds_kept h l l' r low [] k above le s = tt
 holds_kept h l l' r low (v ∷ vs) k above le s =
     (k.same low above (omega arith) ∙ s.0, holds_kept h l l' r (low + 1) vs k (omega arith) (omega arith) s.1)
 
-call_kept : (h : Site) (l l' : List Registers) (own : Bool) (r low : ℕ) (recv : Value) (vs : List Value)
+pub call_kept : (h : Site) (l l' : List Registers) (own : Bool) (r low : ℕ) (recv : Value) (vs : List Value)
     → Keeps h l l' r → h.first ≤ low → low + 1 + length vs ≤ r → HoldsCall h l own low recv vs
     → HoldsCall h l' own low recv vs
 call_kept h l l' false r low recv vs k above le s = holds_kept h l l' r low (recv ∷ vs) k above (omega arith) s
 call_kept h l l' true r low recv vs k above le s =
     (s.0, holds_kept h l l' r (low + 1) vs k (omega arith) (omega arith) s.1)
 
-operand_kept : (h : Site) (l l' : List Registers) (a : Action) (vs : List Value) (es : Forms) (low n r end : ℕ)
-    (around : Option Loop) → Keeps h l l' r → h.first ≤ low → OperandBehind h l a vs es low n r end around
-    → OperandBehind h l' a vs es low n r end around
-operand_kept h l l' a vs es low n r end around k above (to_local b) = to_local b
-operand_kept h l l' a vs es low n r end around k above (to_outer b) = to_outer b
-operand_kept h l l' a vs es low n r end around k above (to_global b) = to_global b
-operand_kept h l l' a vs es low n r end around k above (breaks b) = breaks b
-operand_kept h l l' a vs es low n r end around k above (begins_round b) = begins_round b
-operand_kept h l l' a vs es low n r end around k above (leaves_body b) = leaves_body b
-operand_kept h l l' a vs es low n r end around k above (ends_body b) = ends_body b
-operand_kept h l l' a vs es low n r end around k above (goes_far b) = goes_far b
-operand_kept h l l' a vs es low n r end around k above (strict b) = strict (record {
+operand_kept : (h : Site) (l l' : List Registers) (j : ℕ) (a : Action) (vs : List Value) (es : Forms) (low n r end : ℕ)
+    (around : Option Loop) → Keeps h l l' r → h.first ≤ low → OperandBehind h l j a vs es low n r end around
+    → OperandBehind h l' j a vs es low n r end around
+operand_kept h l l' j a vs es low n r end around k above (to_local b) = to_local b
+operand_kept h l l' j a vs es low n r end around k above (to_outer b) = to_outer b
+operand_kept h l l' j a vs es low n r end around k above (to_global b) = to_global b
+operand_kept h l l' j a vs es low n r end around k above (breaks b) = breaks b
+operand_kept h l l' j a vs es low n r end around k above (begins_round b) = begins_round b
+operand_kept h l l' j a vs es low n r end around k above (leaves_body b) = leaves_body b
+operand_kept h l l' j a vs es low n r end around k above (ends_body b) = ends_body b
+operand_kept h l l' j a vs es low n r end around k above (goes_far b) = goes_far b
+operand_kept h l l' j a vs es low n r end around k above (defines_method b) = defines_method b
+operand_kept h l l' j a vs es low n r end around k above (opens_without b) = opens_without b
+operand_kept h l l' j a vs es low n r end around k above (opens_under b) = opens_under b
+operand_kept h l l' j a vs es low n r end around k above (opens_space b) = opens_space (record {
+  row = b.row;
+  held = holds_kept h l l' r low vs k above (omega (arith, b.row)) b.held;
+  last = b.last;
+  opening = b.opening;
+})
+operand_kept h l l' j a vs es low n r end around k above (strict b) = strict (record {
   row = b.row;
   held = holds_kept h l l' r low vs k above (omega (arith, b.row)) b.held;
   s = b.s;
@@ -125,7 +134,7 @@ operand_kept h l l' a vs es low n r end around k above (strict b) = strict (reco
 
 behind_kept : (h : Site) (l l' : List Registers) (p : Part) (low n r end : ℕ) (around : Option Loop) → Keeps h l l' r
     → h.first ≤ low → Behind h l p low n r end around → Behind h l' p low n r end around
-behind_kept h l l' (operands j a vs es) low n r end around k above b = operand_kept h l l' a vs es low n r end around k above b
+behind_kept h l l' (operands j a vs es) low n r end around k above b = operand_kept h l l' j a vs es low n r end around k above b
 behind_kept h l l' (receiver j x is o) low n r end around k above b = b
 behind_kept h l l' (items j s recv vs is o) low n r end around k above b =
     let still = call_kept h l l' b.own r low recv vs k above (omega (arith, b.at)) b.held in
@@ -147,14 +156,13 @@ behind_kept h l l' (block s recv vs) low n r end around k above b =
       at = b.at;
       room = b.room;
       few = b.few;
-      name = b.name;
-      named = b.named;
-      sending = b.sending;
+      sender = b.sender;
+      passes = b.passes;
       held = still;
       sends = b.sends;
       ends = b.ends;
     }
-behind_kept h l l' (elements j g o s is) low n r end around k above b = record {
+behind_kept h l l' (elements j g o s is) low n r end around k above (in_literal b) = in_literal (record {
   at = b.at;
   gathers = b.gathers;
   held = k.same low above (omega (arith, b.at)) ∙ b.held;
@@ -165,7 +173,27 @@ behind_kept h l l' (elements j g o s is) low n r end around k above b = record {
   pushes = b.pushes;
   code = b.code;
   ends = b.ends;
-}
+})
+behind_kept h l l' (elements j g o s is) low n r end around k above (in_call b) = in_call (record {
+  at = b.at;
+  sender = b.sender;
+  recv = b.recv;
+  given = b.given;
+  gathers = b.gathers;
+  callee = b.callee;
+  sending = b.sending;
+  own = b.own;
+  called = call_kept h l l' b.own r low b.recv [] k above (omega (arith, b.at)) b.called;
+  held = k.same (low + 1) (omega (arith, above)) (omega (arith, b.at)) ∙ b.held;
+  s = b.s;
+  here = b.here;
+  room = b.room;
+  room_behind = b.room_behind;
+  covered = b.covered;
+  pushes = b.pushes;
+  code = b.code;
+  ends = b.ends;
+})
 behind_kept h l l' (hash_key j o v ps) low n r end around k above b = record {
   at = b.at;
   held = k.same low above (omega (arith, b.at)) ∙ b.held;
@@ -251,12 +279,6 @@ same_above h cs l r v static above s = record {
 
 -- Variables.
 
-same : (x : Local) → same_local x x ≡ true
-same (named x) = (bytes_eq-Decides x x).1 refl
-same (hidden d) = eq-eqb d d refl
-same (pattern k) = eq-eqb k k refl
-same rest = refl
-
 value_same : (vs : List (Local × Value)) (x : Local) (u : Value) → value_in (put_value vs x u) x ≡ Some u
 value_same [] x u = ap (λ (b : Bool). if b then Some u else None) (same x)
 value_same (v ∷ vs) x u = at (value_same vs x u) (same_local x v.0) refl
@@ -265,25 +287,6 @@ value_same (v ∷ vs) x u = at (value_same vs x u) (same_local x v.0) refl
         → value_in (if b then (x, u) ∷ vs else v ∷ put_value vs x u) x ≡ Some u
     at further true e = ap (λ (b : Bool). if b then Some u else value_in vs x) (same x)
     at further false e = ap (λ (b : Bool). if b then Some v.1 else value_in (put_value vs x u) x) e ∙ further
-
--- the local that is the same
-is_same : (x y : Local) → same_local x y ≡ true → y ≡ x
-is_same (named x) (named z) e = ap named (sym ((bytes_eq-Decides x z).0 e))
-is_same (named x) (hidden d) e = absurd (true≢false (sym e))
-is_same (named x) (pattern k) e = absurd (true≢false (sym e))
-is_same (named x) rest e = absurd (true≢false (sym e))
-is_same (hidden c) (named z) e = absurd (true≢false (sym e))
-is_same (hidden c) (hidden d) e = ap hidden (sym (eqb-true c d e))
-is_same (hidden c) (pattern k) e = absurd (true≢false (sym e))
-is_same (hidden c) rest e = absurd (true≢false (sym e))
-is_same (pattern i) (named z) e = absurd (true≢false (sym e))
-is_same (pattern i) (hidden d) e = absurd (true≢false (sym e))
-is_same (pattern i) (pattern k) e = ap pattern (sym (eqb-true i k e))
-is_same (pattern i) rest e = absurd (true≢false (sym e))
-is_same rest (named z) e = absurd (true≢false (sym e))
-is_same rest (hidden d) e = absurd (true≢false (sym e))
-is_same rest (pattern k) e = absurd (true≢false (sym e))
-is_same rest rest e = refl
 
 value_other : (vs : List (Local × Value)) (x y : Local) (u : Value) → same_local y x ≡ false
     → value_in (put_value vs x u) y ≡ value_in vs y
@@ -306,19 +309,21 @@ unfolding scopes_around
 found_here cs n x own =
     ap (λ (b : Bool). unwrap_or (if b then Some n else first_with cs (outward n cs (scope_at cs n).parent) x) n) own
 
-name_there : (h : Site) (c : Scope) (x : Name) → Known h (named x) → Mirrors h c
-    → is_some (value_in c.variables (named x)) ≡ true
-name_there h c x k mirrors = mirrors x ∙ own_place h.context.scopes x k.level k.behind_self
+local_there : (h : Site) (c : Scope) (x : Local) → IsSeen x → Known h x → Mirrors h c
+    → is_some (value_in c.variables x) ≡ true
+local_there h c x is k mirrors = mirrors x is ∙ own_place h.context.scopes x is k.level k.behind_self
 
 -- that of a local of the body
 scope_is : (h : Site) (m : Memory) (x : Local) → m.place.scope ≡ h.list → Known h x → Mirrors h (scope_at m.scopes h.list)
     → scope_of m x ≡ h.list
-scope_is h m (named x) e k o =
-    ap (λ (n : ℕ). unwrap_or (first_with m.scopes (scopes_around m.scopes n) (named x)) n) e
-    ∙ found_here m.scopes h.list (named x) (name_there h (scope_at m.scopes h.list) x k o)
-scope_is h m (hidden d) e k o = e
-scope_is h m (pattern q) e k o = absurd k.scoped
-scope_is h m rest e k o = absurd k.scoped
+scope_is h m x e k o = by (sort x)
+  where
+    by : Sort x → scope_of m x ≡ h.list
+    by (seen is) =
+        seen_scope m x is
+        ∙ ap (λ (n : ℕ). unwrap_or (first_with m.scopes (scopes_around m.scopes n) x) n) e
+        ∙ found_here m.scopes h.list x (local_there h (scope_at m.scopes h.list) x is k o)
+    by (unseen d q) = ap (λ (z : Local). scope_of m z) q ∙ e
 
 -- what a local reads as
 pub named_is : (h : Site) (m : Memory) (l : List Registers) (x : Local) → m.place ≡ place_in h → Same h m.scopes l
@@ -330,25 +335,21 @@ named_is h m l x there s k =
     ∙ s.alike x k
 
 -- a local of the body that is set was there before
-known_there : (h : Site) (c : Scope) (x : Local) (y : Name) → Known h x → Mirrors h c → same_local (named y) x ≡ true
-    → is_found (seek (named y) (first_slots h.context.scopes) (Past 1)) ≡ true
-known_there h c (named x) y k mirrors e =
-    ap (λ (z : Local). is_found (seek z (first_slots h.context.scopes) (Past 1))) (sym (is_same (named y) (named x) e))
-    ∙ own_place h.context.scopes x k.level k.behind_self
-known_there h c (hidden d) y k mirrors e = absurd (true≢false (sym e))
-known_there h c (pattern q) y k mirrors e = absurd (true≢false (sym e))
-known_there h c rest y k mirrors e = absurd (true≢false (sym e))
+known_there : (h : Site) (x y : Local) → IsSeen y → Known h x → same_local y x ≡ true
+    → is_found (seek y (first_slots h.context.scopes) (Past 1)) ≡ true
+known_there h x y is k e =
+    let own = subst (Known h) (is_same y x e) k in own_place h.context.scopes y is own.level own.behind_self
 
 mirrors_put : (h : Site) (c : Scope) (x : Local) (u : Value) → Known h x → Mirrors h c
     → Mirrors h (record c { variables = put_value c.variables x u })
-mirrors_put h c x u k mirrors y = at (same_local (named y) x) refl
+mirrors_put h c x u k mirrors y is = at (same_local y x) refl
   where
-    at : (b : Bool) → same_local (named y) x ≡ b → is_some (value_in (put_value c.variables x u) (named y))
-        ≡ is_found (seek (named y) (first_slots h.context.scopes) (Past 1))
+    at : (b : Bool) → same_local y x ≡ b → is_some (value_in (put_value c.variables x u) y)
+        ≡ is_found (seek y (first_slots h.context.scopes) (Past 1))
     at true e =
-        ap (λ (z : Local). is_some (value_in (put_value c.variables x u) z)) (sym (is_same (named y) x e))
-        ∙ ap is_some (value_same c.variables x u) ∙ sym (known_there h c x y k mirrors e)
-    at false e = ap is_some (value_other c.variables x (named y) u e) ∙ mirrors y
+        ap (λ (z : Local). is_some (value_in (put_value c.variables x u) z)) (sym (is_same y x e))
+        ∙ ap is_some (value_same c.variables x u) ∙ sym (known_there h x y is k e)
+    at false e = ap is_some (value_other c.variables x y u e) ∙ mirrors y is
 
 scope_put : (cs : List Scope) (n : ℕ) (x : Local) (v : Value) → n < length cs
     → scope_at (put_in cs n x v) n ≡ record (scope_at cs n) { variables = put_value (scope_at cs n).variables x v }

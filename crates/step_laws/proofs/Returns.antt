@@ -17,6 +17,7 @@ use Rattle.gen_parts.specs.Pieces.{does, ◌⊕◌}
 use Rattle.gen_forms.specs.Gen.{gen, return_by}
 use Rattle.def_calls.specs.World.{Answer, activation_at, fail}
 use Rattle.def_calls.specs.Calls.{close}
+use Rattle.def_eval.specs.Source.{span}
 use Rattle.def_eval.specs.Configuration as source
 use Rattle.def_eval.specs.Configuration.{Place, Exit, return, next, Action, leave_method, leave_round, Part, operands, Stop, passes, loops, rescues, assigns, retries, ensures, stop_of, Item, part, activation, perform, give, travel, Config, Run}
 use Rattle.def_eval.specs.Entering.{after}
@@ -30,13 +31,13 @@ use Rattle.def_machine.specs.Unwind.{receive, throw}
 use Rattle.step_laws.specs.Site.{Site, within, LineAt}
 use Rattle.step_laws.specs.Calm.{Quiet}
 use Rattle.step_laws.specs.Measure.{measure}
-use Rattle.step_laws.specs.Far.{returns_far, home_exit}
+use Rattle.step_laws.specs.Far.{ends_itself, MayReturn, returns_far, home_exit}
 use Rattle.step_laws.proofs.Placed.{high, Stands, Rest, frame_at, turned}
 use Rattle.step_laws.specs.Behind.{Static, OperandBehind, ReturnBehind, RoundBehind, leaves_body, goes_far}
 use Rattle.step_laws.specs.Relation.{Ground, IsPassed, IsLeft, Common, Doing, GivesIn, Home, returning, Related, Step}
 use Rattle.step_laws.proofs.Untouched.{grown}
 use Rattle.step_laws.proofs.Matching.{by_none, going, state_at}
-use Rattle.step_laws.proofs.Calling.{From, passed, falls, given_back}
+use Rattle.step_laws.proofs.Calling.{From, falls, given_back}
 use Rattle.step_laws.proofs.Literals.{aligned}
 use Rattle.step_laws.proofs.Exits.{weight_pos, returned_by}
 use Rattle.step_laws.proofs.Leaving.{home_of, under_way, begins_last}
@@ -65,29 +66,29 @@ module _ (g : Ground) (h : Site) (static : Static h) (ks : List Item) (m : sourc
     where
       done : (o : Operation) → return_by h.context.kind_of d.r ≡ o
           → ((n : ℕ) → LineAt h n (line.Does o)
-          → OperandBehind h k.lists leave_method [] none d.r n d.r
+          → OperandBehind h k.lists (j + span e) leave_method [] none d.r n d.r
           (d.n + high (gen (within h d.loop) d.s d.r (return_form e))) d.loop)
           → Step h (Run (perform j (return_form e)) ks m) (state_at g h d.x d.n (aligned k m))
       done o is behind =
-          begins_last g h ks m ls k both j (return_form e) e leave_method d refl (omega arith) d.covered o
+          begins_last g h ks m ls k both j (return_form e) e leave_method d refl (omega arith) d.covered.0 o
           (subst (λ (q : Operation). Stands h d.n (gen (within h d.loop) d.s d.r e ⊕ does q)) is d.code) behind
 
-      ends : return_by h.context.kind_of d.r ≡ op.Return d.r
+      ends : return_by h.context.kind_of d.r ≡ op.Return d.r → ends_itself h.context.kind_of ≡ true
           → Step h (Run (perform j (return_form e)) ks m) (state_at g h d.x d.n (aligned k m))
-      ends is = done (op.Return d.r) is (λ n l. leaves_body (record {
+      ends is own = done (op.Return d.r) is (λ n l. leaves_body (record {
         at = refl;
         action = refl;
         first = refl;
         last = refl;
-        own = is;
+        own = own;
         returns = l;
       }))
 
       by : (q : BodyKind) → h.context.kind_of ≡ q
           → Step h (Run (perform j (return_form e)) ks m) (state_at g h d.x d.n (aligned k m))
-      by kind.Main is = ends (ap (λ (q : BodyKind). return_by q d.r) is)
-      by kind.Method is = ends (ap (λ (q : BodyKind). return_by q d.r) is)
-      by kind.Class is = ends (ap (λ (q : BodyKind). return_by q d.r) is)
+      by kind.Main is = ends (ap (λ (q : BodyKind). return_by q d.r) is) (ap ends_itself is)
+      by kind.Method is = ends (ap (λ (q : BodyKind). return_by q d.r) is) (ap ends_itself is)
+      by kind.Class is = absurd (subst MayReturn is d.covered.1)
       by kind.Block is = done (op.ReturnBlk d.r) (ap (λ (q : BodyKind). return_by q d.r) is) (λ n l. goes_far (record {
         at = refl;
         by = returns_far;
@@ -112,7 +113,7 @@ module _ (g : Ground) (h : Site) (static : Static h) (ks : List Item) (m : sourc
       ∙ ap (λ (us : List Value). next_operand h.source j leave_method (us ++ v ∷ []) es ks m) b.first
       ∙ ap (λ (fs : Forms). next_operand h.source j leave_method (v ∷ []) fs ks m) b.last
       ∙ ap (λ (p : Place). leave_to return failure v ks m (Some (activation_at m.world p.activation).home)) d.there
-      ∙ ap (λ (i : ℕ). leave_to return failure v ks m (Some i)) ((both.all.sites.each h both.site).home d.next.low b.own)
+      ∙ ap (λ (i : ℕ). leave_to return failure v ks m (Some i)) ((both.all.sites.each h both.site).home b.own)
       ∙ ap (λ (t : Bool). if t then Run (travel (return h.activation v)) ks m else after failure ks m)
       (under_way g h k.lists false ks home) in
       by_none h c (state_at g h d.x d.n (aligned k m))

@@ -1,56 +1,58 @@
 -- Calls: the receiver, the items one after the other, and the call.
-use Rattle.std.proofs.Common.{◌≡◌, ◌⊎◌, ℕ, ◌+◌, ◌<◌, List, [], ◌∷◌, refl, sym, ap, ◌∙◌, subst, arith, length, Bool, true, false}
+use Rattle.std.proofs.Common.{◌≡◌, ◌⊎◌, inl, ℕ, ◌+◌, ◌<◌, List, ◌∷◌, refl, sym, ap, ◌∙◌, subst, arith, length, Bool, true, false}
 use Rattle.std.specs.Prelude.{if◌then◌else◌, Option, None, nat_lt}
 use Rattle.rb_value.specs.declared.value.Value.{Value}
 use Rattle.rb_value.specs.declared.value.ObjId.{ObjId}
 use Rattle.rb_value.specs.declared.exit.Slot.TheVariants.{V}
 use Rattle.rb_value.specs.Slot.{read}
-use Rattle.rite_code.specs.declared.code.Irep.{Irep}
 use Rattle.rite_code.specs.declared.operation.Operation.{Operation}
 use Rattle.rite_code.specs.declared.operation.Operation.TheVariants as op
 use Rattle.ir_counts.specs.Tables.{item_count}
-use Rattle.ir_core.specs.CoreForm.{Name, function, Body, Maybe, absent, there, Items, no_items, plain, splat}
+use Rattle.ir_core.specs.CoreForm.{Name, CoreForm, Maybe, absent, there, Items, no_items, plain, splat}
 use Rattle.gen_parts.specs.declared.line.Line.TheVariants as line
 use Rattle.gen_parts.specs.declared.emitter.Spot.{Spot}
-use Rattle.scope_resolver.specs.declared.body_kind.BodyKind.TheVariants as kind
-use Rattle.gen_parts.specs.Pieces.{past, nothing, makes, ◌⊕◌}
+use Rattle.gen_parts.specs.Pieces.{past, does, nothing, ◌⊕◌}
 use Rattle.gen_parts.proofs.Laws.{past-both}
 use Rattle.gen_forms.specs.declared.context.Loop.{Loop}
-use Rattle.gen_forms.specs.Gen.{gen, pass_in_registers, body_code, symbol as entry_of}
-use Rattle.def_core.specs.Store.{with_object}
+use Rattle.gen_forms.specs.Gen.{gen, pass_in_registers, symbol as entry_of}
+use Rattle.def_core.specs.Store.{next_number, with_object}
 use Rattle.def_rows.specs.Answers.{items_object}
 use Rattle.def_calls.specs.World.{World, with_store, activation_at}
-use Rattle.def_calls.specs.Calls.{Sending, by_name, to_proc, Entry}
+use Rattle.def_calls.specs.Calls.{Sending, by_name, to_proc, to_super, Entry}
 use Rattle.def_calls.specs.Calls as calls
 use Rattle.def_eval.specs.Configuration as source
 use Rattle.eval_laws.specs.Standing.{past_items}
-use Rattle.def_eval.specs.Configuration.{Place, receiver, items, block, Item, part, perform, Config, Run}
+use Rattle.def_eval.specs.Configuration.{Place, block, Item, part, perform, Config, Run}
+use Rattle.def_eval.specs.Scopes.{running}
 use Rattle.def_eval.specs.Entering.{enter}
-use Rattle.def_eval.specs.Forms.{perform_call, own_block, with_arguments, next_item}
+use Rattle.def_eval.specs.Forms.{perform_call, own_block, asked, with_arguments, packed as packed_in, next_item}
 use Rattle.def_eval.specs.Transition.{go}
 use Rattle.def_machine.specs.State as machine
-use Rattle.def_machine.specs.State.{Registers, Frame, frame, value_at, put}
+use Rattle.def_machine.specs.State.{Registers, frame, value_at}
 use Rattle.def_machine.specs.Entering.{enter as enter_machine}
-use Rattle.def_machine.specs.Turn.{turn, call as call_machine, arguments}
-use Rattle.step_laws.specs.Site.{Site, within, place_in, at_line, LineAt, Room, Named, number}
-use Rattle.step_laws.specs.Covered.{CoveredItems}
-use Rattle.step_laws.specs.Covers.{Makes, past_items_code}
-use Rattle.step_laws.specs.Calm.{IsSteady, Still}
+use Rattle.def_machine.specs.Unwind.{after as after_machine}
+use Rattle.def_machine.specs.Turn.{turn, call as call_machine, row, make_array, arguments}
+use Rattle.step_laws.specs.Site.{Site, within, place_in, at_line, LineAt, Room, number}
+use Rattle.step_laws.specs.Covers.{past_items_code, Covers, CoversItems}
+use Rattle.step_laws.specs.Calm.{IsSteady, IsBlock, Still}
 use Rattle.step_laws.specs.Bodies.{EntersBody, CallsBodies}
-use Rattle.step_laws.specs.Measure.{size_items, size_block, burden, measure}
-use Rattle.step_laws.proofs.Covers.{at_top}
-use Rattle.step_laws.proofs.Placed.{high, high-both, high-nothing, line-past, Stands, left, right, Rest, frame_at, turned}
-use Rattle.step_laws.proofs.Matching.{Soon, soon_none, state_at, written}
-use Rattle.step_laws.specs.Behind.{Static, Holds, HoldsCall, CallBy, block_sender, CallEnds, alone, with_literal, ItemsEnd, by_call, by_yield}
-use Rattle.step_laws.specs.Relation.{Waits, Ground, over_levels, InFrame, Common, Related}
-use Rattle.step_laws.proofs.Registers.{slot_same, slot_other, keeps_above}
-use Rattle.step_laws.proofs.Untouched.{put_only, frame_kept, grown, same_here, written_here, below_running}
-use Rattle.step_laws.proofs.Calling.{From, Worlds}
-use Rattle.step_laws.proofs.Definitions.{high_made}
+use Rattle.step_laws.specs.Measure.{size, size_items, size_block, burden, measure}
+use Rattle.step_laws.proofs.Placed.{high, high-both, high-puts, high-nothing, line-past, Stands, left, right, Rest, frame_at, turned}
+use Rattle.step_laws.proofs.Matching.{Within, Soon, soon_none, later, state_at, written}
+use Rattle.step_laws.specs.Behind.{Static, Holds, HoldsCall, CallBy, block_sender, PassesBlock, Callee, a_method, sending_of, ArrayEnds, CallEnds, alone, with_block, packed, ItemsEnd, by_call, by_yield, by_block, AsksBlock, by_own, by_array}
+use Rattle.step_laws.specs.Relation.{Ground, InFrame, Common, Related}
+use Rattle.step_laws.proofs.Registers.{slot_same, keeps_above}
+use Rattle.step_laws.proofs.Untouched.{put_only, frame_kept, same_here, written_here}
+use Rattle.step_laws.proofs.Calling.{From}
+use Rattle.step_laws.proofs.Waiting.{asking, waiting_worlds, waiting_frame}
+use Rattle.step_laws.proofs.Packing.{steady_kept, new_elements, items_held, called_held, items_kept}
+use Rattle.step_laws.proofs.Arguments.{array_on}
+use Rattle.step_laws.proofs.Asking.{asks_on}
+use Rattle.step_laws.proofs.Passing.{sender_passes}
 use Rattle.step_laws.proofs.Called.{call_entered}
 use Rattle.step_laws.proofs.Entered.{then_enters, entered}
 use Rattle.step_laws.proofs.Literals.{aligned}
-use Rattle.step_laws.proofs.Operators.{few, arguments_are, calls_value, calls_self}
+use Rattle.step_laws.proofs.Operators.{few, row_is, arguments_are, calls_value, calls_self}
 
 -- A call some of whose items have their values, at line n; the number is that of the first body behind.
 pub record CallSite (g : Ground) (h : Site) (l : List Registers) (sender : Sending) (recv : Value) (vs : List Value)
@@ -63,43 +65,29 @@ pub record CallSite (g : Ground) (h : Site) (l : List Registers) (sender : Sendi
   pub r : ℕ
   pub row : low + 1 + length vs ≡ r
   pub room : Room h low
-  pub covered : CoveredItems h r is
+  pub covered : CoversItems h loop r s j is
   pub held : HoldsCall h l own low recv vs
   pub code : Stands h n (pass_in_registers (within h loop) s r is)
   pub end : ℕ
-  pub ends : ItemsEnd h sender low (length vs + item_count is) own (past_items_code h loop r s is) (past_items j is) b
+  pub ends : ItemsEnd h loop sender low (length vs + item_count is) own (past_items_code h loop r s is) (past_items j is) b
       (n + high (pass_in_registers (within h loop) s r is)) end
   pub next : InFrame g h l ks end low loop
 
-pub ends_moved : (h : Site) (low : ℕ) (x : Name) (c c' : ℕ) (own : Bool) (s s' : Spot) (j : ℕ) (b : Maybe) (n n' end : ℕ)
-    → c ≡ c' → s ≡ s' → n ≡ n' → CallEnds h low x c own s j b n end → CallEnds h low x c' own s' j b n' end
-ends_moved h low x c c' own s s' j b n n' end same_count same_spot same_line e =
-    subst (λ (i : ℕ). CallEnds h low x i own s' j b n' end) same_count
-    (subst (λ (t : Spot). CallEnds h low x c own t j b n' end) same_spot
-    (subst (λ (i : ℕ). CallEnds h low x c own s j b i end) same_line e))
+pub ends_moved : (h : Site) (around : Option Loop) (low : ℕ) (x : Name) (c c' : ℕ) (own : Bool) (s s' : Spot) (j : ℕ)
+    (b : Maybe) (n n' end : ℕ) → c ≡ c' → s ≡ s' → n ≡ n' → CallEnds h around low x c own s j b n end
+    → CallEnds h around low x c' own s' j b n' end
+ends_moved h around low x c c' own s s' j b n n' end same_count same_spot same_line e =
+    subst (λ (i : ℕ). CallEnds h around low x i own s' j b n' end) same_count
+    (subst (λ (t : Spot). CallEnds h around low x c own t j b n' end) same_spot
+    (subst (λ (i : ℕ). CallEnds h around low x c own s j b i end) same_line e))
 
-pub sent_moved : (h : Site) (q : Sending) (low c c' : ℕ) (own : Bool) (s s' : Spot) (j : ℕ) (b : Maybe) (n n' end : ℕ)
-    → c ≡ c' → s ≡ s' → n ≡ n' → ItemsEnd h q low c own s j b n end → ItemsEnd h q low c' own s' j b n' end
-sent_moved h q low c c' own s s' j b n n' end same_count same_spot same_line e =
-    subst (λ (i : ℕ). ItemsEnd h q low i own s' j b n' end) same_count
-    (subst (λ (t : Spot). ItemsEnd h q low c own t j b n' end) same_spot
-    (subst (λ (i : ℕ). ItemsEnd h q low c own s j b i end) same_line e))
-
-stands_made : (h : Site) (n b : ℕ) (o : Operation) (bodies : List Irep) → LineAt h n (line.Does o)
-    → Stands h n (makes o b bodies)
-unfolding Stands makes
-stands_made h n b o bodies l = (l, tt)
-
--- a frame that waits in a register for what its instruction calls
-abbrev pub asking : Site → Rest → ℕ → ℕ → Rest
-asking h x n r = record x { after = at_line h (n + 1); waits = r }
-
--- other registers keep the items
-pub items_kept : (h : Site) (l : List Registers) (r i : ℕ) (v : Value) (vs : List Value) → h.list < length l → i < r
-    → Holds l h.list r vs → Holds (put l h.list i (V v)) h.list r vs
-items_kept h l r i v [] lt below s = tt
-items_kept h l r i v (u ∷ vs) lt below s =
-    (slot_other l h.list i r (V v) lt (omega arith) ∙ s.0, items_kept h l (r + 1) i v vs lt (omega arith) s.1)
+pub sent_moved : (h : Site) (around : Option Loop) (q : Sending) (low c c' : ℕ) (own : Bool) (s s' : Spot) (j : ℕ)
+    (b : Maybe) (n n' end : ℕ) → c ≡ c' → s ≡ s' → n ≡ n' → ItemsEnd h around q low c own s j b n end
+    → ItemsEnd h around q low c' own s' j b n' end
+sent_moved h around q low c c' own s s' j b n n' end same_count same_spot same_line e =
+    subst (λ (i : ℕ). ItemsEnd h around q low i own s' j b n' end) same_count
+    (subst (λ (t : Spot). ItemsEnd h around q low c own t j b n' end) same_spot
+    (subst (λ (i : ℕ). ItemsEnd h around q low c own s j b i end) same_line e))
 
 module _ (g : Ground) (h : Site) (static : Static h) (ks : List Item) (m : source.Memory)
     (k : machine.Memory) (both : Common g h m (aligned k m)) (steady : IsSteady h.source m.world)
@@ -109,13 +97,14 @@ module _ (g : Ground) (h : Site) (static : Static h) (ks : List Item) (m : sourc
 
   -- the evaluation enters what is called
   goes_in : (j : ℕ) (sender : Sending) (recv : Value) (vs : List Value) (q : Sending) → sender ≡ q → own_block q m ≡ None
-      → nat_lt 253 (length vs) ≡ false
+      → asked q m ≡ m → nat_lt 253 (length vs) ≡ false
       → next_item h.source j sender recv vs no_items absent ks m ≡ enter h.source (the_entry q recv vs) None ks m
-  goes_in j sender recv vs q e unblocked n =
+  goes_in j sender recv vs q e unblocked unasked n =
       ap (λ (b : Bool). with_arguments h.source j sender recv vs absent ks (if b
       then source.with_world m (with_store m.world (with_object m.world.store (items_object vs))) else m)) n
-      ∙ ap (λ (z : Sending). perform_call h.source z recv vs (own_block z m) ks m) e
-      ∙ ap (λ (b : Option ObjId). perform_call h.source q recv vs b ks m) unblocked
+      ∙ ap (λ (z : Sending). with_arguments h.source j z recv vs absent ks m) e
+      ∙ ap (λ (b : Option ObjId). perform_call h.source q recv vs b ks (asked q m)) unblocked
+      ∙ ap (perform_call h.source q recv vs None ks) unasked
       ∙ ap (λ (p : Place). enter h.source (calls.call m.world (activation_at m.world p.activation) q recv vs None) None ks m)
       at_home
 
@@ -133,29 +122,6 @@ module _ (g : Ground) (h : Site) (static : Static h) (ks : List Item) (m : sourc
       (arguments_are (frame_at h x n) k' r count vs held all n253)
       ∙ ap (λ (w : World). enter_machine h.program (calls.call w (activation_at w h.activation) q recv vs None) None
       (frame (frame_at h (asking h x n r) n) ∷ g.below) k') same
-
-  -- both sides, the frame of the call waiting
-  pub waiting_worlds : (k' : machine.Memory) → Common g h m k' → (f : Frame) → f.list ≡ h.list
-      → Worlds h.source h.program (over_levels g (frame f ∷ g.below)) m m k'
-  waiting_worlds k' b f e w grows =
-      grown (over_levels g (frame f ∷ g.below)) m k' (below_running g h m k' b f e) m.place w grows
-
-  pub waiting_frame : (x : Rest) (n r : ℕ) (around : Option Loop) (k' : machine.Memory) → Common g h m k' → Room h r
-      → InFrame g h k'.lists ks (n + 1) r around
-      → Waits g.sites g.fiber k'.lists ks m.place (frame (frame_at h (asking h x n r) n) ∷ g.below)
-  waiting_frame x n r around k' b room next = record {
-    h = h;
-    x = asking h x n r;
-    at = n;
-    n = n + 1;
-    is = refl;
-    site = b.site;
-    after = refl;
-    room = room;
-    there = at_home;
-    around = around;
-    next = next;
-  }
 
   -- the transition enters no body, or what is called are methods with code
   abbrev MayCall : Config → Type 0
@@ -180,7 +146,7 @@ module _ (g : Ground) (h : Site) (static : Static h) (ks : List Item) (m : sourc
       let f = frame_at h (asking h x n low) n in
       entered h.source h.program c (frame (frame_at h x n) ∷ g.below) (aligned k m) m from (the_entry q recv vs) None ks m g
       (frame f ∷ g.below) k' goes (turns ∙ turns_in x n low count k' recv vs q first held all n253 same) less refl
-      (waiting_worlds k' both' f refl) (waiting_frame x n low around k' both' room next) (enters_by c q recv vs calls)
+      (waiting_worlds g h m k' both' f refl) (waiting_frame g h ks m x n low around k' at_home both'.site room next) (enters_by c q recv vs calls)
 
   -- behind the last item stands one line
   behind_last : (s : Spot) (r n end low : ℕ) (o : Operation) (loop : Option Loop)
@@ -206,7 +172,7 @@ module _ (g : Ground) (h : Site) (static : Static h) (ks : List Item) (m : sourc
   call_now c x n j sender recv vs mb b y o by_that stands tall from goes e less calls =
       let count : length vs + item_count no_items ≡ length vs = omega arith in
       let n253 = few h b.low y (length vs + item_count no_items) b.own o by_that in
-      let goes' = goes ∙ goes_in j sender recv vs (by_name (number h.source y)) e refl
+      let goes' = goes ∙ goes_in j sender recv vs (by_name (number h.source y)) e refl refl
       (ap (nat_lt 253) (sym count) ∙ n253) in
       let last = behind_last b.s b.r n b.end b.low o b.loop stands tall b.next in
       by b.own by_that b.held last.0 last.1 goes' count n253
@@ -257,32 +223,62 @@ module _ (g : Ground) (h : Site) (static : Static h) (ks : List Item) (m : sourc
       let last = behind_last b.s b.r n b.end b.low o b.loop stands tall b.next in
       called_at c x n b.low b.loop to_proc recv vs (length vs + item_count no_items) (aligned k m) both b.room last.1
       (ap read held.0) held.1 count n253 refl from
-      (goes ∙ goes_in j sender recv vs to_proc e refl (ap (nat_lt 253) (sym count) ∙ n253))
+      (goes ∙ goes_in j sender recv vs to_proc e refl refl (ap (nat_lt 253) (sym count) ∙ n253))
       (turned h x n o g.below (aligned k m) last.0) less calls
 
-  -- all items have their values, and the block is made
+  -- or that of the method is passed
+  asks_now : (c : Config) (x : Rest) (n j : ℕ) (sender : Sending) (recv : Value) (vs : List Value) (mb : Maybe)
+      (b : CallSite g h k.lists sender recv vs no_items ks n j mb) → sender ≡ to_super → b.own ≡ true
+      → nat_lt 253 (length vs + item_count no_items) ≡ false → Room h (b.low + 1 + (length vs + item_count no_items))
+      → AsksBlock h (b.low + 1 + (length vs + item_count no_items))
+      (n + high (pass_in_registers (within h b.loop) b.s b.r no_items))
+      → LineAt h (n + high (pass_in_registers (within h b.loop) b.s b.r no_items) + 1 + 1 + 1)
+      (line.Does (op.Super b.low (length vs + item_count no_items)))
+      → n + high (pass_in_registers (within h b.loop) b.s b.r no_items) + 1 + 1 + 1 + 1 ≡ b.end
+      → From h c (frame (frame_at h x n) ∷ g.below) (aligned k m) m
+      → go h.source c ≡ next_item h.source j sender recv vs no_items absent ks m → burden ks m < measure c → MayCall c
+      → IsBlock m.world.store.objects (running m).block
+      → Within 6 h.source h.program c (state_at g h x n (aligned k m))
+  asks_now c x n j sender recv vs mb b e own few room asks stands tall from goes less may can =
+      let count : length vs + item_count no_items ≡ length vs = omega arith in
+      let here : n + high (pass_in_registers (within h b.loop) b.s b.r no_items) ≡ n = omega (arith, high-nothing) in
+      let few' : nat_lt 253 (length vs) ≡ false = ap (nat_lt 253) (sym count) ∙ few in
+      let l = n + high (pass_in_registers (within h b.loop) b.s b.r no_items) in
+      asks_on g h ks m k both at_home c x n from less b.low recv vs b.loop b.room
+      (subst (λ (i : ℕ). Room h (b.low + 1 + i)) count room)
+      (subst (λ (t : Bool). HoldsCall h k.lists t b.low recv vs) own b.held) few'
+      (subst (AsksBlock h (b.low + 1 + length vs)) here (subst (λ (i : ℕ). AsksBlock h (b.low + 1 + i) l) count asks))
+      (subst (λ (i : ℕ). LineAt h (i + 1 + 1 + 1) (line.Does (op.Super b.low (length vs)))) here
+      (subst (λ (i : ℕ). LineAt h (l + 1 + 1 + 1) (line.Does (op.Super b.low i))) count stands))
+      (subst (λ (i : ℕ). InFrame g h k.lists ks i b.low b.loop) (omega (arith, here, tall)) b.next) j can
+      (goes
+      ∙ ap (λ (t : Bool). with_arguments h.source j sender recv vs absent ks (if t
+      then source.with_world m (with_store m.world (with_object m.world.store (items_object vs))) else m)) few'
+      ∙ ap (λ (q : Sending). with_arguments h.source j q recv vs absent ks m) e) may
+
+  -- all items have their values, and the block is about to be done
   block_now : (c : Config) (x : Rest) (n j : ℕ) (sender : Sending) (recv : Value) (vs : List Value) (mb : Maybe)
-      (b : CallSite g h k.lists sender recv vs no_items ks n j mb) (y : Name) (f : Body) (count : ℕ) → count ≡ length vs
-      → mb ≡ there (function f) → nat_lt 253 count ≡ false → Named h y
-      → Makes h (b.low + 1 + count) (past_items_code h b.loop b.r b.s no_items) j f
-      → LineAt h n (line.Does (op.Block (b.low + 1 + count) (past_items_code h b.loop b.r b.s no_items).child))
-      → LineAt h (n + 1) (line.Does (block_sender b.own b.low (entry_of h.context y) count))
-      → n + 1 + 1 ≡ b.end → go h.source c ≡ next_item h.source j sender recv vs no_items mb ks m
-      → sender ≡ by_name (number h.source y) → 3 + burden ks m < measure c
+      (b : CallSite g h k.lists sender recv vs no_items ks n j mb) (o : Operation) (f : CoreForm) (count : ℕ)
+      → count ≡ length vs → mb ≡ there f → nat_lt 253 count ≡ false → PassesBlock h b.low b.own sender count o
+      → Covers h b.loop (b.low + 1 + count) (past_items_code h b.loop b.r b.s no_items) j f
+      → Stands h n (gen (within h b.loop) (past_items_code h b.loop b.r b.s no_items) (b.low + 1 + count) f)
+      → LineAt h (n + high (gen (within h b.loop) (past_items_code h b.loop b.r b.s no_items) (b.low + 1 + count) f))
+      (line.Does o)
+      → n + high (gen (within h b.loop) (past_items_code h b.loop b.r b.s no_items) (b.low + 1 + count) f) + 1 ≡ b.end
+      → go h.source c ≡ next_item h.source j sender recv vs no_items mb ks m
+      → 2 + size f + burden ks m < measure c
       → Soon h.source h.program c (state_at g h x n (aligned k m))
-  block_now c x n j sender recv vs mb b y f count all literal few named made first second tall goes e less =
+  block_now c x n j sender recv vs mb b o f count all given few passes covered first second tall goes less =
       let sp = past_items_code h b.loop b.r b.s no_items in
       let r = b.low + 1 + count in
-      let bodies = body_code kind.Block h.context.scopes sp.body f in
-      let o = op.Block r sp.child in
       let few' : nat_lt 253 (length vs) ≡ false = ap (nat_lt 253) (sym all) ∙ few in
-      let goes' : go h.source c ≡ Run (perform j (function f)) (part (block sender recv vs) ∷ ks) m =
-      goes ∙ ap (λ (q : Maybe). next_item h.source j sender recv vs no_items q ks m) literal
-      ∙ ap (λ (t : Bool). Run (perform j (function f)) (part (block sender recv vs) ∷ ks) (if t
+      let goes' : go h.source c ≡ Run (perform j f) (part (block sender recv vs) ∷ ks) m =
+      goes ∙ ap (λ (q : Maybe). next_item h.source j sender recv vs no_items q ks m) given
+      ∙ ap (λ (t : Bool). Run (perform j f) (part (block sender recv vs) ∷ ks) (if t
       then source.with_world m (with_store m.world (with_object m.world.store (items_object vs))) else m)) few' in
       soon_none h.source h.program c (state_at g h x n (aligned k m))
       (subst (λ (d : Config). measure d < measure c) (sym goes') (omega (arith, less)))
-      (subst (λ (d : Config). Related h d (state_at g h x n (aligned k m))) (sym goes') (
+      (subst (λ (d : Config). Related h d (state_at g h x n (aligned k m))) (sym goes') (inl (
         g,
         h,
         both,
@@ -295,9 +291,9 @@ module _ (g : Ground) (h : Site) (static : Static h) (ks : List Item) (m : sourc
           loop = b.loop;
           s = sp;
           here = omega (arith, line-past b.s nothing, high-nothing, b.here);
-          covered = made;
+          covered = covered;
           above = omega (arith, b.room.above);
-          code = stands_made h n sp.body o bodies first;
+          code = first;
           next = record {
             low = b.low;
             end = b.end;
@@ -308,64 +304,165 @@ module _ (g : Ground) (h : Site) (static : Static h) (ks : List Item) (m : sourc
               at = omega (arith, all);
               room = b.room;
               few = few';
-              name = y;
-              named = named;
-              sending = e;
+              sender = o;
+              passes = subst (λ (i : ℕ). PassesBlock h b.low b.own sender i o) all passes;
               held = b.held;
-              sends = subst (λ (i : ℕ). LineAt h i (line.Does (block_sender b.own b.low (entry_of h.context y) (length vs))))
-                  (omega (arith, high_made o sp.body bodies))
-                  (subst (λ (i : ℕ). LineAt h (n + 1) (line.Does (block_sender b.own b.low (entry_of h.context y) i))) all
-                  second);
-              ends = omega (arith, high_made o sp.body bodies, tall);
+              sends = second;
+              ends = tall;
             };
             outer = b.loop;
             inner = refl;
             next = b.next;
           };
         },
-      ))
+      )))
+
+  -- the world with an Array of these values
+  abbrev packed_world : List Value → World
+  packed_world vs = with_store m.world (with_object m.world.store (items_object vs))
+
+  abbrev MayPack : Config → List Value → Type 0
+  MayPack c vs = Still m (go h.source c)
+      ⊎ CallsBodies h.source h.program m.world.store.objects (packed_in m vs).world.store.objects
+
+  -- all items have their values, and are more than go into registers
+  packed_now : (c : Config) (x : Rest) (n j : ℕ) (sender : Sending) (recv : Value) (vs : List Value) (mb : Maybe)
+      (b : CallSite g h k.lists sender recv vs no_items ks n j mb) (q : Callee) (count : ℕ) → count ≡ length vs
+      → sender ≡ sending_of h.source q → nat_lt 253 count ≡ true → Room h (b.low + 1)
+      → LineAt h n (line.Does (op.Array (b.low + 1) count))
+      → ArrayEnds h b.loop q b.low b.own
+      (past (past_items_code h b.loop b.r b.s no_items) (does (op.Array (b.low + 1) count))) j mb (n + 1) b.end
+      → From h c (frame (frame_at h x n) ∷ g.below) (aligned k m) m
+      → go h.source c ≡ next_item h.source j sender recv vs no_items mb ks m → burden ks m < measure c → MayPack c vs
+      → Within 6 h.source h.program c (state_at g h x n (aligned k m))
+  packed_now c x n j sender recv vs mb b q count all e many room at ends from goes less may =
+      let o = op.Array (b.low + 1) count in
+      let id = next_number m.world.store in
+      let w = packed_world vs in
+      let sp = past_items_code h b.loop b.r b.s no_items in
+      let many' : nat_lt 253 (length vs) ≡ true = ap (nat_lt 253) (sym all) ∙ many in
+      let f = frame_at h x n in
+      array_on g h ks m k both at_home c x n from less w (steady_kept h.source m.world w refl steady) refl b.low id sender recv vs j
+      mb (record {
+        own = b.own;
+        callee = q;
+        loop = b.loop;
+        s = past sp (does o);
+        here = omega (arith, line-past b.s nothing, high-nothing, line-past sp (does o), high-puts (line.Does o), b.here);
+        room = b.room;
+        room_behind = room;
+        called = called_held h k.lists b.own b.low recv vs b.held;
+        sending = e;
+        elements = new_elements m.world.store vs;
+        end = b.end;
+        ends = ends;
+        next = b.next;
+      })
+      (subst (λ (t : Bool). Still m (go h.source c) ⊎ CallsBodies h.source h.program m.world.store.objects
+      (if t then source.with_world m w else m).world.store.objects) many' may)
+      (turned h x n o g.below (aligned k m) at
+      ∙ ap (λ (i : ℕ). after_machine h.program (make_array m.world (row f (aligned k m) (b.low + 1) i)) (b.low + 1)
+      (at_line h (n + 1)) f g.below (aligned k m)) all
+      ∙ ap (λ (us : List Value). after_machine h.program (make_array m.world us) (b.low + 1) (at_line h (n + 1)) f g.below
+      (aligned k m)) (row_is f (aligned k m) (b.low + 1) vs (items_held h k.lists b.own b.low recv vs b.held)))
+      (goes ∙ ap (λ (t : Bool). with_arguments h.source j sender recv vs mb ks (if t then source.with_world m w else m)) many')
 
   -- the next item, or the call
   pub items_on : (c : Config) (x : Rest) (n j : ℕ) (sender : Sending) (recv : Value) (vs : List Value) (is : Items)
       (mb : Maybe) (b : CallSite g h k.lists sender recv vs is ks n j mb)
       → From h c (frame (frame_at h x n) ∷ g.below) (aligned k m) m
       → go h.source c ≡ next_item h.source j sender recv vs is mb ks m
-      → size_items is + size_block mb + burden ks m < measure c → MayCall c
-      → Soon h.source h.program c (state_at g h x n (aligned k m))
-  items_on c x n j sender recv vs no_items mb b from goes less may = at b.ends
+      → size_items is + size_block mb + burden ks m < measure c → MayPack c vs
+      → IsBlock m.world.store.objects (running m).block
+      → Within 6 h.source h.program c (state_at g h x n (aligned k m))
+  items_on c x n j sender recv vs no_items mb b from goes less may can = at b.ends
     where
       goes_by : mb ≡ absent → go h.source c ≡ next_item h.source j sender recv vs no_items absent ks m
       goes_by none = goes ∙ ap (λ (q : Maybe). next_item h.source j sender recv vs no_items q ks m) none
 
-      by : (y : Name) → sender ≡ by_name (number h.source y)
-          → CallEnds h b.low y (length vs + item_count no_items) b.own (past_items_code h b.loop b.r b.s no_items)
-          (past_items j no_items) mb (n + high (pass_in_registers (within h b.loop) b.s b.r no_items)) b.end
-          → Soon h.source h.program c (state_at g h x n (aligned k m))
-      by y e (alone o none by_that stands tall) =
-          call_now c x n j sender recv vs mb b y o by_that stands tall from (goes_by none) e (omega (arith, less)) may
-      by y e (with_literal f literal few named made first second tall) =
-          let here : n + high (pass_in_registers (within h b.loop) b.s b.r no_items) ≡ n =
-          omega (arith, high-nothing) in
-          let count = length vs + item_count no_items in
-          block_now c x n j sender recv vs mb b y f count (omega arith) literal few named made
-          (subst (λ (i : ℕ). LineAt h i
-          (line.Does (op.Block (b.low + 1 + count) (past_items_code h b.loop b.r b.s no_items).child))) here first)
-          (subst (λ (i : ℕ). LineAt h (i + 1) (line.Does (block_sender b.own b.low (entry_of h.context y) count))) here
-          second) (omega (arith, here, tall)) goes e (omega (arith, less, ap size_block literal))
+      soon : Soon h.source h.program c (state_at g h x n (aligned k m))
+          → Within 6 h.source h.program c (state_at g h x n (aligned k m))
+      soon a = later h.source h.program c (state_at g h x n (aligned k m)) a
 
-      at : ItemsEnd h sender b.low (length vs + item_count no_items) b.own (past_items_code h b.loop b.r b.s no_items)
+      here : n + high (pass_in_registers (within h b.loop) b.s b.r no_items) ≡ n
+      here = omega (arith, high-nothing)
+
+      may_call : nat_lt 253 (length vs + item_count no_items) ≡ false → MayCall c
+      may_call few =
+          let count : length vs + item_count no_items ≡ length vs = omega arith in
+          subst (λ (t : Bool). Still m (go h.source c) ⊎ CallsBodies h.source h.program m.world.store.objects
+          (if t then source.with_world m (packed_world vs) else m).world.store.objects)
+          (ap (nat_lt 253) (sym count) ∙ few) may
+
+      pack : (q : Callee) → sender ≡ sending_of h.source q → nat_lt 253 (length vs + item_count no_items) ≡ true
+          → Room h (b.low + 1)
+          → LineAt h (n + high (pass_in_registers (within h b.loop) b.s b.r no_items))
+          (line.Does (op.Array (b.low + 1) (length vs + item_count no_items)))
+          → ArrayEnds h b.loop q b.low b.own (past (past_items_code h b.loop b.r b.s no_items)
+          (does (op.Array (b.low + 1) (length vs + item_count no_items)))) (past_items j no_items) mb
+          (n + high (pass_in_registers (within h b.loop) b.s b.r no_items) + 1) b.end
+          → Within 6 h.source h.program c (state_at g h x n (aligned k m))
+      pack q e many room stands ends =
+          let count = length vs + item_count no_items in
+          let o = op.Array (b.low + 1) count in
+          packed_now c x n j sender recv vs mb b q count (omega arith) e many room
+          (subst (λ (i : ℕ). LineAt h i (line.Does o)) here stands)
+          (subst (λ (i : ℕ). ArrayEnds h b.loop q b.low b.own
+          (past (past_items_code h b.loop b.r b.s no_items) (does o)) j mb (i + 1) b.end) here ends) from goes
+          (omega (arith, less)) may
+
+      blocked : (f : CoreForm) (o : Operation) → mb ≡ there f → nat_lt 253 (length vs + item_count no_items) ≡ false
+          → PassesBlock h b.low b.own sender (length vs + item_count no_items) o
+          → Covers h b.loop (b.low + 1 + (length vs + item_count no_items)) (past_items_code h b.loop b.r b.s no_items) j f
+          → Stands h (n + high (pass_in_registers (within h b.loop) b.s b.r no_items))
+          (gen (within h b.loop) (past_items_code h b.loop b.r b.s no_items)
+          (b.low + 1 + (length vs + item_count no_items)) f)
+          → LineAt h (n + high (pass_in_registers (within h b.loop) b.s b.r no_items)
+          + high (gen (within h b.loop) (past_items_code h b.loop b.r b.s no_items)
+          (b.low + 1 + (length vs + item_count no_items)) f)) (line.Does o)
+          → n + high (pass_in_registers (within h b.loop) b.s b.r no_items)
+          + high (gen (within h b.loop) (past_items_code h b.loop b.r b.s no_items)
+          (b.low + 1 + (length vs + item_count no_items)) f) + 1 ≡ b.end
+          → Within 6 h.source h.program c (state_at g h x n (aligned k m))
+      blocked f o given few passes covered first second tall =
+          let count = length vs + item_count no_items in
+          let p = gen (within h b.loop) (past_items_code h b.loop b.r b.s no_items) (b.low + 1 + count) f in
+          soon (block_now c x n j sender recv vs mb b o f count (omega arith) given few passes covered
+          (subst (λ (i : ℕ). Stands h i p) here first) (subst (λ (i : ℕ). LineAt h (i + high p) (line.Does o)) here second)
+          (omega (arith, here, tall)) goes (omega (arith, less, ap size_block given)))
+
+      by : (y : Name) → sender ≡ by_name (number h.source y)
+          → CallEnds h b.loop b.low y (length vs + item_count no_items) b.own (past_items_code h b.loop b.r b.s no_items)
           (past_items j no_items) mb (n + high (pass_in_registers (within h b.loop) b.s b.r no_items)) b.end
-          → Soon h.source h.program c (state_at g h x n (aligned k m))
+          → Within 6 h.source h.program c (state_at g h x n (aligned k m))
+      by y e (alone o none by_that stands tall) =
+          soon (call_now c x n j sender recv vs mb b y o by_that stands tall from (goes_by none) e (omega (arith, less))
+          (may_call (few h b.low y (length vs + item_count no_items) b.own o by_that)))
+      by y e (with_block f given few named covered first second tall) =
+          blocked f (block_sender b.own b.low (entry_of h.context y) (length vs + item_count no_items)) given few
+          (sender_passes h b.low b.own y sender (length vs + item_count no_items) e named) covered first second tall
+      by y e (packed many named room stands ends) = pack (a_method y) e many room stands ends
+
+      at : ItemsEnd h b.loop sender b.low (length vs + item_count no_items) b.own (past_items_code h b.loop b.r b.s no_items)
+          (past_items j no_items) mb (n + high (pass_in_registers (within h b.loop) b.s b.r no_items)) b.end
+          → Within 6 h.source h.program c (state_at g h x n (aligned k m))
       at (by_call y e ends) = by y e ends
       at (by_yield e own none few stands tall) =
-          yield_now c x n j sender recv vs mb b e own few stands tall from (goes_by none) (omega (arith, less)) may
-  items_on c x n j sender recv vs (splat i is) mb b from goes less may = absurd b.covered
-  items_on c x n j sender recv vs (plain i is) mb b from goes less may =
+          soon (yield_now c x n j sender recv vs mb b e own few stands tall from (goes_by none) (omega (arith, less))
+          (may_call few))
+      at (by_block f o given few passes covered first second tall) =
+          blocked f o given few passes covered first second tall
+      at (by_own e own none few room asks stands tall) =
+          asks_now c x n j sender recv vs mb b e own few room asks stands tall from (goes_by none) (omega (arith, less))
+          (may_call few) can
+      at (by_array q e many room stands ends) = pack q e many room stands ends
+  items_on c x n j sender recv vs (splat i is) mb b from goes less may can = absurd b.covered
+  items_on c x n j sender recv vs (plain i is) mb b from goes less may can =
       let r = b.r in
       let p = gen (within h b.loop) b.s r i in
       let q = pass_in_registers (within h b.loop) (past b.s p) (r + 1) is in
       let more : length vs + (1 + item_count is) ≡ length vs + 1 + item_count is = omega arith in
-      soon_none h.source h.program c (state_at g h x n (aligned k m))
+      later h.source h.program c (state_at g h x n (aligned k m)) (soon_none h.source h.program c (state_at g h x n (aligned k m))
       (subst (λ (d : Config). measure d < measure c) (sym goes) (omega (arith, less)))
       (subst (λ (d : Config). Related h d (state_at g h x n (aligned k m))) (sym goes) (
         g,
@@ -380,7 +477,7 @@ module _ (g : Ground) (h : Site) (static : Static h) (ks : List Item) (m : sourc
           loop = b.loop;
           s = b.s;
           here = b.here;
-          covered = at_top h b.loop r b.s j i b.covered.0;
+          covered = b.covered.0;
           above = omega (arith, b.room.above, b.row);
           code = left h n p q b.code;
           next = record {
@@ -397,7 +494,7 @@ module _ (g : Ground) (h : Site) (static : Static h) (ks : List Item) (m : sourc
               covered = b.covered.1;
               held = b.held;
               code = right h n p q b.code;
-              ends = sent_moved h sender b.low (length vs + item_count (plain i is)) (length vs + 1 + item_count is) b.own
+              ends = sent_moved h b.loop sender b.low (length vs + item_count (plain i is)) (length vs + 1 + item_count is) b.own
                   (past_items_code h b.loop r b.s (plain i is)) (past_items_code h b.loop (r + 1) (past b.s p) is)
                   (past_items j (plain i is)) mb (n + high (p ⊕ q)) (n + high p + high q) b.end more (past-both b.s p q)
                   (omega (arith, high-both p q)) b.ends;
@@ -407,4 +504,4 @@ module _ (g : Ground) (h : Site) (static : Static h) (ks : List Item) (m : sourc
             next = b.next;
           };
         },
-      ))
+      )))

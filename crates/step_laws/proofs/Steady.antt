@@ -1,8 +1,9 @@
 -- What is so of every evaluation of a program (eval_laws): its names keep their numbers, the class around a text is one,
--- the object that a literal gathers into is one of its kind, an exit leaves an iteration as it leaves a core method, a
--- transition only adds activations, and it doesn't write where an exit goes on.
-use Rattle.std.proofs.Common.{◌≡◌, ℕ, List, [], ◌∷◌, ◌++◌, refl, sym, ap, ◌∙◌, Bool, true, true≢false}
-use Rattle.std.specs.Prelude.{bytes_eq, position, if◌then◌else◌, Some, None}
+-- and so is what is opened as one (proofs/Spaced.antt), the object that a literal gathers into is one of its kind, an exit
+-- leaves an iteration as it leaves a core method, a transition only adds activations, and it doesn't write where an exit
+-- goes on.
+use Rattle.std.proofs.Common.{◌≡◌, ℕ, List, [], ◌∷◌, ◌++◌, refl, sym, ap, ◌∙◌, true, true≢false}
+use Rattle.std.specs.Prelude.{bytes_eq, position, Option, Some, None, is_some}
 use Rattle.std.proofs.lemmas.Option.{get_or_from_slice_get}
 use Rattle.rb_value.specs.declared.value.Value.TheVariants.{Obj}
 use Rattle.rb_value.specs.declared.value.ObjId.{ObjId}
@@ -19,29 +20,32 @@ use Rattle.ir_core.specs.Program.{Around, IsProgram}
 use Rattle.def_core.specs.Store.{Store, object_at, sort_at}
 use Rattle.def_core.specs.Changes.{Interned}
 use Rattle.def_core.specs.Bind.{elements_of}
-use Rattle.def_core.specs.Sound.{sorts_of, census, Is, plays, plays_at, Array, ClassOrModule}
+use Rattle.def_core.specs.Sound.{sorts_of, census, Is, OptionIs, plays, plays_at, Array, Proc}
 use Rattle.def_core.proofs.Good.{is_good, sort_found}
 use Rattle.def_core.proofs.Sorts.{sort_at-sorts}
+use Rattle.def_calls.specs.Definitions.{space_in}
 use Rattle.def_calls.specs.World.{activation_at, class_around}
 use Rattle.def_calls.specs.Calls.{opening_world}
-use Rattle.def_calls.specs.Definitions.{space_in}
-use Rattle.def_calls.specs.Views.{string_of, hash_of, if_there, an_array, a_hash, a_string}
+use Rattle.def_calls.specs.Views.{callable_of, string_of, hash_of, if_there, an_array, a_hash, a_string}
 use Rattle.def_eval.specs.Source.{Source, all_names, source_of}
 use Rattle.def_eval.specs.Configuration as eval
-use Rattle.def_eval.specs.Configuration.{Part, Item, part, activation, iteration, ensuring, Focus, perform, give, travel, Memory, Config, Run, Halt, opening}
+use Rattle.def_eval.specs.Configuration.{Part, Item, part, activation, iteration, ensuring, Focus, perform, give, travel, Memory, Config, Run, Halt, opening as opening_config}
+use Rattle.def_eval.specs.Scopes.{running}
 use Rattle.def_eval.specs.Transition.{go, go_times}
 use Rattle.world_laws.specs.Fine.{HasSort}
 use Rattle.world_laws.proofs.Constants.{class_around_is}
 use Rattle.eval_laws.specs.Fits.{PartStands, ItemsFit, Past, anything_since, Fits, IsHushed, bodies}
 use Rattle.eval_laws.specs.Procs.{literal, ProcsAreKnown}
 use Rattle.eval_laws.specs.Reached.{GoesOn}
+use Rattle.eval_laws.proofs.Going.{running_is}
 use Rattle.eval_laws.proofs.Kept.{goes_on, procs_known}
 use Rattle.eval_laws.proofs.Start.{evaluation_fits}
 use Rattle.step_laws.specs.Site.{IsThere, number, opening_store}
-use Rattle.step_laws.specs.Calm.{IsAbout, IsAboutNext, Leaves, QuietFocus, QuietBy, IsSteady, IsCalm, StaysCalm}
+use Rattle.step_laws.specs.Calm.{IsAbout, IsAboutNext, Leaves, QuietFocus, QuietBy, IsBlock, BlockFor, IsSteady, IsCalm, StaysCalm}
 use Rattle.step_laws.specs.Peaceful.{IsPeaceful, StaysPeaceful}
 use Rattle.step_laws.proofs.Symbols.{Has, has_of, interned, position_more}
 use Rattle.step_laws.proofs.Tame.{core_closed}
+use Rattle.step_laws.proofs.Spaced.{space_there, opening}
 
 -- Objects of a sort.
 
@@ -121,6 +125,31 @@ string_there (kind.Exception m d) id is = absurd (cc is)
 string_there (kind.Enumerator e) id is = absurd (cc is)
 string_there (kind.Yielder p) id is = absurd (cc is)
 
+no_proc : (f : ClassForm) → plays Proc (sort_of_form f) ≡ true → ⊥
+no_proc form.Class e = true≢false (sym e)
+no_proc form.Singleton e = true≢false (sym e)
+no_proc form.Module e = true≢false (sym e)
+
+proc_there : (x : Kind) → plays Proc (sort_of x) ≡ true → is_some (callable_of x) ≡ true
+proc_there kind.Plain is = absurd (true≢false (sym is))
+proc_there (kind.Class c) is = absurd (no_proc c.form is)
+proc_there (kind.String t) is = absurd (true≢false (sym is))
+proc_there (kind.Array a) is = absurd (true≢false (sym is))
+proc_there (kind.Hash h) is = absurd (true≢false (sym is))
+proc_there (kind.Range r) is = absurd (true≢false (sym is))
+proc_there (kind.Proc p) is = refl
+proc_there (kind.CoreProc r v) is = refl
+proc_there (kind.Fiber p e) is = absurd (true≢false (sym is))
+proc_there (kind.Exception m d) is = absurd (true≢false (sym is))
+proc_there (kind.Enumerator e) is = absurd (true≢false (sym is))
+proc_there (kind.Yielder p) is = absurd (true≢false (sym is))
+
+block_is : (st : Store) (o : Option ObjId) → OptionIs (Is (census st) Proc) o → IsBlock st.objects o
+block_is st None is = tt
+block_is st (Some id) is =
+    proc_there (object_at st.objects id).kind
+    (sym (ap (plays_at Proc) (sort_found st id (is_good st Proc id is))) ∙ is.holds)
+
 -- The object that a literal gathers into.
 
 array_is : (st : Store) (id : ObjId) → Is (census st) Array id → an_array st.objects (Obj id) ≡ Some id
@@ -133,11 +162,6 @@ hash_is st id is = hash_there (object_at st.objects id).kind id (sort_is st sort
 
 string_is : (st : Store) (id : ObjId) → HasSort (census st) sort.String id → a_string st.objects (Obj id) ≡ Some id
 string_is st id is = string_there (object_at st.objects id).kind id (sort_is st sort.String id is)
-
-space_there : (st : Store) (id : ObjId) → Is (census st) ClassOrModule id → space_in st.objects (Obj id) ≡ Some id
-space_there st id is =
-    let plays_it = sym (ap (plays_at ClassOrModule) (sort_found st id (is_good st ClassOrModule id is))) ∙ is.holds in
-    ap (λ (b : Bool). if b then Some id else None) plays_it
 
 about : (s : Source) (st : Store) (a : Around) (k : Part) → PartStands s (census st) a k → IsAbout k st.objects
 about s st a (eval.operands n action vs es) h = tt
@@ -179,9 +203,10 @@ module _ (s : Source) (early : Past) (ks : List Item) (m : Memory) where
 
   about_next : (f : Focus) → Fits s early (Run f ks m) → IsAboutNext f ks m
   about_next (perform n e) h =
-      let classes = (activation_at m.world m.place.activation).classes in
-      space_there m.world.store (class_around m.world classes)
-      (class_around_is (bodies s early.Known m.scopes) m.world h.memory.world classes)
+      let there : (i : ℕ) → space_in m.world.store.objects (Obj (class_around m.world i)) ≡ Some (class_around m.world i) =
+      λ i. space_there m.world.store (class_around m.world i)
+      (class_around_is (bodies s early.Known m.scopes) m.world h.memory.world i) in
+      (there (activation_at m.world m.place.activation).classes, there 0)
   about_next (give v) h = by ks h.items
     where
       by : (is : List Item) → ItemsFit s m.world m.scopes m.place is → IsAboutNext (give v) is m
@@ -203,6 +228,18 @@ module _ (s : Source) (early : Past) (ks : List Item) (m : Memory) where
       by (activation a q ∷ is) g = tt
       by (iteration a it q ∷ is) g = core_closed m.world a g.0.1.runs
       by (ensuring o ∷ is) g = tt
+
+  block_for : (f : Focus) → Fits s early (Run f ks m) → BlockFor f ks m
+  block_for (perform n e) h = block_is m.world.store (running m).block (running_is s early m h.memory).block
+  block_for (give v) h = by ks
+    where
+      by : (is : List Item) → BlockFor (give v) is m
+      by [] = tt
+      by (part k ∷ is) = block_is m.world.store (running m).block (running_is s early m h.memory).block
+      by (activation a q ∷ is) = tt
+      by (iteration a it q ∷ is) = tt
+      by (ensuring o ∷ is) = tt
+  block_for (travel x) h = tt
 
 -- what a transition does to the world, and where it doesn't write
 quiet_focus : (f : Focus) (ks : List Item) (m l : Memory) → IsHushed (l.world.out ≡ m.world.out) f ks
@@ -227,14 +264,16 @@ calm_by s p early (Run f ks m) same h q = (
   record {
     quiet = quiet_by f m (go s (Run f ks m)) (goes_on s early f ks m h) (procs_known s early f ks m h);
     calls = q;
+    block = block_for s early ks m f h;
   },
+  opening s early ks m f h,
 )
 
 pub peace_is_calm : (b : Body) (p : Program) (input : List ℕ) → IsProgram b
-    → StaysPeaceful (source_of b) p (opening (source_of b) input)
-    → StaysCalm (source_of b) p (opening (source_of b) input)
+    → StaysPeaceful (source_of b) p (opening_config (source_of b) input)
+    → StaysCalm (source_of b) p (opening_config (source_of b) input)
 unfolding opening_store
 peace_is_calm b p input is peace n =
     let h = evaluation_fits b input n is in
     calm_by (source_of b) p (anything_since (record (opening_world (all_names (source_of b)) input) { out = h.0 }))
-    (go_times n (source_of b) (opening (source_of b) input)) refl h.1 (peace n)
+    (go_times n (source_of b) (opening_config (source_of b) input)) refl h.1 (peace n)

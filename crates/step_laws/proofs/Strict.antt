@@ -32,10 +32,9 @@ use Rattle.def_machine.specs.Unwind.{after as after_machine}
 use Rattle.def_machine.specs.Turn.{act, symbol as symbol_machine}
 use Rattle.step_laws.specs.Site.{Site, within, place_in, at_line, LineAt, Room}
 use Rattle.step_laws.specs.Strict.{strict_op, IsReady, arity}
-use Rattle.step_laws.specs.Covered.{Covered}
+use Rattle.step_laws.specs.Covers.{Covers}
 use Rattle.step_laws.specs.Calm.{IsSteady, Quiet}
 use Rattle.step_laws.specs.Measure.{size, burden, measure}
-use Rattle.step_laws.proofs.Covers.{at_top}
 use Rattle.step_laws.proofs.Placed.{high, high-both, high-puts, high-nothing, line-past, Stands, nothing_stands, left, right, the_line, Rest, frame_at}
 use Rattle.step_laws.specs.Behind.{Static, Holds, StrictBehind, strict}
 use Rattle.step_laws.specs.Relation.{Ground, InFrame, Common, GivesIn, Related, Step}
@@ -90,12 +89,12 @@ finishes h r (open_module x i) o v u ks m e = absurd (cc e)
 finishes h r (open_singleton i) o v u ks m e = absurd (cc e)
 finishes h r (tell q x) o v u ks m e = refl
 
-holds_first : (l : List Registers) (n r : ℕ) (vs : List Value) → Holds l n r vs → 0 < length vs
+pub holds_first : (l : List Registers) (n r : ℕ) (vs : List Value) → Holds l n r vs → 0 < length vs
     → value_at l n r ≡ get_or vs 0 Nil
 holds_first l n r [] s h = absurd (omega (arith, h))
 holds_first l n r (v ∷ vs) s h = ap read s.0
 
-holds_second : (l : List Registers) (n r : ℕ) (vs : List Value) → Holds l n r vs → 1 < length vs
+pub holds_second : (l : List Registers) (n r : ℕ) (vs : List Value) → Holds l n r vs → 1 < length vs
     → value_at l n (r + 1) ≡ get_or vs 1 Nil
 holds_second l n r [] s h = absurd (omega (arith, h))
 holds_second l n r (v ∷ []) s h = absurd (omega (arith, h))
@@ -243,7 +242,7 @@ module _ (g : Ground) (h : Site) (static : Static h) (ks : List Item) (m : sourc
   -- a value of an operand, with those before it
   pub give_strict : (v : Value) (j : ℕ) (a : Action) (vs : List Value) (es : Forms)
       (d : GivesIn g h v (part (operands j a vs es) ∷ ks) m.place ls k.lists)
-      → StrictBehind h k.lists a vs es d.next.low d.n d.r d.next.end d.loop
+      → StrictBehind h k.lists j a vs es d.next.low d.n d.r d.next.end d.loop
       → Quiet m (go h.source (Run (give v) (part (operands j a vs es) ∷ ks) m))
       → Step h (Run (give v) (part (operands j a vs es) ∷ ks) m) (state_at g h d.x d.n (aligned k m))
   unfolding do_give give_part
@@ -276,7 +275,7 @@ module _ (g : Ground) (h : Site) (static : Static h) (ks : List Item) (m : sourc
           loop = d.loop;
           s = b.s;
           here = b.here;
-          covered = at_top h d.loop (d.r + 1) b.s j e b.covered;
+          covered = b.covered;
           above = omega (arith, b.room.above, b.row);
           code = b.code;
           next = record {
@@ -310,7 +309,7 @@ module _ (g : Ground) (h : Site) (static : Static h) (ks : List Item) (m : sourc
   -- a form of one operand and of two begins with its first
   pub one_operand : (c : Config) (x : Rest) (n r j : ℕ) (loop : Option Loop) (s : Spot) (e : CoreForm) (a : Action)
       (o : Operation) → go h.source c ≡ Run (perform j e) (part (operands (j + span e) a [] none) ∷ ks) m
-      → 2 + size e + burden ks m < measure c → s.line ≡ n → Covered h r e → Room h r → strict_op h r a ≡ Some o
+      → 2 + size e + burden ks m < measure c → s.line ≡ n → Covers h loop r s j e → Room h r → strict_op h r a ≡ Some o
       → IsReady h a → arity a ≡ 1 → Stands h n (gen (within h loop) s r e ⊕ does o)
       → InFrame g h k.lists ks (n + high (gen (within h loop) s r e ⊕ does o)) r loop
       → Step h c (state_at g h x n (aligned k m))
@@ -331,7 +330,7 @@ module _ (g : Ground) (h : Site) (static : Static h) (ks : List Item) (m : sourc
           loop = loop;
           s = s;
           here = line_is;
-          covered = at_top h loop r s j e covered;
+          covered = covered;
           above = room.above;
           code = left h n p (does o) code;
           next = record {
@@ -364,7 +363,8 @@ module _ (g : Ground) (h : Site) (static : Static h) (ks : List Item) (m : sourc
 
   pub two_operands : (c : Config) (x : Rest) (n r j : ℕ) (loop : Option Loop) (s : Spot) (e f : CoreForm) (a : Action)
       (o : Operation) → go h.source c ≡ Run (perform j e) (part (operands (j + span e) a [] (more f none)) ∷ ks) m
-      → 5 + size e + size f + burden ks m < measure c → s.line ≡ n → Covered h r e → Covered h (r + 1) f → Room h r
+      → 5 + size e + size f + burden ks m < measure c → s.line ≡ n → Covers h loop r s j e
+      → Covers h loop (r + 1) (past s (gen (within h loop) s r e)) (j + span e) f → Room h r
       → strict_op h r a ≡ Some o → IsReady h a → arity a ≡ 2
       → Stands h n ((gen (within h loop) s r e ⊕ gen (within h loop) (past s (gen (within h loop) s r e)) (r + 1) f) ⊕ does o)
       → InFrame g h k.lists ks (n + high ((gen (within h loop) s r e
@@ -389,7 +389,7 @@ module _ (g : Ground) (h : Site) (static : Static h) (ks : List Item) (m : sourc
           loop = loop;
           s = s;
           here = line_is;
-          covered = at_top h loop r s j e covered;
+          covered = covered;
           above = room.above;
           code = left h n p q both_code;
           next = record {

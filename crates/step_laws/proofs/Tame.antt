@@ -19,7 +19,7 @@ use Rattle.def_eval.specs.Scopes.{same_local, value_in, put_value, scope_at, sco
 use Rattle.def_eval.specs.Entering.{after_result, depth, open_iteration, enter}
 use Rattle.def_eval.specs.Transition.{go}
 use Rattle.step_laws.specs.Site.{number}
-use Rattle.step_laws.specs.Calm.{QuietFocus, QuietBy, Still, Peace}
+use Rattle.step_laws.specs.Calm.{QuietFocus, QuietBy, Still, BlockFor, Peace}
 use Rattle.eval_laws.specs.Procs.{literal}
 use Rattle.step_laws.specs.Simple.{IsOperator, IsSimple, AreSimple, AreSimpleItems, AreSimpleBranches}
 use Rattle.step_laws.proofs.Outcomes.{IsImmediate, AreImmediate, IsOfPuts, Kept, kept_none, GivenIs, AnswerIs, EntryIs, failed}
@@ -125,14 +125,15 @@ abbrev pub Fine : Source → Memory → Config → Type 0
 Fine s m c = IsTame s c × Rests m c
 
 -- what rests enters no body
-pub peaceful : (s : Source) (p : Program) (f : Focus) (ks : List Item) (m : Memory) → Fine s m (go s (Run f ks m))
-    → Peace s p f ks m
-peaceful s p f ks m r = by (go s (Run f ks m)) refl r
+pub peaceful : (s : Source) (p : Program) (f : Focus) (ks : List Item) (m : Memory)
+    → BlockFor f ks m → Fine s m (go s (Run f ks m)) → Peace s p f ks m
+peaceful s p f ks m can r = by (go s (Run f ks m)) refl r
   where
     by : (c : Config) → go s (Run f ks m) ≡ c → Fine s m c → Peace s p f ks m
     by (Halt e) is at = record {
       quiet = subst (QuietBy (literal f m) m) (sym is) tt;
       calls = inl (subst (Still m) (sym is) tt);
+      block = can;
     }
     by (Run h js l) is at = record {
       quiet = subst (QuietBy (literal f m) m) (sym is) (
@@ -144,6 +145,7 @@ peaceful s p f ks m r = by (go s (Run f ks m)) refl r
         },
       );
       calls = inl (subst (Still m) (sym is) at.1.0);
+      block = can;
     }
 
 pub quiet_given : (v : Value) (ks : List Item) (m l : Memory) → l.world.out ≡ m.world.out

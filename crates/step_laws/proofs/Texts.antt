@@ -30,8 +30,7 @@ use Rattle.def_machine.specs.Turn.{act, on_object, new_text}
 use Rattle.step_laws.specs.Site.{Site, within, place_in, at_line, Room}
 use Rattle.def_eval.specs.Transition.{go}
 use Rattle.step_laws.specs.Calm.{Grows, Quiet}
-use Rattle.step_laws.specs.Covered.{CoveredForms}
-use Rattle.step_laws.proofs.Covers.{at_top}
+use Rattle.step_laws.specs.Covers.{CoversPieces}
 use Rattle.step_laws.proofs.Placed.{high, high-both, high-puts, high-nothing, line-past, Stands, moved, left, right, the_line, Rest, frame_at, turned}
 use Rattle.step_laws.specs.Behind.{Static}
 use Rattle.step_laws.specs.Relation.{Ground, InFrame, Common, Doing, GivesIn, Related, Step}
@@ -42,7 +41,7 @@ use Rattle.step_laws.proofs.Gathered.{kept}
 -- The next piece is about to be done, or the String is given.
 on_with : (g : Ground) (h : Site) (j : ℕ) (id : ObjId) (es : Forms) (ks : List Item) (m : source.Memory) (k : machine.Memory)
     (x : Rest) (n low end : ℕ) (loop : Option Loop) (s : Spot) → Common g h m k → m.place ≡ place_in h → Room h low
-    → CoveredForms h (low + 1) es → s.line ≡ n → Stands h n (gather_text (within h loop) s low es)
+    → CoversPieces h loop low s j es → s.line ≡ n → Stands h n (gather_text (within h loop) s low es)
     → n + high (gather_text (within h loop) s low es) ≡ end → slot_at k.lists h.list low ≡ V (Obj id)
     → InFrame g h k.lists ks end low loop → Related h (next_piece j id es ks m) (state_at g h x n k)
 on_with g h j id none ks m k x n low end loop s both there room covered here code ends held next =
@@ -67,7 +66,7 @@ on_with g h j id (more e es) ks m k x n low end loop s both there room covered h
         loop = loop;
         s = s;
         here = here;
-        covered = at_top h loop (low + 1) s j e covered.0;
+        covered = covered.0;
         above = omega (arith, room.above);
         code = left h n p (does o) first;
         next = record {

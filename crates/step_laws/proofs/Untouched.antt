@@ -270,7 +270,7 @@ sites_grow_by made s p hs cs l w u g sees a = record {
           opened = omega (arith, i.opened, longer);
           self = ap (λ (x : Activation). x.self) e ∙ i.self;
           runs = ap (λ (x : Activation). x.runs) e ∙ i.runs;
-          home = λ r is. ap (λ (x : Activation). x.home) e ∙ i.home r is;
+          home = λ is. ap (λ (x : Activation). x.home) e ∙ i.home is;
         }
 
 no_literal : (b : ℕ) (ns : List ℕ) → ◌≡◌ {A = Option (ℕ × List ℕ)} None (Some (b, ns)) → ⊥

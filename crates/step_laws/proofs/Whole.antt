@@ -4,6 +4,7 @@ use Rattle.std.specs.Prelude.{Option, Some, None, unwrap_or, if◌then◌else◌
 use Rattle.std.proofs.lemmas.List.{length-replicate}
 use Rattle.rb_value.specs.declared.value.Value.{Value}
 use Rattle.rb_value.specs.declared.value.Value.TheVariants.{Nil, Obj}
+use Rattle.rb_value.specs.declared.value.ObjId.{ObjId}
 use Rattle.rb_value.specs.declared.exit.Slot.TheVariants.{V}
 use Rattle.rb_value.specs.Slot.{read}
 use Rattle.rb_store.specs.Opening.{main_object}
@@ -40,11 +41,13 @@ use Rattle.step_laws.specs.Covers.{Covers}
 use Rattle.step_laws.specs.Calm.{IsCalm, StaysCalm}
 use Rattle.step_laws.specs.Measure.{measure}
 use Rattle.step_laws.specs.Implements.{main_site, IsCodeOf, Implements}
-use Rattle.step_laws.specs.Behind.{Static}
+use Rattle.step_laws.specs.Behind.{Static, GatheringBehind, in_literal, in_call}
 use Rattle.step_laws.specs.Relation.{Same, Common, Doing, GivesIn, raised, leaping, returning, going_far, Step, stops, Ground, SiteIs, Linked, SitesAre, Both, Running, Alike, Advances, Shared, Throwing, Leaps, GoesHome, GoesFar, Travels}
 use Rattle.step_laws.proofs.Placed.{high, Stands, Rest, frame_at}
+use Rattle.step_laws.proofs.Focused.{DoesOne, does_form, does_block, does_one, GivesOne, gives_form, gives_block, gives_one}
 use Rattle.step_laws.proofs.Matching.{state_at}
 use Rattle.step_laws.proofs.Literals.{aligned, do_nil, do_truth, do_falsehood, do_self, do_int}
+use Rattle.step_laws.proofs.Tops.{do_top_constant}
 use Rattle.step_laws.proofs.Answers.{do_symbol, do_gvar, do_ivar, do_str, do_constant}
 use Rattle.step_laws.proofs.Locals.{do_local, do_set_local}
 use Rattle.step_laws.proofs.Globals.{do_set_gvar}
@@ -59,11 +62,16 @@ use Rattle.step_laws.proofs.Bare.{do_call_bare}
 use Rattle.step_laws.proofs.Branches.{do_cond, give_test, give_chosen, do_and, do_or, give_and, give_or}
 use Rattle.step_laws.proofs.Jumps.{do_break, do_next, leap_on}
 use Rattle.step_laws.proofs.Definitions.{do_define}
+use Rattle.step_laws.proofs.Receivers.{do_define_on}
+use Rattle.step_laws.proofs.Classes.{do_class, do_module, do_singleton}
 use Rattle.step_laws.proofs.Returns.{do_return, passes_on, comes_home}
 use Rattle.step_laws.proofs.Outward.{far_at_end, far_at_part, far_at_activation, far_at_iteration}
 use Rattle.step_laws.proofs.Loops.{do_while, give_loop_test, give_loop_body}
-use Rattle.step_laws.proofs.Blocks.{do_function, give_block}
+use Rattle.step_laws.proofs.Blocks.{do_function, do_lambda, give_block}
 use Rattle.step_laws.proofs.Yields.{do_yield}
+use Rattle.step_laws.proofs.Supers.{do_super, do_super_alone}
+use Rattle.step_laws.proofs.Spreading.{give_argument}
+use Rattle.step_laws.proofs.Handing.{do_handing, give_handed}
 use Rattle.step_laws.proofs.Calls.{do_call_to, do_call_to_with, do_call_self, do_call_self_with, give_receiver, give_item}
 use Rattle.step_laws.proofs.Iterations.{give_iteration}
 use Rattle.step_laws.proofs.Exits.{give_end, give_activation, travel_end, travel_part_on, travel_activation_on, travel_iteration_on}
@@ -92,7 +100,7 @@ module _ (g : Ground) (h : Site) (static : Static h) (ks : List Item) (m : sourc
   form_matched j (form.gvar x) c d = do_gvar g h static j ks m ls k both x d
   form_matched j (form.set_gvar x e) c d = do_set_gvar g h static ks m ls k both j x e d
   form_matched j (form.constant x) c d = do_constant g h static j ks m ls k both x d c.3.quiet
-  form_matched j (form.top_constant x) c d = absurd d.covered
+  form_matched j (form.top_constant x) c d = do_top_constant g h static j ks m ls k both x d c.1.1 c.3.quiet
   form_matched j (form.in_constant e x) c d = do_in_constant g h static j ks m ls k both c.0 e x d
   form_matched j (form.set_constant x e) c d = do_set_constant g h static j ks m ls k both c.0 x e d
   form_matched j (form.set_in_constant e x v) c d = do_set_in_constant g h static j ks m ls k both c.0 e x v d
@@ -117,19 +125,20 @@ module _ (g : Ground) (h : Site) (static : Static h) (ks : List Item) (m : sourc
   form_matched j (form.call form.bare x (form.plain e is) b) c d = absurd d.covered
   form_matched j (form.call form.bare x (form.splat e is) b) c d = absurd d.covered
   form_matched j (form.yield_form is) c d = do_yield g h static ks m ls k both c.0 j is d c.3
-  form_matched j (form.super_form is b) c d = absurd d.covered
+  form_matched j (form.super_form is form.absent) c d = do_super_alone g h static ks m ls k both c.0 j is d c.3
+  form_matched j (form.super_form is (form.there b)) c d = do_super g h static ks m ls k both c.0 j is b d c.3
   form_matched j (form.function f) c d = do_function g h static ks m ls k both j f d c.3.quiet
-  form_matched j (form.lambda f) c d = absurd d.covered
+  form_matched j (form.lambda f) c d = do_lambda g h static ks m ls k both j f d c.3.quiet
   form_matched j (form.begin_form b cs o e) c d = absurd d.covered
   form_matched j (form.return_form e) c d = do_return g h static ks m ls k both j e d
   form_matched j (form.break_form e) c d = do_break g h static ks m ls k both j e d
   form_matched j (form.next_form e) c d = do_next g h static ks m ls k both j e d
   form_matched j form.retry c d = absurd d.covered
-  form_matched j (form.define x f) c d = do_define g h static ks m ls k both c.0 j x f d c.1 c.3.quiet
-  form_matched j (form.define_on e x f) c d = absurd d.covered
-  form_matched j (form.class_form s x p f) c d = absurd d.covered
-  form_matched j (form.module_form s x f) c d = absurd d.covered
-  form_matched j (form.singleton_class e f) c d = absurd d.covered
+  form_matched j (form.define x f) c d = do_define g h static ks m ls k both c.0 j x f d c.1.0 c.3.quiet
+  form_matched j (form.define_on e x f) c d = do_define_on g h static ks m ls k both j e x f d
+  form_matched j (form.class_form s x p f) c d = do_class g h static ks m ls k both j s x p f d c.3 c.4
+  form_matched j (form.module_form s x f) c d = do_module g h static ks m ls k both j s x f d c.3 c.4
+  form_matched j (form.singleton_class e f) c d = do_singleton g h static ks m ls k both j e f d
   form_matched j (form.alias_form x y) c d = do_alias g h static ks m ls k both j x y d c.3.quiet
   form_matched j (form.undef_form x) c d = do_undef g h static ks m ls k both j x d c.3.quiet
   form_matched j (form.defined q x form.absent) c d = do_defined g h static ks m ls k both c.0 j q x d c.3.quiet
@@ -138,14 +147,23 @@ module _ (g : Ground) (h : Site) (static : Static h) (ks : List Item) (m : sourc
   form_matched j (form.rest_of e from post) c d = do_rest_of g h static j ks m ls k both c.0 e from post d
   form_matched j (form.tail_of e from count) c d = do_tail_of g h static j ks m ls k both c.0 e from count d
 
+  element_matched : (v : Value) (j : ℕ) (q : source.Gathering) (o : ObjId) (t : Bool) (is : form.Items)
+      → IsCalm h.source h.program (Run (give v) (part (elements j q o t is) ∷ ks) m)
+      → (d : GivesIn g h v (part (elements j q o t is) ∷ ks) m.place ls k.lists)
+      → GatheringBehind h k.lists j q o t is d.next.low d.n d.r d.next.end d.loop
+      → Step h (Run (give v) (part (elements j q o t is) ∷ ks) m) (state_at g h d.x d.n (aligned k m))
+  element_matched v j q o t is c d (in_literal b) =
+      give_element g h static j ks m ls k both v j q o t is d b c.1 c.3.quiet
+  element_matched v j q o t is c d (in_call b) = give_argument g h static ks m ls k both c.0 v j q o t is d b c.1 c.3
+
   part_matched : (v : Value) (p : Part) → IsCalm h.source h.program (Run (give v) (part p ∷ ks) m)
       → (d : GivesIn g h v (part p ∷ ks) m.place ls k.lists)
       → Step h (Run (give v) (part p ∷ ks) m) (state_at g h d.x d.n (aligned k m))
-  part_matched v (operands j a vs es) c d = give_operand g h static j ks m ls k both c.0 v j a vs es d c.3.quiet
+  part_matched v (operands j a vs es) c d = give_operand g h static j ks m ls k both c.0 v j a vs es d c.3 c.4
   part_matched v (receiver j x is b) c d = give_receiver g h static ks m ls k both c.0 v j x is b d c.3
   part_matched v (items j s recv vs is b) c d = give_item g h static ks m ls k both c.0 v j s recv vs is b d c.3
   part_matched v (block s recv vs) c d = give_block g h static ks m ls k both c.0 v s recv vs d c.3
-  part_matched v (elements j q o s is) c d = give_element g h static j ks m ls k both v j q o s is d c.1 c.3.quiet
+  part_matched v (elements j q o s is) c d = element_matched v j q o s is c d d.next.behind
   part_matched v (hash_key j o e ps) c d = give_key g h static ks m ls k both v j o e ps d
   part_matched v (hash_value j o u ps) c d = give_pair g h static ks m ls k both v j o u ps d c.1 c.3.quiet
   part_matched v (pieces j o es) c d = give_piece g h static ks m ls k both v j o es d c.1 c.3.quiet
@@ -270,6 +288,34 @@ travel_on s p x ks m ls k (leaping z) calm = leapt_on s p x ks m ls k z calm
 travel_on s p x ks m ls k (returning z) calm = returned_on s p x ks m ls k z calm
 travel_on s p x ks m ls k (going_far z) calm = far_on s p x ks m ls k z calm
 
+-- a form, and the block of a call whose arguments stand in an Array
+performed_on : (s : Source) (p : Program) (j : ℕ) (e : form.CoreForm) (ks : List Item) (m : source.Memory)
+    (ls : List Level) (k : machine.Memory) → DoesOne s p j e ks m ls k → IsCalm s p (Run (perform j e) ks m)
+    → Advances s p (Run (perform j e) ks m) (On ls k)
+performed_on s p j e ks m ls k (does_form r) calm =
+    in_frame s p ks m ls k (perform j e) r.0 r.1 r.2 (λ static both here.
+    on_levels s p ks m ls k (perform j e) r.1 (frame (frame_at r.1 r.3.x r.3.n) ∷ r.0.below) r.3.is
+    (form_matched r.0 r.1 static ks m ls k both j e here r.3)) calm
+performed_on s p j e ks m ls k (does_block q recv vs js same r) calm =
+    subst (λ (is : List Item). IsCalm s p (Run (perform j e) is m) → Advances s p (Run (perform j e) is m) (On ls k)) (sym same)
+    (λ calm'. in_frame s p (part (block q recv vs) ∷ js) m ls k (perform j e) r.0 r.1 r.2 (λ static both here.
+    on_levels s p (part (block q recv vs) ∷ js) m ls k (perform j e) r.1 (frame (frame_at r.1 r.3.x r.3.n) ∷ r.0.below) r.3.is
+    (do_handing r.0 r.1 static js m ls k both q recv vs j e r.3 here.3.quiet)) calm') calm
+
+given_on : (s : Source) (p : Program) (v : Value) (q : Part) (ks : List Item) (m : source.Memory) (ls : List Level)
+    (k : machine.Memory) → GivesOne s p v q ks m ls k → IsCalm s p (Run (give v) (part q ∷ ks) m)
+    → Advances s p (Run (give v) (part q ∷ ks) m) (On ls k)
+given_on s p v q ks m ls k (gives_form r) calm =
+    in_frame s p (part q ∷ ks) m ls k (give v) r.0 r.1 r.2 (λ static both here.
+    on_levels s p (part q ∷ ks) m ls k (give v) r.1 (frame (frame_at r.1 r.3.x r.3.n) ∷ r.0.below) r.3.is
+    (part_matched r.0 r.1 static ks m ls k both v q here r.3)) calm
+given_on s p v q ks m ls k (gives_block f recv vs same r) calm =
+    subst (λ (i : Part). IsCalm s p (Run (give v) (part i ∷ ks) m) → Advances s p (Run (give v) (part i ∷ ks) m) (On ls k))
+    (sym same)
+    (λ calm'. in_frame s p (part (block f recv vs) ∷ ks) m ls k (give v) r.0 r.1 r.2 (λ static both here.
+    on_levels s p (part (block f recv vs) ∷ ks) m ls k (give v) r.1 (frame (frame_at r.1 r.3.x r.3.n) ∷ r.0.below) r.3.is
+    (give_handed r.0 r.1 static ks m ls k both f recv vs here.0 v r.3 here.3)) calm') calm
+
 matched : (s : Source) (p : Program) (c : Config) (t : State) → Alike s p c t → IsCalm s p c → over (seen c) ≡ false
     → Advances s p c t
 unfolding seen
@@ -279,14 +325,10 @@ matched s p (Halt v) (Stuck out) r calm o = absurd r
 matched s p (Run f ks m) (Off d) r calm o = absurd r
 matched s p (Run f ks m) (Stuck out) r calm o = absurd r
 matched s p (Run (perform j e) ks m) (On ls k) r calm o =
-    in_frame s p ks m ls k (perform j e) r.0 r.1 r.2 (λ static both here.
-    on_levels s p ks m ls k (perform j e) r.1 (frame (frame_at r.1 r.3.x r.3.n) ∷ r.0.below) r.3.is
-    (form_matched r.0 r.1 static ks m ls k both j e here r.3)) calm
+    performed_on s p j e ks m ls k (does_one s p j e ks m ls k r) calm
 matched s p (Run (give v) [] m) (On ls k) r calm o = give_end s p v m ls k r calm.3.quiet
 matched s p (Run (give v) (part q ∷ ks) m) (On ls k) r calm o =
-    in_frame s p (part q ∷ ks) m ls k (give v) r.0 r.1 r.2 (λ static both here.
-    on_levels s p (part q ∷ ks) m ls k (give v) r.1 (frame (frame_at r.1 r.3.x r.3.n) ∷ r.0.below) r.3.is
-    (part_matched r.0 r.1 static ks m ls k both v q here r.3)) calm
+    given_on s p v q ks m ls k (gives_one s p v q ks m ls k r) calm
 matched s p (Run (give v) (activation a q ∷ ks) m) (On ls k) r calm o =
     in_frame s p (activation a q ∷ ks) m ls k (give v) r.0 r.1 r.2 (λ static both here.
     on_levels s p (activation a q ∷ ks) m ls k (give v) r.1 (frame (frame_at r.1 r.3.x r.3.n) ∷ r.0.below) r.3.is
@@ -298,6 +340,17 @@ matched s p (Run (give v) (iteration a it q ∷ ks) m) (On ls k) r calm o =
 matched s p (Run (give v) (ensuring x ∷ ks) m) (On ls k) r calm o = absurd r
 matched s p (Run (travel x) ks m) (On ls k) r calm o = travel_on s p x ks m ls k r calm
 
+-- both sides have one world
+world_of_form : (s : Source) (p : Program) (j : ℕ) (e : form.CoreForm) (ks : List Item) (m : source.Memory)
+    (ls : List Level) (k : machine.Memory) → DoesOne s p j e ks m ls k → k.world ≡ m.world
+world_of_form s p j e ks m ls k (does_form r) = r.2.all.world
+world_of_form s p j e ks m ls k (does_block q recv vs js same r) = r.2.all.world
+
+world_of_value : (s : Source) (p : Program) (v : Value) (q : Part) (ks : List Item) (m : source.Memory) (ls : List Level)
+    (k : machine.Memory) → GivesOne s p v q ks m ls k → k.world ≡ m.world
+world_of_value s p v q ks m ls k (gives_form r) = r.2.all.world
+world_of_value s p v q ks m ls k (gives_block f recv vs same r) = r.2.all.world
+
 alike : (s : Source) (p : Program) (c : Config) (t : State) → Alike s p c t → shown t ≡ seen c
 unfolding shown seen
 alike s p (Halt v) (Off d) r = ap Over r
@@ -305,9 +358,11 @@ alike s p (Halt v) (On ls k) r = absurd r
 alike s p (Halt v) (Stuck out) r = absurd r
 alike s p (Run f ks m) (Off d) r = absurd r
 alike s p (Run f ks m) (Stuck out) r = absurd r
-alike s p (Run (perform j e) ks m) (On ls k) r = ap (λ (w : World). Going w.out) r.2.all.world
+alike s p (Run (perform j e) ks m) (On ls k) r =
+    ap (λ (w : World). Going w.out) (world_of_form s p j e ks m ls k (does_one s p j e ks m ls k r))
 alike s p (Run (give v) [] m) (On ls k) r = ap Going r.out
-alike s p (Run (give v) (part q ∷ ks) m) (On ls k) r = ap (λ (w : World). Going w.out) r.2.all.world
+alike s p (Run (give v) (part q ∷ ks) m) (On ls k) r =
+    ap (λ (w : World). Going w.out) (world_of_value s p v q ks m ls k (gives_one s p v q ks m ls k r))
 alike s p (Run (give v) (activation a q ∷ ks) m) (On ls k) r = ap (λ (w : World). Going w.out) r.2.all.world
 alike s p (Run (give v) (iteration a it q ∷ ks) m) (On ls k) r = ap (λ (w : World). Going w.out) r.both.world
 alike s p (Run (give v) (ensuring x ∷ ks) m) (On ls k) r = absurd r
@@ -391,12 +446,12 @@ module _ (s : Source) (p : Program) (input : List ℕ) (c : IsCodeOf s p) where
       let long : length nils ≡ registers = length-replicate registers (V Nil) in
       record {
         scope = omega arith;
-        mirrors = λ x.
+        mirrors = λ x is.
             mirrored_by x (λ i. Nil) (all_nil (locals_of (body_at s 0)))
-            (seek (form.named x) (named_slots (locals_of (body_at s 0))) (Past 1))
-            (sought (form.named x) (named_slots (locals_of (body_at s 0))) 1 (λ i. Nil) (all_nil (locals_of (body_at s 0)))
+            (seek x (named_slots (locals_of (body_at s 0))) (Past 1))
+            (sought x (named_slots (locals_of (body_at s 0))) 1 (λ i. Nil) (all_nil (locals_of (body_at s 0)))
             (lined_nils (locals_of (body_at s 0)) 1 (λ i. Nil) (λ i le. refl)))
-            ∙ sym (ap (λ (z : Scopes). is_found (seek (form.named x) (first_slots z) (Past 1))) c.scopes);
+            ∙ sym (ap (λ (z : Scopes). is_found (seek x (first_slots z) (Past 1))) c.scopes);
         present = omega arith;
         long = length-set nils 0 (V (Obj main_object)) ∙ long;
         self = ap read (get_or-set_same nils 0 (V (Obj main_object)) (V Nil) (omega (arith, long, c.some, c.room)));
@@ -450,7 +505,7 @@ module _ (s : Source) (p : Program) (input : List ℕ) (c : IsCodeOf s p) where
         opened = omega arith;
         self = refl;
         runs = refl;
-        home = λ r e. refl;
+        home = λ e. refl;
       }
 
       at : (d : Site) (n : ℕ) → slice_get (h ∷ []) n ≡ Some d

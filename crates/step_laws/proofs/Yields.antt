@@ -1,5 +1,5 @@
 -- A call of the block of a method: it stands in a register before the items, or there is none.
-use Rattle.std.proofs.Common.{◌≡◌, ℕ, ◌+◌, List, [], ◌∷◌, refl, sym, ap, ◌∙◌, subst, arith, Bool, false}
+use Rattle.std.proofs.Common.{◌≡◌, ℕ, ◌+◌, List, [], ◌∷◌, refl, ap, ◌∙◌, subst, arith, Bool, true, false}
 use Rattle.std.specs.Prelude.{if◌then◌else◌, Option, Some, None}
 use Rattle.rb_value.specs.declared.value.Value.TheVariants.{Obj}
 use Rattle.rb_value.specs.declared.value.ObjId.{ObjId}
@@ -11,7 +11,6 @@ use Rattle.gen_parts.specs.declared.line.Line.TheVariants as line
 use Rattle.gen_parts.specs.declared.emitter.Spot.{Spot}
 use Rattle.gen_parts.specs.Pieces.{Piece, past, does, ◌⊕◌}
 use Rattle.gen_forms.specs.declared.calls.Passing.{Passing}
-use Rattle.gen_forms.specs.declared.calls.Passing.TheVariants as passed
 use Rattle.gen_forms.specs.Gen.{Code, gen, gather, pass_in_registers, passing, passed_by, count_operand}
 use Rattle.def_core.specs.declared.cause.Cause.TheVariants as cause
 use Rattle.def_calls.specs.World.{activation_at}
@@ -19,34 +18,37 @@ use Rattle.def_calls.specs.Calls.{to_proc}
 use Rattle.eval_laws.specs.Standing.{past_items}
 use Rattle.def_eval.specs.Configuration as source
 use Rattle.def_eval.specs.Configuration.{Place, arguments_of, Item, perform, Config, Run}
-use Rattle.def_eval.specs.Forms.{next_item, gather as gather_all, do_yield as yields_in, do_form}
+use Rattle.def_eval.specs.Forms.{next_item, gather as gather_all, has_splat as has_splats, do_yield as yields_in, do_form}
 use Rattle.def_eval.specs.Transition.{go}
 use Rattle.def_machine.specs.State as machine
 use Rattle.def_machine.specs.State.{Level, frame}
 use Rattle.def_machine.specs.Turn.{turn, block_of_home}
-use Rattle.step_laws.specs.Site.{Site, within, at_line, LineAt}
-use Rattle.step_laws.specs.Covers.{past_items_code}
+use Rattle.step_laws.specs.Site.{Site, within, at_line, LineAt, Room}
+use Rattle.step_laws.specs.Passed.{Passed}
+use Rattle.step_laws.specs.Covers.{past_items_code, past_new, CoversItems, CoversElements}
 use Rattle.step_laws.specs.Calm.{IsSteady, Peace}
-use Rattle.step_laws.specs.Behind.{Static, by_yield}
+use Rattle.step_laws.specs.Behind.{Static, HoldsCall, a_block, yields_array, array_alone, ItemsEnd, by_yield, by_array}
 use Rattle.step_laws.specs.Relation.{Ground, InFrame, Common, Doing, Step}
 use Rattle.step_laws.proofs.Placed.{high, high-both, high-puts, line-past, Stands, moved, left, right, the_line, frame_at, turned}
 use Rattle.step_laws.proofs.Registers.{slot_same, keeps_above}
 use Rattle.step_laws.proofs.Untouched.{put_only, frame_kept, same_here, written_here}
-use Rattle.step_laws.proofs.Matching.{one_before, going, state_at, written}
+use Rattle.step_laws.proofs.Matching.{Within, one_more, later, going, state_at, written}
+use Rattle.step_laws.proofs.Calling.{From}
 use Rattle.step_laws.proofs.Failing.{fails_here}
 use Rattle.step_laws.proofs.Literals.{aligned}
-use Rattle.step_laws.proofs.Calls.{no_splat, none_spread, passing_is}
+use Rattle.step_laws.proofs.Passing.{HowPassed, in_registers, in_array_of, gathered_all, how_passed, same_splats, no_splat}
 use Rattle.step_laws.proofs.Sends.{sent_moved, items_on}
+use Rattle.step_laws.proofs.Spreading.{spread_on}
 
 -- The parts of its code: the block, the items, and the call.
-record YieldParts (h : Site) (n r count : ℕ) (q whole : Piece) : Type 0 where
+record YieldParts (h : Site) (n r count : ℕ) (q : Piece) (end : ℕ) : Type 0 where
   pub block : LineAt h n (line.Does (op.BlkPush r))
   pub items : Stands h (n + 1) q
   pub calls : LineAt h (n + 1 + high q) (line.Does (op.Call r count))
-  pub ends : n + 1 + high q + 1 ≡ n + high whole
+  pub ends : n + 1 + high q + 1 ≡ end
 
 yield_parts : (h : Site) (n r count : ℕ) (q : Piece) → Stands h n (does (op.BlkPush r) ⊕ q ⊕ does (op.Call r count))
-    → YieldParts h n r count q (does (op.BlkPush r) ⊕ q ⊕ does (op.Call r count))
+    → YieldParts h n r count q (n + high (does (op.BlkPush r) ⊕ q ⊕ does (op.Call r count)))
 yield_parts h n r count q s =
     let p = does (op.BlkPush r) in
     let o = op.Call r count in
@@ -79,26 +81,27 @@ module _ (g : Ground) (h : Site) (static : Static h) (ks : List Item) (m : sourc
     abbrev s : Spot
     s = past d.s (does (op.BlkPush d.r))
 
-    abbrev items_code : Piece
-    items_code = pass_in_registers (within h d.loop) s (d.r + 1) is
-
     abbrev each : Code
     each = λ t u i. pass_in_registers t u i is
 
     abbrev spread : Code
     spread = λ t u i. gather t u i is
 
-    abbrev whole : Passing → Piece
-    whole p = does (op.BlkPush d.r) ⊕ passed_by p each spread (within h d.loop) s d.r ⊕ does (op.Call d.r (count_operand p))
+    abbrev code_by : Passing → Piece
+    code_by p = passed_by p each spread (within h d.loop) s d.r
 
-    few : passing is ≡ passed.InRegisters (item_count is)
-    few = passing_is is (none_spread h (d.r + 1) is d.covered.1) d.covered.2
+    abbrev end : ℕ
+    end = d.n + high (gen (within h d.loop) d.s d.r (yield_form is))
 
-    parts : YieldParts h d.n d.r (item_count is) items_code (whole (passed.InRegisters (item_count is)))
-    parts = yield_parts h d.n d.r (item_count is) items_code (subst (λ (p : Passing). Stands h d.n (whole p)) few d.code)
+    abbrev CallStands : Passing → Type 0
+    CallStands p = YieldParts h d.n d.r (count_operand p) (code_by p) end
 
-    ends : d.n + 1 + high items_code + 1 ≡ d.n + high (gen (within h d.loop) d.s d.r (yield_form is))
-    ends = parts.ends ∙ ap (λ (p : Passing). d.n + high (whole p)) (sym few)
+    abbrev Asked : Passing → Type 0
+    Asked p = Passed p (Room h (d.r + 1)) (CoversItems h d.loop (d.r + 1) s j is)
+        (CoversElements h d.loop (d.r + 1) (past_new (d.r + 1) s) j is)
+
+    parts : CallStands (passing is)
+    parts = yield_parts h d.n d.r (count_operand (passing is)) (code_by (passing is)) d.code
 
     goes_by : (o : Option ObjId) → block_here ≡ o → go h.source conf ≡ yields_in h.source j o is ks m
     unfolding do_form
@@ -120,51 +123,115 @@ module _ (g : Ground) (h : Site) (static : Static h) (ks : List Item) (m : sourc
           alike = going (perform j (yield_form is)) ks m (frame (frame_at h d.x d.n) ∷ g.below) (aligned k m) refl;
           out = refl;
           quiet = peace.quiet;
-        }) (omega arith) cause.NoBlockToYield (goes_by None e) (turns_by None e)
-        (d.n + high (gen (within h d.loop) d.s d.r (yield_form is))) d.r d.loop d.next
+        }) (omega arith) cause.NoBlockToYield (goes_by None e) (turns_by None e) end d.r d.loop d.next
 
     -- with one it is called
-    calls : (p : ObjId) → block_here ≡ Some p → Step h conf (state_at g h d.x d.n (aligned k m))
-    calls p e =
-        let v = Obj p in
-        let r = d.r in
-        let room = d.covered.0 in
-        let c = same_here g h m (aligned k m) both in
-        let k' = written h (aligned k m) r v in
-        let end = d.n + high (gen (within h d.loop) d.s d.r (yield_form is)) in
-        let items_end = past_items_code h d.loop (r + 1) s is in
-        let last = d.n + 1 + high items_code in
-        let goes : go h.source conf ≡ next_item h.source j to_proc v [] is absent ks m =
-        goes_by (Some p) e ∙ ap (λ (t : Bool). if t then gather_all h.source j (arguments_of to_proc v absent) is ks m
-        else next_item h.source j to_proc v [] is absent ks m) (no_splat h (r + 1) is d.covered.1) in
-        let next : InFrame g h k'.lists ks end r d.loop =
-        frame_kept g h k.lists k'.lists ks end r d.loop (keeps_above h k.lists r r (V v) c.present (omega arith))
-        (put_only k.lists h.list r v) (omega (arith, both.free)) d.next in
-        one_before h.source h.program conf (state_at g h d.x d.n (aligned k m)) (state_at g h d.x (d.n + 1) k')
-        (going (perform j (yield_form is)) ks m (frame (frame_at h d.x d.n) ∷ g.below) (aligned k m) refl)
-        (turns_by (Some p) e)
-        (items_on g h static ks m k' (written_here g h m (aligned k m) both r v room.above) steady d.there conf d.x (d.n + 1) j
-        to_proc v [] is absent (record {
-          low = r;
-          own = false;
-          loop = d.loop;
-          s = s;
-          here = omega (arith, line-past d.s (does (op.BlkPush r)), high-puts (line.Does (op.BlkPush r)), d.here);
-          r = r + 1;
-          row = omega arith;
-          room = room;
-          covered = d.covered.1;
-          held = (slot_same k.lists h.list r (V v) c.present (omega (arith, c.long, room.within)), tt);
-          code = parts.items;
-          end = end;
-          ends = sent_moved h to_proc r (item_count is) (0 + item_count is) false items_end items_end (past_items j is) absent
-              last last end (omega arith) refl refl (by_yield refl refl refl d.covered.2 parts.calls ends);
-          next = next;
-        }) (record {
-          alike = going (perform j (yield_form is)) ks m (frame (frame_at h d.x (d.n + 1)) ∷ g.below) k' refl;
-          out = refl;
-          quiet = peace.quiet;
-        }) goes (omega arith) peace.calls)
+    module _ (p : ObjId) (given : block_here ≡ Some p) where
+      abbrev k' : machine.Memory
+      k' = written h (aligned k m) d.r (Obj p)
+
+      both' : Common g h m k'
+      both' = written_here g h m (aligned k m) both d.r (Obj p) d.covered.0.above
+
+      called : HoldsCall h k'.lists false d.r (Obj p) []
+      called =
+          let c = same_here g h m (aligned k m) both in
+          (slot_same k.lists h.list d.r (V (Obj p)) c.present (omega (arith, c.long, d.covered.0.within)), tt)
+
+      here : s.line ≡ d.n + 1
+      here = omega (arith, line-past d.s (does (op.BlkPush d.r)), high-puts (line.Does (op.BlkPush d.r)), d.here)
+
+      next : InFrame g h k'.lists ks end d.r d.loop
+      next =
+          let c = same_here g h m (aligned k m) both in
+          frame_kept g h k.lists k'.lists ks end d.r d.loop
+          (keeps_above h k.lists d.r d.r (V (Obj p)) c.present (omega arith)) (put_only k.lists h.list d.r (Obj p))
+          (omega (arith, both.free)) d.next
+
+      from : From h conf (frame (frame_at h d.x (d.n + 1)) ∷ g.below) k' m
+      from = record {
+        alike = going (perform j (yield_form is)) ks m (frame (frame_at h d.x (d.n + 1)) ∷ g.below) k' refl;
+        out = refl;
+        quiet = peace.quiet;
+      }
+
+      goes : (t : Bool) → has_splats is ≡ t → go h.source conf
+          ≡ (if t then gather_all h.source j (arguments_of to_proc (Obj p) absent) is ks m
+          else next_item h.source j to_proc (Obj p) [] is absent ks m)
+      goes t e =
+          goes_by (Some p) given
+          ∙ ap (λ (i : Bool). if i then gather_all h.source j (arguments_of to_proc (Obj p) absent) is ks m
+          else next_item h.source j to_proc (Obj p) [] is absent ks m) e
+
+      -- the items, one a register
+      items_then : CoversItems h d.loop (d.r + 1) s j is
+          → Stands h (d.n + 1) (pass_in_registers (within h d.loop) s (d.r + 1) is)
+          → ItemsEnd h d.loop to_proc d.r (item_count is) false (past_items_code h d.loop (d.r + 1) s is) (past_items j is) absent
+          (d.n + 1 + high (pass_in_registers (within h d.loop) s (d.r + 1) is)) end
+          → Within 6 h.source h.program conf (state_at g h d.x (d.n + 1) k')
+      items_then covered code ends =
+          let sp = past_items_code h d.loop (d.r + 1) s is in
+          let last = d.n + 1 + high (pass_in_registers (within h d.loop) s (d.r + 1) is) in
+          items_on g h static ks m k' both' steady d.there conf d.x (d.n + 1) j to_proc (Obj p) [] is absent (record {
+            low = d.r;
+            own = false;
+            loop = d.loop;
+            s = s;
+            here = here;
+            r = d.r + 1;
+            row = omega arith;
+            room = d.covered.0;
+            covered = covered;
+            held = called;
+            code = code;
+            end = end;
+            ends = sent_moved h d.loop to_proc d.r (item_count is) (0 + item_count is) false sp sp (past_items j is) absent last
+                last end (omega arith) refl refl ends;
+            next = next;
+          }) from (goes false (no_splat h d.loop (d.r + 1) s j is covered)) (omega arith) peace.calls peace.block
+
+      arguments_then : HowPassed is (passing is)
+          → Within 6 h.source h.program conf (state_at g h d.x (d.n + 1) k')
+      arguments_then (in_registers e unspread few) =
+          let y = subst CallStands e parts in
+          items_then (subst Asked e d.covered.1) y.items (by_yield refl refl refl few y.calls y.ends)
+      arguments_then (in_array_of e unspread many) =
+          let y = subst CallStands e parts in
+          let asked = subst Asked e d.covered.1 in
+          let q = pass_in_registers (within h d.loop) s (d.r + 1) is in
+          let o = op.Array (d.r + 1) (item_count is) in
+          let tall : d.n + 1 + high (q ⊕ does o) ≡ d.n + 1 + high q + 1 =
+          omega (arith, high-both q (does o), high-puts (line.Does o)) in
+          items_then asked.1 (left h (d.n + 1) q (does o) y.items)
+          (by_array a_block refl many asked.0
+          (the_line h (d.n + 1 + high q) (line.Does o) (right h (d.n + 1) q (does o) y.items))
+          (array_alone (op.Call d.r 255) refl (yields_array refl refl refl)
+          (subst (λ (i : ℕ). LineAt h i (line.Does (op.Call d.r 255))) tall y.calls) (omega (arith, tall, y.ends))))
+      arguments_then (gathered_all e spreads) =
+          let y = subst CallStands e parts in
+          let asked = subst Asked e d.covered.1 in
+          let o = op.Array (d.r + 1) 0 in
+          let q = gather (within h d.loop) (past_new (d.r + 1) s) (d.r + 1) is in
+          let one : d.n + 1 + high (does o) ≡ d.n + 1 + 1 = omega (arith, high-puts (line.Does o)) in
+          let tall : d.n + 1 + high (does o ⊕ q) ≡ d.n + 1 + 1 + high q = omega (arith, high-both (does o) q, one) in
+          later h.source h.program conf (state_at g h d.x (d.n + 1) k')
+          (spread_on g h ks m k' both' d.there conf d.x (d.n + 1) j from to_proc (Obj p) is absent a_block d.r false s end d.loop
+          (record {
+            spread = spreads;
+            room_behind = asked.0;
+            covered = asked.1;
+            makes = the_line h (d.n + 1) (line.Does o) (left h (d.n + 1) (does o) q y.items);
+            code = moved h (d.n + 1 + high (does o)) (d.n + 1 + 1) q one (right h (d.n + 1) (does o) q y.items);
+            ends = array_alone (op.Call d.r 255) refl (yields_array refl refl refl)
+                (subst (λ (i : ℕ). LineAt h i (line.Does (op.Call d.r 255))) tall y.calls) (omega (arith, tall, y.ends));
+          }) here d.covered.0 called refl next (goes true (same_splats is ∙ spreads)))
+
+      calls : Step h conf (state_at g h d.x d.n (aligned k m))
+      calls =
+          (one_more 6 (omega arith) h.source h.program conf (state_at g h d.x d.n (aligned k m))
+          (state_at g h d.x (d.n + 1) k')
+          (going (perform j (yield_form is)) ks m (frame (frame_at h d.x d.n) ∷ g.below) (aligned k m) refl)
+          (turns_by (Some p) given) (arguments_then (how_passed is))).advances
 
   pub do_yield : (j : ℕ) (is : Items) (d : Doing g h j (yield_form is) ks m.place ls k.lists)
       → Peace h.source h.program (perform j (yield_form is)) ks m

@@ -1,5 +1,5 @@
 -- The code behind each part of a form that waits for its value, and the registers that hold what it keeps.
-use Rattle.std.specs.Prelude.{◌≡◌, ◌≢◌, ◌⊎◌, ◌<◌, ◌≤◌, ℕ, suc, ◌+◌, List, [], ◌∷◌, length, Bool, true, false, nat_lt, Option, Some, None}
+use Rattle.std.specs.Prelude.{◌≡◌, ◌≢◌, ◌⊎◌, ◌<◌, ◌≤◌, ℕ, suc, ◌+◌, List, [], ◌∷◌, length, get_or, Bool, true, false, nat_lt, Option, Some, None}
 use Rattle.rb_value.specs.declared.value.Value.{Value}
 use Rattle.rb_value.specs.declared.value.Value.TheVariants.{Obj}
 use Rattle.rb_value.specs.declared.value.ObjId.{ObjId}
@@ -7,25 +7,28 @@ use Rattle.rb_value.specs.declared.exit.Slot.TheVariants.{V}
 use Rattle.rite_code.specs.declared.operation.Operation.{Operation}
 use Rattle.rite_code.specs.declared.operation.Operation.TheVariants as op
 use Rattle.ir_counts.specs.Tables.{item_count}
-use Rattle.ir_core.specs.CoreForm.{Name, Local, named, CoreForm, function, Body, Maybe, absent, there, Forms, none, more, Items, Pairs, Branches}
+use Rattle.ir_walk.specs.Width.{has_splat}
+use Rattle.ir_core.specs.CoreForm.{Name, Local, named, CoreForm, Maybe, absent, there, Forms, none, more, Items, Pairs, Branches}
 use Rattle.scope_resolver.specs.Layout.{place_of}
 use Rattle.step_laws.specs.Around.{first_slots}
 use Rattle.gen_parts.specs.declared.line.Line.TheVariants as line
 use Rattle.gen_parts.specs.declared.emitter.Spot.{Spot}
 use Rattle.gen_parts.specs.declared.emitter.Held.TheVariants as held
-use Rattle.gen_parts.specs.Pieces.{Piece, past, behind, nothing, ◌⊕◌, jump, jump_not}
+use Rattle.gen_parts.specs.Pieces.{Piece, past, behind, nothing, does, ◌⊕◌, jump, jump_not}
 use Rattle.gen_forms.specs.declared.context.Loop.{Loop}
-use Rattle.gen_forms.specs.Gen.{Context, gen, gather, gather_pairs, gather_text, others_in_turn, pass_in_registers, choose, over, operator, return_by, symbol}
-use Rattle.def_calls.specs.Calls.{Sending, by_name, to_proc}
-use Rattle.def_eval.specs.Configuration.{Action, assign, assign_gvar, leave_method, leave_call, leave_round, Gathering, an_array, Part, operands, receiver, items, block, elements, hash_key, hash_value, pieces, rest, test, chosen, and_then, or_else, loop_test, loop_body, rescued, clause_class, clause_target, clause_body, ensured, Stop, passes, loops, rescues, assigns, retries, ensures}
+use Rattle.gen_forms.specs.Gen.{Context, gen, gather, gather_pairs, gather_text, others_in_turn, pass_in_registers, choose, over, operator, symbol}
+use Rattle.def_calls.specs.Calls.{Sending, by_name, to_proc, to_super}
+use Rattle.def_eval.specs.Configuration.{Action, assign, assign_gvar, leave_method, leave_call, leave_round, Gathering, an_array, arguments_of, Part, operands, receiver, items, block, elements, hash_key, hash_value, pieces, rest, test, chosen, and_then, or_else, loop_test, loop_body, rescued, clause_class, clause_target, clause_body, ensured, Stop, passes, loops, rescues, assigns, retries, ensures, define_on, open_class, open_module, open_singleton}
 use Rattle.def_eval.specs.Scopes.{same_local}
-use Rattle.eval_laws.specs.Standing.{past_items}
+use Rattle.def_eval.specs.Source.{Source, span}
+use Rattle.eval_laws.specs.Kinds.{IsKind, of_class}
+use Rattle.eval_laws.specs.Standing.{past_items, past_branches}
 use Rattle.def_machine.specs.State.{Registers, body_at, slot_at}
 use Rattle.step_laws.specs.Site.{Site, within, LineAt, Room, register, Known, IsThere, Named, number}
 use Rattle.step_laws.specs.Strict.{strict_op, IsReady, arity}
-use Rattle.step_laws.specs.Far.{Far, returns_far, breaks_far, action_of, leaving_op}
-use Rattle.step_laws.specs.Covered.{Covered, CoveredForms, CoveredItems, CoveredElements, CoveredPairs, CoveredBranches}
-use Rattle.step_laws.specs.Covers.{Makes, past_items_code, CoversAll}
+use Rattle.step_laws.specs.Passed.{IsAtOnce}
+use Rattle.step_laws.specs.Far.{Far, returns_far, breaks_far, action_of, leaving_op, ends_itself}
+use Rattle.step_laws.specs.Covers.{past_items_code, past_new, past_branch, past_choices, Covers, CoversAll, CoversItems, CoversElements, CoversPieces, CoversPairs, CoversBranches}
 use Rattle.step_laws.specs.Standing.{high, Stands}
 
 -- what holds of the body all along
@@ -60,24 +63,106 @@ abbrev pub block_sender : Bool → ℕ → ℕ → ℕ → Operation
 block_sender false r x n = op.SendB r x n
 block_sender true r x n = op.SSendB r x n
 
--- What stands behind the items of a call from line n on, where that spot is: the call, or its block, whose body has that
--- number, and the call.
-pub data CallEnds (h : Site) (low : ℕ) (x : Name) (count : ℕ) (own : Bool) (s : Spot) (j : ℕ) (b : Maybe) (n end : ℕ)
-    : Type 0 where
+-- what is called: a method by its name, the block of a method, or the method above the running one
+pub data Callee : Type 0 where
+  a_method : Name → Callee
+  a_block : Callee
+  a_super : Callee
+
+abbrev pub sending_of : Source → Callee → Sending
+sending_of s (a_method x) = by_name (number s x)
+sending_of s a_block = to_proc
+sending_of s a_super = to_super
+
+-- the instruction that passes a block with so many arguments
+pub data PassesBlock (h : Site) (r : ℕ) (own : Bool) (k : Sending) (n : ℕ) (o : Operation) : Type 0 where
+  to_value : (x : Name) → k ≡ by_name (number h.source x) → own ≡ false → Named h x → o ≡ op.SendB r (symbol h.context x) n
+      → PassesBlock h r own k n o
+  to_self : (x : Name) → k ≡ by_name (number h.source x) → own ≡ true → Named h x → o ≡ op.SSendB r (symbol h.context x) n
+      → PassesBlock h r own k n o
+  to_above : k ≡ to_super → own ≡ true → o ≡ op.Super r n → PassesBlock h r own k n o
+
+-- the instruction of a call whose arguments stand in an Array
+pub data SendsArray (h : Site) (r : ℕ) (q : Callee) (own : Bool) (o : Operation) : Type 0 where
+  sends_array : (x : Name) → q ≡ a_method x → own ≡ false → Named h x → o ≡ op.Send r (symbol h.context x) 255
+      → SendsArray h r q own o
+  sends_array_self : (x : Name) → q ≡ a_method x → own ≡ true → Named h x → o ≡ op.SSend r (symbol h.context x) 255
+      → SendsArray h r q own o
+  yields_array : q ≡ a_block → own ≡ false → o ≡ op.Call r 255 → SendsArray h r q own o
+
+-- What stands behind the Array of the arguments, which is in register low + 1: the call, or its block and the call.
+pub data ArrayEnds (h : Site) (around : Option Loop) (q : Callee) (low : ℕ) (own : Bool) (s : Spot) (j : ℕ) (b : Maybe)
+    (n end : ℕ) : Type 0 where
+  array_alone : (o : Operation) → b ≡ absent → SendsArray h low q own o → LineAt h n (line.Does o) → n + 1 ≡ end
+      → ArrayEnds h around q low own s j b n end
+  array_with : (e : CoreForm) (o : Operation) → b ≡ there e → IsAtOnce e
+      → PassesBlock h low own (sending_of h.source q) 255 o → Covers h around (low + 1 + 1) s j e
+      → Stands h n (gen (within h around) s (low + 1 + 1) e)
+      → LineAt h (n + high (gen (within h around) s (low + 1 + 1) e)) (line.Does o)
+      → n + high (gen (within h around) s (low + 1 + 1) e) + 1 ≡ end → ArrayEnds h around q low own s j b n end
+
+-- The code of arguments that are gathered, from line n on.
+pub record GatheredAt (h : Site) (around : Option Loop) (q : Callee) (low : ℕ) (own : Bool) (is : Items) (s : Spot) (j : ℕ)
+    (b : Maybe) (n end : ℕ) : Type 0 where
+  pub spread : has_splat is ≡ true
+  pub room_behind : Room h (low + 1)
+  pub covered : CoversElements h around (low + 1) (past_new (low + 1) s) j is
+  pub makes : LineAt h n (line.Does (op.Array (low + 1) 0))
+  pub code : Stands h (n + 1) (gather (within h around) (past_new (low + 1) s) (low + 1) is)
+  pub ends : ArrayEnds h around q low own
+      (past (past_new (low + 1) s) (gather (within h around) (past_new (low + 1) s) (low + 1) is)) (past_items j is) b
+      (n + 1 + high (gather (within h around) (past_new (low + 1) s) (low + 1) is)) end
+
+-- What stands behind the items of a call from line n on, where that spot is, in the code of that loop: the call, or its
+-- block, whose first body has that number, and the call.
+pub data CallEnds (h : Site) (around : Option Loop) (low : ℕ) (x : Name) (count : ℕ) (own : Bool) (s : Spot) (j : ℕ)
+    (b : Maybe) (n end : ℕ) : Type 0 where
   alone : (o : Operation) → b ≡ absent → CallBy h low x count own o → LineAt h n (line.Does o) → n + 1 ≡ end
-      → CallEnds h low x count own s j b n end
-  with_literal : (f : Body) → b ≡ there (function f) → nat_lt 253 count ≡ false → Named h x
-      → Makes h (low + 1 + count) s j f → LineAt h n (line.Does (op.Block (low + 1 + count) s.child))
-      → LineAt h (n + 1) (line.Does (block_sender own low (symbol h.context x) count)) → n + 1 + 1 ≡ end
-      → CallEnds h low x count own s j b n end
+      → CallEnds h around low x count own s j b n end
+  with_block : (e : CoreForm) → b ≡ there e → nat_lt 253 count ≡ false → Named h x
+      → Covers h around (low + 1 + count) s j e → Stands h n (gen (within h around) s (low + 1 + count) e)
+      → LineAt h (n + high (gen (within h around) s (low + 1 + count) e))
+      (line.Does (block_sender own low (symbol h.context x) count))
+      → n + high (gen (within h around) s (low + 1 + count) e) + 1 ≡ end
+      → CallEnds h around low x count own s j b n end
+  packed : nat_lt 253 count ≡ true → Named h x → Room h (low + 1) → LineAt h n (line.Does (op.Array (low + 1) count))
+      → ArrayEnds h around (a_method x) low own (past s (does (op.Array (low + 1) count))) j b (n + 1) end
+      → CallEnds h around low x count own s j b n end
+
+-- The code of the arguments of a call and what stands behind it, from line n on.
+pub data ArgumentsAt (h : Site) (around : Option Loop) (low : ℕ) (x : Name) (own : Bool) (is : Items) (s : Spot) (j : ℕ)
+    (b : Maybe) (n end : ℕ) : Type 0 where
+  one_by_one : CoversItems h around (low + 1) s j is → Stands h n (pass_in_registers (within h around) s (low + 1) is)
+      → CallEnds h around low x (item_count is) own (past_items_code h around (low + 1) s is) (past_items j is) b
+      (n + high (pass_in_registers (within h around) s (low + 1) is)) end
+      → ArgumentsAt h around low x own is s j b n end
+  gathered : Named h x → GatheredAt h around (a_method x) low own is s j b n end → ArgumentsAt h around low x own is s j b n end
+
+-- The instructions of `super` without a block, from line n on: whether the method has one is asked, and it is written to
+-- register r, or nil.
+pub record AsksBlock (h : Site) (r n : ℕ) : Type 0 where
+  pub defined : LineAt h n (line.Does (op.Defined r 6 0))
+  pub skips : LineAt h (n + 1) (line.JumpNot r (n + 1 + 1 + 1))
+  pub pushes : LineAt h (n + 1 + 1) (line.Does (op.BlkPush r))
 
 -- What stands behind the items of what is sent so: that of a call by a name, or the call of the block of a method.
-pub data ItemsEnd (h : Site) (k : Sending) (low count : ℕ) (own : Bool) (s : Spot) (j : ℕ) (b : Maybe) (n end : ℕ)
-    : Type 0 where
-  by_call : (name : Name) → k ≡ by_name (number h.source name) → CallEnds h low name count own s j b n end
-      → ItemsEnd h k low count own s j b n end
+pub data ItemsEnd (h : Site) (around : Option Loop) (k : Sending) (low count : ℕ) (own : Bool) (s : Spot) (j : ℕ)
+    (b : Maybe) (n end : ℕ) : Type 0 where
+  by_call : (name : Name) → k ≡ by_name (number h.source name) → CallEnds h around low name count own s j b n end
+      → ItemsEnd h around k low count own s j b n end
   by_yield : k ≡ to_proc → own ≡ false → b ≡ absent → nat_lt 253 count ≡ false → LineAt h n (line.Does (op.Call low count))
-      → n + 1 ≡ end → ItemsEnd h k low count own s j b n end
+      → n + 1 ≡ end → ItemsEnd h around k low count own s j b n end
+  by_block : (e : CoreForm) (o : Operation) → b ≡ there e → nat_lt 253 count ≡ false → PassesBlock h low own k count o
+      → Covers h around (low + 1 + count) s j e → Stands h n (gen (within h around) s (low + 1 + count) e)
+      → LineAt h (n + high (gen (within h around) s (low + 1 + count) e)) (line.Does o)
+      → n + high (gen (within h around) s (low + 1 + count) e) + 1 ≡ end → ItemsEnd h around k low count own s j b n end
+  by_own : k ≡ to_super → own ≡ true → b ≡ absent → nat_lt 253 count ≡ false → Room h (low + 1 + count)
+      → AsksBlock h (low + 1 + count) n → LineAt h (n + 1 + 1 + 1) (line.Does (op.Super low count))
+      → n + 1 + 1 + 1 + 1 ≡ end → ItemsEnd h around k low count own s j b n end
+  by_array : (q : Callee) → k ≡ sending_of h.source q → nat_lt 253 count ≡ true → Room h (low + 1)
+      → LineAt h n (line.Does (op.Array (low + 1) count))
+      → ArrayEnds h around q low own (past s (does (op.Array (low + 1) count))) j b (n + 1) end
+      → ItemsEnd h around k low count own s j b n end
 
 -- what stands behind a test
 abbrev pub after_test : Context → Spot → ℕ → CoreForm → Branches → CoreForm → Piece
@@ -87,8 +172,8 @@ after_test c s r b bs o =
     let others = choose c further r bs (λ d t n. gen d t n o) in
     jump_not r further.line ⊕ q ⊕ jump (past further others).line ⊕ others
 
--- A loop, by the spots of its test and its body.
-pub record LoopAt (h : Site) (r : ℕ) (t b : CoreForm) (end : ℕ) : Type 0 where
+-- A loop, by the spots of its test and its body, and the number of the first body in it.
+pub record LoopAt (h : Site) (r : ℕ) (j : ℕ) (t b : CoreForm) (end : ℕ) : Type 0 where
   pub loop : Option Loop
   -- a break leads to a jump behind it, and a next to the test or to a jump there, with the value in its register
   pub target : Loop
@@ -98,8 +183,8 @@ pub record LoopAt (h : Site) (r : ℕ) (t b : CoreForm) (end : ℕ) : Type 0 whe
   pub test_spot : Spot
   pub body_spot : Spot
   pub room : Room h r
-  pub test_covered : Covered h r t
-  pub body_covered : Covered h r b
+  pub test_covered : Covers h loop r test_spot j t
+  pub body_covered : Covers h loop r body_spot (j + span t) b
   pub test : Stands h test_spot.line (gen (within h loop) test_spot r t)
   pub body : Stands h body_spot.line (gen (within h loop) body_spot r b)
   pub out : ℕ
@@ -130,14 +215,14 @@ pub record LocalBehind (h : Site) (a : Action) (vs : List Value) (es : Forms) (l
 -- or to one of a body around
 pub record OuterBehind (h : Site) (a : Action) (vs : List Value) (es : Forms) (low n r end : ℕ) : Type 0 where
   pub at : low ≡ r
-  pub name : Name
-  pub action : a ≡ assign (named name)
+  pub name : Local
+  pub action : a ≡ assign name
   pub first : vs ≡ []
   pub last : es ≡ none
   pub between : ℕ
-  pub level : (place_of h.context.scopes (named name)).levels ≡ suc between
-  pub there : 1 ≤ register h (named name)
-  pub sets : LineAt h n (line.Does (op.SetUpVar low (register h (named name)) between))
+  pub level : (place_of h.context.scopes name).levels ≡ suc between
+  pub there : 1 ≤ register h name
+  pub sets : LineAt h n (line.Does (op.SetUpVar low (register h name) between))
   pub ends : n + 1 ≡ end
 
 -- and to a global variable
@@ -156,24 +241,24 @@ abbrev pub rest_code : Context → Spot → ℕ → Forms → Piece
 rest_code c s r none = nothing
 rest_code c s r (more e es) = gen c s r e
 
-abbrev pub CoveredRest : Site → ℕ → Forms → Type 0
-CoveredRest h r none = Unit {0}
-CoveredRest h r (more e none) = Covered h r e
-CoveredRest h r (more e (more f es)) = ⊥
+abbrev pub CoversRest : Site → Option Loop → ℕ → Spot → ℕ → Forms → Type 0
+CoversRest h o r s j none = Unit {0}
+CoversRest h o r s j (more e none) = Covers h o r s j e
+CoversRest h o r s j (more e (more f es)) = ⊥
 
 abbrev pub how_many : Forms → ℕ
 how_many none = 0
 how_many (more e es) = 1 + how_many es
 
 -- an instruction does the action with the operands in registers from low on
-pub record StrictBehind (h : Site) (l : List Registers) (a : Action) (vs : List Value) (es : Forms) (low n r end : ℕ)
-    (around : Option Loop) : Type 0 where
+pub record StrictBehind (h : Site) (l : List Registers) (j : ℕ) (a : Action) (vs : List Value) (es : Forms)
+    (low n r end : ℕ) (around : Option Loop) : Type 0 where
   pub row : low + length vs ≡ r
   pub held : Holds l h.list low vs
   pub s : Spot
   pub here : s.line ≡ n
   pub room : Room h low
-  pub covered : CoveredRest h (r + 1) es
+  pub covered : CoversRest h around (r + 1) s j es
   pub o : Operation
   pub by : strict_op h low a ≡ Some o
   pub ready : IsReady h a
@@ -208,7 +293,7 @@ pub record ReturnBehind (h : Site) (a : Action) (vs : List Value) (es : Forms) (
   pub action : a ≡ leave_method
   pub first : vs ≡ []
   pub last : es ≡ none
-  pub own : return_by h.context.kind_of low ≡ op.Return low
+  pub own : ends_itself h.context.kind_of ≡ true
   pub returns : LineAt h n (line.Does (op.Return low))
 
 -- that of a next that is out of its loops is the value of the body
@@ -237,17 +322,89 @@ pub record FarBehind (h : Site) (a : Action) (vs : List Value) (es : Forms) (low
     pub outside : IsOut by around
     pub leaves : LineAt h n (line.Does (leaving_op by low))
 
-pub data OperandBehind (h : Site) (l : List Registers) (a : Action) (vs : List Value) (es : Forms) (low n r end : ℕ)
+-- the singleton class of the value gets a method
+pub record DefineBehind (h : Site) (a : Action) (vs : List Value) (es : Forms) (low n r end : ℕ) : Type 0 where
+  pub at : low ≡ r
+  pub name : Name
+  pub body : ℕ
+  pub action : a ≡ define_on name body
+  pub first : vs ≡ []
+  pub last : es ≡ none
+  pub named : Named h name
+  pub room : Room h low
+  pub child : ℕ
+  pub makes : get_or (body_at h.program h.body).children child 0 ≡ body
+  pub opens : LineAt h n (line.Does (op.SClass low))
+  pub defines : LineAt h (n + 1) (line.Does (op.Def low (symbol h.context name) child))
+  pub ends : n + 1 + 1 ≡ end
+
+-- what opens a class or a module with so many operands, whose body has that number
+pub data Opens (h : Site) (low : ℕ) (a : Action) (body : ℕ) (o : Operation) (count : ℕ) : Type 0 where
+  a_class : (x : Name) → a ≡ open_class x body → o ≡ op.Class low (symbol h.context x) → Named h x → count ≡ 2
+      → Opens h low a body o count
+  a_module : (x : Name) → a ≡ open_module x body → o ≡ op.Module low (symbol h.context x) → Named h x → count ≡ 1
+      → Opens h low a body o count
+  a_singleton : a ≡ open_singleton body → o ≡ op.SClass low → count ≡ 1 → Opens h low a body o count
+
+-- the instruction that does, and the one behind it that runs the body
+pub record OpensAt (h : Site) (a : Action) (count low n end : ℕ) : Type 0 where
+  pub body : ℕ
+  pub o : Operation
+  pub by : Opens h low a body o count
+  pub room : Room h low
+  pub opens : LineAt h n (line.Does o)
+  pub child : ℕ
+  pub makes : get_or (body_at h.program h.body).children child 0 ≡ body
+  pub kind : IsKind h.source body of_class
+  pub runs : LineAt h (n + 1) (line.Does (op.Exec low child))
+  pub ends : n + 1 + 1 ≡ end
+
+-- The last operand of an action that opens a class or a module.
+pub record OpenBehind (h : Site) (l : List Registers) (a : Action) (vs : List Value) (es : Forms) (low n r end : ℕ)
+    : Type 0 where
+  pub row : low + length vs ≡ r
+  pub held : Holds l h.list low vs
+  pub last : es ≡ none
+  pub opening : OpensAt h a (length vs + 1) low n end
+
+-- the scope of a class, which has no parent
+pub record ScopeBehind (h : Site) (a : Action) (vs : List Value) (es : Forms) (low n r end : ℕ) : Type 0 where
+  pub at : low ≡ r
+  pub first : vs ≡ []
+  pub last : es ≡ none
+  pub further : Room h (low + 1)
+  pub parent : LineAt h n (line.Does (op.LoadNil (low + 1)))
+  pub opening : OpensAt h a 2 low (n + 1) end
+
+-- and where it has one
+pub record ParentBehind (h : Site) (j : ℕ) (a : Action) (vs : List Value) (es : Forms) (low n r end : ℕ)
     (around : Option Loop) : Type 0 where
-  to_local : LocalBehind h a vs es low n r end → OperandBehind h l a vs es low n r end around
-  to_outer : OuterBehind h a vs es low n r end → OperandBehind h l a vs es low n r end around
-  to_global : GlobalBehind h a vs es low n r end → OperandBehind h l a vs es low n r end around
-  strict : StrictBehind h l a vs es low n r end around → OperandBehind h l a vs es low n r end around
-  breaks : BreakBehind h a vs es low n r around → OperandBehind h l a vs es low n r end around
-  begins_round : NextBehind h a vs es n around → OperandBehind h l a vs es low n r end around
-  leaves_body : ReturnBehind h a vs es low n r → OperandBehind h l a vs es low n r end around
-  ends_body : RoundBehind h a vs es low n r around → OperandBehind h l a vs es low n r end around
-  goes_far : FarBehind h a vs es low n r around → OperandBehind h l a vs es low n r end around
+  pub at : low ≡ r
+  pub first : vs ≡ []
+  pub e : CoreForm
+  pub last : es ≡ more e none
+  pub further : Room h (low + 1)
+  pub s : Spot
+  pub here : s.line ≡ n
+  pub covered : Covers h around (low + 1) s j e
+  pub code : Stands h n (gen (within h around) s (low + 1) e)
+  pub opening : OpensAt h a 2 low (n + high (gen (within h around) s (low + 1) e)) end
+
+pub data OperandBehind (h : Site) (l : List Registers) (j : ℕ) (a : Action) (vs : List Value) (es : Forms)
+    (low n r end : ℕ) (around : Option Loop) : Type 0 where
+  to_local : LocalBehind h a vs es low n r end → OperandBehind h l j a vs es low n r end around
+  to_outer : OuterBehind h a vs es low n r end → OperandBehind h l j a vs es low n r end around
+  to_global : GlobalBehind h a vs es low n r end → OperandBehind h l j a vs es low n r end around
+  strict : StrictBehind h l j a vs es low n r end around → OperandBehind h l j a vs es low n r end around
+  breaks : BreakBehind h a vs es low n r around → OperandBehind h l j a vs es low n r end around
+  begins_round : NextBehind h a vs es n around → OperandBehind h l j a vs es low n r end around
+  leaves_body : ReturnBehind h a vs es low n r → OperandBehind h l j a vs es low n r end around
+  ends_body : RoundBehind h a vs es low n r around → OperandBehind h l j a vs es low n r end around
+  goes_far : FarBehind h a vs es low n r around → OperandBehind h l j a vs es low n r end around
+  defines_method : DefineBehind h a vs es low n r end → OperandBehind h l j a vs es low n r end around
+  opens_space : OpenBehind h l a vs es low n r end → OperandBehind h l j a vs es low n r end around
+  opens_without : ScopeBehind h a vs es low n r end → OperandBehind h l j a vs es low n r end around
+  opens_under : ParentBehind h j a vs es low n r end around → OperandBehind h l j a vs es low n r end around
 
 -- Arrays, Hashes and Strings: the object stands in register low, and gets what is awaited behind it.
 
@@ -255,7 +412,7 @@ abbrev pub push : Bool → ℕ → Operation
 push false r = op.AryPush r 1
 push true r = op.AryCat r
 
-pub record ElementBehind (h : Site) (l : List Registers) (g : Gathering) (id : ObjId) (spread : Bool) (is : Items)
+pub record ElementBehind (h : Site) (l : List Registers) (j : ℕ) (g : Gathering) (id : ObjId) (spread : Bool) (is : Items)
     (low n r end : ℕ) (around : Option Loop) : Type 0 where
   pub at : low + 1 ≡ r
   pub gathers : g ≡ an_array
@@ -263,28 +420,58 @@ pub record ElementBehind (h : Site) (l : List Registers) (g : Gathering) (id : O
   pub s : Spot
   pub here : s.line ≡ n + 1
   pub room : Room h low
-  pub covered : CoveredElements h (low + 1) is
+  pub covered : CoversElements h around low s j is
   pub pushes : LineAt h n (line.Does (push spread low))
   pub code : Stands h (n + 1) (gather (within h around) s low is)
   pub ends : n + 1 + high (gather (within h around) s low is) ≡ end
 
+-- so do the arguments of a call, whose Array stands behind what is called
+pub record ArgumentBehind (h : Site) (l : List Registers) (j : ℕ) (g : Gathering) (id : ObjId) (spread : Bool) (is : Items)
+    (low n r end : ℕ) (around : Option Loop) : Type 0 where
+  pub at : low + 1 + 1 ≡ r
+  pub sender : Sending
+  pub recv : Value
+  pub given : Maybe
+  pub gathers : g ≡ arguments_of sender recv given
+  pub callee : Callee
+  pub sending : sender ≡ sending_of h.source callee
+  pub own : Bool
+  pub called : HoldsCall h l own low recv []
+  pub held : slot_at l h.list (low + 1) ≡ V (Obj id)
+  pub s : Spot
+  pub here : s.line ≡ n + 1
+  pub room : Room h low
+  pub room_behind : Room h (low + 1)
+  pub covered : CoversElements h around (low + 1) s j is
+  pub pushes : LineAt h n (line.Does (push spread (low + 1)))
+  pub code : Stands h (n + 1) (gather (within h around) s (low + 1) is)
+  pub ends : ArrayEnds h around callee low own (past s (gather (within h around) s (low + 1) is)) (past_items j is) given
+      (n + 1 + high (gather (within h around) s (low + 1) is)) end
+
+pub data GatheringBehind (h : Site) (l : List Registers) (j : ℕ) (g : Gathering) (id : ObjId) (spread : Bool) (is : Items)
+    (low n r end : ℕ) (around : Option Loop) : Type 0 where
+  in_literal : ElementBehind h l j g id spread is low n r end around
+      → GatheringBehind h l j g id spread is low n r end around
+  in_call : ArgumentBehind h l j g id spread is low n r end around
+      → GatheringBehind h l j g id spread is low n r end around
+
 -- the value of the key is done, and then the pair is put
-pub record KeyBehind (h : Site) (l : List Registers) (id : ObjId) (e : CoreForm) (ps : Pairs) (low n r end : ℕ)
+pub record KeyBehind (h : Site) (l : List Registers) (j : ℕ) (id : ObjId) (e : CoreForm) (ps : Pairs) (low n r end : ℕ)
     (around : Option Loop) : Type 0 where
   pub at : low + 1 ≡ r
   pub held : slot_at l h.list low ≡ V (Obj id)
   pub s : Spot
   pub here : s.line ≡ n
   pub room : Room h low
-  pub covered : Covered h (low + 1 + 1) e × CoveredPairs h low ps
   pub value : Stands h n (gen (within h around) s (low + 1 + 1) e)
   pub next : Spot
+  pub covered : Covers h around (low + 1 + 1) s j e × CoversPairs h around low next (j + span e) ps
   pub next_line : next.line ≡ n + high (gen (within h around) s (low + 1 + 1) e) + 1
   pub puts : LineAt h (n + high (gen (within h around) s (low + 1 + 1) e)) (line.Does (op.HashAdd low 1))
   pub code : Stands h next.line (gather_pairs (within h around) next low ps)
   pub ends : next.line + high (gather_pairs (within h around) next low ps) ≡ end
 
-pub record PairBehind (h : Site) (l : List Registers) (id : ObjId) (u : Value) (ps : Pairs) (low n r end : ℕ) (around : Option Loop) : Type 0
+pub record PairBehind (h : Site) (l : List Registers) (j : ℕ) (id : ObjId) (u : Value) (ps : Pairs) (low n r end : ℕ) (around : Option Loop) : Type 0
   where
     pub at : low + 1 + 1 ≡ r
     pub held : slot_at l h.list low ≡ V (Obj id)
@@ -292,18 +479,18 @@ pub record PairBehind (h : Site) (l : List Registers) (id : ObjId) (u : Value) (
     pub s : Spot
     pub here : s.line ≡ n + 1
     pub room : Room h low
-    pub covered : CoveredPairs h low ps
+    pub covered : CoversPairs h around low s j ps
     pub puts : LineAt h n (line.Does (op.HashAdd low 1))
     pub code : Stands h (n + 1) (gather_pairs (within h around) s low ps)
     pub ends : n + 1 + high (gather_pairs (within h around) s low ps) ≡ end
 
-pub record PieceBehind (h : Site) (l : List Registers) (id : ObjId) (es : Forms) (low n r end : ℕ) (around : Option Loop) : Type 0 where
+pub record PieceBehind (h : Site) (l : List Registers) (j : ℕ) (id : ObjId) (es : Forms) (low n r end : ℕ) (around : Option Loop) : Type 0 where
   pub at : low + 1 ≡ r
   pub held : slot_at l h.list low ≡ V (Obj id)
   pub s : Spot
   pub here : s.line ≡ n + 1
   pub room : Room h low
-  pub covered : CoveredForms h (low + 1) es
+  pub covered : CoversPieces h around low s j es
   pub adds : LineAt h n (line.Does (op.StrCat low))
   pub code : Stands h (n + 1) (gather_text (within h around) s low es)
   pub ends : n + 1 + high (gather_text (within h around) s low es) ≡ end
@@ -311,16 +498,13 @@ pub record PieceBehind (h : Site) (l : List Registers) (id : ObjId) (es : Forms)
 -- The code behind a part, from the line at which its value is awaited in register r to the end of its form, whose value
 -- is to stand in register low.
 abbrev pub Behind : Site → List Registers → Part → ℕ → ℕ → ℕ → ℕ → Option Loop → Type 0
-Behind h l (operands j a vs es) low n r end around = OperandBehind h l a vs es low n r end around
+Behind h l (operands j a vs es) low n r end around = OperandBehind h l j a vs es low n r end around
 Behind h l (receiver j x is b) low n r end around = record {
   at : low ≡ r;
   s : Spot;
   here : s.line ≡ n;
   room : Room h low;
-  covered : CoveredItems h (low + 1) is;
-  code : Stands h n (pass_in_registers (within h around) s (low + 1) is);
-  ends : CallEnds h low x (item_count is) false (past_items_code h around (low + 1) s is) (past_items j is) b
-      (n + high (pass_in_registers (within h around) s (low + 1) is)) end;
+  arguments : ArgumentsAt h around low x false is s j b n end;
 }
 Behind h l (items j k recv vs is b) low n r end around = record {
   own : Bool;
@@ -328,10 +512,10 @@ Behind h l (items j k recv vs is b) low n r end around = record {
   s : Spot;
   here : s.line ≡ n;
   room : Room h low;
-  covered : CoveredItems h (r + 1) is;
+  covered : CoversItems h around (r + 1) s j is;
   held : HoldsCall h l own low recv vs;
   code : Stands h n (pass_in_registers (within h around) s (r + 1) is);
-  ends : ItemsEnd h k low (length vs + 1 + item_count is) own (past_items_code h around (r + 1) s is) (past_items j is) b
+  ends : ItemsEnd h around k low (length vs + 1 + item_count is) own (past_items_code h around (r + 1) s is) (past_items j is) b
       (n + high (pass_in_registers (within h around) s (r + 1) is)) end;
 }
 Behind h l (block k recv vs) low n r end around = record {
@@ -339,17 +523,16 @@ Behind h l (block k recv vs) low n r end around = record {
   at : low + 1 + length vs ≡ r;
   room : Room h low;
   few : nat_lt 253 (length vs) ≡ false;
-  name : Name;
-  named : Named h name;
-  sending : k ≡ by_name (number h.source name);
+  sender : Operation;
+  passes : PassesBlock h low own k (length vs) sender;
   held : HoldsCall h l own low recv vs;
-  sends : LineAt h n (line.Does (block_sender own low (symbol h.context name) (length vs)));
+  sends : LineAt h n (line.Does sender);
   ends : n + 1 ≡ end;
 }
-Behind h l (elements j g o s is) low n r end around = ElementBehind h l g o s is low n r end around
-Behind h l (hash_key j o e ps) low n r end around = KeyBehind h l o e ps low n r end around
-Behind h l (hash_value j o u ps) low n r end around = PairBehind h l o u ps low n r end around
-Behind h l (pieces j o es) low n r end around = PieceBehind h l o es low n r end around
+Behind h l (elements j g o s is) low n r end around = GatheringBehind h l j g o s is low n r end around
+Behind h l (hash_key j o e ps) low n r end around = KeyBehind h l j o e ps low n r end around
+Behind h l (hash_value j o u ps) low n r end around = PairBehind h l j o u ps low n r end around
+Behind h l (pieces j o es) low n r end around = PieceBehind h l j o es low n r end around
 Behind h l (rest j es) low n r end around = record {
   at : low ≡ r;
   s : Spot;
@@ -362,7 +545,9 @@ Behind h l (test j b bs o) low n r end around = record {
   at : low ≡ r;
   s : Spot;
   here : s.line ≡ n;
-  covered : Covered h low b × CoveredBranches h low bs × Covered h low o;
+  covered : Covers h around low (behind s) j b
+      × CoversBranches h around low (past_branch h around low s b) (j + span b) bs
+      × Covers h around low (past_choices h around low (past_branch h around low s b) bs) (past_branches (j + span b) bs) o;
   code : Stands h n (after_test (within h around) s low b bs o);
   ends : n + high (after_test (within h around) s low b bs o) ≡ end;
 }
@@ -371,7 +556,7 @@ Behind h l (and_then j e) low n r end around = record {
   at : low ≡ r;
   s : Spot;
   here : s.line ≡ n;
-  covered : Covered h low e;
+  covered : Covers h around low (behind s) j e;
   code : Stands h n (over (held.JumpNot low) s (λ t. gen (within h around) t low e));
   ends : n + high (over (held.JumpNot low) s (λ t. gen (within h around) t low e)) ≡ end;
 }
@@ -379,19 +564,19 @@ Behind h l (or_else j e) low n r end around = record {
   at : low ≡ r;
   s : Spot;
   here : s.line ≡ n;
-  covered : Covered h low e;
+  covered : Covers h around low (behind s) j e;
   code : Stands h n (over (held.JumpIf low) s (λ t. gen (within h around) t low e));
   ends : n + high (over (held.JumpIf low) s (λ t. gen (within h around) t low e)) ≡ end;
 }
 Behind h l (loop_test j t b) low n r end around = record {
   at : low ≡ r;
-  loop : LoopAt h low t b end;
+  loop : LoopAt h low j t b end;
   inside : around ≡ loop.loop;
   here : loop.test_spot.line + high (gen (within h loop.loop) loop.test_spot low t) ≡ n;
 }
 Behind h l (loop_body j t b) low n r end around = record {
   at : low ≡ r;
-  loop : LoopAt h low t b end;
+  loop : LoopAt h low j t b end;
   inside : around ≡ loop.loop;
   here : loop.body_spot.line + high (gen (within h loop.loop) loop.body_spot low b) ≡ n;
 }

@@ -13,7 +13,7 @@ use Rattle.rite_code.specs.declared.operation.Operation.TheVariants as op
 use Rattle.ir_core.specs.CoreForm.{hidden, CoreForm, seq, Forms, none, more, Body, Parameters}
 use Rattle.scope_resolver.specs.declared.body_kind.BodyKind.TheVariants as kind
 use Rattle.scope_resolver.specs.declared.seek.Search.TheVariants.{Past}
-use Rattle.scope_resolver.specs.Layout.{Scopes, slots_of, seek}
+use Rattle.scope_resolver.specs.Layout.{Scopes, named_slots, slots_of, seek}
 use Rattle.gen_parts.specs.declared.line.Line.TheVariants as line
 use Rattle.gen_parts.specs.declared.emitter.Spot.{Spot}
 use Rattle.gen_parts.specs.Pieces.{past, behind}
@@ -21,8 +21,8 @@ use Rattle.gen_forms.specs.Gen.{Context, gen, others_in_turn, first_spot, ahead,
 use Rattle.def_calls.specs.World.{World, Runs, next_activation}
 use Rattle.def_calls.specs.Views.{Callable, by_body, by_row, callable_of, kind_in}
 use Rattle.def_calls.specs.Calls.{Entry, answers, enters, begins, Opening}
-use Rattle.def_eval.specs.Source.{Source, body_at, form_of, parameters_of}
-use Rattle.eval_laws.specs.Kinds.{IsKind, of_method}
+use Rattle.def_eval.specs.Source.{Source, no_parameters, body_at, form_of, parameters_of, locals_of}
+use Rattle.eval_laws.specs.Kinds.{IsKind, of_method, of_class}
 use Rattle.eval_laws.specs.Procs.{HasProc}
 use Rattle.step_laws.specs.Around.{Around}
 use Rattle.step_laws.specs.Site.{Site, at_line, LineAt, Room}
@@ -118,6 +118,40 @@ pub record MethodCode (s : Source) (p : Program) (b : ℕ) : Type 0 where
   pub code : BodyCode s p b
   pub of_method : IsKind s b of_method
 
+-- Code of the body of a class or a module, which sees no locals but its own: that of the form, and the return of its
+-- value.
+pub record ClassAt (h : Site) : Type 0 where
+  pub static : Static h
+  pub begins : at_line h 0 ≡ 0
+  pub of_class : h.context.kind_of ≡ kind.Class
+  pub bare : parameters_of (body_of h) ≡ no_parameters
+  pub scopes : h.context.scopes ≡ named_slots (locals_of (body_of h)) ∷ []
+  pub outside : h.context.loop ≡ None
+  pub covered : Covers h None h.first (first_spot h.body) (h.body + 1) (form_of (body_of h))
+  pub code : Stands h 0 (gen h.context (first_spot h.body) h.first (form_of (body_of h)))
+  pub ends : LineAt h (high (gen h.context (first_spot h.body) h.first (form_of (body_of h))))
+      (line.Does (op.Return h.first))
+
+-- so it is in every run of the body
+pub record ClassCode (s : Source) (p : Program) (b : ℕ) : Type 0 where
+  pub wide : Bool
+  pub at : List ℕ
+  pub context : Context
+  pub first : ℕ
+  pub everywhere : (activation list : ℕ) (self : Value) (runs : Runs) → ClassAt (record {
+    source = s;
+    program = p;
+    body = b;
+    activation = activation;
+    list = list;
+    self = self;
+    runs = runs;
+    wide = wide;
+    at = at;
+    context = context;
+    first = first;
+  })
+
 -- A body that is entered is that of a method, or of a Proc that there was before.
 pub data IsCalled (s : Source) (before : List Object) (o : Opening) : Type 0 where
   by_method : IsKind s o.body of_method → o.scopes ≡ [] → IsCalled s before o
@@ -159,3 +193,5 @@ HasCode s p before (Some (by_body c)) = ProcCode s p c.code × HasProc before c.
 pub record CallsBodies (s : Source) (p : Program) (before objects : List Object) : Type 0 where
   pub methods : (c : ObjId) (name : SymId) → IsEntry s p (entry_of objects c name)
   pub procs : (v : Value) → HasCode s p before (callable_of (kind_in objects v))
+  -- and each body of a class or a module has code
+  pub classes : (b : ℕ) → IsKind s b of_class → ClassCode s p b

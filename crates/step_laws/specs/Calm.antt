@@ -1,22 +1,29 @@
 -- What an evaluation keeps that calls no bodies of the source but those with code.
-use Rattle.std.specs.Prelude.{◌≡◌, ◌⊎◌, ℕ, List, [], ◌∷◌, ◌++◌, length, Option, Some, None}
+use Rattle.std.specs.Prelude.{◌≡◌, ◌⊎◌, ℕ, List, [], ◌∷◌, ◌++◌, length, true, Option, Some, None, is_some}
 use Rattle.rb_value.specs.Object.{Object}
 use Rattle.rb_value.specs.declared.value.Value.{Value}
 use Rattle.rb_value.specs.declared.value.Value.TheVariants.{Obj}
+use Rattle.rb_value.specs.declared.value.ObjId.{ObjId}
 use Rattle.rite_code.specs.Code.{Program}
+use Rattle.rb_value.specs.declared.core_class.CoreClass.TheVariants as class
+use Rattle.def_core.specs.Store.{core}
 use Rattle.def_core.specs.Changes.{intern}
 use Rattle.ir_core.specs.CoreForm.{Name}
 use Rattle.def_calls.specs.World.{World, Activation, activation_at, class_around}
 use Rattle.def_calls.specs.Definitions.{space_in}
 use Rattle.def_calls.specs.Calls.{BlockArgument, no_block, block_of, not_a_block, block_argument, close}
 use Rattle.def_calls.specs.Plans as plans
-use Rattle.def_calls.specs.Views.{an_array, a_hash, a_string}
+use Rattle.def_calls.specs.Views.{callable_of, kind_in, an_array, a_hash, a_string}
 use Rattle.def_eval.specs.Source.{Source}
 use Rattle.def_eval.specs.Configuration.{Part, operands, receiver, items, block, elements, hash_key, hash_value, pieces, rest, test, chosen, and_then, or_else, loop_test, loop_body, rescued, clause_class, clause_target, clause_body, ensured, Item, part, activation, iteration, ensuring, Focus, perform, give, travel, Memory, Config, Run, Halt}
+use Rattle.def_eval.specs.Scopes.{running}
+use Rattle.def_eval.specs.Forms.{packed}
+use Rattle.def_eval.specs.Giving.{with_element}
 use Rattle.def_eval.specs.Transition.{go, go_times}
 use Rattle.eval_laws.specs.Procs.{HasProc, literal}
 use Rattle.step_laws.specs.Site.{IsThere, number}
 use Rattle.step_laws.specs.Bodies.{CallsBodies}
+use Rattle.step_laws.specs.Spaces.{Opening}
 
 -- the object that a literal gathers into is still one of its kind
 abbrev pub IsAbout : Part → List Object → Type 0
@@ -45,9 +52,13 @@ IsAbout (ensured n e) objects = Unit {0}
 abbrev pub IsWithin : World → Activation → Type 0
 IsWithin w a = space_in w.store.objects (Obj (class_around w a.classes)) ≡ Some (class_around w a.classes)
 
+-- Object is one, in which `::X` is sought
+abbrev pub HasObject : World → Type 0
+HasObject w = space_in w.store.objects (Obj (core class.Object)) ≡ Some (core class.Object)
+
 -- and so it is where a value goes to it
 abbrev pub IsAboutNext : Focus → List Item → Memory → Type 0
-IsAboutNext (perform n e) ks m = IsWithin m.world (activation_at m.world m.place.activation)
+IsAboutNext (perform n e) ks m = IsWithin m.world (activation_at m.world m.place.activation) × HasObject m.world
 IsAboutNext (give v) [] m = Unit {0}
 IsAboutNext (give v) (part k ∷ ks) m = IsAbout k m.world.store.objects
 IsAboutNext (give v) (activation a place ∷ ks) m = Unit {0}
@@ -104,9 +115,9 @@ objects_with w not_a_block = w.store.objects
 abbrev pub objects_at : Part → Value → Memory → List Object
 objects_at (operands n a vs es) v m = m.world.store.objects
 objects_at (receiver n x is b) v m = m.world.store.objects
-objects_at (items n k recv vs is b) v m = m.world.store.objects
+objects_at (items n k recv vs is b) v m = (packed m (vs ++ v ∷ [])).world.store.objects
 objects_at (block k recv vs) v m = objects_with m.world (block_argument m.world v)
-objects_at (elements n g id s is) v m = m.world.store.objects
+objects_at (elements n g id s is) v m = (with_element m id s v).world.store.objects
 objects_at (hash_key n id e ps) v m = m.world.store.objects
 objects_at (hash_value n id k ps) v m = m.world.store.objects
 objects_at (pieces n id es) v m = m.world.store.objects
@@ -123,8 +134,8 @@ objects_at (clause_target n e b r) v m = m.world.store.objects
 objects_at (clause_body r) v m = m.world.store.objects
 objects_at (ensured n e) v m = m.world.store.objects
 
--- the objects among which a transition finds what it calls: a plan of an iteration, or a block argument, may have made
--- some before
+-- the objects among which a transition finds what it calls: a plan of an iteration, a block argument, or an Array of
+-- arguments, may have made some before
 abbrev pub objects_for : Focus → List Item → Memory → List Object
 objects_for (perform n e) ks m = m.world.store.objects
 objects_for (give v) [] m = m.world.store.objects
@@ -134,10 +145,27 @@ objects_for (give v) (iteration a it place ∷ ks) m = (plans.next it v m.world.
 objects_for (give v) (ensuring o ∷ ks) m = m.world.store.objects
 objects_for (travel x) ks m = m.world.store.objects
 
--- A transition keeps the peace: it enters no body, or what it calls are methods whose bodies have code.
+-- a block can be called
+abbrev pub IsBlock : List Object → Option ObjId → Type 0
+IsBlock objects None = Unit {0}
+IsBlock objects (Some p) = is_some (callable_of (kind_in objects (Obj p))) ≡ true
+
+-- where a form or one of its parts goes on
+abbrev pub BlockFor : Focus → List Item → Memory → Type 0
+BlockFor (perform n e) ks m = IsBlock m.world.store.objects (running m).block
+BlockFor (give v) [] m = Unit {0}
+BlockFor (give v) (part k ∷ ks) m = IsBlock m.world.store.objects (running m).block
+BlockFor (give v) (activation a place ∷ ks) m = Unit {0}
+BlockFor (give v) (iteration a it place ∷ ks) m = Unit {0}
+BlockFor (give v) (ensuring o ∷ ks) m = Unit {0}
+BlockFor (travel x) ks m = Unit {0}
+
+-- A transition keeps the peace: it enters no body, or what it calls are methods whose bodies have code, and the block of
+-- what runs can be called.
 pub record Peace (s : Source) (p : Program) (f : Focus) (ks : List Item) (m : Memory) : Type 0 where
   pub quiet : QuietBy (literal f m) m (go s (Run f ks m))
   pub calls : Still m (go s (Run f ks m)) ⊎ CallsBodies s p m.world.store.objects (objects_for f ks m)
+  pub block : BlockFor f ks m
 
 -- the numbers of the program's names stay
 pub record IsSteady (s : Source) (w : World) : Type 0 where
@@ -145,7 +173,7 @@ pub record IsSteady (s : Source) (w : World) : Type 0 where
 
 abbrev pub IsCalm : Source → Program → Config → Type 0
 IsCalm s p (Halt e) = Unit {0}
-IsCalm s p (Run f ks m) = IsSteady s m.world × IsAboutNext f ks m × Leaves f ks m × Peace s p f ks m
+IsCalm s p (Run f ks m) = IsSteady s m.world × IsAboutNext f ks m × Leaves f ks m × Peace s p f ks m × Opening f ks m
 
 -- so it is all along
 abbrev pub StaysCalm : Source → Program → Config → Type 0

@@ -1,7 +1,7 @@
 -- Programs of simple and of plain forms, some with methods and blocks, and what is shown of them.
 use Rattle.std.specs.Prelude.{◌≡◌, ℕ, pos, false, List, [], ◌∷◌, codes, None}
 use Rattle.rite_code.specs.Code.{Program, program}
-use Rattle.ir_core.specs.CoreForm.{named, hidden, Local, CoreForm, nil, truth, int, str, sym, local, set_local, gvar, set_gvar, array, hash, text, seq, cond, while_form, call, yield_form, function, return_form, break_form, next_form, define, item, Body, body, plain_body, form_of, absent, there, Forms, more, two, no_items, plain, splat, no_pairs, pair, no_branches, branch, to, on_self}
+use Rattle.ir_core.specs.CoreForm.{named, hidden, Local, CoreForm, nil, truth, int, str, sym, local, set_local, gvar, set_gvar, array, hash, text, seq, cond, while_form, call, yield_form, super_form, function, lambda, return_form, break_form, next_form, define, item, Body, body, plain_body, form_of, absent, there, Forms, more, two, no_items, plain, splat, no_pairs, pair, no_branches, branch, to, on_self}
 use Rattle.ir_core.specs.Program.{IsProgram}
 use Rattle.ir_counts.specs.Counts.{need}
 use Rattle.ir_counts.specs.Limits.{first_excess}
@@ -11,8 +11,7 @@ use Rattle.def_eval.specs.Source.{source_of}
 use Rattle.def_eval.specs.Transition.{evaluation}
 use Rattle.def_machine.specs.Turn.{machine}
 use Rattle.step_laws.specs.Simple.{IsSimple}
-use Rattle.step_laws.specs.Plain.{IsPlain}
-use Rattle.step_laws.specs.Tops.{IsPlainProgram}
+use Rattle.step_laws.specs.Plain.{IsPlain, IsPlainProgram}
 
 abbrev pub code_of : Body → Program
 code_of b = program 2 (coded_program b)
@@ -324,3 +323,145 @@ counting = plain_body (a ∷ i ∷ []) (seq (more (define (codes "keep") keep) (
 
 abbrev pub IsClosureWitness : Body → Type 0
 IsClosureWitness b = Prints b (codes "7\n2\n")
+
+-- i = 2
+-- while i > 0
+--   if i < 2
+--     puts [i, 4].each { |a| puts twice(a) }
+--   else
+--     def twice(a)
+--       a + a
+--     end
+--   end
+--   i = i - 1
+-- end
+abbrev pub twice : Body
+twice =
+    body (record { required = a ∷ []; optional = []; rest = []; post = []; block = [] }) []
+    (on (local a) (codes "+") (local a))
+
+abbrev pub doubling : Body
+doubling =
+    body (record { required = a ∷ []; optional = []; rest = []; post = []; block = [] }) []
+    (shown (call on_self (codes "twice") (plain (local a) no_items) absent))
+
+abbrev pub nester : Body
+nester = plain_body (i ∷ []) (seq (two (set_local i (int (pos 2)))
+    (while_form false (on (local i) (codes ">") (int (pos 0)))
+    (seq (two (cond (branch (on (local i) (codes "<") (int (pos 2)))
+    (shown (call (to (array (plain (local i) (plain (int (pos 4)) no_items)))) (codes "each") no_items
+    (there (function doubling)))) no_branches) (define (codes "twice") twice))
+    (set_local i (on (local i) (codes "-") (int (pos 1)))))))))
+
+abbrev pub IsNestingWitness : Body → Type 0
+IsNestingWitness b = Prints b (codes "2\n8\n1\n4\n")
+
+-- def pick(h)
+--   a = ->(i) do
+--     return i + h
+--     5
+--   end
+--   a.call(3) + 10
+-- end
+-- puts pick(1)
+-- ->(i) { puts i }.call
+abbrev pub adding : Body
+adding =
+    body (record { required = i ∷ []; optional = []; rest = []; post = []; block = [] }) []
+    (seq (two (return_form (on (local i) (codes "+") (local h))) (int (pos 5))))
+
+abbrev pub pick : Body
+pick =
+    body (record { required = h ∷ []; optional = []; rest = []; post = []; block = [] }) (a ∷ [])
+    (seq (two (set_local a (lambda adding)) (on (on (local a) (codes "call") (int (pos 3))) (codes "+") (int (pos 10)))))
+
+abbrev pub picker : Body
+picker = plain_body [] (seq (three (define (codes "pick") pick)
+    (shown (call on_self (codes "pick") (plain (int (pos 1)) no_items) absent))
+    (call (to (lambda printer)) (codes "call") no_items absent)))
+
+-- it is a plain program within the limits, and both sides end with that line and the exception of a wrong count
+pub record IsLambdaWitness (b : Body) : Type 0 where
+  pub program : IsProgram b
+  pub within : first_excess (need b) ≡ None
+  pub plain : IsPlainProgram b
+  pub evaluates : evaluation (source_of b) [] 400
+      ≡ Over (Uncaught (codes "14\n") (codes "ArgumentError") (codes "wrong number of arguments (given 0, expected 1)"))
+  pub runs : machine (code_of b) [] 400
+      ≡ Over (Uncaught (codes "14\n") (codes "ArgumentError") (codes "wrong number of arguments (given 0, expected 1)"))
+
+-- def hand(i, &h)
+--   h.call(i)
+-- end
+-- def hand_over(&h)
+--   [2].each(&h)
+-- end
+-- hand_over do |i|
+--   puts i
+-- end
+-- puts hand(3, &:to_s)
+abbrev pub over : Body
+over =
+    body (record { required = []; optional = []; rest = []; post = []; block = h ∷ [] }) []
+    (call (to (array (plain (int (pos 2)) no_items))) (codes "each") no_items (there (local h)))
+
+abbrev pub hander : Body
+hander = plain_body [] (seq (more (define (codes "hand") hand) (three (define (codes "hand_over") over)
+    (call on_self (codes "hand_over") no_items (there (function printer)))
+    (shown (call on_self (codes "hand") (plain (int (pos 3)) no_items) (there (sym (codes "to_s"))))))))
+
+abbrev pub IsHandingWitness : Body → Type 0
+IsHandingWitness b = Prints b (codes "2\n3\n")
+
+-- def each_of(*a)
+--   yield(*a)
+-- end
+-- def through(*a, &h)
+--   each_of(*a, 4, &h)
+-- end
+-- through(1, *[2]) do |a, i, h|
+--   puts a + i + h
+-- end
+-- puts(*[8])
+-- puts hand(*[9], &:to_s)
+abbrev pub each_of : Body
+each_of =
+    body (record { required = []; optional = []; rest = a ∷ []; post = []; block = [] }) []
+    (yield_form (splat (local a) no_items))
+
+abbrev pub through : Body
+through =
+    body (record { required = []; optional = []; rest = a ∷ []; post = []; block = h ∷ [] }) []
+    (call on_self (codes "each_of") (splat (local a) (plain (int (pos 4)) no_items)) (there (local h)))
+
+abbrev pub total : Body
+total =
+    body (record { required = a ∷ i ∷ h ∷ []; optional = []; rest = []; post = []; block = [] }) []
+    (shown (on (on (local a) (codes "+") (local i)) (codes "+") (local h)))
+
+abbrev pub spreader : Body
+spreader = plain_body [] (seq (more (define (codes "each_of") each_of) (three (define (codes "through") through)
+    (call on_self (codes "through") (plain (int (pos 1)) (splat (array (plain (int (pos 2)) no_items)) no_items))
+    (there (function total)))
+    (seq (three (call on_self (codes "puts") (splat (array (plain (int (pos 8)) no_items)) no_items) absent)
+    (define (codes "hand") hand)
+    (shown (call on_self (codes "hand") (splat (array (plain (int (pos 9)) no_items)) no_items)
+    (there (sym (codes "to_s"))))))))))
+
+abbrev pub IsSpreadWitness : Body → Type 0
+IsSpreadWitness b = Prints b (codes "7\n8\n9\n")
+
+-- def puts(*a, &h)
+--   super(3, *a, &h)
+-- end
+-- puts(4)
+abbrev pub putter : Body
+putter =
+    body (record { required = []; optional = []; rest = a ∷ []; post = []; block = h ∷ [] }) []
+    (super_form (plain (int (pos 3)) (splat (local a) no_items)) (there (local h)))
+
+abbrev pub overrider : Body
+overrider = plain_body [] (seq (two (define (codes "puts") putter) (shown (int (pos 4)))))
+
+abbrev pub IsSuperWitness : Body → Type 0
+IsSuperWitness b = Prints b (codes "3\n4\n")

@@ -3,6 +3,8 @@ use Rattle.std.specs.Prelude.{ℕ, Bool, true, false, Option, Some}
 use Rattle.rb_value.specs.declared.value.Value.{Value}
 use Rattle.rb_value.specs.declared.exit.Exit as machine
 use Rattle.rb_value.specs.declared.exit.Exit.TheVariants.{Return, Break}
+use Rattle.scope_resolver.specs.declared.body_kind.BodyKind.{BodyKind}
+use Rattle.scope_resolver.specs.declared.body_kind.BodyKind.TheVariants as kind
 use Rattle.rite_code.specs.declared.operation.Operation.{Operation}
 use Rattle.rite_code.specs.declared.operation.Operation.TheVariants as op
 use Rattle.def_core.specs.declared.cause.Cause.{Cause}
@@ -46,3 +48,16 @@ cause_of breaks_far = cause.BreakFromProc
 abbrev pub home_exit : Bool → ℕ → Value → Exit
 home_exit false a v = return a v
 home_exit true a v = next v
+
+-- a return ends the activation of a body of that kind; in that of a class there is none
+abbrev pub ends_itself : BodyKind → Bool
+ends_itself kind.Main = true
+ends_itself kind.Method = true
+ends_itself kind.Block = false
+ends_itself kind.Class = false
+
+abbrev pub MayReturn : BodyKind → Type 0
+MayReturn kind.Main = Unit {0}
+MayReturn kind.Method = Unit {0}
+MayReturn kind.Block = Unit {0}
+MayReturn kind.Class = ⊥

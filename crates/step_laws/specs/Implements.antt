@@ -18,12 +18,12 @@ use Rattle.def_eval.specs.Transition.{go}
 use Rattle.def_machine.specs.State as machine
 use Rattle.def_machine.specs.State.{all_symbols, start, shown}
 use Rattle.def_machine.specs.Turn.{turn}
-use Rattle.eval_laws.specs.Kinds.{IsKind, of_method, of_block}
+use Rattle.eval_laws.specs.Kinds.{IsKind, of_method, of_block, of_class}
 use Rattle.step_laws.specs.Site.{Site, at_line, LineAt, Lines, Known, register}
 use Rattle.scope_resolver.specs.Layout.{named_slots}
 use Rattle.step_laws.specs.Around.{first_slots}
 use Rattle.step_laws.specs.Covers.{Covers}
-use Rattle.step_laws.specs.Bodies.{BodyCode, ProcCode}
+use Rattle.step_laws.specs.Bodies.{BodyCode, ProcCode, ClassCode}
 
 -- the main program
 abbrev pub main_site : Source → Program → Bool → List ℕ → Context → ℕ → Site
@@ -41,7 +41,8 @@ main_site s p wide at c first = record {
   first = first;
 }
 
--- The first body is the code of the main program, and a stop behind it; the others are those of methods and blocks.
+-- The first body is the code of the main program, and a stop behind it; the others are those of methods, of blocks and
+-- of classes.
 pub record IsCodeOf (s : Source) (p : Program) : Type 0 where
   pub wide : Bool
   pub at : List ℕ
@@ -66,6 +67,7 @@ pub record IsCodeOf (s : Source) (p : Program) : Type 0 where
       (length (gen context (first_spot 0) first (form_of (body_at s 0))).lines) (line.Does op.Stop)
   pub methods : (b : ℕ) → IsKind s b of_method → BodyCode s p b
   pub blocks : (b : ℕ) → IsKind s b of_block → ProcCode s p b
+  pub classes : (b : ℕ) → IsKind s b of_class → ClassCode s p b
   -- both sides begin with the same symbols
   pub names : with_names Rows.opening (all_names s) ≡ with_names Rows.opening (all_symbols p.bodies)
 

@@ -39,7 +39,7 @@ abbrev mutual
   size (while_form first t b) = 1
   size (call r x is b) = 5 + size_receiver r + size_items is + size_block b
   size (yield_form is) = 1 + size_items is
-  size (super_form is b) = 1
+  size (super_form is b) = 1 + size_items is + size_block b
   size (function f) = 1
   size (lambda f) = 1
   size (begin_form b cs o e) = 1
@@ -48,10 +48,10 @@ abbrev mutual
   size (next_form e) = 3 + size e
   size retry = 1
   size (define x f) = 1
-  size (define_on e x f) = 1
-  size (class_form s x p f) = 1
-  size (module_form s x f) = 1
-  size (singleton_class e f) = 1
+  size (define_on e x f) = 3 + size e
+  size (class_form s x p f) = 6 + size_maybe s + size_maybe p
+  size (module_form s x f) = 3 + size_maybe s
+  size (singleton_class e f) = 3 + size e
   size (alias_form x y) = 1
   size (undef_form x) = 1
   size (defined k x e) = 3 + size_maybe e

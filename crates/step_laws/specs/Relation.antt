@@ -1,26 +1,29 @@
 -- When a configuration of the evaluation and a state of the machine are alike: the fiber that runs, whose focus goes
 -- with its frame or its iteration, all that waits below, each other fiber, and each scope with its list of registers.
-use Rattle.std.specs.Prelude.{◌≡◌, ◌<◌, ◌≤◌, ℕ, ◌+◌, List, [], ◌∷◌, length, Bool, true, false, Option, Some, None, is_some, unwrap_or, nat_eq, if◌then◌else◌, slice_get, get_or}
+use Rattle.std.specs.Prelude.{◌≡◌, ◌⊎◌, ◌<◌, ◌≤◌, ℕ, ◌+◌, List, [], ◌∷◌, length, Bool, true, false, Option, Some, None, is_some, unwrap_or, nat_eq, if◌then◌else◌, slice_get, get_or}
 use Rattle.rb_value.specs.declared.value.Value.{Value}
-use Rattle.rb_value.specs.declared.value.Value.TheVariants.{Nil}
+use Rattle.rb_value.specs.declared.value.Value.TheVariants.{Nil, Obj}
 use Rattle.rb_value.specs.declared.value.ObjId.{ObjId}
 use Rattle.rb_value.specs.declared.exit.Exit.TheVariants.{Raise}
 use Rattle.rb_value.specs.declared.exit.Slot.TheVariants.{V}
 use Rattle.rite_code.specs.Code.{Program}
+use Rattle.rite_code.specs.declared.operation.Operation.{Operation}
 use Rattle.rite_code.specs.declared.operation.Operation.TheVariants as op
-use Rattle.ir_core.specs.CoreForm.{Name, Local, named, CoreForm}
+use Rattle.ir_core.specs.CoreForm.{Name, Local, CoreForm}
 use Rattle.gen_parts.specs.declared.line.Line.TheVariants as line
 use Rattle.gen_parts.specs.declared.emitter.Spot.{Spot}
 use Rattle.gen_forms.specs.declared.context.Loop.{Loop}
-use Rattle.gen_forms.specs.Gen.{gen, return_by}
+use Rattle.gen_forms.specs.Gen.{gen}
 use Rattle.path_eval.specs.Steps.{Matched}
 use Rattle.def_calls.specs.World.{World, main_program, activation_at}
+use Rattle.def_calls.specs.Values.{elements_or_itself}
+use Rattle.def_calls.specs.Calls.{Sending}
 use Rattle.def_calls.specs.Plans.{Iteration}
 use Rattle.def_calls.specs.Fibers.{Fibers}
 use Rattle.def_calls.specs.Fibers as fibers
 use Rattle.def_eval.specs.Source.{Source}
 use Rattle.def_eval.specs.Configuration as source
-use Rattle.def_eval.specs.Configuration.{Place, Scope, Exit, raise, leave_loop, next, Stop, passes, loops, rescues, assigns, retries, ensures, stop_of, Item, part, activation, iteration, ensuring, Kept, Focus, perform, give, travel, Config, Run, Halt, seen}
+use Rattle.def_eval.specs.Configuration.{Place, Scope, Exit, raise, leave_loop, next, Stop, passes, loops, rescues, assigns, retries, ensures, stop_of, Part, operands, receiver, items, block, elements, hash_key, hash_value, pieces, rest, test, chosen, and_then, or_else, loop_test, loop_body, rescued, clause_class, clause_target, clause_body, ensured, Item, part, activation, iteration, ensuring, Kept, Focus, perform, give, travel, Config, Run, Halt, seen}
 use Rattle.def_eval.specs.Scopes.{value_in, scope_at}
 use Rattle.def_eval.specs.Forms.{is_under_way}
 use Rattle.def_eval.specs.Transition.{go}
@@ -31,17 +34,19 @@ use Rattle.def_machine.specs.Turn.{turn}
 use Rattle.scope_laws.specs.Numbers.{parents, outers}
 use Rattle.scope_resolver.specs.declared.seek.Search.TheVariants.{Past}
 use Rattle.scope_resolver.specs.Layout.{Scopes, seek}
+use Rattle.code_laws.specs.Bound.{IsSeen}
 use Rattle.def_core.specs.Sound.{OptionIs}
 use Rattle.def_eval.specs.Entering.{first_of}
 use Rattle.eval_laws.specs.Procs.{HasProc}
 use Rattle.step_laws.specs.Around.{is_found, Around, first_slots, further_slots}
 use Rattle.step_laws.specs.Site.{Site, within, place_in, at_line, LineAt, Room, register, Known}
+use Rattle.step_laws.specs.Passed.{IsAtOnce}
 use Rattle.step_laws.specs.Covers.{Covers}
 use Rattle.step_laws.specs.Calm.{StaysCalm}
 use Rattle.step_laws.specs.Measure.{measure}
-use Rattle.step_laws.specs.Far.{Far, exit_to, thrown_to, home_exit}
+use Rattle.step_laws.specs.Far.{ends_itself, Far, exit_to, thrown_to, home_exit}
 use Rattle.step_laws.specs.Standing.{high, Stands, Rest, frame_at}
-use Rattle.step_laws.specs.Behind.{Static, LoopAt, Behind, IsAround}
+use Rattle.step_laws.specs.Behind.{Static, HoldsCall, PassesBlock, LoopAt, Behind, IsAround}
 
 -- The items inside of an activation, where a value is awaited in register r at line n in the code of that loop. What holds
 -- at its end, of its number, the place of its caller and the items below, is a parameter.
@@ -158,10 +163,10 @@ Leaving hs fiber l (iteration a it p ∷ ks) ls = record {
 }
 Leaving hs fiber l (ensuring o ∷ ks) ls = ⊥
 
--- the names that a scope has are those that its body has slots of
+-- the locals that a scope has are those that its body has slots of, but for hidden ones
 abbrev pub Mirrors : Site → Scope → Type 0
-Mirrors h c = (x : Name) → is_some (value_in c.variables (named x))
-    ≡ is_found (seek (named x) (first_slots h.context.scopes) (Past 1))
+Mirrors h c = (x : Local) → IsSeen x
+    → is_some (value_in c.variables x) ≡ is_found (seek x (first_slots h.context.scopes) (Past 1))
 
 -- The scope and the list of registers of a body.
 pub record Same (h : Site) (cs : List Scope) (l : List Registers) : Type 0 where
@@ -185,7 +190,7 @@ pub record SiteIs (s : Source) (p : Program) (h : Site) (cs : List Scope) (l : L
     pub self : (activation_at w h.activation).self ≡ h.self
     pub runs : (activation_at w h.activation).runs ≡ h.runs
     -- a return in it ends itself, but for that of a block
-    pub home : (r : ℕ) → return_by h.context.kind_of r ≡ op.Return r → (activation_at w h.activation).home ≡ h.activation
+    pub home : ends_itself h.context.kind_of ≡ true → (activation_at w h.activation).home ≡ h.activation
 
 -- what is around a scope is one of a body whose slots are those that its code sees around its own; where nothing is, it
 -- sees none
@@ -312,9 +317,88 @@ pub record GoesOn (s : Source) (p : Program) (v : Value) (a : ℕ) (it : Iterati
   pub both : Both s p g m k
   pub waits : WaitsBelow g k.lists ks place
 
+-- Where the arguments of a call stand in an Array, which its block doesn't change: at line n is the call, with the block in
+-- register r.
+pub record HandsArray (g : Ground) (h : Site) (w : World) (q : Sending) (recv : Value) (vs : List Value) (ks : List Item)
+    (l : List Registers) (n r : ℕ) (around : Option Loop) : Type 0 where
+  pub low : ℕ
+  pub at : low + 1 + 1 ≡ r
+  pub own : Bool
+  pub room : Room h low
+  pub called : HoldsCall h l own low recv []
+  pub id : ObjId
+  pub held : slot_at l h.list (low + 1) ≡ V (Obj id)
+  pub elements : elements_or_itself w (Obj id) ≡ vs
+  pub sender : Operation
+  pub passes : PassesBlock h low own q 255 sender
+  pub sends : LineAt h n (line.Does sender)
+  pub next : InFrame g h l ks (n + 1) low around
+
+-- the block has its value
+pub record Handed (g : Ground) (h : Site) (v : Value) (q : Sending) (recv : Value) (vs : List Value) (ks : List Item)
+    (m : source.Memory) (ls : List Level) (l : List Registers) : Type 0 where
+  pub x : Rest
+  pub n : ℕ
+  pub r : ℕ
+  pub is : ls ≡ frame (frame_at h x n) ∷ g.below
+  pub there : m.place ≡ place_in h
+  pub stands : slot_at l h.list r ≡ V v
+  pub loop : Option Loop
+  pub hands : HandsArray g h m.world q recv vs ks l n r loop
+
+abbrev pub HandsBlock : Source → Program → Value → Sending → Value → List Value → List Item → source.Memory → List Level
+    → machine.Memory → Type 0
+HandsBlock s p v q recv vs ks m ls k =
+    (g : Ground) × (h : Site) × Running s p g h m k × Handed g h v q recv vs ks m ls k.lists
+
+-- or is about to be done
+pub record Handing (g : Ground) (h : Site) (j : ℕ) (e : CoreForm) (q : Sending) (recv : Value) (vs : List Value)
+    (ks : List Item) (m : source.Memory) (ls : List Level) (l : List Registers) : Type 0 where
+  pub x : Rest
+  pub n : ℕ
+  pub r : ℕ
+  pub is : ls ≡ frame (frame_at h x n) ∷ g.below
+  pub there : m.place ≡ place_in h
+  pub at_once : IsAtOnce e
+  pub loop : Option Loop
+  pub s : Spot
+  pub here : s.line ≡ n
+  pub covered : Covers h loop r s j e
+  pub code : Stands h n (gen (within h loop) s r e)
+  pub hands : HandsArray g h m.world q recv vs ks l (n + high (gen (within h loop) s r e)) r loop
+
+abbrev pub HandsOn : Source → Program → ℕ → CoreForm → Sending → Value → List Value → List Item → source.Memory
+    → List Level → machine.Memory → Type 0
+HandsOn s p j e q recv vs ks m ls k =
+    (g : Ground) × (h : Site) × Running s p g h m k × Handing g h j e q recv vs ks m ls k.lists
+
+abbrev pub GivenBehind : Source → Program → Value → Part → List Item → source.Memory → List Level → machine.Memory → Type 0
+GivenBehind s p v (operands j a vs es) ks m ls k = GivenIn s p v (part (operands j a vs es) ∷ ks) m ls k
+GivenBehind s p v (receiver j x is b) ks m ls k = GivenIn s p v (part (receiver j x is b) ∷ ks) m ls k
+GivenBehind s p v (items j q recv vs is b) ks m ls k = GivenIn s p v (part (items j q recv vs is b) ∷ ks) m ls k
+GivenBehind s p v (block q recv vs) ks m ls k =
+    GivenIn s p v (part (block q recv vs) ∷ ks) m ls k ⊎ HandsBlock s p v q recv vs ks m ls k
+GivenBehind s p v (elements j q o t is) ks m ls k = GivenIn s p v (part (elements j q o t is) ∷ ks) m ls k
+GivenBehind s p v (hash_key j o e ps) ks m ls k = GivenIn s p v (part (hash_key j o e ps) ∷ ks) m ls k
+GivenBehind s p v (hash_value j o u ps) ks m ls k = GivenIn s p v (part (hash_value j o u ps) ∷ ks) m ls k
+GivenBehind s p v (pieces j o es) ks m ls k = GivenIn s p v (part (pieces j o es) ∷ ks) m ls k
+GivenBehind s p v (rest j es) ks m ls k = GivenIn s p v (part (rest j es) ∷ ks) m ls k
+GivenBehind s p v (test j b bs o) ks m ls k = GivenIn s p v (part (test j b bs o) ∷ ks) m ls k
+GivenBehind s p v chosen ks m ls k = GivenIn s p v (part chosen ∷ ks) m ls k
+GivenBehind s p v (and_then j e) ks m ls k = GivenIn s p v (part (and_then j e) ∷ ks) m ls k
+GivenBehind s p v (or_else j e) ks m ls k = GivenIn s p v (part (or_else j e) ∷ ks) m ls k
+GivenBehind s p v (loop_test j t b) ks m ls k = GivenIn s p v (part (loop_test j t b) ∷ ks) m ls k
+GivenBehind s p v (loop_body j t b) ks m ls k = GivenIn s p v (part (loop_body j t b) ∷ ks) m ls k
+GivenBehind s p v (rescued j b cs o) ks m ls k = GivenIn s p v (part (rescued j b cs o) ∷ ks) m ls k
+GivenBehind s p v (clause_class j e es t b cs q) ks m ls k =
+    GivenIn s p v (part (clause_class j e es t b cs q) ∷ ks) m ls k
+GivenBehind s p v (clause_target j e b q) ks m ls k = GivenIn s p v (part (clause_target j e b q) ∷ ks) m ls k
+GivenBehind s p v (clause_body q) ks m ls k = GivenIn s p v (part (clause_body q) ∷ ks) m ls k
+GivenBehind s p v (ensured j e) ks m ls k = GivenIn s p v (part (ensured j e) ∷ ks) m ls k
+
 abbrev pub Giving : Source → Program → Value → List Item → source.Memory → List Level → machine.Memory → Type 0
 Giving s p v [] m ls k = GivesOut s p v m ls k
-Giving s p v (part q ∷ ks) m ls k = GivenIn s p v (part q ∷ ks) m ls k
+Giving s p v (part q ∷ ks) m ls k = GivenBehind s p v q ks m ls k
 Giving s p v (activation a q ∷ ks) m ls k = GivenIn s p v (activation a q ∷ ks) m ls k
 Giving s p v (iteration a it q ∷ ks) m ls k = GoesOn s p v a it q ks m ls k
 Giving s p v (ensuring o ∷ ks) m ls k = ⊥
@@ -332,17 +416,18 @@ pub record Throwing (s : Source) (p : Program) (x : Exit) (ks : List Item) (m : 
   pub leaving : Leaving g.sites g.fiber memory.lists ks g.below
 
 -- The way out of the loop with that target: parts that the exit passes, and the loop among its items.
-pub record LoopWay (g : Ground) (h : Site) (l : List Registers) (t b : CoreForm) (ks : List Item) (target : Loop) : Type 0 where
+pub record LoopWay (g : Ground) (h : Site) (l : List Registers) (j : ℕ) (t b : CoreForm) (ks : List Item) (target : Loop)
+    : Type 0 where
   pub low : ℕ
   pub end : ℕ
-  pub loop : LoopAt h low t b end
+  pub loop : LoopAt h low j t b end
   pub inside : loop.target ≡ target
   pub outer : Option Loop
   pub next : InFrame g h l ks end low outer
 
-abbrev pub WayBy : Stop → Type 0 → (CoreForm → CoreForm → Type 0) → Type 0
+abbrev pub WayBy : Stop → Type 0 → (ℕ → CoreForm → CoreForm → Type 0) → Type 0
 WayBy passes further at = further
-WayBy (loops n t b) further at = at t b
+WayBy (loops n t b) further at = at n t b
 WayBy (rescues n r) further at = ⊥
 WayBy (assigns e r) further at = ⊥
 WayBy (retries r) further at = ⊥
@@ -350,7 +435,7 @@ WayBy (ensures n e) further at = ⊥
 
 abbrev pub Way : Ground → Site → List Registers → List Item → Loop → Type 0
 Way g h l [] target = ⊥
-Way g h l (part k ∷ ks) target = WayBy (stop_of k) (Way g h l ks target) (λ t b. LoopWay g h l t b ks target)
+Way g h l (part k ∷ ks) target = WayBy (stop_of k) (Way g h l ks target) (λ j t b. LoopWay g h l j t b ks target)
 Way g h l (activation a place ∷ ks) target = ⊥
 Way g h l (iteration a it place ∷ ks) target = ⊥
 Way g h l (ensuring o ∷ ks) target = ⊥
@@ -427,9 +512,44 @@ pub data Travels (s : Source) (p : Program) (x : Exit) (ks : List Item) (m : sou
   returning : GoesHome s p x ks m ls k → Travels s p x ks m ls k
   going_far : GoesFar s p x ks m ls k → Travels s p x ks m ls k
 
+-- a frame runs in which a form is about to be done
+abbrev pub DoingIn : Source → Program → ℕ → CoreForm → List Item → source.Memory → List Level → machine.Memory → Type 0
+DoingIn s p j e ks m ls k = (g : Ground) × (h : Site) × Running s p g h m k × Doing g h j e ks m.place ls k.lists
+
+abbrev pub DoingBehind : Source → Program → ℕ → CoreForm → Part → List Item → source.Memory → List Level → machine.Memory
+    → Type 0
+DoingBehind s p j e (operands i a vs es) ks m ls k = DoingIn s p j e (part (operands i a vs es) ∷ ks) m ls k
+DoingBehind s p j e (receiver i x is b) ks m ls k = DoingIn s p j e (part (receiver i x is b) ∷ ks) m ls k
+DoingBehind s p j e (items i q recv vs is b) ks m ls k = DoingIn s p j e (part (items i q recv vs is b) ∷ ks) m ls k
+DoingBehind s p j e (block q recv vs) ks m ls k =
+    DoingIn s p j e (part (block q recv vs) ∷ ks) m ls k ⊎ HandsOn s p j e q recv vs ks m ls k
+DoingBehind s p j e (elements i q o t is) ks m ls k = DoingIn s p j e (part (elements i q o t is) ∷ ks) m ls k
+DoingBehind s p j e (hash_key i o d ps) ks m ls k = DoingIn s p j e (part (hash_key i o d ps) ∷ ks) m ls k
+DoingBehind s p j e (hash_value i o u ps) ks m ls k = DoingIn s p j e (part (hash_value i o u ps) ∷ ks) m ls k
+DoingBehind s p j e (pieces i o es) ks m ls k = DoingIn s p j e (part (pieces i o es) ∷ ks) m ls k
+DoingBehind s p j e (rest i es) ks m ls k = DoingIn s p j e (part (rest i es) ∷ ks) m ls k
+DoingBehind s p j e (test i b bs o) ks m ls k = DoingIn s p j e (part (test i b bs o) ∷ ks) m ls k
+DoingBehind s p j e chosen ks m ls k = DoingIn s p j e (part chosen ∷ ks) m ls k
+DoingBehind s p j e (and_then i d) ks m ls k = DoingIn s p j e (part (and_then i d) ∷ ks) m ls k
+DoingBehind s p j e (or_else i d) ks m ls k = DoingIn s p j e (part (or_else i d) ∷ ks) m ls k
+DoingBehind s p j e (loop_test i t b) ks m ls k = DoingIn s p j e (part (loop_test i t b) ∷ ks) m ls k
+DoingBehind s p j e (loop_body i t b) ks m ls k = DoingIn s p j e (part (loop_body i t b) ∷ ks) m ls k
+DoingBehind s p j e (rescued i b cs o) ks m ls k = DoingIn s p j e (part (rescued i b cs o) ∷ ks) m ls k
+DoingBehind s p j e (clause_class i x es t b cs q) ks m ls k =
+    DoingIn s p j e (part (clause_class i x es t b cs q) ∷ ks) m ls k
+DoingBehind s p j e (clause_target i x b q) ks m ls k = DoingIn s p j e (part (clause_target i x b q) ∷ ks) m ls k
+DoingBehind s p j e (clause_body q) ks m ls k = DoingIn s p j e (part (clause_body q) ∷ ks) m ls k
+DoingBehind s p j e (ensured i d) ks m ls k = DoingIn s p j e (part (ensured i d) ∷ ks) m ls k
+
+abbrev pub Performing : Source → Program → ℕ → CoreForm → List Item → source.Memory → List Level → machine.Memory → Type 0
+Performing s p j e [] m ls k = DoingIn s p j e [] m ls k
+Performing s p j e (part q ∷ ks) m ls k = DoingBehind s p j e q ks m ls k
+Performing s p j e (activation a q ∷ ks) m ls k = DoingIn s p j e (activation a q ∷ ks) m ls k
+Performing s p j e (iteration a it q ∷ ks) m ls k = DoingIn s p j e (iteration a it q ∷ ks) m ls k
+Performing s p j e (ensuring o ∷ ks) m ls k = DoingIn s p j e (ensuring o ∷ ks) m ls k
+
 abbrev pub Agree : Source → Program → Focus → List Item → source.Memory → List Level → machine.Memory → Type 0
-Agree s p (perform j e) ks m ls k =
-    (g : Ground) × (h : Site) × Running s p g h m k × Doing g h j e ks m.place ls k.lists
+Agree s p (perform j e) ks m ls k = Performing s p j e ks m ls k
 Agree s p (give v) ks m ls k = Giving s p v ks m ls k
 Agree s p (travel x) ks m ls k = Travels s p x ks m ls k
 

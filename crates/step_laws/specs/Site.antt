@@ -6,7 +6,7 @@ use Rattle.rite_code.specs.Code.{Program}
 use Rattle.def_core.specs.Store.{Store}
 use Rattle.def_core.specs.Changes.{intern}
 use Rattle.rb_store.specs.Opening.{with_names}
-use Rattle.ir_core.specs.CoreForm.{Name, Local, named, hidden, pattern, rest}
+use Rattle.ir_core.specs.CoreForm.{Name, Local}
 use Rattle.scope_resolver.specs.Layout.{place_of}
 use Rattle.gen_parts.specs.declared.line.Line.{Line}
 use Rattle.gen_parts.specs.Assembly.{instruction_before}
@@ -65,28 +65,19 @@ pub record Room (h : Site) (r : ℕ) : Type 0 where
 
 -- Locals.
 
--- one of the source, or a hidden one of the body
-abbrev pub IsScoped : Local → Type 0
-IsScoped (named x) = Unit {0}
-IsScoped (hidden d) = Unit {0}
-IsScoped (pattern k) = ⊥
-IsScoped rest = ⊥
-
 abbrev pub register : Site → Local → ℕ
 register h x = (place_of h.context.scopes x).register
 
 -- the local has a register of the body
 pub record Known (h : Site) (x : Local) : Type 0 where
-  pub scoped : IsScoped x
   pub level : (place_of h.context.scopes x).levels ≡ 0
   pub behind_self : 1 ≤ register h x
   pub low : register h x < h.first
 
--- or one of the source that has a register of a body around, so many levels out
+-- or it has one of a body around, so many levels out
 pub data Reaches (h : Site) (x : Local) : Type 0 where
   of_the_body : Known h x → Reaches h x
-  of_one_around : (y : Name) (d : ℕ) → x ≡ named y → (place_of h.context.scopes x).levels ≡ suc d → 1 ≤ register h x
-      → Reaches h x
+  of_one_around : (d : ℕ) → (place_of h.context.scopes x).levels ≡ suc d → 1 ≤ register h x → Reaches h x
 
 -- Names: those of the program are symbols of the store from its opening on.
 

@@ -1,18 +1,21 @@
-//! The step law of forms without bodies, of methods and of blocks, over the whole definitions: the code that gen_forms gives
-//! for a form goes with the evaluation of the form, transition by transition. There is no code here.
+//! The step law of forms, of methods, of classes and of blocks, over the whole definitions: the code that gen_forms
+//! gives for a form goes with the evaluation of the form, transition by transition. There is no code here.
 //!
-//! - `specs::Covered`: the forms whose code is followed: nil, true, false, self, integers, strings, symbols, variables and
-//!   constants with their assignments, locals of the body and of those around it, Arrays with splats, Hashes, Ranges, texts, sequences, branches, `and` and
-//!   `or`, loops, `break`, `next`, `return`, elements of multiple assignments, `defined?`, other names of methods,
-//!   calls of a name alone, calls of a value and of self with plain items and no block, `yield` with plain items.
-//!   Operators are calls by look-up and row, and `puts` is the iteration that it is, plan by plan.
-//! - `specs::Plain`: the same as a condition on a form alone
-//! - `specs::Tops`: programs of such forms, of methods, and of calls with blocks, at the top of which and of each body in
-//!   them the same stands
+//! - `specs::Covers`: the forms whose code is followed, each from a spot of it and the number of its first body on:
+//!   nil, true, false, self, integers, strings, symbols, variables and constants with their assignments, locals of the
+//!   body and of those around it, Arrays with splats, Hashes, Ranges, texts, sequences, branches, `and` and `or`,
+//!   loops, `break`, `next`, `return`, elements of multiple assignments, `defined?`, definitions of methods, on a
+//!   receiver too, other names of them, bodies of classes and modules, block literals and lambdas, calls of a name
+//!   alone, calls of a value and of self and `yield` with any items, splats among them, the calls with or without a
+//!   block, `super`. Beside an Array of arguments the block is a literal, a local or a Symbol, and a `super`
+//!   has one. Operators
+//!   are calls by look-up and row, and `puts` is the iteration that it is, plan by plan. `specs::Needs` has what they
+//!   need of the tables of a body.
+//! - `specs::Plain`: the same as a condition on a form alone and on those in its bodies
 //! - `specs::Simple`: those over nil, true, false and integers, with operators and `puts`, whose evaluation calls no body
-//! - `specs::Covers`: what defines a method, block literals and calls with them besides, at the top of a body, in a
-//!   sequence there, or as what is assigned to a local or leaves a body
-//! - `specs::Bodies`: code of the body of a method or a block, and a store whose methods and Procs have such code
+//! - `specs::Bodies`: code of the body of a method, a block or a class, and a store whose methods and Procs have such
+//!   code
+//! - `specs::Spaces`: what is opened as a class or a module is one
 //! - `specs::Calm`: what is asked of an evaluation otherwise: it calls no bodies of the source but those with such code
 //! - `specs::Peaceful`: what of this isn't so of every program
 //! - `specs::Implements`: code of a source, and what it means that code implements a source
@@ -46,9 +49,11 @@ ghost use Rattle.step_laws.specs.Peaceful.{StaysPeaceful};
 ghost use Rattle.step_laws.specs.Measure.{measure};
 ghost use Rattle.step_laws.specs.Relation.{Alike, Shared};
 ghost use Rattle.step_laws.specs.Simple.{IsSimple};
-ghost use Rattle.step_laws.specs.Tops.{IsPlainProgram};
+ghost use Rattle.step_laws.specs.Plain.{IsPlainProgram};
 ghost use Rattle.step_laws.specs.Implements.{IsCodeOf, Implements};
-ghost use Rattle.step_laws.specs.Example.{countdown, gatherer, chooser, visitor, yielder, seeker, defaulter, keeper, counting, IsWitness, IsPlainWitness, IsMethodWitness, IsBlockWitness, IsYieldWitness, IsExitWitness, IsDefaultWitness, IsValueWitness, IsClosureWitness};
+ghost use Rattle.step_laws.specs.Objects.{squares, cubes, IsObjectWitness, IsInheritingWitness};
+ghost use Rattle.step_laws.specs.Unnamed.{walker, IsUnnamedWitness};
+ghost use Rattle.step_laws.specs.Example.{countdown, gatherer, chooser, visitor, yielder, seeker, defaulter, keeper, counting, nester, picker, hander, spreader, overrider, IsWitness, IsPlainWitness, IsMethodWitness, IsBlockWitness, IsYieldWitness, IsExitWitness, IsDefaultWitness, IsValueWitness, IsClosureWitness, IsNestingWitness, IsLambdaWitness, IsHandingWitness, IsSpreadWitness, IsSuperWitness};
 
 /// From a configuration and a state that are alike a transition is matched by few turns, after which they are alike again;
 /// what waits below the running frame, and in other fibers, may be anything that is alike. Both begin alike.
@@ -59,7 +64,7 @@ pub fn each_transition_is_matched()
 {}
 
 /// Code of a source implements it, for each input with which the evaluation calls no bodies of the source but those of
-/// methods and blocks with code; and code of a program implements it for every input.
+/// methods, blocks and classes with code; and code of a program implements it for every input.
 #[tactic(auto, using(crate::proofs::Whole::implements, crate::proofs::Coded::code_implements))]
 pub fn code_implements()
     ensures calm { (s : Source) (p : Program) (input : List ℕ) → IsCodeOf s p
@@ -69,8 +74,9 @@ pub fn code_implements()
 {}
 
 /// All that is asked of an evaluation but that it calls no other bodies is so of that of every program: names keep their
-/// numbers, the class around a text is one, the object that a literal gathers into is one of its kind, an exit leaves an
-/// iteration as it leaves a core method, a transition only adds activations, and it doesn't write where an exit goes on.
+/// numbers, the class around a text is one, and so is what is opened as one, the object that a literal gathers into is one
+/// of its kind, an exit leaves an iteration as it leaves a core method, a transition only adds activations, and it doesn't
+/// write where an exit goes on.
 pub fn peace_is_calm()
     ensures { (b : Body) (p : Program) (input : List ℕ) → IsProgram b
         → StaysPeaceful (source_of b) p (opening (source_of b) input)
@@ -86,8 +92,9 @@ pub fn simple_code_implements()
         → Implements s p input }
 {}
 
-/// The code that gen_forms gives for a program within the limits is code of it, its methods and its blocks, where at its
-/// top and at that of each body stand plain forms, methods, calls with blocks, and what assigns or returns the value of one. Its evaluation enters no other bodies, and the code implements it for every input.
+/// The code that gen_forms gives for a program of plain forms within the limits, in whose bodies stand plain forms, is code
+/// of it, its methods, its blocks and its classes. Its evaluation enters no other bodies, and the code implements it
+/// for every input.
 #[tactic(auto, using(crate::proofs::Coded::program_is_code, crate::proofs::Coded::program_implements))]
 pub fn plain_programs_are_implemented()
     ensures coded { (b : Body) → IsProgram b → first_excess (need b) ≡ None → IsPlainProgram b
@@ -166,4 +173,59 @@ pub fn a_program_keeps_values()
 #[tactic(auto, using(crate::proofs::Methods::counts))]
 pub fn a_program_counts_by_a_closure()
     ensures { IsClosureWitness counting }
+{}
+
+/// There is one with a block in an argument of a call, and a definition of a method, in the branches of a loop; both sides
+/// come to the same end.
+#[tactic(auto, using(crate::proofs::Methods::nests))]
+pub fn a_program_nests_blocks()
+    ensures { IsNestingWitness nester }
+{}
+
+/// There is one with a lambda that a return leaves, in a method that goes on, and with one that is called with a wrong count
+/// of arguments, which nothing rescues; both sides come to the same end.
+#[tactic(auto, using(crate::proofs::Methods::calls_lambdas))]
+pub fn a_program_calls_lambdas()
+    ensures { IsLambdaWitness picker }
+{}
+
+/// There is one with a method that hands its block on to `each`, and with a Symbol as a block; both sides come to the same
+/// end.
+#[tactic(auto, using(crate::proofs::Methods::hands_blocks_on))]
+pub fn a_program_hands_on_blocks()
+    ensures { IsHandingWitness hander }
+{}
+
+/// There is one that spreads Arrays into the arguments of calls, with and without blocks, and into those of a yield; both
+/// sides come to the same end.
+#[tactic(auto, using(crate::proofs::Methods::spreads))]
+pub fn a_program_spreads_arguments()
+    ensures { IsSpreadWitness spreader }
+{}
+
+/// There is one with a class in a module and another one under it, whose objects a method of the class makes, and whose
+/// other method yields a variable of theirs; both sides come to the same end.
+#[tactic(auto, using(crate::proofs::Objects::has_objects))]
+pub fn a_program_has_objects()
+    ensures { IsObjectWitness squares }
+{}
+
+/// There is one with a class under another, whose `initialize` and whose method with a block call those above them and pass
+/// what they have; both sides come to the same end.
+#[tactic(auto, using(crate::proofs::Objects::inherits))]
+pub fn a_program_inherits()
+    ensures { IsInheritingWitness cubes }
+{}
+
+/// There is one with a method that calls the one above it, with a splat and its own block; both sides come to the same end.
+#[tactic(auto, using(crate::proofs::Methods::calls_above))]
+pub fn a_program_calls_super()
+    ensures { IsSuperWitness overrider }
+{}
+
+/// There is one with a `for`, a pattern among the parameters of a block, and a rest parameter without a name; both sides
+/// come to the same end.
+#[tactic(auto, using(crate::proofs::Unnamed::walks))]
+pub fn a_program_has_parameters_without_names()
+    ensures { IsUnnamedWitness walker }
 {}

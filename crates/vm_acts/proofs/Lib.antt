@@ -1,5 +1,3 @@
-pub mod Binding
 pub mod Giving
 pub mod Looking
 pub mod Over
-pub mod Telling

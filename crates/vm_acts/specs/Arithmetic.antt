@@ -7,7 +7,7 @@ use Rattle.rb_value.specs.declared.core_class.CoreClass.TheVariants as class
 use Rattle.rb_value.specs.declared.method.Method.{Method}
 use Rattle.rb_value.specs.declared.method.Method.TheVariants as method
 use Rattle.rb_value.specs.declared.method.Visibility.{Visibility}
-use Rattle.rb_value.specs.declared.method.Visibility.TheVariants.{Public, Private, Protected}
+use Rattle.rb_value.specs.declared.method.Visibility.TheVariants.{Public}
 use Rattle.rb_value.specs.declared.value.SymId.{SymId}
 use Rattle.rb_value.specs.declared.value.Value.{Value}
 use Rattle.def_core.specs.declared.found.Found.{Found}
@@ -37,7 +37,7 @@ use Rattle.vm_parts.specs.Below.operators as operators
 use Rattle.vm_parts.specs.Beside.{Beside, next_register, value_at}
 use Rattle.vm_parts.specs.Known.{is_last}
 use Rattle.vm_parts.specs.Operators.{seen_under, symbol}
-use Rattle.vm_acts.specs.declared.calls.Named.{Named}
+use Rattle.vm_acts.specs.declared.straight.Named.{Named}
 use Rattle.vm_acts.specs.Calls.{CallsNamed}
 
 -- What a class finds: the number of a core method that everyone may call.

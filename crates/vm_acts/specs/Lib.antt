@@ -1,12 +1,6 @@
-pub mod Answering
 pub mod Arithmetic
 pub mod Calls
-pub mod Collections
-pub mod Definitions
-pub mod Execution
-pub mod Leaving
-pub mod Parameters
-pub mod Procs
-pub mod Supers
-pub mod Variables
 pub mod Ends
+pub mod Execution
+pub mod Parts
+pub mod Supers

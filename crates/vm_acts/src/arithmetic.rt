@@ -4,7 +4,8 @@ ghost use Rattle.std.specs.Prelude.{◌≡◌, IfOk, OnOk};
 ghost use Rattle.vm_parts.specs.Beside as beside;
 ghost use Rattle.vm_acts.specs.Arithmetic as arithmetic;
 
-use crate::calls::{Named, call_named};
+use crate::calls::call_named;
+use crate::straight::Named;
 use def_core::Found;
 use rb_value::{CoreClass, Method, SymId, Value, Visibility};
 use std::alloc::AllocError;

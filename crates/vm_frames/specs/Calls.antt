@@ -1,6 +1,10 @@
 -- What those above name of calls.
 pub use Rattle.run_calls.specs.Rows.rows as rows
 pub use Rattle.run_calls.specs.Rows.called as called
+pub use Rattle.run_calls.specs.Rows.plans as plans
+pub use Rattle.run_calls.specs.Rows.making as making
+pub use Rattle.run_calls.specs.Rows.{stage_of, Iteration}
+pub use Rattle.run_calls.specs.Rows.iteration as iteration
 pub use Rattle.run_calls.specs.Activations as activations
 pub use Rattle.run_calls.specs.Blocks as blocks
 pub use Rattle.run_calls.specs.Entering as entering

@@ -1,5 +1,5 @@
 -- Values that go back to levels that wait, and exits.
-use Rattle.std.specs.Prelude.{◌≡◌, ℕ, zero, suc, ◌+◌, length, Bool, true, false, ◌&&◌, Option, Some, None, is_some, unwrap_or, if◌then◌else◌}
+use Rattle.std.specs.Prelude.{◌≡◌, ℕ, zero, suc, length, Bool, ◌&&◌, Option, Some, None, is_some, if◌then◌else◌}
 use Rattle.rb_value.specs.declared.value.Value.{Value}
 use Rattle.rb_value.specs.declared.value.ObjId.{ObjId}
 use Rattle.rb_value.specs.declared.exit.Exit.{Exit}
@@ -11,7 +11,6 @@ use Rattle.run_values.specs.declared.given.Given.TheVariants.{Gives, Raises}
 use Rattle.fiber_switch.specs.Frames.{Frame}
 use Rattle.fiber_switch.specs.Frames.{Level}
 use Rattle.fiber_switch.specs.Frames.level as level
-use Rattle.fiber_switch.specs.Frames.seen.{Seen}
 use Rattle.fiber_switch.specs.Frames.levels as levels
 use Rattle.fiber_switch.specs.Frames.landings.{Thrown}
 use Rattle.fiber_switch.specs.Frames.{Landing}

@@ -8,8 +8,8 @@ use Rattle.code_generator.proofs.from_core.TermFormed.+trees.Goals as goal
 
 pub returns-in-Cond : goal.returns-in-Cond
 returns-in-Cond t c =
-    subst (λ f. IfOk c.cond_tree.result (λ tree. form_of f ≡ form_in tree))
-    (sym (ap term_view c.in-Cond.is ∙ core-Cond c.in-Cond.branches c.in-Cond.otherwise)) c.cond_tree.ensures
+    subst (λ f. IfOk c.choice_tree.result (λ tree. form_of f ≡ form_in tree))
+    (sym (ap term_view c.in-Cond.is ∙ core-Cond c.in-Cond.branches c.in-Cond.otherwise)) c.choice_tree.ensures
 
 pub returns-in-Call : goal.returns-in-Call
 returns-in-Call t c =

@@ -1,0 +1,4 @@
+pub mod Levels
+pub mod Plainly
+pub mod Runs
+pub mod Turns

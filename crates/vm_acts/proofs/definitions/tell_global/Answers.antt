@@ -1,9 +1,0 @@
-use Rattle.std.specs.Prelude.{codes}
-use Rattle.vm_parts.specs.Beside.{of}
-use Rattle.vm_acts.specs.Definitions.{is_set}
-use Rattle.vm_acts.proofs.Telling.{told_if}
-use Rattle.vm_acts.proofs.definitions.tell_global.Goals as goal
-
-pub returns-clause-told : goal.returns-clause-told
-returns-clause-told c = told_if c.args.parts.now.heap c.tell.new.self c.tell.result (codes "global-variable")
-    c.is_set-is_set.result (is_set (of c.args.parts.now) c.args.name) c.is_set-is_set.ensures c.tell.ensures.answers.answer

@@ -1,0 +1,5 @@
+pub mod Beginning
+pub mod Ending
+pub mod Following
+pub mod Plainly
+pub mod Reporting

@@ -1,0 +1,4 @@
+pub mod Binding
+pub mod Pairing
+pub mod Remembering
+pub mod Telling
