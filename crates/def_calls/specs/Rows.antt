@@ -5,7 +5,7 @@ use Rattle.rb_value.specs.declared.value.Value.TheVariants.{Obj}
 use Rattle.rb_value.specs.declared.value.ObjId.{ObjId}
 use Rattle.rb_value.specs.declared.core_class.CoreClass.{CoreClass}
 use Rattle.rb_value.specs.declared.core_class.CoreClass.TheVariants as class
-use Rattle.rb_value.specs.CoreClass.{core_classes}
+use Rattle.rb_value.specs.CoreClass.{core_classes, number_of}
 use Rattle.def_core.specs.Store.{Store, core}
 use Rattle.def_core.specs.Classes.{class_of}
 use Rattle.def_core.specs.Changes.{with_singleton}
@@ -158,9 +158,13 @@ row_at n = row_by n (line_at n)
 
 -- The opening store, with the methods of all rows.
 
+-- Kernel holds the methods that every object has, so that what Object itself is given comes before them
+abbrev pub home : CoreClass → CoreClass
+home c = if nat_eq (number_of c) (number_of class.Object) then class.Kernel else c
+
 -- the class, or the singleton class of the class object
 abbrev pub holder : Store → Segment → ObjId
-holder st g = if g.singleton then class_of st.objects (Obj (core g.class)) else core g.class
+holder st g = if g.singleton then class_of st.objects (Obj (core g.class)) else core (home g.class)
 
 abbrev pub with_holder : Store → Segment → Store
 with_holder st g = if g.singleton then with_objects st (with_singleton st.objects (core g.class)) else st

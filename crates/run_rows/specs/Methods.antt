@@ -10,7 +10,7 @@ use Rattle.rb_value.specs.declared.core_class.CoreClass.TheVariants as class
 use Rattle.rb_value.specs.Object.{Object}
 use Rattle.def_core.specs.Store.{Store, object_at, object_number, same_object}
 use Rattle.def_core.specs.Classes.{class_at, contents_of}
-use Rattle.row_table.specs.Segments.{of_class_object}
+use Rattle.row_table.specs.Segments.{of_class, of_class_object}
 use Rattle.rb_store.specs.Methods.{named, with_rows_from}
 use Rattle.run_rows.specs.Named.{methods, hidden}
 use Rattle.run_rows.specs.Opening.{names_of, have_no_allocate, main}
@@ -77,5 +77,13 @@ abbrev pub rows_of : ℕ → List (List ℕ)
 rows_of s = if nat_eq s (of_class_object class.String) then [] else names_of (methods s)
 
 -- the rows of the segment under their names, whose numbers are 256 times the segment and their places
+abbrev pub rows_told : ℕ → List (List ℕ × Method)
+rows_told s = with_rows_from (s * 256) (rows_of s)
+
+-- Object itself has none: those of its segment stand in Kernel, before Kernel's own
+abbrev pub held : ℕ → List (List ℕ × Method)
+held s = if nat_eq s (of_class class.Object) then []
+    else (if nat_eq s (of_class class.Kernel) then rows_told (of_class class.Object) ++ rows_told s else rows_told s)
+
 abbrev pub told : ℕ → List (List ℕ × Method)
-told s = with_rows_from (s * 256) (rows_of s) ++ undefined s
+told s = held s ++ undefined s

@@ -19,6 +19,7 @@ use Rattle.run_values.specs.Answers.{result_of}
 use Rattle.heap.specs.Changes.{with_method, without_method}
 use Rattle.heap.specs.Operands.{own, with_space, with_symbol}
 use Rattle.row_table.specs.Names as table
+use Rattle.row_table.specs.Segments.{of_class}
 use Rattle.rb_store.specs.Opening as store
 use Rattle.run_rows.specs.Named.{beyond, hidden}
 
@@ -66,9 +67,13 @@ held_by class a = record { class = class_or class a.result; store = a.world.stor
 abbrev pub own_class : Store → ObjId → Held
 own_class st class = held_by class (singleton_class (alone st) (own st (Obj class)))
 
+-- Kernel holds the methods that every object has, so that what Object itself is given comes before them
+abbrev pub home : ℕ → ℕ
+home s = if nat_eq s (of_class class.Object) then of_class class.Kernel else s
+
 -- the class or module that has the methods of a segment, where the number is odd the singleton class of the object
 abbrev pub holder : Store → ℕ → Held
-holder st s = if nat_eq (s % 2) 0 then record { class = object_number (s / 2); store = st }
+holder st s = if nat_eq (s % 2) 0 then record { class = object_number (home s / 2); store = st }
     else own_class st (object_number (s / 2))
 
 -- Methods of a class, one after another, by their numbers.

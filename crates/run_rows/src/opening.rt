@@ -33,6 +33,10 @@ const WITHOUT_ALLOCATE: [CoreClass; 7] = [
     CoreClass::Yielder,
 ];
 
+/// The segment of the methods of Object, and that of Kernel.
+const OBJECT: u16 = 0;
+const KERNEL: u16 = 2;
+
 /// The segment of the main object's own methods: its number is the next after those of the core classes.
 const MAIN: u16 = 77;
 
@@ -54,11 +58,19 @@ fn singleton(heap: &mut Heap, class: ObjId) -> Result<ObjId, AllocError>
     Ok(given_or(class, given))
 }
 
+/// The segment of the class or module that has the methods of a segment: Kernel holds those that every object has, so that
+/// what Object itself is given comes before them.
+fn home(segment: u16) -> u16
+    ensures { result ≡ opening.home segment }
+{
+    if segment == OBJECT { KERNEL } else { segment }
+}
+
 /// The class or module that has the methods of a segment: the singleton class of the object where the number is odd.
 fn holder(heap: &mut Heap, segment: u16) -> Result<ObjId, AllocError>
     ensures { IfOk result (λ class. Holds (opening.holder heap.old.store segment) class heap.new.store) }
 {
-    let class = ObjId(u64::from(segment / 2));
+    let class = ObjId(u64::from(home(segment) / 2));
     if segment % 2 == 0 {
         Ok(class)
     } else {

@@ -23,7 +23,7 @@ use Rattle.rb_store.proofs.Start.{opening_sound, interned_symbol}
 use Rattle.core_rows.proofs.Checked.{core_is}
 use Rattle.class_model.proofs.Lineages.{any_of}
 use Rattle.def_calls.specs.World.{World, with_store}
-use Rattle.def_calls.specs.Rows.{Segment, number_in, segments, holder, with_holder, with_segment, with_segments, opening}
+use Rattle.def_calls.specs.Rows.{Segment, number_in, segments, home, holder, with_holder, with_segment, with_segments, opening}
 use Rattle.def_calls.specs.Calls.{main_activation, opening_world}
 use Rattle.world_laws.specs.Fine.{Bodies, MethodIs, EntryHas, KindIs, ObjectIs, Fine, Keeps}
 use Rattle.world_laws.proofs.Growing.{role_stays}
@@ -181,9 +181,9 @@ module _ (b : Bodies) (w : World) (fine : Fine b w) where
   holder_is g = by g.singleton
     where
       by : (x : Bool) → Is (census w.store) ClassOrModule
-          (if x then class_of w.store.objects (Obj (core g.class)) else core g.class)
+          (if x then class_of w.store.objects (Obj (core g.class)) else core (home g.class))
       by true = class_of_is w.store fine.store (Obj (core g.class)) (core_there g.class)
-      by false = core_is w.store fine.store g.class
+      by false = core_is w.store fine.store (home g.class)
 
   segment_keeps : (g : Segment) → Keeps b w (with_store w (with_segment w.store g))
   segment_keeps g = rows_keep b w fine (holder w.store g) (holder_is g)
