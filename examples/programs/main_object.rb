@@ -73,3 +73,23 @@ rescue NameError => error
   puts error.class, error.name.inspect
 end
 p to_s, inspect, self.class
+
+# What the main program defines comes before the methods that every object has, and reaches these by super.
+def method_missing(name, *arguments)
+  name == :ghost ? [:ghost, arguments] : super
+end
+
+p ghost, 5.ghost(1, 2)
+begin
+  nobody(1)
+rescue NoMethodError => error
+  p error.name
+end
+
+class Object
+  def inspect
+    "<" + super + ">"
+  end
+end
+
+p Box.new.inspect[0, 6], :a, [nil]
