@@ -35,6 +35,7 @@ const WITHOUT_ALLOCATE: [CoreClass; 7] = [
 
 /// The segment of the methods of Object, and that of Kernel.
 const OBJECT: u16 = 0;
+
 const KERNEL: u16 = 2;
 
 /// The segment of the main object's own methods: its number is the next after those of the core classes.
