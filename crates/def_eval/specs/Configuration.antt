@@ -11,7 +11,7 @@ use Rattle.def_calls.specs.Fibers.{Fibers}
 use Rattle.def_calls.specs.Fibers as fibers
 use Rattle.ir_core.specs.CoreForm.{Name, Local, CoreForm, Maybe, Forms, Items, Pairs, Branches, Clauses}
 use Rattle.def_calls.specs.Seen.{End, Seen, Going, Over}
-use Rattle.def_eval.specs.Source.{Source, body_at, form_of, locals_of, all_names, span}
+use Rattle.def_eval.specs.Source.{Source, body_at, form_of, locals_of, all_names, span, span_maybe}
 
 -- an activation and a scope, by their numbers
 pub record Place : Type 0 where
@@ -136,7 +136,7 @@ stop_of (and_then n e) = passes
 stop_of (or_else n e) = passes
 stop_of (loop_test n t b) = loops n t b
 stop_of (loop_body n t b) = loops n t b
-stop_of (rescued n b cs o) = rescues (n + span b) (record { number = n; body = b; clauses = cs; otherwise = o })
+stop_of (rescued n b cs o) = rescues (n + span b + span_maybe o) (record { number = n; body = b; clauses = cs; otherwise = o })
 stop_of (clause_class n e es t b cs r) = retries r
 stop_of (clause_target n e b r) = assigns e r
 stop_of (clause_body r) = retries r

@@ -162,7 +162,7 @@ with_ensure n (there e) ks = part (ensured n e) ∷ ks
 abbrev pub do_begin : ℕ → CoreForm → Clauses → Maybe → Maybe → List Item → Memory → Config
 do_begin n b cs o e ks m =
     Run (perform n b) (part (rescued n b cs o)
-    ∷ with_ensure (n + span b + span_clauses cs + span_maybe o) e ks) m
+    ∷ with_ensure (n + span b + span_maybe o + span_clauses cs) e ks) m
 
 -- the exception of the innermost clause whose target is assigned
 abbrev pub exception_or : Stop → Value → Value

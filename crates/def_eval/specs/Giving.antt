@@ -17,7 +17,7 @@ use Rattle.def_calls.specs.Fibers.{Onward, Resumed, refused, begins, continues}
 use Rattle.def_calls.specs.Fibers as fibers
 use Rattle.ir_core.specs.CoreForm.{CoreForm, Maybe, absent, there, Forms, none, more, Pairs, Branches, Clauses, no_clauses, clause}
 use Rattle.def_calls.specs.Seen.{Ended}
-use Rattle.def_eval.specs.Source.{Source, span, span_maybe, span_forms, span_clauses}
+use Rattle.def_eval.specs.Source.{Source, span, span_maybe, span_forms}
 use Rattle.def_eval.specs.Configuration.{Place, raise, Rescue, Part, operands, receiver, items, block, elements, hash_key, hash_value, pieces, rest, test, chosen, and_then, or_else, loop_test, loop_body, rescued, clause_class, clause_target, clause_body, ensured, Outgoing, value, exit, Item, part, activation, iteration, ensuring, Kept, Focus, perform, give, travel, Memory, with_world, Config, Run, Halt}
 use Rattle.def_eval.specs.Entering.{symbol, after, enter}
 use Rattle.def_eval.specs.Forms.{next_operand, do_call, next_item, perform_call, next_element, next_pair, next_piece, next_branch}
@@ -121,7 +121,7 @@ give_part s v (and_then n e) ks m = go_right (is_true v) n e v ks m
 give_part s v (or_else n e) ks m = go_left (is_true v) n e v ks m
 give_part s v (loop_test n t b) ks m = turn_loop (is_true v) n t b ks m
 give_part s v (loop_body n t b) ks m = Run (perform n t) (part (loop_test n t b) ∷ ks) m
-give_part s v (rescued n b cs o) ks m = do_otherwise (n + span b + span_clauses cs) o v ks m
+give_part s v (rescued n b cs o) ks m = do_otherwise (n + span b) o v ks m
 give_part s v (clause_class n e es t b cs r) ks m = match_class n v e es t b cs r ks m
 give_part s v (clause_target n e b r) ks m = do_clause_body n b r ks m
 give_part s v (clause_body r) ks m = Run (give v) ks m

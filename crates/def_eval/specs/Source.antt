@@ -9,12 +9,15 @@ abbrev pub Source : Type 0
 Source = List Body
 
 -- What is gathered over a form: nothing of a leaf, what its parts give joined in their order, something of each body
--- that stands in it, and something of each name that it has besides those of its parts.
+-- that stands in it, something of each name that it has besides those of its parts, and something of the parts of a
+-- begin form.
 pub record Gathered (A : Type 0) : Type 0 where
   pub nothing : A
   pub join : A → A → A
   pub of_body : Body → A → A
   pub of_name : Name → A
+  -- a body with its clauses, its `else` and its ensure part: the code of the `else` stands before that of the clauses
+  pub of_begin : A → A → A → A → A
 
 -- the name that `defined?` looks for
 abbrev pub over_asked : {A : Type 0} → Gathered A → DefinedKind → Name → A
@@ -67,7 +70,7 @@ abbrev mutual
   over a (super_form is b) = a.join (over_items a is) (over_maybe a b)
   over a (function f) = over_body a f
   over a (lambda f) = over_body a f
-  over a (begin_form b cs o e) = a.join (over a b) (a.join (over_clauses a cs) (a.join (over_maybe a o) (over_maybe a e)))
+  over a (begin_form b cs o e) = a.of_begin (over a b) (over_clauses a cs) (over_maybe a o) (over_maybe a e)
   over a (return_form e) = over a e
   over a (break_form e) = over a e
   over a (next_form e) = over a e
@@ -120,7 +123,13 @@ abbrev mutual
 
 -- how many bodies stand in a form, those inside them too
 abbrev pub how_many : Gathered ℕ
-how_many = record { nothing = 0; join = λ m n. m + n; of_body = λ f n. suc n; of_name = λ x. 0 }
+how_many = record {
+  nothing = 0;
+  join = λ m n. m + n;
+  of_body = λ f n. suc n;
+  of_name = λ x. 0;
+  of_begin = λ b cs o e. b + (o + (cs + e));
+}
 
 abbrev pub span : CoreForm → ℕ
 span e = over how_many e
@@ -136,11 +145,23 @@ span_clauses cs = over_clauses how_many cs
 
 -- these bodies, depth first
 abbrev pub in_order : Gathered (List Body)
-in_order = record { nothing = []; join = λ bs cs. bs ++ cs; of_body = λ f bs. f ∷ bs; of_name = λ x. [] }
+in_order = record {
+  nothing = [];
+  join = λ bs cs. bs ++ cs;
+  of_body = λ f bs. f ∷ bs;
+  of_name = λ x. [];
+  of_begin = λ b cs o e. b ++ (o ++ (cs ++ e));
+}
 
 -- the names in a form, but for those in the bodies that stand in it
 abbrev pub named_in : Gathered (List Name)
-named_in = record { nothing = []; join = λ xs ys. xs ++ ys; of_body = λ f xs. []; of_name = λ x. x ∷ [] }
+named_in = record {
+  nothing = [];
+  join = λ xs ys. xs ++ ys;
+  of_body = λ f xs. [];
+  of_name = λ x. x ∷ [];
+  of_begin = λ b cs o e. b ++ (cs ++ (o ++ e));
+}
 
 -- the main program with the bodies in it
 abbrev pub source_of : Body → Source

@@ -159,9 +159,9 @@ module _ (s : Source) (early : Past) where
 
   begin_done : (n : ℕ) (b : CoreForm) (cs : Clauses) (o e : Maybe) (ks : List Item) (m : Memory) (a : Around)
       → Text s early ks m a → BeginStands s a n b cs o
-      → MaybeStands s a (n + span b + span_clauses cs + span_maybe o) e → Fits s early (do_begin n b cs o e ks m)
+      → MaybeStands s a (n + span b + span_maybe o + span_clauses cs) e → Fits s early (do_begin n b cs o e ks m)
   begin_done n b cs o e ks m a t h ensures =
-      let i = n + span b + span_clauses cs + span_maybe o in
+      let i = n + span b + span_maybe o + span_clauses cs in
       does_part s early (eval.rescued n b cs o) n b (with_ensure i e ks) m a (text_ensured i e ks m a t ensures) h h.0
 
   -- A Proc.

@@ -12,7 +12,7 @@ use Rattle.ir_core.specs.Program.{Around}
 use Rattle.def_calls.specs.World.{World, Answer, Result, gives, raises, with_store}
 use Rattle.def_calls.specs.Calls.{Sending, by_name, BlockArgument, no_block, block_of, not_a_block, block_argument, passing}
 use Rattle.def_calls.specs.Values as values
-use Rattle.def_eval.specs.Source.{Source, span, span_clauses}
+use Rattle.def_eval.specs.Source.{Source, span}
 use Rattle.def_eval.specs.Configuration as eval
 use Rattle.def_eval.specs.Configuration.{Gathering, Part, Outgoing, Item, Memory, with_world, Config, Run}
 use Rattle.def_eval.specs.Entering.{symbol}
@@ -154,7 +154,7 @@ module _ (s : Source) (early : Past) (ks : List Item) (m : Memory) (a : Around) 
   part_given v (eval.or_else n e) is h = left_done (is_true v) n e v h is
   part_given v (eval.loop_test n e b) is h = turned (is_true v) n e b h
   part_given v (eval.loop_body n e b) is h = loop_done s early n false e b ks m a t h.0 h.1
-  part_given v (eval.rescued n b cs o) is h = otherwise_done (n + span b + span_clauses cs) o v h.2 is
+  part_given v (eval.rescued n b cs o) is h = otherwise_done (n + span b) o v h.2 is
   part_given v (eval.clause_class n e es x b cs r) is h =
       class_matched s early ks m a t n v e es x b cs r h.0
       (record { classes = h.1; target = h.2; body = h.3; others = h.4 }) h.5

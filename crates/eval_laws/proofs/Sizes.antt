@@ -77,7 +77,7 @@ mutual
   size (form.function f) = size_body of_block f
   size (form.lambda f) = size_body of_block f
   size (form.begin_form b cs o e) =
-      two _ _ _ _ _ _ (size b) (two _ _ _ _ _ _ (size_clauses cs) (two _ _ _ _ _ _ (size_maybe o) (size_maybe e)))
+      two _ _ _ _ _ _ (size b) (two _ _ _ _ _ _ (size_maybe o) (two _ _ _ _ _ _ (size_clauses cs) (size_maybe e)))
   size (form.return_form e) = size e
   size (form.break_form e) = size e
   size (form.next_form e) = size e

@@ -1,6 +1,6 @@
 -- Every body of a program's source stands where its number says.
-use Rattle.std.proofs.Common.{◌≡◌, ℕ, zero, suc, ◌+◌, ◌-◌, ◌<◌, List, [], ◌∷◌, ◌++◌, length, get_or, true, false, refl, sym, ap, ◌∙◌, subst, arith, length-append, append_assoc}
-use Rattle.std.specs.Prelude.{Some, slice_get, bytes_eq}
+use Rattle.std.proofs.Common.{◌≡◌, ℕ, zero, suc, ◌+◌, ◌-◌, ◌<◌, List, [], ◌∷◌, ◌++◌, length, get_or, Bool, true, false, refl, sym, ap, ◌∙◌, subst, arith, length-append, append_assoc}
+use Rattle.std.specs.Prelude.{◌||◌, Some, slice_get, bytes_eq}
 use Rattle.std.specs.List.{list_any}
 use Rattle.std.proofs.lemmas.Option.{slice_get_within, slice_get-get_or, get_or_from_slice_get}
 use Rattle.std.proofs.lemmas.List.{get_or-append_right}
@@ -94,6 +94,14 @@ names_right : (s : Source) (xs ys : List Name) → NamesIn s (xs ++ ys) → Name
 names_right s xs ys h x is = h x (list_any-append (bytes_eq x) xs ys
     ∙ or_right (list_any (bytes_eq x) xs) (list_any (bytes_eq x) ys) is)
 
+names_both : (s : Source) (xs ys : List Name) → NamesIn s xs → NamesIn s ys → NamesIn s (xs ++ ys)
+names_both s xs ys f g x is = by (list_any (bytes_eq x) xs) refl (sym (list_any-append (bytes_eq x) xs ys) ∙ is)
+  where
+    by : (t : Bool) → list_any (bytes_eq x) xs ≡ t → (list_any (bytes_eq x) xs || list_any (bytes_eq x) ys) ≡ true
+        → IsNamed s x
+    by true e h = f x e
+    by false e h = g x (sym (ap (λ (t : Bool). t || list_any (bytes_eq x) ys) e) ∙ h)
+
 -- the names of a body of the source are the source's
 named_at : (bs : List Body) (n : ℕ) (d : Body) → n < length bs → (x : Name)
     → list_any (bytes_eq x) (over named_in (form_of (get_or bs n d))) ≡ true → list_any (bytes_eq x) (all_names bs) ≡ true
@@ -140,6 +148,25 @@ module _ (s : Source) where
   behind_clauses : (n : ℕ) (cs : Clauses) (q : Piece) → Here s n (joined (piece_clauses cs) q)
       → Here s (n + span_clauses cs) q
   behind_clauses n cs q h = right n (n + span_clauses cs) (span_clauses cs) (piece_clauses cs) q (size_clauses cs) refl h
+
+  -- the bodies of an `else` stand before those of the clauses, whose names stand first
+  else_first : (n : ℕ) (b : CoreForm) (cs : Clauses) (o e : Maybe) → Here s n (piece (form.begin_form b cs o e))
+      → Here s n (joined (piece b) (joined (piece_maybe o) (joined (piece_clauses cs) (piece_maybe e))))
+  else_first n b cs o e h =
+      let xs = over named_in b in
+      let ys = over_clauses named_in cs in
+      let zs = over_maybe named_in o in
+      let us = over_maybe named_in e in
+      let behind_body = names_right s xs (ys ++ (zs ++ us)) h.names in
+      let behind_classes = names_right s ys (zs ++ us) behind_body in
+      record {
+        slice = h.slice;
+        kinds = h.kinds;
+        names = names_both s xs (zs ++ (ys ++ us)) (names_left s xs (ys ++ (zs ++ us)) h.names)
+            (names_both s zs (ys ++ us) (names_left s zs us behind_classes)
+            (names_both s ys us (names_left s ys (zs ++ us) behind_body) (names_right s zs us behind_classes)));
+        some = h.some;
+      }
 
   behind_receiver : (n : ℕ) (r : Receiver) (q : Piece) → Here s n (joined (piece_receiver r) q)
       → Here s (past_receiver n r) q
@@ -280,16 +307,17 @@ module _ (s : Source) where
         let c = and_true h in
         let d = and_true c.1 in
         let f = and_true d.1 in
-        let p = joined (piece_clauses cs) (joined (piece_maybe o) (piece_maybe e)) in
-        let q = joined (piece_maybe o) (piece_maybe e) in
-        let l = behind n b p k in
-        let m = behind_clauses (n + span b) cs q l in (
-          stands a n b c.0 (left n (piece b) p k),
-          clauses_stand a (n + span b) cs d.0 (left (n + span b) (piece_clauses cs) q l),
-          maybe_stands a (n + span b + span_clauses cs) o f.0
-              (left (n + span b + span_clauses cs) (piece_maybe o) (piece_maybe e) m),
-          maybe_stands a (n + span b + span_clauses cs + span_maybe o) e f.1
-              (behind_maybe (n + span b + span_clauses cs) o (piece_maybe e) m),
+        let p = joined (piece_maybe o) (joined (piece_clauses cs) (piece_maybe e)) in
+        let q = joined (piece_clauses cs) (piece_maybe e) in
+        let x = else_first n b cs o e k in
+        let l = behind n b p x in
+        let m = behind_maybe (n + span b) o q l in (
+          stands a n b c.0 (left n (piece b) p x),
+          clauses_stand a (n + span b + span_maybe o) cs d.0
+              (left (n + span b + span_maybe o) (piece_clauses cs) (piece_maybe e) m),
+          maybe_stands a (n + span b) o f.0 (left (n + span b) (piece_maybe o) q l),
+          maybe_stands a (n + span b + span_maybe o + span_clauses cs) e f.1
+              (behind_clauses (n + span b + span_maybe o) cs (piece_maybe e) m),
         )
     stands a n (form.return_form e) h k = stands a n e (and_true h).1 k
     stands a n (form.break_form e) h k = stands a n e (and_true h).1 k

@@ -10,7 +10,7 @@ use Rattle.def_core.specs.Sound.{Census, census, Array, Is, IsValue, OptionIs, A
 use Rattle.ir_core.specs.CoreForm.{Name, Local, named, hidden, pattern, rest, CoreForm, Maybe, Forms, none, more, Clauses, Parameters}
 use Rattle.ir_core.specs.Program.{Around, within_loop, within_clause, within_target, is_bound, is_own}
 use Rattle.def_calls.specs.World.{World, core_method, activation_at}
-use Rattle.def_eval.specs.Source.{Source, body_at, parameters_of, span, span_maybe, span_forms, span_clauses}
+use Rattle.def_eval.specs.Source.{Source, body_at, parameters_of, span, span_maybe, span_forms}
 use Rattle.def_eval.specs.Configuration as eval
 use Rattle.def_eval.specs.Configuration.{Place, Scope, Exit, Action, Gathering, Rescue, Part, Stop, Outgoing, Item, Kept, Focus, Memory, Config, Run, Halt, stop_of}
 use Rattle.def_eval.specs.Scopes.{value_in, scope_at, scopes_around, first_with, last_or, shape_of, is_there}
@@ -168,8 +168,8 @@ GatheringFits s a k n (eval.arguments_of sending recv b) = SendingIs k sending �
 
 -- a begin form that may be begun anew
 abbrev pub BeginStands : Source → Around → ℕ → CoreForm → Clauses → Maybe → Type 0
-BeginStands s a n b cs o = FormStands s a n b × ClausesStand s a (n + span b) cs
-    × MaybeStands s a (n + span b + span_clauses cs) o
+BeginStands s a n b cs o = FormStands s a n b × ClausesStand s a (n + span b + span_maybe o) cs
+    × MaybeStands s a (n + span b) o
 
 abbrev pub RescueStands : Source → Around → Rescue → Type 0
 RescueStands s a r = BeginStands s a r.number r.body r.clauses r.otherwise

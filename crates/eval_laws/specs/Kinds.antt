@@ -49,7 +49,7 @@ abbrev mutual
   kinds (form.super_form is b) = kinds_items is ++ kinds_maybe b
   kinds (form.function f) = kinds_body of_block f
   kinds (form.lambda f) = kinds_body of_block f
-  kinds (form.begin_form b cs o e) = kinds b ++ (kinds_clauses cs ++ (kinds_maybe o ++ kinds_maybe e))
+  kinds (form.begin_form b cs o e) = kinds b ++ (kinds_maybe o ++ (kinds_clauses cs ++ kinds_maybe e))
   kinds (form.return_form e) = kinds e
   kinds (form.break_form e) = kinds e
   kinds (form.next_form e) = kinds e

@@ -82,9 +82,9 @@ abbrev mutual
   FormStands s a n (form.super_form is b) = ItemsStand s a n is × MaybeStands s a (past_items n is) b
   FormStands s a n (form.function f) = BlockStands s a n f
   FormStands s a n (form.lambda f) = BlockStands s a n f
-  FormStands s a n (form.begin_form b cs o e) = FormStands s a n b × ClausesStand s a (n + span b) cs
-      × MaybeStands s a (n + span b + span_clauses cs) o
-      × MaybeStands s a (n + span b + span_clauses cs + span_maybe o) e
+  FormStands s a n (form.begin_form b cs o e) = FormStands s a n b
+      × ClausesStand s a (n + span b + span_maybe o) cs × MaybeStands s a (n + span b) o
+      × MaybeStands s a (n + span b + span_maybe o + span_clauses cs) e
   FormStands s a n (form.return_form e) = FormStands s a n e
   FormStands s a n (form.break_form e) = FormStands s a n e
   FormStands s a n (form.next_form e) = FormStands s a n e

@@ -24,7 +24,7 @@ use Rattle.def_calls.specs.Values as values
 use Rattle.def_calls.specs.Definitions as definitions
 use Rattle.def_calls.specs.Fibers.{Onward, Resumed, refused, begins as begins_fiber, continues}
 use Rattle.def_calls.specs.Fibers as fibers
-use Rattle.def_eval.specs.Source.{Source, body_at, parameters_of, span, span_maybe, span_forms, span_clauses}
+use Rattle.def_eval.specs.Source.{Source, body_at, parameters_of, span, span_maybe, span_forms}
 use Rattle.def_eval.specs.Configuration as eval
 use Rattle.def_eval.specs.Configuration.{Place, Scope, Exit, Action, Gathering, Rescue, Part, Stop, Outgoing, Item, Kept, Focus, Memory, with_world, Config, Run, Halt, stop_of}
 use Rattle.def_eval.specs.Scopes.{scope_at, put_in, with_variable, shape_of, running}
@@ -418,7 +418,7 @@ module _ (s : Source) (P : List (Option ℕ)) where
   part_to v (eval.or_else n e) ks m h = left_to (is_true v) n e v ks m h
   part_to v (eval.loop_test n t b) ks m h = turn_to (is_true v) n t b ks m h
   part_to v (eval.loop_body n t b) ks m h = inl h
-  part_to v (eval.rescued n b cs o) ks m h = otherwise_to (n + span b + span_clauses cs) o v ks m h
+  part_to v (eval.rescued n b cs o) ks m h = otherwise_to (n + span b) o v ks m h
   part_to v (eval.clause_class n e es t b cs r) ks m h = matched_to n v e es t b cs r ks m h
   part_to v (eval.clause_target n e b r) ks m h = inl h
   part_to v (eval.clause_body r) ks m h = inl h
