@@ -32,7 +32,7 @@ use Rattle.def_machine.specs.Turn.{act, only_result, symbol as symbol_machine}
 use Rattle.step_laws.specs.Site.{Site, place_in, at_line, LineAt, Room}
 use Rattle.step_laws.specs.Calm.{Quiet}
 use Rattle.step_laws.specs.Measure.{burden, measure}
-use Rattle.step_laws.proofs.Placed.{high, high-both, high-puts, Stands, moved, left, right, the_line, Rest, frame_at, turned}
+use Rattle.step_laws.proofs.Placed.{high, high-both, high-puts, Stands, moved, within_puts, left, right, the_line, Rest, frame_at, turned}
 use Rattle.step_laws.specs.Behind.{Static}
 use Rattle.step_laws.specs.Relation.{Ground, over_levels, InFrame, Common, Doing, raised, Related, Step}
 use Rattle.step_laws.proofs.Untouched.{grown, below_running}
@@ -113,7 +113,7 @@ module _ (g : Ground) (h : Site) (static : Static h) (ks : List Item) (m : sourc
         out = from.out ∙ sym quiet.0;
         both = grown (over_levels g (frame (frame_at h x n) ∷ g.below)) m (aligned k m)
             (below_running g h m (aligned k m) both (frame_at h x n) refl) m.place a.world quiet.1;
-        leaving = leaves_frame g h k.lists ks (n + 1 + 1) r around x n both.site next;
+        leaving = leaves_frame g h k.lists ks (n + 1 + 1) r around x n both.site l.guarded next;
       })))
 
   -- the lines of such a form
@@ -130,9 +130,9 @@ module _ (g : Ground) (h : Site) (static : Static h) (ks : List Item) (m : sourc
       let q = does (op.LoadNil r) in
       let one : high p ≡ 1 = high-puts (line.Does o) in
       record {
-        does_it = the_line h n (line.Does o) (left h n p q code);
+        does_it = the_line h n (line.Does o) (left h n p q (within_puts _ _) code);
         load = the_line h (n + 1) (line.Does (op.LoadNil r)) (moved h (n + high p) (n + 1) q (omega (arith, one))
-            (right h n p q code));
+            (right h n p q (within_puts _ _) code));
         next = subst (λ (i : ℕ). InFrame g h k.lists ks i r around)
             (omega (arith, high-both p q, one, high-puts (line.Does (op.LoadNil r)))) next;
       }

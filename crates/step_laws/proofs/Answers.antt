@@ -66,7 +66,7 @@ answer_at g h static c (raises e) w ks m x k n r o around from goes l acts less 
       out = from.out ∙ sym quiet.0;
       both = grown (over_levels g (frame (frame_at h x n) ∷ g.below)) m (aligned k m)
           (below_running g h m (aligned k m) both (frame_at h x n) refl) m.place w quiet.1;
-      leaving = leaves_frame g h k.lists ks (n + 1) r around x n both.site next;
+      leaving = leaves_frame g h k.lists ks (n + 1) r around x n both.site l.guarded next;
     })))
 
 -- both sides name the same symbol

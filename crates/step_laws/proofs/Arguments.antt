@@ -28,7 +28,7 @@ use Rattle.def_machine.specs.State as machine
 use Rattle.def_machine.specs.State.{Registers, frame, value_at, slot_at, put, shown}
 use Rattle.def_machine.specs.Entering.{enter as enter_machine}
 use Rattle.def_machine.specs.Turn.{turn, act, call as call_machine}
-use Rattle.step_laws.specs.Site.{Site, within, place_in, at_line, LineAt, Room, number}
+use Rattle.step_laws.specs.Site.{Site, IsGuarded, within, place_in, at_line, LineAt, Room, number}
 use Rattle.step_laws.specs.Passed.{IsAtOnce}
 use Rattle.step_laws.specs.Covers.{Covers}
 use Rattle.step_laws.specs.Calm.{IsSteady, Quiet, Still}
@@ -120,12 +120,12 @@ module _ (g : Ground) (h : Site) (ks : List Item) (m : source.Memory) (k : machi
 
   -- The call, in a list of registers with the Array and what is called.
   called_in : (us : List Registers) (q : Sending) → Common g h m (record (aligned k m) { lists = us })
-      → InFrame g h us ks (n + 1 + 1) low z.loop → value_at us h.list low ≡ recv → value_at us h.list (low + 1) ≡ Obj id
+      → IsGuarded h (n + 1) → InFrame g h us ks (n + 1 + 1) low z.loop → value_at us h.list low ≡ recv → value_at us h.list (low + 1) ≡ Obj id
       → go h.source c ≡ enter h.source (the_entry q) None ks (source.with_world m w)
       → turn h.program (state_at g h x (n + 1) (with_lists l))
       ≡ call_machine h.program q low 255 None (at_line h (n + 1 + 1)) (frame_at h x (n + 1)) g.below (with_lists us)
       → Soon h.source h.program c (state_at g h x (n + 1) (with_lists l))
-  called_in us q both' next first second goes turns =
+  called_in us q both' guarded next first second goes turns =
       let k' = with_lists us in
       let f = frame_at h (asking h x (n + 1) low) (n + 1) in
       entered h.source h.program c (frame (frame_at h x (n + 1)) ∷ g.below) (with_lists l) m from_filled (the_entry q) None ks
@@ -138,7 +138,7 @@ module _ (g : Ground) (h : Site) (ks : List Item) (m : source.Memory) (k : machi
       ∙ ap (λ (vs : List Value). enter_machine h.program (calls.call w (activation_at w h.activation) q recv vs None) None
       (frame f ∷ g.below) k') z.elements)
       less refl (waiting_worlds g h m (record (aligned k m) { lists = us }) both' f refl)
-      (waiting_frame g h ks m x (n + 1) low z.loop k' at_home both.site z.room next)
+      (waiting_frame g h ks m x (n + 1) low z.loop k' at_home both.site z.room guarded next)
       (then_enters h.source h.program m.world.store.objects w.store.objects (the_entry q)
       (λ is. call_entered h.source h.program m.world.store.objects w is (activation_at w h.activation) q recv args None) may)
 
@@ -160,7 +160,7 @@ module _ (g : Ground) (h : Site) (ks : List Item) (m : source.Memory) (k : machi
       by : SendsArray h low z.callee z.own o → Soon h.source h.program c (state_at g h x (n + 1) (with_lists l))
       by (sends_array y q own named e) =
           let held = subst (λ (t : Bool). HoldsCall h l t low recv []) own called_still in
-          called_in l (by_name (number h.source y)) both_filled next (ap read held.0) (ap read array_there)
+          called_in l (by_name (number h.source y)) both_filled at.guarded next (ap read held.0) (ap read array_there)
           (goes_in (by_name (number h.source y)) (z.sending ∙ ap (sending_of h.source) q) refl refl goes)
           (sends_it (op.Send low (entry_of h.context y) 255) e
           ∙ ap (λ (s : SymId). call_machine h.program (by_name s) low 255 None (at_line h (n + 1 + 1)) (frame_at h x (n + 1))
@@ -173,7 +173,7 @@ module _ (g : Ground) (h : Site) (ks : List Item) (m : source.Memory) (k : machi
           let first : value_at us h.list low ≡ recv =
           ap read (slot_same l h.list low (V u) s.present (omega (arith, s.long, z.room.within))) ∙ s.self ∙ sym held.0 in
           called_in us (by_name (number h.source y))
-          (written_here g h m (record (aligned k m) { lists = l }) both_filled low u z.room.above)
+          (written_here g h m (record (aligned k m) { lists = l }) both_filled low u z.room.above) at.guarded
           (frame_kept g h l us ks (n + 1 + 1) low z.loop (keeps_above h l low low (V u) s.present (omega arith))
           (put_only l h.list low u) (omega (arith, both.free)) next) first
           (ap read (slot_other l h.list low (low + 1) (V u) s.present (omega arith) ∙ array_there))
@@ -183,7 +183,7 @@ module _ (g : Ground) (h : Site) (ks : List Item) (m : source.Memory) (k : machi
           g.below (with_lists us)) (symbol_is h x (n + 1) (with_lists us) y steady named))
       by (yields_array q own e) =
           let held = subst (λ (t : Bool). HoldsCall h l t low recv []) own called_still in
-          called_in l to_proc both_filled next (ap read held.0) (ap read array_there)
+          called_in l to_proc both_filled at.guarded next (ap read held.0) (ap read array_there)
           (goes_in to_proc (z.sending ∙ ap (sending_of h.source) q) refl refl goes) (sends_it (op.Call low 255) e)
 
   -- where the block stands behind it

@@ -226,7 +226,7 @@ module _ (g : Ground) (h : Site) (ks : List Item) (m : source.Memory) (k : machi
       ∙ ap (λ (zs : List Value). enter_machine h.program (calls.call w (activation_at w h.activation) to_super recv zs o) o
       (frame f ∷ g.below) k') args)
       less refl (waiting_worlds g h m (record (aligned k m) { lists = us }) both' f refl)
-      (waiting_frame g h ks m x i low loop k' at_home both'.site room next')
+      (waiting_frame g h ks m x i low loop k' at_home both'.site room at.guarded next')
       (then_enters h.source h.program m.world.store.objects w.store.objects (the_entry w o)
       (λ is. call_entered h.source h.program m.world.store.objects w is (activation_at w h.activation) to_super recv vs o) may)
 

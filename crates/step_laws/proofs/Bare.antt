@@ -23,6 +23,7 @@ use Rattle.def_machine.specs.Entering.{enter as enter_machine}
 use Rattle.step_laws.specs.Site.{Site, within, at_line, LineAt}
 use Rattle.step_laws.specs.Calm.{IsSteady, Peace}
 use Rattle.step_laws.proofs.Placed.{high, high-both, high-nothing, high-puts, moved, right, the_line, Rest, frame_at, turned}
+use Rattle.step_laws.proofs.Guards.{within_both, within_nothing}
 use Rattle.step_laws.specs.Behind.{Static}
 use Rattle.step_laws.specs.Relation.{Ground, Waits, over_levels, InFrame, Common, Doing, Step}
 use Rattle.step_laws.proofs.Registers.{keeps_above, slot_same}
@@ -54,8 +55,9 @@ module _ (g : Ground) (h : Site) (static : Static h) (ks : List Item) (m : sourc
       let k' = written h (aligned k m) r v in
       let s = same_here g h m (aligned k m) both in
       let both' = written_here g h m (aligned k m) both r v d.covered.0.above in
-      let code = right h d.n (nothing ⊕ nothing) (nothing ⊕ does o) d.code in
-      let last = right h (d.n + high (nothing ⊕ nothing)) nothing (does o) code in
+      let code = right h d.n (nothing ⊕ nothing) (nothing ⊕ does o)
+      (within_both _ nothing nothing (within_nothing _) (within_nothing _)) d.code in
+      let last = right h (d.n + high (nothing ⊕ nothing)) nothing (does o) (within_nothing _) code in
       let at : LineAt h d.n (line.Does o) =
       the_line h d.n (line.Does o) (moved h (d.n + high (nothing ⊕ nothing) + high nothing) d.n (does o)
       (omega (arith, high-both nothing nothing, high-nothing)) last) in
@@ -86,6 +88,7 @@ module _ (g : Ground) (h : Site) (static : Static h) (ks : List Item) (m : sourc
         after = refl;
         room = d.covered.0;
         there = d.there;
+        guarded = at.guarded;
         around = d.loop;
         next = next;
       } in

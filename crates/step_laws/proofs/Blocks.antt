@@ -41,7 +41,7 @@ use Rattle.def_machine.specs.Unwind.{after_result as after_machine}
 use Rattle.def_machine.specs.Entering.{enter as enter_machine}
 use Rattle.def_machine.specs.Turn.{turn, act, fetch, shape_by, lists_around, make_proc as make_proc_machine, arguments, registers_of, call as call_machine, call_with}
 use Rattle.scope_laws.proofs.Alike.{around_alike}
-use Rattle.step_laws.specs.Site.{Site, place_in, at_line, Room, number}
+use Rattle.step_laws.specs.Site.{Site, IsGuarded, place_in, at_line, Room, number}
 use Rattle.step_laws.specs.Around.{Around}
 use Rattle.step_laws.specs.Covers.{Makes}
 use Rattle.step_laws.specs.Calm.{IsSteady, QuietBy, Quiet, Still, Peace, objects_with}
@@ -180,91 +180,92 @@ module _ (g : Ground) (h : Site) (static : Static h) (ks : List Item) (m : sourc
 module _ (g : Ground) (h : Site) (static : Static h) (ks : List Item) (m : source.Memory) (k : machine.Memory)
     (both : Common g h m (aligned k m)) (steady : IsSteady h.source m.world) (at_home : m.place ≡ place_in h) (c : Config)
     (x : Rest) (n low : ℕ) (room : Room h low) (around : Option Loop)
-    (from : From h c (frame (frame_at h x n) ∷ g.below) (aligned k m) m) (less : burden ks m < measure c) where
-  -- what an instruction answers that has written a register before
-  answer_in : (r : Result) (w : World) (k' : machine.Memory) → Common g h m k' → InFrame g h k'.lists ks (n + 1) low around
-      → go h.source c ≡ after_result r w ks m
-      → turn h.program (state_at g h x n (aligned k m))
-      ≡ after_machine h.program r low (at_line h (n + 1)) (frame_at h x n) g.below (machine.with_world k' w)
-      → Step h c (state_at g h x n (aligned k m))
-  answer_in (gives v) w k' both' next goes turns =
-      let quiet = subst (Quiet m) goes from.quiet in
-      let k2 = machine.with_world k' w in
-      let both2 : Common g h (source.with_world m w) k2 = grown_here g h m k' both' w quiet.1 in
-      by_one h c (state_at g h x n (aligned k m)) (state_at g h x (n + 1) (written h k2 low v)) from.alike turns
-      (subst (λ (d : Config). Related h d (state_at g h x (n + 1) (written h k2 low v))) (sym goes)
-      (writes g h static v ks (source.with_world m w) x k2 (n + 1) low around both2 at_home room next))
-  answer_in (raises e) w k' both' next goes turns =
-      let quiet = subst (Quiet m) goes from.quiet in
-      by_none h c (state_at g h x n (aligned k m))
-      (subst (λ (d : Config). measure d < measure c) (sym goes) (omega (arith, less)))
-      (subst (λ (d : Config). Related h d (state_at g h x n (aligned k m))) (sym goes) (raised (record {
-        g = over_levels g (frame (frame_at h x n) ∷ g.below);
-        e = e;
-        exception = refl;
-        memory = machine.with_world k' w;
-        throws = turns;
-        out = from.out ∙ sym quiet.0;
-        both = grown (over_levels g (frame (frame_at h x n) ∷ g.below)) m k'
-            (below_running g h m k' both' (frame_at h x n) refl) m.place w quiet.1;
-        leaving = leaves_frame g h k'.lists ks (n + 1) low around x n both'.site next;
-      })))
-
-  module _ (k' : machine.Memory) (both' : Common g h m k') (next : InFrame g h k'.lists ks (n + 1) low around)
-      (sender to : Sending) (sending : sender ≡ to) (recv : Value) (vs : List Value) (count : ℕ)
-      (first : value_at k'.lists h.list low ≡ recv) where
-    abbrev the_entry : World → Option ObjId → Entry
-    the_entry w b = calls.call w (activation_at w h.activation) to recv vs b
-
-    -- what is called with that block in that world
-    enters_with : (b : Option ObjId) (w : World) → go h.source c ≡ perform_call h.source sender recv vs b ks (source.with_world m w)
+    (from : From h c (frame (frame_at h x n) ∷ g.below) (aligned k m) m) (less : burden ks m < measure c) (guarded : IsGuarded h n)
+  where
+    -- what an instruction answers that has written a register before
+    answer_in : (r : Result) (w : World) (k' : machine.Memory) → Common g h m k' → InFrame g h k'.lists ks (n + 1) low around
+        → go h.source c ≡ after_result r w ks m
         → turn h.program (state_at g h x n (aligned k m))
-        ≡ call_machine h.program to low count b (at_line h (n + 1)) (frame_at h x n)
-        g.below (machine.with_world k' w)
-        → arguments (frame_at h x n) (machine.with_world k' w) low count ≡ vs
-        → (Still m (go h.source c) ⊎ CallsBodies h.source h.program m.world.store.objects w.store.objects)
+        ≡ after_machine h.program r low (at_line h (n + 1)) (frame_at h x n) g.below (machine.with_world k' w)
         → Step h c (state_at g h x n (aligned k m))
-    enters_with b w goes turns args may =
-        let f = frame_at h (asking h x n low) n in
-        let e = the_entry w b in
-        (entered h.source h.program c (frame (frame_at h x n) ∷ g.below) (aligned k m) m from e b ks (source.with_world m w) g
-        (frame f ∷ g.below) (machine.with_world k' w)
-        (goes
-        ∙ ap (λ (q : Sending). perform_call h.source q recv vs b ks (source.with_world m w)) sending
-        ∙ ap (λ (p : Place). enter h.source
-        (calls.call w (activation_at w p.activation) to recv vs b) b ks
-        (source.with_world m w)) at_home)
-        (turns
-        ∙ ap (λ (u : Value). enter_machine h.program (calls.call w (activation_at w h.activation)
-        to u (arguments (frame_at h x n) (machine.with_world k' w) low count) b) b
-        (frame f ∷ g.below) (machine.with_world k' w)) first
-        ∙ ap (λ (us : List Value). enter_machine h.program (calls.call w (activation_at w h.activation)
-        to recv us b) b (frame f ∷ g.below) (machine.with_world k' w)) args)
-        less refl (waiting_worlds g h m k' both' f refl)
-        (waiting_frame g h ks m x n low around k' at_home both'.site room next)
-        (then_enters h.source h.program m.world.store.objects w.store.objects e
-        (λ is. call_entered h.source h.program m.world.store.objects w is (activation_at w h.activation) to recv vs
-        b) may)).advances
+    answer_in (gives v) w k' both' next goes turns =
+        let quiet = subst (Quiet m) goes from.quiet in
+        let k2 = machine.with_world k' w in
+        let both2 : Common g h (source.with_world m w) k2 = grown_here g h m k' both' w quiet.1 in
+        by_one h c (state_at g h x n (aligned k m)) (state_at g h x (n + 1) (written h k2 low v)) from.alike turns
+        (subst (λ (d : Config). Related h d (state_at g h x (n + 1) (written h k2 low v))) (sym goes)
+        (writes g h static v ks (source.with_world m w) x k2 (n + 1) low around both2 at_home room next))
+    answer_in (raises e) w k' both' next goes turns =
+        let quiet = subst (Quiet m) goes from.quiet in
+        by_none h c (state_at g h x n (aligned k m))
+        (subst (λ (d : Config). measure d < measure c) (sym goes) (omega (arith, less)))
+        (subst (λ (d : Config). Related h d (state_at g h x n (aligned k m))) (sym goes) (raised (record {
+          g = over_levels g (frame (frame_at h x n) ∷ g.below);
+          e = e;
+          exception = refl;
+          memory = machine.with_world k' w;
+          throws = turns;
+          out = from.out ∙ sym quiet.0;
+          both = grown (over_levels g (frame (frame_at h x n) ∷ g.below)) m k'
+              (below_running g h m k' both' (frame_at h x n) refl) m.place w quiet.1;
+          leaving = leaves_frame g h k'.lists ks (n + 1) low around x n both'.site guarded next;
+        })))
 
-    -- by what the block argument is
-    pub passes : (q : BlockArgument) → go h.source c ≡ with_block h.source sender recv vs q ks m
-        → turn h.program (state_at g h x n (aligned k m))
-        ≡ call_with h.program to low count q (at_line h (n + 1)) (frame_at h x n) g.below k'
-        → ArgumentsFor (frame_at h x n) k' low count vs q
-        → (Still m (go h.source c) ⊎ CallsBodies h.source h.program m.world.store.objects (objects_with m.world q))
-        → Step h c (state_at g h x n (aligned k m))
-    passes no_block goes turns args may =
-        enters_with None m.world goes
-        (turns ∙ ap (λ (w : World). call_machine h.program to low count None
-        (at_line h (n + 1)) (frame_at h x n) g.below (machine.with_world k' w)) both'.all.world)
-        (subst (λ (w : World). arguments (frame_at h x n) (machine.with_world k' w) low count ≡ vs) both'.all.world args) may
-    passes (block_of p w) goes turns args may = enters_with (Some p) w goes turns args may
-    passes not_a_block goes turns args may =
-        let a : World → Answer = λ w. wrong_value w (passing to) in
-        answer_in (a m.world).result (a m.world).world k' both' next
-        (goes ∙ ap (λ (q : Sending). after (wrong_value m.world (passing q)) ks m) sending)
-        (turns ∙ ap (λ (w : World). after_machine h.program (a w).result low (at_line h (n + 1)) (frame_at h x n) g.below
-        (machine.with_world k' (a w).world)) both'.all.world)
+    module _ (k' : machine.Memory) (both' : Common g h m k') (next : InFrame g h k'.lists ks (n + 1) low around)
+        (sender to : Sending) (sending : sender ≡ to) (recv : Value) (vs : List Value) (count : ℕ)
+        (first : value_at k'.lists h.list low ≡ recv) where
+      abbrev the_entry : World → Option ObjId → Entry
+      the_entry w b = calls.call w (activation_at w h.activation) to recv vs b
+
+      -- what is called with that block in that world
+      enters_with : (b : Option ObjId) (w : World) → go h.source c ≡ perform_call h.source sender recv vs b ks (source.with_world m w)
+          → turn h.program (state_at g h x n (aligned k m))
+          ≡ call_machine h.program to low count b (at_line h (n + 1)) (frame_at h x n)
+          g.below (machine.with_world k' w)
+          → arguments (frame_at h x n) (machine.with_world k' w) low count ≡ vs
+          → (Still m (go h.source c) ⊎ CallsBodies h.source h.program m.world.store.objects w.store.objects)
+          → Step h c (state_at g h x n (aligned k m))
+      enters_with b w goes turns args may =
+          let f = frame_at h (asking h x n low) n in
+          let e = the_entry w b in
+          (entered h.source h.program c (frame (frame_at h x n) ∷ g.below) (aligned k m) m from e b ks (source.with_world m w) g
+          (frame f ∷ g.below) (machine.with_world k' w)
+          (goes
+          ∙ ap (λ (q : Sending). perform_call h.source q recv vs b ks (source.with_world m w)) sending
+          ∙ ap (λ (p : Place). enter h.source
+          (calls.call w (activation_at w p.activation) to recv vs b) b ks
+          (source.with_world m w)) at_home)
+          (turns
+          ∙ ap (λ (u : Value). enter_machine h.program (calls.call w (activation_at w h.activation)
+          to u (arguments (frame_at h x n) (machine.with_world k' w) low count) b) b
+          (frame f ∷ g.below) (machine.with_world k' w)) first
+          ∙ ap (λ (us : List Value). enter_machine h.program (calls.call w (activation_at w h.activation)
+          to recv us b) b (frame f ∷ g.below) (machine.with_world k' w)) args)
+          less refl (waiting_worlds g h m k' both' f refl)
+          (waiting_frame g h ks m x n low around k' at_home both'.site room guarded next)
+          (then_enters h.source h.program m.world.store.objects w.store.objects e
+          (λ is. call_entered h.source h.program m.world.store.objects w is (activation_at w h.activation) to recv vs
+          b) may)).advances
+
+      -- by what the block argument is
+      pub passes : (q : BlockArgument) → go h.source c ≡ with_block h.source sender recv vs q ks m
+          → turn h.program (state_at g h x n (aligned k m))
+          ≡ call_with h.program to low count q (at_line h (n + 1)) (frame_at h x n) g.below k'
+          → ArgumentsFor (frame_at h x n) k' low count vs q
+          → (Still m (go h.source c) ⊎ CallsBodies h.source h.program m.world.store.objects (objects_with m.world q))
+          → Step h c (state_at g h x n (aligned k m))
+      passes no_block goes turns args may =
+          enters_with None m.world goes
+          (turns ∙ ap (λ (w : World). call_machine h.program to low count None
+          (at_line h (n + 1)) (frame_at h x n) g.below (machine.with_world k' w)) both'.all.world)
+          (subst (λ (w : World). arguments (frame_at h x n) (machine.with_world k' w) low count ≡ vs) both'.all.world args) may
+      passes (block_of p w) goes turns args may = enters_with (Some p) w goes turns args may
+      passes not_a_block goes turns args may =
+          let a : World → Answer = λ w. wrong_value w (passing to) in
+          answer_in (a m.world).result (a m.world).world k' both' next
+          (goes ∙ ap (λ (q : Sending). after (wrong_value m.world (passing q)) ks m) sending)
+          (turns ∙ ap (λ (w : World). after_machine h.program (a w).result low (at_line h (n + 1)) (frame_at h x n) g.below
+          (machine.with_world k' (a w).world)) both'.all.world)
 
 -- The block has its value: the call.
 module _ (g : Ground) (h : Site) (static : Static h) (ks : List Item) (m : source.Memory) (ls : List Level)
@@ -336,7 +337,7 @@ module _ (g : Ground) (h : Site) (static : Static h) (ks : List Item) (m : sourc
       of_value q sending own turns =
           let y = d.next.behind in
           let held = subst (λ (t : Bool). HoldsCall h k.lists t d.next.low recv vs) own y.held in
-          passes g h static ks m k both steady d.there conf d.x d.n d.next.low y.room d.next.outer from (omega arith)
+          passes g h static ks m k both steady d.there conf d.x d.n d.next.low y.room d.next.outer from (omega arith) y.sends.guarded
           (aligned k m) both next sender q sending recv vs (length vs) (ap read held.0) (block_argument m.world v) refl
           (turns ∙ called_with (aligned k m) d.x d.n d.next.low q vs v refl y.few is)
           (row_arguments (aligned k m) d.x d.n d.next.low vs held.1 y.few (block_argument m.world v)) peace.calls
@@ -362,7 +363,7 @@ module _ (g : Ground) (h : Site) (static : Static h) (ks : List Item) (m : sourc
           let next' = frame_kept g h k.lists k'.lists ks (d.n + 1) d.next.low d.next.outer
           (keeps_above h k.lists d.next.low d.next.low (V u) s.present (omega arith)) (put_only k.lists h.list d.next.low u)
           (omega (arith, both.free)) next in
-          passes g h static ks m k both steady d.there conf d.x d.n d.next.low y.room d.next.outer from (omega arith) k'
+          passes g h static ks m k both steady d.there conf d.x d.n d.next.low y.room d.next.outer from (omega arith) y.sends.guarded k'
           (written_here g h m (aligned k m) both d.next.low u y.room.above) next' sender q sending recv vs (length vs) first
           (block_argument m.world v) refl (turns ∙ called_with k' d.x d.n d.next.low q vs v refl y.few is')
           (row_arguments k' d.x d.n d.next.low vs

@@ -28,7 +28,9 @@ use Rattle.step_laws.specs.Site.{Site, within, place_in, at_line, LineAt}
 use Rattle.eval_laws.specs.Standing.{past_branches}
 use Rattle.step_laws.specs.Covers.{past_choices, Covers, CoversBranches}
 use Rattle.step_laws.specs.Measure.{measure}
-use Rattle.step_laws.proofs.Placed.{high, high-both, high-puts, line-past, line-behind, Stands, moved, left, right, the_line, Rest, frame_at, leads, jumped}
+use Rattle.step_laws.proofs.Placed.{high, high-both, high-puts, line-past, line-behind, Stands, moved, KeepsWithin, Keeps, left, right, left_at, right_at, the_line, Rest, frame_at, leads, jumped}
+use Rattle.step_laws.proofs.Guards.{within_both, within_puts, within_moved}
+use Rattle.step_laws.proofs.Within.{keeps_both, keeps_begins, keeps, choice_keeps}
 use Rattle.step_laws.specs.Behind.{Static, after_test}
 use Rattle.step_laws.specs.Relation.{Ground, InFrame, Common, Doing, GivesIn, Related, Step}
 use Rattle.step_laws.proofs.Focused.{doing_in}
@@ -93,6 +95,19 @@ pub record Tested (h : Site) (n r end : ℕ) (c : Context) (s : Spot) (b : CoreF
   pub others : Stands h (after_body c s r b).line (chosen_code c (after_body c s r b) r bs (λ d t i. gen d t i o))
   pub ends : (after_body c s r b).line + high (chosen_code c (after_body c s r b) r bs (λ d t i. gen d t i o)) ≡ end
 
+-- its entries cover lines of it alone
+test_kept : (c : Context) (s : Spot) (r : ℕ) (b : CoreForm) (bs : Branches) (o : CoreForm)
+    → Keeps s (after_test c s r b bs o)
+test_kept c s r b bs o =
+    let q = gen c (behind s) r b in
+    let further = behind (past (behind s) q) in
+    let others = chosen_code c further r bs (λ d t i. gen d t i o) in
+    let leap = jump (past further others).line in
+    keeps_begins s (line.JumpNot r further.line) (q ⊕ leap ⊕ others)
+    (keeps_both (behind s) q (leap ⊕ others) (keeps b c (behind s) r)
+    (keeps_begins (past (behind s) q) (line.Jump (past further others).line) others
+    (choice_keeps bs (λ d t i. gen d t i o) (keeps o) c further r)))
+
 tested : (h : Site) (n r end : ℕ) (c : Context) (s : Spot) (b : CoreForm) (bs : Branches) (o : CoreForm)
     → s.line ≡ n → Stands h n (after_test c s r b bs o) → n + high (after_test c s r b bs o) ≡ end
     → Tested h n r end c s b bs o
@@ -107,8 +122,18 @@ tested h n r end c s b bs o here code ends =
     let further_line : further.line ≡ n + 1 + high q + 1 =
     omega (arith, line-behind (past (behind s) q), line-past (behind s) q, line-behind s, here) in
     let later = moved h (n + high skip) (n + 1) (q ⊕ leap ⊕ others) (ap (λ (i : ℕ). n + i) one)
-    (right h n skip (q ⊕ leap ⊕ others) code) in
-    let last = right h (n + 1) q (leap ⊕ others) later in
+    (right h n skip (q ⊕ leap ⊕ others) (within_puts _ _) code) in
+    let kept : KeepsWithin (n + 1) q = within_moved (behind s).line (n + 1) q (omega (arith, line-behind s, here))
+    (keeps b c (behind s) r) in
+    let kept_others : KeepsWithin (n + 1 + high q + high leap) others =
+    within_moved further.line (n + 1 + high q + high leap) others (omega (arith, two, further_line))
+    (choice_keeps bs (λ d t i. gen d t i o) (keeps o) c further r) in
+    let kept_last : KeepsWithin (n + 1 + high q) (leap ⊕ others) =
+    within_both (n + 1 + high q) leap others (within_puts _ _) kept_others in
+    let kept_later : KeepsWithin (n + high skip) (q ⊕ leap ⊕ others) =
+    within_moved (n + 1) (n + high skip) (q ⊕ leap ⊕ others) (omega (arith, one))
+    (within_both (n + 1) q (leap ⊕ others) kept kept_last) in
+    let last = right h (n + 1) q (leap ⊕ others) kept later in
     let ends' : further.line + high others ≡ end =
     omega (
       arith,
@@ -121,13 +146,13 @@ tested h n r end c s b bs o here code ends =
       further_line,
     ) in
     record {
-      skip = the_line h n (line.JumpNot r further.line) (left h n skip (q ⊕ leap ⊕ others) code);
-      body = left h (n + 1) q (leap ⊕ others) later;
+      skip = the_line h n (line.JumpNot r further.line) (left h n skip (q ⊕ leap ⊕ others) kept_later code);
+      body = left h (n + 1) q (leap ⊕ others) kept_last later;
       leave = subst (λ (i : ℕ). LineAt h (n + 1 + high q) (line.Jump i)) (line-past further others ∙ ends')
           (the_line h (n + 1 + high q) (line.Jump (past further others).line)
-          (left h (n + 1 + high q) leap others last));
+          (left h (n + 1 + high q) leap others kept_others last));
       others = moved h (n + 1 + high q + high leap) further.line others
-          (omega (arith, two, further_line)) (right h (n + 1 + high q) leap others last);
+          (omega (arith, two, further_line)) (right h (n + 1 + high q) leap others (within_puts _ _) last);
       ends = ends';
     }
 
@@ -146,10 +171,15 @@ guarded h n r end c s e l here code ends =
     let to = (past (behind s) p).line in
     let one : high (puts (l to)) ≡ 1 = high-puts (l to) in
     let ends' : n + 1 + high p ≡ end = omega (arith, ends, high-both (puts (l to)) p, one) in
+    let kept : KeepsWithin (n + high (puts (l to))) p =
+    within_moved (behind s).line (n + high (puts (l to))) p (omega (arith, line-behind s, here, one))
+    (keeps e c (behind s) r) in
     let to_end : to ≡ end = omega (arith, line-past (behind s) p, line-behind s, here, ends') in
     record {
-      skip = subst (λ (i : ℕ). LineAt h n (l i)) to_end (the_line h n (l to) (left h n (puts (l to)) p code));
-      code = moved h (n + high (puts (l to))) (n + 1) p (ap (λ (i : ℕ). n + i) one) (right h n (puts (l to)) p code);
+      skip = subst (λ (i : ℕ). LineAt h n (l i)) to_end (the_line h n (l to)
+          (left h n (puts (l to)) p kept code));
+      code = moved h (n + high (puts (l to))) (n + 1) p (ap (λ (i : ℕ). n + i) one)
+          (right h n (puts (l to)) p (within_puts _ _) code);
       ends = ends';
     }
 
@@ -199,7 +229,7 @@ module _ (g : Ground) (h : Site) (static : Static h) (ks : List Item) (m : sourc
           here = here;
           covered = covered.0.0;
           above = above;
-          code = left h n p q code;
+          code = left_at h n s p q here (test_kept (within h loop) (past s p) r b bs o) code;
           next = record {
             low = r;
             end = n + high (p ⊕ q);
@@ -210,7 +240,7 @@ module _ (g : Ground) (h : Site) (static : Static h) (ks : List Item) (m : sourc
               s = past s p;
               here = line-past s p ∙ ap (λ (i : ℕ). i + high p) here;
               covered = (covered.0.1, covered.0.2, covered.1);
-              code = right h n p q code;
+              code = right_at h n s p q here (keeps t (within h loop) s r) code;
               ends = omega (arith, high-both p q);
             };
             outer = loop;
@@ -328,7 +358,9 @@ module _ (g : Ground) (h : Site) (static : Static h) (ks : List Item) (m : sourc
           here = d.here;
           covered = d.covered.0;
           above = d.above;
-          code = left h d.n p q d.code;
+          code = left_at h d.n d.s p q d.here
+              (keeps_begins (past d.s p) _ (gen (within h d.loop) (behind (past d.s p)) d.r b)
+              (keeps b (within h d.loop) (behind (past d.s p)) d.r)) d.code;
           next = record {
             low = d.r;
             end = d.n + high (p ⊕ q);
@@ -339,7 +371,7 @@ module _ (g : Ground) (h : Site) (static : Static h) (ks : List Item) (m : sourc
               s = past d.s p;
               here = line-past d.s p ∙ ap (λ (i : ℕ). i + high p) d.here;
               covered = d.covered.1;
-              code = right h d.n p q d.code;
+              code = right_at h d.n d.s p q d.here (keeps a (within h d.loop) d.s d.r) d.code;
               ends = omega (arith, high-both p q);
             };
             outer = d.loop;
@@ -370,7 +402,9 @@ module _ (g : Ground) (h : Site) (static : Static h) (ks : List Item) (m : sourc
           here = d.here;
           covered = d.covered.0;
           above = d.above;
-          code = left h d.n p q d.code;
+          code = left_at h d.n d.s p q d.here
+              (keeps_begins (past d.s p) _ (gen (within h d.loop) (behind (past d.s p)) d.r b)
+              (keeps b (within h d.loop) (behind (past d.s p)) d.r)) d.code;
           next = record {
             low = d.r;
             end = d.n + high (p ⊕ q);
@@ -381,7 +415,7 @@ module _ (g : Ground) (h : Site) (static : Static h) (ks : List Item) (m : sourc
               s = past d.s p;
               here = line-past d.s p ∙ ap (λ (i : ℕ). i + high p) d.here;
               covered = d.covered.1;
-              code = right h d.n p q d.code;
+              code = right_at h d.n d.s p q d.here (keeps a (within h d.loop) d.s d.r) d.code;
               ends = omega (arith, high-both p q);
             };
             outer = d.loop;

@@ -1,5 +1,5 @@
 -- What a call enters, on both sides, and how its answer goes back.
-use Rattle.std.proofs.Common.{◌≡◌, ℕ, ◌+◌, ◌<◌, List, [], ◌∷◌, refl, sym, ap, ◌∙◌, subst, arith, length}
+use Rattle.std.proofs.Common.{◌≡◌, ℕ, ◌+◌, ◌<◌, List, [], ◌∷◌, refl, sym, ap, ◌∙◌, subst, arith, length, map}
 use Rattle.std.specs.Prelude.{Option}
 use Rattle.rb_value.specs.declared.value.Value.{Value}
 use Rattle.rb_value.specs.declared.exit.Slot.TheVariants.{V}
@@ -17,12 +17,14 @@ use Rattle.def_machine.specs.State.{Registers, Frame, Level, frame, On, put, sho
 use Rattle.def_machine.specs.Unwind.{receive}
 use Rattle.def_machine.specs.Entering.{answer_result}
 use Rattle.def_machine.specs.Turn.{turn}
-use Rattle.step_laws.specs.Site.{Site}
+use Rattle.gen_parts.specs.Assembly.{entry_by}
+use Rattle.step_laws.specs.Site.{Site, guarded_by, bare, IsGuarded}
 use Rattle.step_laws.specs.Calm.{Grows, Quiet}
 use Rattle.step_laws.specs.Measure.{burden, measure}
 use Rattle.step_laws.proofs.Placed.{Rest, frame_at}
 use Rattle.step_laws.specs.Behind.{Behind}
 use Rattle.step_laws.specs.Relation.{Inside, EndsBy, stops, returns, Ends, IsSite, Waits, Ground, over_levels, InFrame, IsPassed, Leaving, Both, raised, Alike}
+use Rattle.step_laws.proofs.Outside.{outside_any, outside_passed}
 use Rattle.step_laws.proofs.Untouched.{leaves_end, runs_again}
 use Rattle.step_laws.proofs.Matching.{Soon, soon_none, soon_one, written, writes}
 
@@ -32,7 +34,9 @@ inside_depth : (h : Site) (l : List Registers) (AtEnd : ℕ → Place → List I
     → ((a : ℕ) (p : Place) (is : List Item) (i t : ℕ) → AtEnd a p is i t → depth is ≡ d) → (ks : List Item) (n r : ℕ)
     (around : Option Loop) → Inside h l AtEnd ks n r around → depth ks ≡ d + 1
 inside_depth h l E d to [] n r around a = absurd a
-inside_depth h l E d to (part p ∷ ks) n r around a = inside_depth h l E d to ks a.end a.low a.outer a.next
+inside_depth h l E d to (part p ∷ ks) n r around a =
+    outside_any (stop_of p) h.guards (λ gs. Inside (guarded_by h gs) l E ks a.end a.low a.outer) (depth ks ≡ d + 1)
+    (λ gs x. inside_depth (guarded_by h gs) l E d to ks a.end a.low a.outer x) a.next
 inside_depth h l E d to (activation c p ∷ ks) n r around a = ap (λ (i : ℕ). i + 1) (to c p ks n r a.0)
 inside_depth h l E d to (iteration c it p ∷ ks) n r around a = absurd a
 inside_depth h l E d to (ensuring o ∷ ks) n r around a = absurd a
@@ -47,8 +51,8 @@ pub depth_is : (hs : List Site) (fiber : fibers.Name) (l : List Registers) (ks :
     (ls : List Level) → Waits hs fiber l ks place ls → depth ks ≡ length ls
 depth_is hs fiber l ks place [] a = ap depth a
 depth_is hs fiber l ks place (frame f ∷ ls) a =
-    inside_depth a.h l (λ b p is i t. Ends a.h fiber ls (λ q js. Waits hs fiber l js q ls) b p is i t) (length ls)
-    (λ b p is i t e. end_depth a.h fiber ls (λ q js. Waits hs fiber l js q ls)
+    inside_depth a.h l (λ b p is i t. Ends (bare a.h) fiber ls (λ q js. Waits hs fiber l js q ls) b p is i t) (length ls)
+    (λ b p is i t e. end_depth (bare a.h) fiber ls (λ q js. Waits hs fiber l js q ls)
     (λ q js. depth_is hs fiber l js q ls) p is i t e.by) ks a.n a.x.waits a.around a.next ∙ omega arith
 depth_is hs fiber l ks place (machine.iteration a it v ∷ ls) w =
     ap depth w.is ∙ ap (λ (d : ℕ). d + 1) (depth_is hs fiber l w.others w.back ls w.next) ∙ omega arith
@@ -78,15 +82,18 @@ passed h l (clause_body q) low n r end around b = absurd b
 passed h l (ensured j e) low n r end around b = absurd b
 
 leaves_inside : (hs : List Site) (fiber : fibers.Name) (l : List Registers) (h : Site) (x : Rest) (at : ℕ)
-    (ls : List Level) → IsSite hs h → (ks : List Item) (n r : ℕ)
-    (around : Option Loop) → Inside h l (λ a p is i t. Ends h fiber ls (λ q js. Waits hs fiber l js q ls) a p is i t) ks n r around
+    (ls : List Level) → IsSite hs h → IsGuarded h at → (ks : List Item) (n r : ℕ)
+    (around : Option Loop) → Inside h l (λ a p is i t. Ends (bare h) fiber ls (λ q js. Waits hs fiber l js q ls) a p is i t) ks n r around
     → Leaving hs fiber l ks (frame (frame_at h x at) ∷ ls)
-leaves_inside hs fiber l h x at ls site [] n r around a = absurd a
-leaves_inside hs fiber l h x at ls site (part p ∷ ks) n r around a = (
+leaves_inside hs fiber l h x at ls site guarded [] n r around a = absurd a
+leaves_inside hs fiber l h x at ls site guarded (part p ∷ ks) n r around a = (
   passed h l p a.low n r a.end around a.behind,
-  leaves_inside hs fiber l h x at ls site ks a.end a.low a.outer a.next,
+  leaves_inside hs fiber l h x at ls site guarded ks a.end a.low a.outer
+      (outside_passed (stop_of p) h.guards (λ gs. Inside (guarded_by h gs) l
+      (λ b q is i t. Ends (bare h) fiber ls (λ q js. Waits hs fiber l js q ls) b q is i t) ks a.end a.low a.outer)
+      (passed h l p a.low n r a.end around a.behind) a.next),
 )
-leaves_inside hs fiber l h x at ls site (activation c p ∷ ks) n r around a = record {
+leaves_inside hs fiber l h x at ls site guarded (activation c p ∷ ks) n r around a = record {
   h = h;
   x = x;
   at = at;
@@ -94,22 +101,24 @@ leaves_inside hs fiber l h x at ls site (activation c p ∷ ks) n r around a = r
   is = refl;
   site = site;
   same = a.0.is;
-  next = leaves_end h fiber ls (λ q js. Waits hs fiber l js q ls) hs l (λ q js w. w) p ks n r a.0.by;
+  unguarded = guarded ∙ ap (map (entry_by h.at)) a.2;
+  next = leaves_end (bare h) fiber ls (λ q js. Waits hs fiber l js q ls) hs l (λ q js w. w) p ks n r a.0.by;
 }
-leaves_inside hs fiber l h x at ls site (iteration c it p ∷ ks) n r around a = absurd a
-leaves_inside hs fiber l h x at ls site (ensuring o ∷ ks) n r around a = absurd a
+leaves_inside hs fiber l h x at ls site guarded (iteration c it p ∷ ks) n r around a = absurd a
+leaves_inside hs fiber l h x at ls site guarded (ensuring o ∷ ks) n r around a = absurd a
 
 pub leaves_frame : (g : Ground) (h : Site) (l : List Registers) (ks : List Item) (n r : ℕ) (around : Option Loop)
-    (x : Rest) (at : ℕ) → IsSite g.sites h → InFrame g h l ks n r around
+    (x : Rest) (at : ℕ) → IsSite g.sites h → IsGuarded h at → InFrame g h l ks n r around
     → Leaving g.sites g.fiber l ks (frame (frame_at h x at) ∷ g.below)
-leaves_frame g h l ks n r around x at site a = leaves_inside g.sites g.fiber l h x at g.below site ks n r around a
+leaves_frame g h l ks n r around x at site guarded a =
+    leaves_inside g.sites g.fiber l h x at g.below site guarded ks n r around a
 
 pub leaves : (hs : List Site) (fiber : fibers.Name) (l : List Registers) (ks : List Item) (place : Place)
     (ls : List Level) → Waits hs fiber l ks place ls → Leaving hs fiber l ks ls
 leaves hs fiber l ks place [] a = subst (λ (is : List Item). Leaving hs fiber l is []) (sym a) refl
 leaves hs fiber l ks place (frame f ∷ ls) a =
     subst (λ (q : Frame). Leaving hs fiber l ks (frame q ∷ ls)) (sym a.is)
-    (leaves_inside hs fiber l a.h a.x a.at ls a.site ks a.n a.x.waits a.around a.next)
+    (leaves_inside hs fiber l a.h a.x a.at ls a.site a.guarded ks a.n a.x.waits a.around a.next)
 leaves hs fiber l ks place (machine.iteration a it v ∷ ls) w =
     subst (λ (is : List Item). Leaving hs fiber l is (machine.iteration a it v ∷ ls)) (sym w.is)
     (record { answer = v; below = ls; is = refl; next = w.next })

@@ -33,7 +33,9 @@ use Rattle.step_laws.specs.Covers.{past_items_code, past_new, Covers, CoversItem
 use Rattle.step_laws.specs.Calm.{IsSteady, IsBlock, Still, Peace}
 use Rattle.step_laws.specs.Bodies.{CallsBodies}
 use Rattle.step_laws.specs.Measure.{size_items, size_block, burden, measure}
-use Rattle.step_laws.proofs.Placed.{high, high-both, high-puts, high-nothing, line-past, Stands, moved, left, right, the_line, Rest, frame_at}
+use Rattle.step_laws.proofs.Placed.{high, high-both, high-puts, high-nothing, line-past, Stands, moved, KeepsWithin, Keeps, past_here, left, right, left_at, right_at, the_line, Rest, frame_at}
+use Rattle.step_laws.proofs.Guards.{within_both, within_puts, within_nothing, within_moved}
+use Rattle.step_laws.proofs.Within.{keeps_both, keeps_ends, keeps, receiver_keeps, items_keep, arguments_keep}
 use Rattle.step_laws.specs.Behind.{Static, Holds, HoldsCall, CallBy, operates, sends, sends_self, block_sender, a_method, CallEnds, alone, with_block, packed, ArgumentsAt, one_by_one, gathered, by_call}
 use Rattle.step_laws.specs.Relation.{Ground, InFrame, Common, Doing, GivesIn, Step}
 use Rattle.step_laws.proofs.Untouched.{same_here}
@@ -51,26 +53,28 @@ record Parts (h : Site) (n : ℕ) (p q : Piece) (o : Operation) (whole : Piece) 
   pub calls : LineAt h (n + high p + high q) (line.Does o)
   pub ends : n + high p + high q + 1 ≡ n + high whole
 
-operator_parts : (h : Site) (n : ℕ) (p q : Piece) (o : Operation) → Stands h n (p ⊕ q ⊕ does o)
-    → Parts h n p q o (p ⊕ q ⊕ does o)
-operator_parts h n p q o s =
-    let rest = right h n p (q ⊕ does o) s in
+operator_parts : (h : Site) (n : ℕ) (s : Spot) (p q : Piece) (o : Operation) → s.line ≡ n → Keeps s p → Keeps (past s p) q
+    → Stands h n (p ⊕ q ⊕ does o) → Parts h n p q o (p ⊕ q ⊕ does o)
+operator_parts h n s p q o here x y code =
+    let rest = right_at h n s p (q ⊕ does o) here x code in
     record {
-      receiver = left h n p (q ⊕ does o) s;
-      items = left h (n + high p) q (does o) rest;
-      calls = the_line h (n + high p + high q) (line.Does o) (right h (n + high p) q (does o) rest);
+      receiver = left_at h n s p (q ⊕ does o) here (keeps_ends (past s p) q (line.Does o) y) code;
+      items = left h (n + high p) q (does o) (within_puts _ _) rest;
+      calls = the_line h (n + high p + high q) (line.Does o)
+          (right_at h (n + high p) (past s p) q (does o) (past_here s p n here) y rest);
       ends = omega (arith, high-both p (q ⊕ does o), high-both q (does o), high-puts (line.Does o));
     }
 
-send_parts : (h : Site) (n : ℕ) (p q : Piece) (o : Operation) → Stands h n ((p ⊕ q) ⊕ nothing ⊕ does o)
-    → Parts h n p q o ((p ⊕ q) ⊕ nothing ⊕ does o)
-send_parts h n p q o s =
-    let first = left h n (p ⊕ q) (nothing ⊕ does o) s in
-    let rest = right h n (p ⊕ q) (nothing ⊕ does o) s in
-    let last = right h (n + high (p ⊕ q)) nothing (does o) rest in
+send_parts : (h : Site) (n : ℕ) (s : Spot) (p q : Piece) (o : Operation) → s.line ≡ n → Keeps s p → Keeps (past s p) q
+    → Stands h n ((p ⊕ q) ⊕ nothing ⊕ does o) → Parts h n p q o ((p ⊕ q) ⊕ nothing ⊕ does o)
+send_parts h n s p q o here x y code =
+    let first = left h n (p ⊕ q) (nothing ⊕ does o)
+    (within_both _ nothing (does o) (within_nothing _) (within_puts _ _)) code in
+    let rest = right_at h n s (p ⊕ q) (nothing ⊕ does o) here (keeps_both s p q x y) code in
+    let last = right h (n + high (p ⊕ q)) nothing (does o) (within_nothing _) rest in
     record {
-      receiver = left h n p q first;
-      items = right h n p q first;
+      receiver = left_at h n s p q here y first;
+      items = right_at h n s p q here x first;
       calls = the_line h (n + high p + high q) (line.Does o)
           (moved h (n + high (p ⊕ q) + high nothing) (n + high p + high q) (does o)
           (omega (arith, high-both p q, high-nothing)) last);
@@ -92,17 +96,20 @@ record BlockParts (h : Site) (n : ℕ) (p q b : Piece) (o : Operation) : Type 0 
   pub calls : LineAt h (n + high p + high q + high b) (line.Does o)
   pub ends : n + high p + high q + high b + 1 ≡ n + high ((p ⊕ q) ⊕ b ⊕ does o)
 
-block_parts : (h : Site) (n : ℕ) (p q b : Piece) (o : Operation) → Stands h n ((p ⊕ q) ⊕ b ⊕ does o)
-    → BlockParts h n p q b o
-block_parts h n p q b o s =
-    let first = left h n (p ⊕ q) (b ⊕ does o) s in
-    let rest = right h n (p ⊕ q) (b ⊕ does o) s in
+block_parts : (h : Site) (n : ℕ) (s : Spot) (p q b : Piece) (o : Operation) → s.line ≡ n → Keeps s p → Keeps (past s p) q
+    → Keeps (past (past s p) q) b → Stands h n ((p ⊕ q) ⊕ b ⊕ does o) → BlockParts h n p q b o
+block_parts h n s p q b o here x y z code =
     let tall : n + high (p ⊕ q) ≡ n + high p + high q = omega (arith, high-both p q) in
-    let last = right h (n + high (p ⊕ q)) b (does o) rest in
+    let kept : KeepsWithin (n + high (p ⊕ q)) b = within_moved (past (past s p) q).line (n + high (p ⊕ q)) b
+    (past_here (past s p) q (n + high p) (past_here s p n here) ∙ sym tall) z in
+    let first = left h n (p ⊕ q) (b ⊕ does o) (within_both _ b (does o) kept (within_puts _ _)) code in
+    let rest = right_at h n s (p ⊕ q) (b ⊕ does o) here (keeps_both s p q x y) code in
+    let last = right h (n + high (p ⊕ q)) b (does o) kept rest in
     record {
-      receiver = left h n p q first;
-      items = right h n p q first;
-      block = moved h (n + high (p ⊕ q)) (n + high p + high q) b tall (left h (n + high (p ⊕ q)) b (does o) rest);
+      receiver = left_at h n s p q here y first;
+      items = right_at h n s p q here x first;
+      block = moved h (n + high (p ⊕ q)) (n + high p + high q) b tall
+          (left h (n + high (p ⊕ q)) b (does o) (within_puts _ _) rest);
       calls = the_line h (n + high p + high q + high b) (line.Does o)
           (moved h (n + high (p ⊕ q) + high b) (n + high p + high q + high b) (does o) (omega (arith, tall)) last);
       ends = omega (
@@ -134,7 +141,7 @@ pub operator_is : (is : Items) (x : Name) (r : ℕ) (o : Operation) (b : Bool) �
 operator_is is x r o true e f = let one = one_item is e in (f, one.0, one.1)
 operator_is is x r o false e f = absurd (cc f)
 
-module _ (h : Site) (n r : ℕ) (loop : Option Loop) (s : Spot) (x : Name) (is : Items) where
+module _ (h : Site) (n r : ℕ) (loop : Option Loop) (s : Spot) (x : Name) (is : Items) (here : s.line ≡ n) where
   abbrev each : Code
   each = λ d t i. pass_in_registers d t i is
 
@@ -168,10 +175,11 @@ module _ (h : Site) (n r : ℕ) (loop : Option Loop) (s : Spot) (x : Name) (is :
       let p = gen_receiver c s r e in
       let q = arguments_code c (past s p) r is in
       let o = send false e (passing is) r (entry_of h.context x) in
-      let parts = send_parts h n p q o code in
+      let parts = send_parts h n s p q o here (receiver_keeps e c s r) (arguments_keep is c (past s p) r) code in
       record {
         receiver = parts.receiver;
-        arguments = arguments_at h loop r x own is (past s p) j absent (n + high p) (n + high (whole e None)) named asked
+        arguments = arguments_at h loop r x own is (past s p) j absent (n + high p) (n + high (whole e None)) named
+            (past_here s p n here) asked
             parts.items (sent_alone refl (subst (λ (i : Operation). LineAt h (n + high p + high q) (line.Does i)) sender parts.calls)
             parts.ends);
       }
@@ -181,7 +189,8 @@ module _ (h : Site) (n r : ℕ) (loop : Option Loop) (s : Spot) (x : Name) (is :
       → Called h n r loop s (gen (within h loop) s r e) false x is j absent (n + high (whole (to e) o))
   value_called j e (Some o) is_it named asked code =
       let p = gen (within h loop) s r e in
-      let parts = operator_parts h n p (each (within h loop) (past s p) (r + 1)) o code in
+      let parts = operator_parts h n s p (each (within h loop) (past s p) (r + 1)) o here (keeps e (within h loop) s r)
+      (items_keep is (within h loop) (past s p) (r + 1)) code in
       let found = operator_is is x r o (is_one_plain is) refl is_it in
       record {
         receiver = parts.receiver;
@@ -215,10 +224,12 @@ module _ (h : Site) (n r : ℕ) (loop : Option Loop) (s : Spot) (x : Name) (is :
       let same : blocked e b ≡ (p ⊕ q) ⊕ blk (past (past s p) q) ⊕ does o =
       ap (λ (z : Operation). (p ⊕ q) ⊕ blk (past s (p ⊕ q)) ⊕ does z) sender
       ∙ ap (λ (u : Spot). (p ⊕ q) ⊕ blk u ⊕ does o) (past-both s p q) in
-      let parts = block_parts h n p q (blk (past (past s p) q)) o (subst (Stands h n) same code) in
+      let parts = block_parts h n s p q (blk (past (past s p) q)) o here (receiver_keeps e c s r)
+      (arguments_keep is c (past s p) r) (keeps b c (past (past s p) q) i) (subst (Stands h n) same code) in
       record {
         receiver = parts.receiver;
-        arguments = arguments_at h loop r x own is (past s p) j (there b) (n + high p) (n + high (blocked e b)) named asked
+        arguments = arguments_at h loop r x own is (past s p) j (there b) (n + high p) (n + high (blocked e b)) named
+            (past_here s p n here) asked
             parts.items (sent_with b refl may covered parts.block parts.calls
             (parts.ends ∙ ap (λ (z : Piece). n + high z) (sym same)));
       }
@@ -298,7 +309,7 @@ module _ (g : Ground) (h : Site) (static : Static h) (ks : List Item) (m : sourc
       → Step h (Run (perform j (call (to e) x is absent)) ks m) (state_at g h d.x d.n (aligned k m))
   do_call_to j e x is d =
       receiver_first j e x is absent d d.covered.0 d.covered.1
-      (value_called h d.n d.r d.loop d.s x is (j + span e) e (operation_of absent (to e) x is d.r) refl d.covered.3 d.covered.2
+      (value_called h d.n d.r d.loop d.s x is d.here (j + span e) e (operation_of absent (to e) x is d.r) refl d.covered.3 d.covered.2
       d.code)
 
   pub do_call_to_with : (j : ℕ) (e : CoreForm) (x : Name) (is : Items) (b : CoreForm)
@@ -307,7 +318,7 @@ module _ (g : Ground) (h : Site) (static : Static h) (ks : List Item) (m : sourc
   do_call_to_with j e x is b d =
       let w = d.covered in
       receiver_first j e x is (there b) d w.0 w.1
-      (block_called h d.n d.r d.loop d.s x is (to e) false (j + span e) b refl w.3 w.2 w.4 w.5 d.code)
+      (block_called h d.n d.r d.loop d.s x is d.here (to e) false (j + span e) b refl w.3 w.2 w.4 w.5 d.code)
 
   -- the evaluation goes on with the items, or gathers them
   plain_call : (j : ℕ) (x : Name) (recv : Value) (is : Items) (b : Maybe) (t : Bool) → has_splats is ≡ t
@@ -386,7 +397,7 @@ module _ (g : Ground) (h : Site) (static : Static h) (ks : List Item) (m : sourc
       → Step h (Run (perform j (call on_self x is absent)) ks m) (state_at g h d.x d.n (aligned k m))
   do_call_self j x is d peace =
       self_called j x is absent d d.covered.0
-      (sent_by h d.n d.r d.loop d.s x is true on_self j refl d.covered.2 d.covered.1 d.code) peace
+      (sent_by h d.n d.r d.loop d.s x is d.here true on_self j refl d.covered.2 d.covered.1 d.code) peace
 
   pub do_call_self_with : (j : ℕ) (x : Name) (is : Items) (b : CoreForm)
       (d : Doing g h j (call on_self x is (there b)) ks m.place ls k.lists)
@@ -394,7 +405,7 @@ module _ (g : Ground) (h : Site) (static : Static h) (ks : List Item) (m : sourc
       → Step h (Run (perform j (call on_self x is (there b))) ks m) (state_at g h d.x d.n (aligned k m))
   do_call_self_with j x is b d peace =
       let w = d.covered in
-      self_called j x is (there b) d w.0 (block_called h d.n d.r d.loop d.s x is on_self true j b refl w.2 w.1 w.3 w.4 d.code)
+      self_called j x is (there b) d w.0 (block_called h d.n d.r d.loop d.s x is d.here on_self true j b refl w.2 w.1 w.3 w.4 d.code)
       peace
 
   pub give_receiver : (v : Value) (j : ℕ) (x : Name) (is : Items) (b : Maybe)

@@ -142,6 +142,7 @@ module _ (s : Source) (p : Program) (c : Config) (ls : List Level) (k : machine.
     at = is.at;
     context = is.context;
     first = is.first;
+    guards = [];
   }
 
   at : ClassAt d
@@ -187,7 +188,7 @@ module _ (s : Source) (p : Program) (c : Config) (ls : List Level) (k : machine.
   runs_there : Running s p with_site d begun begun_too
   runs_there =
       opened s p g gs (source.with_world m' u) (machine.with_world k' u) d (class_scope b)
-      (fresh_registers (machine.body_at p n) None (Obj cls)) begun.place u ks m'.place base waits base.sites.lists
+      (fresh_registers (machine.body_at p n) None (Obj cls)) begun.place u ks m'.place refl base waits base.sites.lists
       refl linked
       (site_is (class_same d at m'.scopes k'.lists refl (base.sites.scopes ∙ sym base.sites.lists))) (same_world u)
 
@@ -224,6 +225,7 @@ module _ (s : Source) (p : Program) (c : Config) (ls : List Level) (k : machine.
                   (fresh_registers (machine.body_at p n) None (Obj cls)) base.sites.lists ks m'.place gs waits);
             },
             at.outside,
+            refl,
           );
         },
       ))

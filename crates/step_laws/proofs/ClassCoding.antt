@@ -1,5 +1,5 @@
 -- The code of the body of a class or a module of a program within the limits is code of it.
-use Rattle.std.proofs.Common.{◌≡◌, ℕ, ◌+◌, List, [], ◌∷◌, ◌++◌, map, arith, refl, sym, ap, ◌∙◌, subst, Bool, true}
+use Rattle.std.proofs.Common.{◌≡◌, ℕ, ◌+◌, List, [], ◌∷◌, ◌++◌, map, arith, refl, sym, ap, subst, Bool, true}
 use Rattle.std.specs.Prelude.{None}
 use Rattle.rite_code.specs.Code.{Program}
 use Rattle.rite_code.specs.declared.code.Irep.{Irep}
@@ -15,8 +15,7 @@ use Rattle.ir_counts.specs.Counts.{tally}
 use Rattle.scope_resolver.specs.declared.body_kind.BodyKind.TheVariants as kind
 use Rattle.scope_resolver.specs.Layout.{named_slots}
 use Rattle.gen_parts.specs.declared.line.Line.TheVariants as line
-use Rattle.gen_parts.specs.declared.line.Catch.{Catch}
-use Rattle.gen_parts.specs.Pieces.{Piece, nothing, both, puts, does}
+use Rattle.gen_parts.specs.Pieces.{Piece, both, puts, does}
 use Rattle.gen_parts.specs.Assembly.{places, entry_by}
 use Rattle.gen_forms.specs.Gen.{Context, gen, first_spot}
 use Rattle.code_laws.proofs.Shares.{Fits}
@@ -26,17 +25,17 @@ use Rattle.def_calls.specs.World.{Runs}
 use Rattle.eval_laws.specs.Kinds.{IsKind, of_class}
 use Rattle.def_machine.specs.State.{body_at}
 use Rattle.rb_value.specs.declared.value.Value.{Value}
-use Rattle.step_laws.specs.Site.{Site, LineAt, Lines, IsThere}
+use Rattle.step_laws.specs.Site.{Site, LineAt, IsThere}
 use Rattle.step_laws.specs.Covers.{Covers}
 use Rattle.step_laws.specs.Bodies.{ClassAt, ClassCode}
-use Rattle.step_laws.proofs.Placed.{high, Stands, left, right, the_line}
+use Rattle.step_laws.proofs.Placed.{high, Stands, KeepsWithin, within_puts, left, right, the_line}
+use Rattle.step_laws.proofs.Within.{keeps}
 use Rattle.step_laws.proofs.Apart.{apart}
 use Rattle.step_laws.proofs.Laid.{first_place}
 use Rattle.step_laws.proofs.Around.{class_alone}
 use Rattle.step_laws.proofs.Fitting as fitting
 use Rattle.step_laws.proofs.ClassLines.{of_no_scopes, class_inner, class_ready, class_entered}
 use Rattle.step_laws.proofs.Covering.{Has}
-use Rattle.step_laws.proofs.Catchless.{bodies_of}
 use Rattle.step_laws.proofs.Nested.{inside_new}
 use Rattle.step_laws.proofs.Written.{WrittenClass}
 use Rattle.step_laws.proofs.Children as children
@@ -111,11 +110,19 @@ module _ (s : Source) (c : Program) (n : ℕ) (g : CodedClass s c n) (activation
       at = at s c n g;
       context = around s c n g;
       first = first s c n g;
+      guards = [];
     }
 
-    placed : Lines h 0 ((code s c n g).lines ++ line.Does (back s c n g) ∷ [])
+    catches_there : (body_at c n).catches ≡ map (entry_by h.at) (both (code s c n g) (does (back s c n g))).catches
     unfolding both puts
-    placed =
+    catches_there = ap (λ (i : Irep). i.catches) g.written.is
+
+    kept : KeepsWithin 0 (code s c n g)
+    kept = keeps (f s c n g) (around s c n g) (first_spot n) (first s c n g)
+
+    all_stand : Stands h 0 (both (code s c n g) (does (back s c n g)))
+    unfolding both puts
+    all_stand =
         fitting.lines_placed kind.Class [] of_no_scopes (p s c n g) (ls s c n g) (f s c n g) (fits s c n g) n
         (code s c n g)
         (class_inner (p s c n g) (ls s c n g) (f s c n g) (fits s c n g) (within_class (ls s c n g)) refl
@@ -125,11 +132,7 @@ module _ (s : Source) (c : Program) (n : ℕ) (g : CodedClass s c n) (activation
         g.written.formed n)
         (class_entered (p s c n g) (ls s c n g) (f s c n g) (fits s c n g) (within_class (ls s c n g)) refl
         g.written.formed n)
-        g.written.few h g.version (ap (λ (i : Irep). i.code) g.written.is) refl refl
-
-    all_stand : Stands h 0 (both (code s c n g) (does (back s c n g)))
-    unfolding Stands both puts
-    all_stand = placed
+        g.written.few h g.version (ap (λ (i : Irep). i.code) g.written.is) catches_there kept refl refl refl
 
     has : Has h (named_slots (ls s c n g)) (ls s c n g) (t s c n g) (first s c n g + width (f s c n g))
     has = record {
@@ -145,13 +148,6 @@ module _ (s : Source) (c : Program) (n : ℕ) (g : CodedClass s c n) (activation
       first = omega arith;
       there = g.there;
     }
-
-    no_catches : (body_at c n).catches ≡ []
-    unfolding both puts nothing
-    no_catches =
-        ap (λ (i : Irep). i.catches) g.written.is
-        ∙ ap (λ (cs : List Catch). map (entry_by (at s c n g)) (cs ++ []))
-        (bodies_of (f s c n g) g.written.plain (around s c n g) (first_spot n) (first s c n g)).catches
 
     settled : Settled h (first_spot n) (n + 1) (span (f s c n g)) (code s c n g)
     unfolding both puts
@@ -177,7 +173,6 @@ module _ (s : Source) (c : Program) (n : ℕ) (g : CodedClass s c n) (activation
             some = omega arith;
             low = omega arith;
             room = omega (arith, registers);
-            no_catches = no_catches;
           };
           begins = first_place (wide s c n g) 0 ((code s c n g).lines ++ line.Does (back s c n g) ∷ []);
           of_class = refl;
@@ -187,13 +182,13 @@ module _ (s : Source) (c : Program) (n : ℕ) (g : CodedClass s c n) (activation
           covered = of_body s c n g (λ (d : Body). Covers h None h.first (first_spot n) (n + 1) (form_of d))
               (covers shapes);
           code = of_body s c n g (λ (d : Body). Stands h 0 (gen h.context (first_spot n) h.first (form_of d)))
-              (left h 0 (code s c n g) (does (back s c n g)) all_stand);
+              (left h 0 (code s c n g) (does (back s c n g)) (within_puts _ _) all_stand);
           ends = of_body s c n g
               (λ (d : Body). LineAt h (high (gen h.context (first_spot n) h.first (form_of d)))
               (line.Does (op.Return h.first)))
               (subst (λ (i : ℕ). LineAt h i (line.Does (back s c n g))) (omega arith)
               (the_line h (0 + high (code s c n g)) (line.Does (back s c n g))
-              (right h 0 (code s c n g) (does (back s c n g)) all_stand)));
+              (right h 0 (code s c n g) (does (back s c n g)) kept all_stand)));
         }
 
 pub class_coded : (s : Source) (c : Program) (n : ℕ) (g : CodedClass s c n) → children.Shapes s c → ClassCode s c n

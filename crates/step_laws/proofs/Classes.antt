@@ -33,7 +33,9 @@ use Rattle.step_laws.specs.Covers.{past_class, past_module, past_singleton, Runs
 use Rattle.step_laws.specs.Calm.{Peace}
 use Rattle.step_laws.specs.Spaces.{GivesSpace, OpensSpace, Opening}
 use Rattle.step_laws.specs.Measure.{size, measure}
-use Rattle.step_laws.proofs.Placed.{high, high-both, high-puts, line-past, Stands, moved, left, right, the_line, frame_at, turned}
+use Rattle.step_laws.proofs.Placed.{high, high-both, high-puts, line-past, Stands, moved, KeepsWithin, Keeps, past_here, left, right, right_at, the_line, frame_at, turned}
+use Rattle.step_laws.proofs.Guards.{within_both, within_puts, within_makes, within_moved}
+use Rattle.step_laws.proofs.Within.{keeps_both, keeps_ends, keeps, scope_keeps, parent_keeps}
 use Rattle.step_laws.specs.Behind.{Static, Opens, a_class, a_module, a_singleton, OpensAt, OpenBehind, ScopeBehind, ParentBehind, opens_space, opens_without, opens_under}
 use Rattle.step_laws.specs.Relation.{Ground, InFrame, Common, Doing, GivesIn, Related, Step}
 use Rattle.step_laws.proofs.Registers.{keeps_above, slot_same, slot_other}
@@ -51,9 +53,9 @@ use Rattle.step_laws.proofs.Spaces.{class_opened, module_opened, opens_now}
 abbrev opening_at : (h : Site) (a : Action) (count r n j s : ℕ) (o : Operation) (q : Piece) (t : Spot)
     (bodies : List Irep)
     → Opens h r a j o count → Room h r → RunsBody h t j → LineAt h n (line.Does o) → n + 1 ≡ s + high q
-    → Stands h s (q ⊕ makes (op.Exec r t.child) t.body bodies)
+    → KeepsWithin s q → Stands h s (q ⊕ makes (op.Exec r t.child) t.body bodies)
     → OpensAt h a count r n (s + high (q ⊕ makes (op.Exec r t.child) t.body bodies))
-opening_at h a count r n j s o q t bodies by room runs at here code =
+opening_at h a count r n j s o q t bodies by room runs at here kept code =
     let e = op.Exec r t.child in
     let made = makes e t.body bodies in
     record {
@@ -66,7 +68,7 @@ opening_at h a count r n j s o q t bodies by room runs at here code =
       makes = runs.child;
       kind = runs.kind;
       runs = subst (λ (i : ℕ). LineAt h i (line.Does e)) (sym here)
-          (made_line h (s + high q) t.body e bodies (right h s q made code));
+          (made_line h (s + high q) t.body e bodies (right h s q made kept code));
       ends = omega (arith, here, high-both q made, high_made e t.body bodies);
     }
 
@@ -250,22 +252,38 @@ module _ (g : Ground) (h : Site) (static : Static h) (ks : List Item) (m : sourc
     abbrev end : ℕ
     end = d.n + high (gen (within h d.loop) d.s d.r (class_form scope x parent f))
 
+    scope_kept : Keeps d.s p
+    scope_kept = scope_keeps scope (within h d.loop) d.s d.r
+
+    parent_kept : Keeps (past d.s p) q
+    parent_kept = parent_keeps parent (within h d.loop) (past d.s p) (d.r + 1)
+
+    parent_kept_there : KeepsWithin (d.n + high p) q
+    parent_kept_there =
+        within_moved (past d.s p).line (d.n + high p) q (past_here d.s p d.n d.here) parent_kept
+
     front : Stands h d.n (p ⊕ q ⊕ does o)
-    front = left h d.n (p ⊕ q ⊕ does o) (makes (op.Exec d.r t.child) t.body bodies) d.code
+    front = left h d.n (p ⊕ q ⊕ does o) (makes (op.Exec d.r t.child) t.body bodies) (within_makes _ _ _ _) d.code
 
     scope_stands : Stands h d.n p
-    scope_stands = left h d.n p (q ⊕ does o) front
+    scope_stands =
+        left h d.n p (q ⊕ does o) (within_both _ q (does o) parent_kept_there (within_puts _ _)) front
+
+    behind_scope : Stands h (d.n + high p) (q ⊕ does o)
+    behind_scope = right_at h d.n d.s p (q ⊕ does o) d.here scope_kept front
 
     parent_stands : Stands h (d.n + high p) q
-    parent_stands = left h (d.n + high p) q (does o) (right h d.n p (q ⊕ does o) front)
+    parent_stands = left h (d.n + high p) q (does o) (within_puts _ _) behind_scope
 
     abbrev opens_there : OpensAt h (open_class x number) 2 d.r (d.n + high p + high q) end
     opens_there =
         opening_at h (open_class x number) 2 d.r (d.n + high p + high q) number d.n o (p ⊕ q ⊕ does o) t bodies
         (a_class x refl refl d.covered.4 refl) d.covered.0 d.covered.5
         (the_line h (d.n + high p + high q) (line.Does o)
-        (right h (d.n + high p) q (does o) (right h d.n p (q ⊕ does o) front)))
-        (omega (arith, high-both p (q ⊕ does o), high-both q (does o), high-puts (line.Does o))) d.code
+        (right h (d.n + high p) q (does o) parent_kept_there behind_scope))
+        (omega (arith, high-both p (q ⊕ does o), high-both q (does o), high-puts (line.Does o)))
+        (within_moved d.s.line d.n (p ⊕ q ⊕ does o) d.here
+        (keeps_both d.s p (q ⊕ does o) scope_kept (keeps_ends (past d.s p) q (line.Does o) parent_kept))) d.code
 
   -- A form whose one operand is what opens a module or a singleton class.
   operand_opens : (j : ℕ) (e' e : CoreForm) (a : Action) (i : ℕ) (o : Operation) (t : Spot) (bodies : List Irep)
@@ -279,8 +297,9 @@ module _ (g : Ground) (h : Site) (static : Static h) (ks : List Item) (m : sourc
       let p = gen (within h d.loop) d.s d.r e in
       let whole = (p ⊕ does o) ⊕ makes (op.Exec d.r t.child) t.body bodies in
       let code = subst (Stands h d.n) is d.code in
-      let front = left h d.n (p ⊕ does o) (makes (op.Exec d.r t.child) t.body bodies) code in
-      begins_first g h ks m ls k both j (j + span e) e' e a none d goes less covered (left h d.n p (does o) front)
+      let front = left h d.n (p ⊕ does o) (makes (op.Exec d.r t.child) t.body bodies) (within_makes _ _ _ _) code in
+      let kept : Keeps d.s p = keeps e (within h d.loop) d.s d.r in
+      begins_first g h ks m ls k both j (j + span e) e' e a none d goes less covered (left h d.n p (does o) (within_puts _ _) front)
       (opens_space (record {
         row = omega arith;
         held = tt;
@@ -288,8 +307,9 @@ module _ (g : Ground) (h : Site) (static : Static h) (ks : List Item) (m : sourc
         opening = of_count h a 1 (0 + 1) d.r (d.n + high p) (d.n + high (gen (within h d.loop) d.s d.r e'))
             (omega arith) (subst (λ (q : Piece). OpensAt h a 1 d.r (d.n + high p) (d.n + high q)) (sym is)
             (opening_at h a 1 d.r (d.n + high p) i d.n o (p ⊕ does o) t bodies by room runs
-            (the_line h (d.n + high p) (line.Does o) (right h d.n p (does o) front))
-            (omega (arith, high-both p (does o), high-puts (line.Does o))) code));
+            (the_line h (d.n + high p) (line.Does o) (right_at h d.n d.s p (does o) d.here kept front))
+            (omega (arith, high-both p (does o), high-puts (line.Does o)))
+            (within_moved d.s.line d.n (p ⊕ does o) d.here (keeps_ends d.s p (line.Does o) kept)) code));
       }))
 
   -- without both it is opened in the transition
@@ -468,7 +488,7 @@ module _ (g : Ground) (h : Site) (static : Static h) (ks : List Item) (m : sourc
       let bodies = body_code kind.Class h.context.scopes t.body f in
       let two = does tclass ⊕ does o in
       let last = d.n + high (gen (within h d.loop) d.s r (module_form absent x f)) in
-      let front = left h d.n two (makes (op.Exec r t.child) t.body bodies) d.code in
+      let front = left h d.n two (makes (op.Exec r t.child) t.body bodies) (within_makes _ _ _ _) d.code in
       let one = high-puts (line.Does tclass) in
       let l = keeping k r v in
       let from : (w : machine.Memory) (n : ℕ) → From h conf (frame (frame_at h d.x n) ∷ g.below) (aligned w m) m =
@@ -480,13 +500,14 @@ module _ (g : Ground) (h : Site) (static : Static h) (ks : List Item) (m : sourc
       let at = opening_at h (open_module x (j + 0)) 1 r (d.n + 1) (j + 0) d.n o two t bodies
       (a_module x refl refl d.covered.2 refl) d.covered.0 d.covered.3
       (subst (λ (i : ℕ). LineAt h i (line.Does o)) (omega (arith, one))
-      (the_line h (d.n + high (does tclass)) (line.Does o) (right h d.n (does tclass) (does o) front)))
-      (omega (arith, high-both (does tclass) (does o), one, high-puts (line.Does o))) d.code in
+      (the_line h (d.n + high (does tclass)) (line.Does o) (right h d.n (does tclass) (does o) (within_puts _ _) front)))
+      (omega (arith, high-both (does tclass) (does o), one, high-puts (line.Does o)))
+      (within_both d.n (does tclass) (does o) (within_puts _ _) (within_puts _ _)) d.code in
       (few_before 4 h.source h.program conf (state_at g h d.x d.n (aligned k m))
       (state_at g h d.x (d.n + 1) (aligned l m))
       (omega arith) (from k d.n).alike
       (turned h d.x d.n tclass g.below (aligned k m)
-      (the_line h d.n (line.Does tclass) (left h d.n (does tclass) (does o) front)))
+      (the_line h d.n (line.Does tclass) (left h d.n (does tclass) (does o) (within_puts _ _) front)))
       (module_opened g h static ks m l (kept_both k both r v d.covered.0) d.there conf d.x (d.n + 1) r last d.loop
       (open_module x (j + 0)) 1 at (from l (d.n + 1)) peace.calls (omega arith)
       (kept_frame k both r v d.covered.0 last r d.loop (omega arith) d.next) x v refl d.covered.2

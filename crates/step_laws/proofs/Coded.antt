@@ -1,6 +1,6 @@
 -- The code of a program of plain forms, methods of such forms and calls with a block of such forms within the limits is
 -- code of it.
-use Rattle.std.proofs.Common.{◌≡◌, ◌<◌, ◌≤◌, ℕ, zero, suc, ◌+◌, List, [], ◌∷◌, ◌++◌, length, map, arith, refl, sym, ap, ◌∙◌, subst, Bool, true}
+use Rattle.std.proofs.Common.{◌≡◌, ◌<◌, ◌≤◌, ℕ, zero, suc, ◌+◌, List, [], ◌∷◌, ◌++◌, length, arith, refl, sym, ap, ◌∙◌, subst, Bool, true}
 use Rattle.std.specs.Prelude.{slice_get, Some, None}
 use Rattle.std.proofs.lemmas.List.{append-nil}
 use Rattle.std.proofs.lemmas.Option.{get_or_from_slice_get}
@@ -19,9 +19,8 @@ use Rattle.ir_counts.specs.Limits.{first_excess}
 use Rattle.scope_resolver.specs.declared.body_kind.BodyKind.TheVariants as kind
 use Rattle.scope_resolver.specs.Layout.{named_slots}
 use Rattle.gen_parts.specs.declared.line.Line.TheVariants as line
-use Rattle.gen_parts.specs.declared.line.Catch.{Catch}
 use Rattle.gen_parts.specs.Pieces.{Piece, nothing, both, puts, does, ◌⊕◌}
-use Rattle.gen_parts.specs.Assembly.{places, entry_by, assembled}
+use Rattle.gen_parts.specs.Assembly.{places, assembled}
 use Rattle.gen_forms.specs.Gen.{Context, gen, first_spot}
 use Rattle.gen_forms.specs.Open.{coded}
 use Rattle.gen_forms.specs.Making.{coded_program}
@@ -35,13 +34,14 @@ use Rattle.def_calls.specs.Rows
 use Rattle.def_eval.specs.Source.{over, in_order, span, body_at as source_body, no_parameters, parameters_of, source_of, all_names}
 use Rattle.def_eval.specs.Scopes.{shape_of}
 use Rattle.def_machine.specs.State.{body_at, no_body, all_symbols}
-use Rattle.step_laws.specs.Site.{Site, LineAt, Lines, IsThere, opening_store}
+use Rattle.step_laws.specs.Site.{Site, LineAt, IsThere, opening_store}
 use Rattle.step_laws.specs.Simple.{IsSimple}
 use Rattle.step_laws.specs.Covers.{Covers}
 use Rattle.step_laws.specs.Bodies.{BodyCode, ProcCode, ClassCode}
 use Rattle.step_laws.specs.Plain.{IsPlain, IsPlainProgram}
 use Rattle.step_laws.specs.Implements.{main_site, IsCodeOf, Implements}
-use Rattle.step_laws.proofs.Placed.{high, Stands, left, right, the_line}
+use Rattle.step_laws.proofs.Placed.{high, Stands, KeepsWithin, within_puts, left, right, the_line}
+use Rattle.step_laws.proofs.Within.{keeps}
 use Rattle.step_laws.proofs.Apart.{apart}
 use Rattle.step_laws.proofs.Simply.{simply}
 use Rattle.step_laws.proofs.Plainly.{simple_plain}
@@ -55,7 +55,6 @@ use Rattle.eval_laws.proofs.Sources.{program_stands}
 use Rattle.step_laws.proofs.Numbered.{kind_within}
 use Rattle.step_laws.proofs.Found.{both_true}
 use Rattle.step_laws.proofs.Naming.{one_more, names_written, all_known}
-use Rattle.step_laws.proofs.Catchless.{bodies_of}
 use Rattle.step_laws.proofs.Written.{Written, WrittenClass, WrittenAs, AllWritten, nth_written}
 use Rattle.step_laws.proofs.Writing.{written}
 use Rattle.step_laws.proofs.Spans.{counted}
@@ -174,20 +173,15 @@ module _ (p : Parameters) (ls : List Local) (f : CoreForm) (program_is : IsProgr
   abbrev site : Site
   site = main_site (source_of b) code wide at around start
 
-  placed : Lines site 0 (q.lines ++ line.Does op.Stop ∷ [])
-  unfolding coded assembled both puts
-  placed =
-      fitting.lines_placed kind.Main [] of_main p ls f fits 0 q (fitting.main_inner p ls f fits (within_program ls) refl formed)
-      op.Stop (fitting.main_ready p ls f fits (within_program ls) refl formed)
-      (fitting.main_entered p ls f fits (within_program ls) refl formed) few site refl refl refl refl
+  kept : KeepsWithin 0 q
+  kept = keeps f around (first_spot 0) start
 
   both_stand : Stands site 0 (q ⊕ does op.Stop)
-  unfolding Stands both puts
-  both_stand = placed
-
-  no_catches : (body_at code 0).catches ≡ []
-  unfolding coded assembled both puts nothing
-  no_catches = ap (λ (cs : List Catch). map (entry_by at) (cs ++ [])) (bodies_of f plain around (first_spot 0) start).catches
+  unfolding coded assembled both puts
+  both_stand =
+      fitting.lines_placed kind.Main [] of_main p ls f fits 0 q (fitting.main_inner p ls f fits (within_program ls) refl formed)
+      op.Stop (fitting.main_ready p ls f fits (within_program ls) refl formed)
+      (fitting.main_entered p ls f fits (within_program ls) refl formed) few site refl refl refl kept refl refl refl
 
   -- The other bodies.
 
@@ -305,14 +299,13 @@ module _ (p : Parameters) (ls : List Local) (f : CoreForm) (program_is : IsProgr
     begins = first_place wide 0 (q.lines ++ line.Does op.Stop ∷ []);
     some = omega arith;
     room = omega arith;
-    no_catches = no_catches;
     outside = refl;
     scopes = refl;
     low = omega arith;
     covered = covers;
-    code = left site 0 q (does op.Stop) both_stand;
+    code = left site 0 q (does op.Stop) (within_puts _ _) both_stand;
     stop = subst (λ (n : ℕ). LineAt site n (line.Does op.Stop)) (omega arith)
-        (the_line site (0 + high q) (line.Does op.Stop) (right site 0 q (does op.Stop) both_stand));
+        (the_line site (0 + high q) (line.Does op.Stop) (right site 0 q (does op.Stop) kept both_stand));
     methods = methods;
     blocks = blocks;
     classes = classes;

@@ -19,11 +19,10 @@ use Rattle.scope_resolver.specs.declared.body_kind.BodyKind.TheVariants as kind
 use Rattle.scope_resolver.specs.declared.seek.Search.TheVariants.{Past}
 use Rattle.scope_resolver.specs.Layout.{Slots, Scopes, has_parameters, seen_around, named_slots, block_slot, parameter_slots, slots_of, seek}
 use Rattle.gen_parts.specs.declared.line.Line.TheVariants as line
-use Rattle.gen_parts.specs.declared.line.Catch.{Catch}
 use Rattle.gen_parts.specs.declared.emitter.Spot.{Spot}
-use Rattle.gen_parts.specs.Pieces.{Piece, nothing, both, puts, does}
+use Rattle.gen_parts.specs.Pieces.{Piece, behind, both, puts, does}
 use Rattle.gen_parts.specs.Assembly.{places, entry_by, instruction_before}
-use Rattle.gen_forms.specs.Gen.{Context, gen, parameters}
+use Rattle.gen_forms.specs.Gen.{Context, gen, parameters, first_spot}
 use Rattle.code_laws.specs.Bound.{IsSeen}
 use Rattle.code_laws.proofs.Shares.{Fits, many}
 use Rattle.code_laws.proofs.Entering.{Inner}
@@ -36,12 +35,13 @@ use Rattle.def_machine.specs.State.{body_at}
 use Rattle.def_machine.specs.Turn.{fetch, shape_by}
 use Rattle.rb_value.specs.declared.value.Value.{Value}
 use Rattle.rb_value.specs.declared.value.Value.TheVariants.{Nil}
-use Rattle.step_laws.specs.Site.{Site, at_line, LineAt, Lines, IsThere}
+use Rattle.step_laws.specs.Site.{Site, at_line, LineAt, IsThere}
 use Rattle.step_laws.specs.Covers.{Covers}
 use Rattle.step_laws.specs.Bodies.{AreSingle, FormAt, DefaultsAt, BodyAt, BodyCode, ProcCode}
 use Rattle.step_laws.specs.Far.{MayReturn}
 use Rattle.step_laws.specs.Plain.{AreSeen}
-use Rattle.step_laws.proofs.Placed.{high, Stands, high-both, high-puts, moved, left, right, the_line}
+use Rattle.step_laws.proofs.Placed.{high, Stands, high-both, high-puts, line-behind, moved, KeepsWithin, left, right, the_line}
+use Rattle.step_laws.proofs.Guards.{within_both, within_puts, within_moved}
 use Rattle.step_laws.proofs.Apart.{apart}
 use Rattle.step_laws.proofs.Laid.{first_place}
 use Rattle.step_laws.proofs.Bound.{shape_is_too}
@@ -49,8 +49,7 @@ use Rattle.step_laws.proofs.Fitting as fitting
 use Rattle.step_laws.proofs.Fitting.{Around}
 use Rattle.step_laws.proofs.Covering.{Has}
 use Rattle.step_laws.proofs.Making.{form_by, form_spot, spot_body, spot_child, SameTables, tables_of}
-use Rattle.step_laws.proofs.Catchless.{bodies_of}
-use Rattle.step_laws.proofs.Fronts.{front_of}
+use Rattle.step_laws.proofs.Fronts.{defaults_keep, front_of}
 use Rattle.step_laws.proofs.Nested.{inside_new}
 use Rattle.step_laws.proofs.Written.{Written}
 use Rattle.step_laws.proofs.Children as children
@@ -222,28 +221,41 @@ module _ (s : Source) (c : Program) (n : ℕ) (g : Coded s c n) (activation list
     at = at s c n g;
     context = around s c n g;
     first = first s c n g;
+    guards = [];
   }
 
   abbrev back : Operation
   back = op.Return (first s c n g)
 
-  placed : Lines h 0 ((lines s c n g).lines ++ line.Does back ∷ [])
+  catches_there : (body_at c n).catches ≡ map (entry_by h.at) (both (lines s c n g) (does back)).catches
   unfolding both puts
-  placed =
+  catches_there = ap (λ (i : Irep). i.catches) g.written.is
+
+  kept_whole : KeepsWithin 1 (whole s c n g)
+  kept_whole =
+      within_moved (behind (first_spot n)).line 1 (whole s c n g) (omega (arith, line-behind (first_spot n)))
+      (defaults_keep (optional s c n g) (f s c n g) (around s c n g) (behind (first_spot n)) (first s c n g))
+
+  kept : KeepsWithin 0 (lines s c n g)
+  kept =
+      let enter = does (op.Enter (parameters (p s c n g))) in
+      within_both 0 enter (whole s c n g) (within_puts _ _)
+      (within_moved 1 (0 + high enter) (whole s c n g)
+      (omega (arith, high-puts (line.Does (op.Enter (parameters (p s c n g)))))) kept_whole)
+
+  all_stand : Stands h 0 (both (lines s c n g) (does back))
+  unfolding both puts
+  all_stand =
       fitting.lines_placed g.kind_of (sc s c n g) (out s c n g) (p s c n g) (ls s c n g) (f s c n g) (fits s c n g) n
       (lines s c n g) (inner s c n g) back
       (fitting.body_ready g.kind_of g.enters (sc s c n g) (out s c n g) (p s c n g) (ls s c n g) (f s c n g) (fits s c n g) n
       g.written.within g.written.in_block g.written.formed g.written.defaults)
       (fitting.body_entered g.kind_of g.enters (sc s c n g) (out s c n g) (p s c n g) (ls s c n g) (f s c n g)
       (fits s c n g) n g.written.within g.written.in_block g.written.formed g.written.defaults)
-      (few s c n g) h g.version (ap (λ (i : Irep). i.code) g.written.is) refl refl
-
-  all_stand : Stands h 0 (both (lines s c n g) (does back))
-  unfolding Stands both puts
-  all_stand = placed
+      (few s c n g) h g.version (ap (λ (i : Irep). i.code) g.written.is) catches_there kept refl refl refl
 
   front : Stands h 0 (lines s c n g)
-  front = left h 0 (lines s c n g) (does back) all_stand
+  front = left h 0 (lines s c n g) (does back) (within_puts _ _) all_stand
 
   has : Has h (ss s c n g) g.written.within.known (t s c n g) (first s c n g + width (f s c n g))
   has = record {
@@ -259,14 +271,6 @@ module _ (s : Source) (c : Program) (n : ℕ) (g : Coded s c n) (activation list
     first = omega arith;
     there = g.there;
   }
-
-  no_catches : (body_at c n).catches ≡ []
-  unfolding both puts nothing
-  no_catches =
-      ap (λ (i : Irep). i.catches) g.written.is
-      ∙ ap (λ (cs : List Catch). map (entry_by (at s c n g)) (cs ++ [])) (tables s c n g).catches
-      ∙ ap (λ (cs : List Catch). map (entry_by (at s c n g)) (cs ++ []))
-      (bodies_of (f s c n g) g.written.plain (around s c n g) (spot s c n g) (first s c n g)).catches
 
   settled : Settled h (spot s c n g) (n + 1) (span (f s c n g)) (code s c n g)
   unfolding both puts
@@ -297,7 +301,9 @@ module _ (s : Source) (c : Program) (n : ℕ) (g : Coded s c n) (activation list
   enters_there : LineAt h 0 (line.Does (op.Enter (parameters (p s c n g))))
   enters_there =
       the_line h 0 (line.Does (op.Enter (parameters (p s c n g))))
-      (left h 0 (does (op.Enter (parameters (p s c n g)))) (whole s c n g) front)
+      (left h 0 (does (op.Enter (parameters (p s c n g)))) (whole s c n g)
+      (within_moved 1 (0 + high (does (op.Enter (parameters (p s c n g))))) (whole s c n g)
+      (omega (arith, high-puts (line.Does (op.Enter (parameters (p s c n g)))))) kept_whole) front)
 
   begins_there : at_line h 0 ≡ 0
   begins_there = first_place (wide s c n g) 0 ((lines s c n g).lines ++ line.Does back ∷ [])
@@ -306,7 +312,7 @@ module _ (s : Source) (c : Program) (n : ℕ) (g : Coded s c n) (activation list
   form_stands =
       let enter = line.Does (op.Enter (parameters (p s c n g))) in
       moved h (0 + high (puts enter)) 1 (whole s c n g) (omega (arith, high-puts enter))
-      (right h 0 (puts enter) (whole s c n g) front)
+      (right h 0 (puts enter) (whole s c n g) (within_puts _ _) front)
 
   returns_there : LineAt h (1 + high (whole s c n g)) (line.Does back)
   returns_there =
@@ -314,7 +320,7 @@ module _ (s : Source) (c : Program) (n : ℕ) (g : Coded s c n) (activation list
       subst (λ (i : ℕ). LineAt h i (line.Does back))
       (omega (arith, high-both (puts enter) (whole s c n g), high-puts enter))
       (the_line h (0 + high (lines s c n g)) (line.Does back)
-      (right h 0 (lines s c n g) (does back) all_stand))
+      (right h 0 (lines s c n g) (does back) kept all_stand))
 
   at_run : children.Shapes s c → BodyAt h
   at_run shapes =
@@ -326,7 +332,6 @@ module _ (s : Source) (c : Program) (n : ℕ) (g : Coded s c n) (activation list
           some = omega arith;
           low = omega arith;
           room = omega (arith, registers);
-          no_catches = no_catches;
         };
         begins = begins_there;
         single = of_body s c n g (λ (d : Body). AreSingle (parameters_of d))

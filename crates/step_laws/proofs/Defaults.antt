@@ -22,7 +22,8 @@ use Rattle.step_laws.specs.Site.{Site, place_in, at_line, LineAt}
 use Rattle.step_laws.specs.Covers.{CoversAll}
 use Rattle.step_laws.specs.Bodies.{start_of}
 use Rattle.step_laws.specs.Relation.{Ground, InFrame, Running, Alike}
-use Rattle.step_laws.proofs.Placed.{high, high-both, high-nothing, line-past, Stands, moved, left, right, Rest}
+use Rattle.step_laws.proofs.Placed.{high, high-both, high-nothing, line-past, Stands, moved, left_at, right_at, Rest}
+use Rattle.step_laws.proofs.Within.{keeps, others_keep}
 use Rattle.step_laws.proofs.Matching.{state_at, stays}
 
 -- What begins a body runs on in its memory, wherever it begins.
@@ -91,7 +92,7 @@ module _ {s : Source} {p : Program} (g : Ground) (h : Site) (ks : List Item) (m 
           here = refl;
           covered = covers.0;
           above = omega arith;
-          code = left h sp.line q others code;
+          code = left_at h sp.line sp q others refl (others_keep es h.context (past sp q) h.first) code;
           next = record {
             low = h.first;
             end = sp.line + high (others_in_turn h.context sp h.first (more e es));
@@ -102,7 +103,7 @@ module _ {s : Source} {p : Program} (g : Ground) (h : Site) (ks : List Item) (m 
               s = past sp q;
               here = line-past sp q;
               covered = covers.1;
-              code = right h sp.line q others code;
+              code = right_at h sp.line sp q others refl (keeps e h.context sp h.first) code;
               ends = omega (arith, high-both q others);
             };
             outer = h.context.loop;
@@ -116,5 +117,6 @@ module _ {s : Source} {p : Program} (g : Ground) (h : Site) (ks : List Item) (m 
       let others = others_in_turn h.context (past sp q) h.first es in
       let at : sp.line + high q ≡ (past sp q).line = sym (line-past sp q) in
       begun_from i (j + span e) es (past sp q) covers.1
-      (moved h (sp.line + high q) (past sp q).line others at (right h sp.line q others code))
+      (moved h (sp.line + high q) (past sp q).line others at
+      (right_at h sp.line sp q others refl (keeps e h.context sp h.first) code))
       (subst (λ (n : ℕ). InFrame g h k.lists ks n h.first h.context.loop) (omega (arith, at, high-both q others)) next)

@@ -33,6 +33,7 @@ use Rattle.step_laws.specs.Behind.{Static}
 use Rattle.step_laws.specs.Relation.{Ground, InFrame, Common, Doing, Related, Step}
 use Rattle.step_laws.proofs.Registers.{keeps_above, slot_same}
 use Rattle.step_laws.proofs.Untouched.{put_only, frame_kept, grown_here, same_here, written_here}
+use Rattle.step_laws.proofs.Guards.{within_puts, within_makes}
 use Rattle.step_laws.proofs.Matching.{by_two, going, state_at, written, writes}
 use Rattle.step_laws.proofs.Literals.{aligned}
 use Rattle.step_laws.proofs.Answers.{symbols_same}
@@ -64,9 +65,9 @@ module _ (g : Ground) (h : Site) (static : Static h) (ks : List Item) (m : sourc
       let q = makes o t.body bodies in
       let one : high p ≡ 1 = high-puts (line.Does (op.TClass r)) in
       let first : LineAt h d.n (line.Does (op.TClass r)) =
-      the_line h d.n (line.Does (op.TClass r)) (left h d.n p q d.code) in
+      the_line h d.n (line.Does (op.TClass r)) (left h d.n p q (within_makes _ _ _ _) d.code) in
       let second : LineAt h (d.n + 1) (line.Does o) =
-      made_line h (d.n + 1) t.body o bodies (moved h (d.n + high p) (d.n + 1) q (omega (arith, one)) (right h d.n p q d.code)) in
+      made_line h (d.n + 1) t.body o bodies (moved h (d.n + high p) (d.n + 1) q (omega (arith, one)) (right h d.n p q (within_puts _ _) d.code)) in
       let space : IsWithin m.world (activation_at m.world h.activation) =
       subst (λ (z : Place). IsWithin m.world (activation_at m.world z.activation)) d.there around in
       let v = Obj class in

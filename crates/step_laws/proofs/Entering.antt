@@ -129,6 +129,7 @@ module _ (s : Source) (p : Program) (c : Config) (ls : List Level) (k : machine.
     at = is.code.at;
     context = is.code.context;
     first = is.code.first;
+    guards = [];
   }
 
   at : BodyAt d
@@ -272,7 +273,7 @@ module _ (s : Source) (p : Program) (c : Config) (ls : List Level) (k : machine.
     runs_there : New → Running s p with_site d memory memory_too
     runs_there new =
         opened s p g gs (source.with_world m' (u st)) (machine.with_world k' (u st)) d (scope list) (registers list)
-        (next_place m' w) (u st) ks m'.place base waits base.sites.lists (first_same o.scopes) linked new
+        (next_place m' w) (u st) ks m'.place refl base waits base.sites.lists (first_same o.scopes) linked new
         (same_world (u st))
 
     there : memory.place ≡ place_in d
@@ -288,6 +289,7 @@ module _ (s : Source) (p : Program) (c : Config) (ls : List Level) (k : machine.
         by = returns l (waits_more g.sites d g.fiber k'.lists (registers list) base.sites.lists ks m'.place gs waits);
       },
       at.outside,
+      refl,
     )
 
     -- no parameter is optional
@@ -445,7 +447,7 @@ module _ (s : Source) (p : Program) (c : Config) (ls : List Level) (k : machine.
     running : SiteIs s p d (m'.scopes ++ empty ∷ []) (k'.lists ++ fresh ∷ []) failure.world
         → Running s p above d (source.with_world inside failure.world) (machine.with_world before failure.world)
     running new = opened s p g gs (source.with_world m' failure.world) (machine.with_world k' failure.world) d empty fresh
-        (next_place m' w) failure.world ks m'.place ground waits ground.sites.lists (first_same o.scopes) linked new
+        (next_place m' w) failure.world ks m'.place refl ground waits ground.sites.lists (first_same o.scopes) linked new
         (same_world failure.world)
 
     raises_inside : SiteIs s p d (m'.scopes ++ empty ∷ []) (k'.lists ++ fresh ∷ []) failure.world
@@ -470,6 +472,7 @@ module _ (s : Source) (p : Program) (c : Config) (ls : List Level) (k : machine.
             is = refl;
             site = run.site;
             same = refl;
+            unguarded = at.enters.guarded;
             next = waits_more g.sites d g.fiber k'.lists fresh ground.sites.lists ks m'.place gs waits;
           };
         })))

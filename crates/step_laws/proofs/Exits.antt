@@ -1,6 +1,5 @@
 -- The end of the main program, and exceptions that leave items.
-use Rattle.std.proofs.Common.{◌≡◌, ℕ, suc, ◌+◌, ◌<◌, ◌≤◌, List, [], ◌∷◌, refl, sym, ap, ◌∙◌, subst, arith, length, Bool, true, false, reverse, inl}
-use Rattle.std.specs.List.{filter}
+use Rattle.std.proofs.Common.{◌≡◌, ℕ, suc, ◌+◌, ◌<◌, ◌≤◌, List, [], ◌∷◌, refl, sym, ap, ◌∙◌, subst, arith, length, Bool, true, false, inl}
 use Rattle.std.specs.Prelude.{if◌then◌else◌, Option, Some, None}
 use Rattle.std.proofs.lemmas.Bool.{eq-eqb}
 use Rattle.rb_value.specs.declared.value.Value.{Value}
@@ -25,9 +24,9 @@ use Rattle.def_eval.specs.Exits.{travel_part, travel_caught, end_by, end_or_ask,
 use Rattle.def_eval.specs.Transition.{go}
 use Rattle.def_machine.specs.State as machine
 use Rattle.def_machine.specs.State.{Level, frame, State, On, Off}
-use Rattle.def_machine.specs.Unwind.{covers, covering, handler, reach, at_frame, unwind, closed, receive, receive_in_resumer, end_program, end_or_ask as end_or_ask_machine, fallen, land, throw_within, throw, end_by as end_by_machine, end_fiber as end_fiber_machine}
+use Rattle.def_machine.specs.Unwind.{covering, handler, reach, at_frame, unwind, closed, receive, receive_in_resumer, end_program, end_or_ask as end_or_ask_machine, fallen, land, throw_within, throw, end_by as end_by_machine, end_fiber as end_fiber_machine}
 use Rattle.def_machine.specs.Turn.{turn}
-use Rattle.step_laws.specs.Site.{Site, at_line}
+use Rattle.step_laws.specs.Site.{Site, bare, at_line}
 use Rattle.step_laws.specs.Calm.{Quiet}
 use Rattle.step_laws.specs.Measure.{weight, measure}
 use Rattle.step_laws.proofs.Placed.{Rest, frame_at, turned}
@@ -101,21 +100,21 @@ received_last : (v : Value) (k : machine.Memory) → k.fibers.resumer ≡ None �
 unfolding receive
 received_last v k e = ap (λ (o : Option (Onward (List Level))). end_fiber_machine v o k) (no_more k.fibers e)
 
--- What a return does: past a frame that catches nothing it goes to what waits below.
-pub returned_by : (h : Site) → Static h → (v : Value) (x : Rest) (n : ℕ) (ls : List Level) (k : machine.Memory)
+-- What a return does: past a frame that no entry covers it goes to what waits below.
+pub returned_by : (h : Site) (n : ℕ) → covering h.program h.body (at_line h n) ≡ [] → (v : Value) (x : Rest) (ls : List Level)
+    (k : machine.Memory)
     → throw h.program (Return h.activation v) (frame (frame_at h x n) ∷ ls) k
     ≡ receive v ls (closed k h.activation)
-unfolding throw unwind covering
-returned_by h static v x n ls k =
-    ap by static.no_catches
+unfolding throw unwind
+returned_by h n none v x ls k =
+    ap by none
     ∙ ap (λ (b : Bool). land (λ y gs l. throw_within (length k.fibers.others) h.program y gs l)
     (reach b v ls (closed k h.activation) (unwind h.program (Return h.activation v) ls (closed k h.activation))))
     (eq-eqb h.activation h.activation refl)
   where
     by : List CatchEntry → State
     by cs = land (λ y gs l. throw_within (length k.fibers.others) h.program y gs l)
-        (at_frame (handler (Return h.activation v) (filter (covers (at_line h n)) (reverse cs))) (Return h.activation v)
-        (frame_at h x n) ls k (unwind h.program (Return h.activation v) ls (closed k h.activation)))
+        (at_frame (handler (Return h.activation v) cs) (Return h.activation v) (frame_at h x n) ls k (unwind h.program (Return h.activation v) ls (closed k h.activation)))
 
 -- The end of a body: that of the main program stops, and every other one returns its value.
 pub give_activation : (g : Ground) (h : Site) → Static h → (ks : List Item) (m : source.Memory) (k : machine.Memory)
@@ -152,39 +151,40 @@ give_activation g h static ks m k both v a place ls d quiet = at d.next.0.by
           apart = subst (λ (is : List Level). (n : ℕ) → uses n is + uses_in n k.fibers.others ≤ 1) e b.apart;
         }
 
-    at : EndsBy h g.fiber g.below (λ q js. Waits g.sites g.fiber k.lists js q g.below) place ks d.n d.r
+    at : EndsBy (bare h) g.fiber g.below (λ q js. Waits g.sites g.fiber k.lists js q g.below) place ks d.n d.r
         → Step h conf (state_at g h d.x d.n (aligned k m))
-    at (stops l main last bare root) =
+    at (stops l main last empty root) =
         let i = both.all.sites.each h both.site in
         let same : close m.world a ≡ m.world =
         ap (close m.world) d.next.0.is ∙ main_closed m.world h.activation (i.runs ∙ main) in
         let none : k.fibers.resumer ≡ None = both.all.fibers.resumer ∙ both.all.fibers.rooted root in
         (given_back h.source h.program conf (frame (frame_at h d.x d.n) ∷ g.below) (aligned k m) m from v ks m' g []
         (machine.with_world k w) refl
-        (turned h d.x d.n op.Stop g.below (aligned k m) l
+        (turned (bare h) d.x d.n op.Stop g.below (aligned k m) l
         ∙ ap (λ (u : World). Off (Ended u.out 0)) (sym same)
-        ∙ sym (received_last v (machine.with_world k w) none)) (omega arith) (back [] bare) last).advances
+        ∙ sym (received_last v (machine.with_world k w) none)) (omega arith) (back [] empty) last).advances
     at (returns l next) =
         (given_back h.source h.program conf (frame (frame_at h d.x d.n) ∷ g.below) (aligned k m) m from v ks m' g g.below
         (machine.with_world k w) refl
-        (turned h d.x d.n (op.Return d.r) g.below (aligned k m) l
+        (turned (bare h) d.x d.n (op.Return d.r) g.below (aligned k m) l
         ∙ ap (λ (u : Value). throw h.program (Return h.activation u) (frame (frame_at h d.x d.n) ∷ g.below) (aligned k m))
         (ap read d.stands)
-        ∙ returned_by h static v d.x d.n g.below (aligned k m)
+        ∙ returned_by h d.n l.guarded v d.x g.below (aligned k m)
         ∙ ap (λ (c : ℕ). receive v g.below (machine.with_world k (close m.world c))) (sym d.next.0.is))
         (falls g.below ks m' conf (omega arith)) (back g.below refl) next).advances
 
 -- What a throw does.
 
--- past a frame of a body that catches nothing
-past : (h : Site) → Static h → (e : ObjId) (x : Rest) (n : ℕ) (ls : List Level) (k : machine.Memory)
+-- past a frame that no entry covers
+past : (h : Site) (n : ℕ) → covering h.program h.body (at_line h n) ≡ [] → (e : ObjId) (x : Rest) (ls : List Level)
+    (k : machine.Memory)
     → throw h.program (Raise e) (frame (frame_at h x n) ∷ ls) k ≡ throw h.program (Raise e) ls (closed k h.activation)
-unfolding throw unwind covering
-past h static e x n ls k = ap by static.no_catches
+unfolding throw unwind
+past h n none e x ls k = ap by none
   where
     by : List CatchEntry → State
     by cs = land (λ y gs l. throw_within (length k.fibers.others) h.program y gs l)
-        (at_frame (handler (Raise e) (filter (covers (at_line h n)) (reverse cs))) (Raise e) (frame_at h x n) ls k
+        (at_frame (handler (Raise e) cs) (Raise e) (frame_at h x n) ls k
         (unwind h.program (Raise e) ls (closed k h.activation)))
 
 -- past an iteration, or its end
@@ -380,7 +380,7 @@ module _ (s : Source) (p : Program) (m : source.Memory) (ls : List Level) (k : m
       ≡ throw p (Raise t.e) f.below (closed t.memory f.h.activation) =
       subst (λ (q : Program). throw q (Raise t.e) (frame (frame_at f.h f.x f.at) ∷ f.below) t.memory
       ≡ throw q (Raise t.e) f.below (closed t.memory f.h.activation)) i.program
-      (past f.h i.static t.e f.x f.at f.below t.memory) in
+      (past f.h f.at f.unguarded t.e f.x f.below t.memory) in
       no_turn s p conf (On ls k)
       (subst (λ (d : Config). measure d < measure conf) (sym goes) (omega arith))
       (subst (λ (d : Config). Alike s p d (On ls k)) (sym goes) (raised (record {

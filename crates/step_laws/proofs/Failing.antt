@@ -15,7 +15,7 @@ use Rattle.def_machine.specs.State as machine
 use Rattle.def_machine.specs.State.{frame}
 use Rattle.def_machine.specs.Unwind.{after as after_machine}
 use Rattle.def_machine.specs.Turn.{turn}
-use Rattle.step_laws.specs.Site.{Site, at_line}
+use Rattle.step_laws.specs.Site.{Site, IsGuarded, at_line}
 use Rattle.step_laws.specs.Calm.{Quiet}
 use Rattle.step_laws.specs.Measure.{burden, measure}
 use Rattle.step_laws.specs.Relation.{Ground, over_levels, InFrame, Common, raised, Related, Step}
@@ -28,14 +28,14 @@ use Rattle.step_laws.proofs.Literals.{aligned}
 -- the exception is raised from the frame at that line
 pub fails_here : (g : Ground) (h : Site) (ks : List Item) (m : source.Memory) (k : machine.Memory)
     → Common g h m (aligned k m) → (c : Config) (x : Rest) (n low : ℕ)
-    → From h c (frame (frame_at h x n) ∷ g.below) (aligned k m) m → burden ks m < measure c → (q : Cause)
+    → IsGuarded h n → From h c (frame (frame_at h x n) ∷ g.below) (aligned k m) m → burden ks m < measure c → (q : Cause)
     → go h.source c ≡ after (fail m.world q) ks m
     → turn h.program (state_at g h x n (aligned k m))
     ≡ after_machine h.program (fail m.world q) low (at_line h (n + 1)) (frame_at h x n) g.below (aligned k m)
     → (end r : ℕ) (around : Option Loop) → InFrame g h k.lists ks end r around
     → Step h c (state_at g h x n (aligned k m))
 unfolding fail failures
-fails_here g h ks m k both c x n low from less q goes turns end r around next =
+fails_here g h ks m k both c x n low guarded from less q goes turns end r around next =
     let a = fail m.world q in
     let e : ObjId = next_number (failures m.world.store q).store in
     let went : go h.source c ≡ Run (travel (raise e)) ks (source.with_world m a.world) = goes in
@@ -52,5 +52,5 @@ fails_here g h ks m k both c x n low from less q goes turns end r around next =
       out = from.out ∙ sym quiet.0;
       both = grown (over_levels g (frame f ∷ g.below)) m (aligned k m) (below_running g h m (aligned k m) both f refl) m.place
           a.world quiet.1;
-      leaving = leaves_frame g h k.lists ks end r around x n both.site next;
+      leaving = leaves_frame g h k.lists ks end r around x n both.site guarded next;
     })))

@@ -12,7 +12,7 @@ use Rattle.def_calls.specs.World.{Answer, Activation, activation_at, fail}
 use Rattle.def_calls.specs.Calls.{break_target}
 use Rattle.def_calls.specs.Fibers as fibers
 use Rattle.def_eval.specs.Configuration as source
-use Rattle.def_eval.specs.Configuration.{Action, leave_method, leave_call, Place, operands, Item, part, activation, iteration, ensuring, give, travel, Config, Run}
+use Rattle.def_eval.specs.Configuration.{Action, leave_method, leave_call, Place, operands, stop_of, Item, part, activation, iteration, ensuring, give, travel, Config, Run}
 use Rattle.def_eval.specs.Entering.{after}
 use Rattle.def_eval.specs.Forms.{is_under_way, leave_to, leave_from, next_operand, finish}
 use Rattle.def_eval.specs.Giving.{give_part, do_give}
@@ -21,7 +21,7 @@ use Rattle.def_machine.specs.State as machine
 use Rattle.def_machine.specs.State.{Registers, Frame, Level, frame, slot_at}
 use Rattle.def_machine.specs.Unwind.{throw, after as after_machine}
 use Rattle.def_machine.specs.Turn.{turn, is_under_way as machine_way, leave_to as leave_machine}
-use Rattle.step_laws.specs.Site.{Site, at_line, LineAt}
+use Rattle.step_laws.specs.Site.{Site, guarded_by, bare, at_line, LineAt}
 use Rattle.step_laws.specs.Calm.{Quiet}
 use Rattle.step_laws.specs.Measure.{measure}
 use Rattle.step_laws.specs.Far.{Far, returns_far, breaks_far, exit_to, thrown_to, action_of, leaving_op, goal_of, cause_of}
@@ -30,6 +30,7 @@ use Rattle.step_laws.specs.Relation.{EndsBy, stops, returns, Ends, Inside, Waits
 use Rattle.step_laws.proofs.Placed.{frame_at, turned}
 use Rattle.step_laws.proofs.Untouched.{below_running}
 use Rattle.step_laws.proofs.Matching.{by_none, going, state_at}
+use Rattle.step_laws.proofs.Outside.{outside_any}
 use Rattle.step_laws.proofs.Calling.{leaves_frame}
 use Rattle.step_laws.proofs.Failing.{fails_here}
 use Rattle.step_laws.proofs.Leaving.{home_of, no_loop}
@@ -56,7 +57,9 @@ inside_way : (h : Site) (l : List Registers) (AtEnd : ℕ → Place → List Ite
     → ((a : ℕ) (p : Place) (is : List Item) (n r : ℕ) → AtEnd a p is n r → is_under_way (activation a p ∷ is) i ≡ b)
     → (ks : List Item) (n r : ℕ) (around : Option Loop) → Inside h l AtEnd ks n r around → is_under_way ks i ≡ b
 inside_way h l E i b to [] n r around a = absurd a
-inside_way h l E i b to (part p ∷ ks) n r around a = inside_way h l E i b to ks a.end a.low a.outer a.next
+inside_way h l E i b to (part p ∷ ks) n r around a =
+    outside_any (stop_of p) h.guards (λ gs. Inside (guarded_by h gs) l E ks a.end a.low a.outer) (is_under_way ks i ≡ b)
+    (λ gs x. inside_way (guarded_by h gs) l E i b to ks a.end a.low a.outer x) a.next
 inside_way h l E i b to (activation c p ∷ ks) n r around a = to c p ks n r a.0
 inside_way h l E i b to (iteration c it p ∷ ks) n r around a = absurd a
 inside_way h l E i b to (ensuring o ∷ ks) n r around a = absurd a
@@ -65,9 +68,9 @@ waits_way : (hs : List Site) (fiber : fibers.Name) (l : List Registers) (i : ℕ
     (ls : List Level) → Waits hs fiber l ks place ls → is_under_way ks i ≡ machine_way ls i
 waits_way hs fiber l i ks place [] a = ap (λ (is : List Item). is_under_way is i) a
 waits_way hs fiber l i ks place (frame f ∷ ls) a =
-    inside_way a.h l (λ b p is n r. Ends a.h fiber ls (λ q js. Waits hs fiber l js q ls) b p is n r) i
+    inside_way a.h l (λ b p is n r. Ends (bare a.h) fiber ls (λ q js. Waits hs fiber l js q ls) b p is n r) i
     (frame_way i a.h.activation ls)
-    (λ b p is n r e. end_way a.h fiber ls (λ q js. Waits hs fiber l js q ls) i
+    (λ b p is n r e. end_way (bare a.h) fiber ls (λ q js. Waits hs fiber l js q ls) i
     (λ q js w. waits_way hs fiber l i js q ls w) b p is n r e) ks a.n a.x.waits a.around a.next
     ∙ ap (λ (q : Frame). frame_way i q.activation ls) (sym a.is)
 waits_way hs fiber l i ks place (machine.iteration a it v ∷ ls) w =
@@ -77,9 +80,9 @@ waits_way hs fiber l i ks place (machine.iteration a it v ∷ ls) w =
 same_way : (g : Ground) (h : Site) (l : List Registers) (ks : List Item) (i n r : ℕ) (around : Option Loop)
     → InFrame g h l ks n r around → is_under_way ks i ≡ frame_way i h.activation g.below
 same_way g h l ks i n r around a =
-    inside_way h l (λ b p is t z. Ends h g.fiber g.below (λ q js. Waits g.sites g.fiber l js q g.below) b p is t z) i
+    inside_way h l (λ b p is t z. Ends (bare h) g.fiber g.below (λ q js. Waits g.sites g.fiber l js q g.below) b p is t z) i
     (frame_way i h.activation g.below)
-    (λ b p is t z e. end_way h g.fiber g.below (λ q js. Waits g.sites g.fiber l js q g.below) i
+    (λ b p is t z e. end_way (bare h) g.fiber g.below (λ q js. Waits g.sites g.fiber l js q g.below) i
     (λ q js w. waits_way g.sites g.fiber l i js q g.below w) b p is t z e) ks n r around a
 
 -- An exit begins: it is thrown where its goal is under way, and else both sides raise.
@@ -141,7 +144,7 @@ module _ (g : Ground) (h : Site) (static : Static h) (ks : List Item) (m : sourc
         (aligned k m)
         → Step h conf (state_at g h d.x d.n (aligned k m))
     raises_now quiet goes turns =
-        fails_here g h ks m k both conf d.x d.n 0 (record {
+        fails_here g h ks m k both conf d.x d.n 0 b.leaves.guarded (record {
           alike = going (give v) (part (operands j a vs es) ∷ ks) m (frame (frame_at h d.x d.n) ∷ g.below) (aligned k m) refl;
           out = refl;
           quiet = quiet;
@@ -165,7 +168,8 @@ module _ (g : Ground) (h : Site) (static : Static h) (ks : List Item) (m : sourc
           throws = turns;
           out = refl;
           both = below_running g h m (aligned k m) both f refl;
-          leaving = leaves_frame g h k.lists ks d.next.end d.next.low d.next.outer d.x d.n both.site d.next.next;
+          leaving = leaves_frame g h k.lists ks d.next.end d.next.low d.next.outer d.x d.n both.site b.leaves.guarded
+              d.next.next;
           under_way = way;
         })))
 

@@ -1,5 +1,5 @@
 -- The lines of the code of a body stand where they are placed: those of a main program, and those of a method or a block.
-use Rattle.std.proofs.Common.{◌≡◌, ◌≤◌, ◌<◌, ℕ, zero, suc, ◌+◌, ◌*◌, List, [], ◌∷◌, ◌++◌, length, get_or, arith, refl, sym, ap, ◌∙◌, subst, length-append, Bool, true, false, nat_lt}
+use Rattle.std.proofs.Common.{◌≡◌, ◌≤◌, ◌<◌, ℕ, zero, suc, ◌+◌, ◌*◌, List, [], ◌∷◌, ◌++◌, length, get_or, map, arith, refl, sym, ap, ◌∙◌, subst, length-append, Bool, true, false, nat_lt}
 use Rattle.std.specs.Prelude.{◌||◌}
 use Rattle.std.proofs.lemmas.Bool.{ltb-false}
 use Rattle.rite_code.specs.Spelling.{encodings}
@@ -19,8 +19,8 @@ use Rattle.scope_resolver.specs.Layout.{Scopes, has_parameters, seen_around, slo
 use Rattle.gen_parts.specs.declared.line.Line.{Line}
 use Rattle.gen_parts.specs.declared.line.Line.TheVariants as line
 use Rattle.gen_parts.specs.declared.emitter.Spot.{Spot}
-use Rattle.gen_parts.specs.Pieces.{Piece, behind, both, does}
-use Rattle.gen_parts.specs.Assembly.{places, place_of, instructions}
+use Rattle.gen_parts.specs.Pieces.{Piece, behind, both, puts, does}
+use Rattle.gen_parts.specs.Assembly.{places, place_of, entry_by, instructions}
 use Rattle.gen_forms.specs.Gen.{Code, Context, gen, with_jumps, by_defaults, ahead, first_spot, opening, layout, parameters}
 use Rattle.code_laws.proofs.Serves.{Room as Bounds, IsFew}
 use Rattle.code_laws.proofs.Wells.{FineLines, JumpsFollow, Entered, weights}
@@ -36,7 +36,10 @@ use Rattle.code_laws.proofs.Wides.{width_some}
 use Rattle.code_laws.proofs.Assembled.{AllFit, sizes, sizes_weights, place_most}
 use Rattle.code_laws.proofs.Encoding.{AllFew, all_few, entered_fit}
 use Rattle.def_machine.specs.State.{body_at}
-use Rattle.step_laws.specs.Site.{Site, at_line, Lines}
+use Rattle.step_laws.specs.Site.{Site, at_line}
+use Rattle.step_laws.specs.Standing.{high, Stands, KeepsWithin}
+use Rattle.step_laws.proofs.Guards.{within_both, within_puts}
+use Rattle.step_laws.proofs.Entries.{guarded_body}
 use Rattle.step_laws.proofs.Laid.{lines_stand}
 
 pub no_scopes : AreShort []
@@ -128,21 +131,25 @@ module _ (k : BodyKind) (sc : Scopes) (out : Around k sc) (p : Parameters) (ls :
         (few_more q.lines (line.Does o ∷ []) (all_few inner.made (omega (arith, inner.count, few)))
         (subst IsFew (sym ready.unused) tt, tt))
 
-    -- so they stand in a body with that code
+    -- so they stand in a body with that code and those entries
     pub lines_placed : (h : Site) → h.program.version ≡ 2
-        → (body_at h.program h.body).code ≡ encodings (instructions is_wide at 0 whole) → h.wide ≡ is_wide → h.at ≡ at
-        → Lines h 0 whole
-    lines_placed h version is same places_are =
+        → (body_at h.program h.body).code ≡ encodings (instructions is_wide at 0 whole)
+        → (body_at h.program h.body).catches ≡ map (entry_by h.at) (both q (does o)).catches → KeepsWithin 0 q
+        → h.guards ≡ [] → h.wide ≡ is_wide → h.at ≡ at → Stands h 0 (both q (does o))
+    unfolding Stands both puts high
+    lines_placed h version is entries kept none same places_are =
         let by_places : instructions is_wide h.at 0 whole ≡ instructions is_wide at 0 whole =
         ap (λ (xs : List ℕ). instructions is_wide xs 0 whole) places_are in
         let all : instructions h.wide h.at 0 whole ≡ instructions is_wide at 0 whole =
         ap (λ (v : Bool). instructions v h.at 0 whole) same ∙ by_places in
-        lines_stand h (encodings (instructions is_wide at 0 whole)) version is 0 0 whole []
+        lines_stand h (encodings (instructions is_wide at 0 whole)) version is (both q (does o)).catches 0 0 whole []
         (sym (ap encodings all)) refl (subst AllFit (sym all) all_fit)
         (λ n le.
         let here : at_line h (0 + n) ≡ at_line h n = ap (at_line h) (omega arith) in
         here ∙ ap (λ (xs : List ℕ). get_or xs n 0) places_are
         ∙ ap (λ (v : Bool). get_or (places v 0 whole) n 0) (sym same))
+        (λ i least most. guarded_body h is_wide (both q (does o)) none places_are entries
+        (within_both 0 q (does o) kept (within_puts _ _)) i most)
 
 -- A main program.
 pub none_around : (k : BodyKind) → length (seen_around k []) ≤ 65535 → Around k []

@@ -20,7 +20,8 @@ use Rattle.def_eval.specs.Transition.{go}
 use Rattle.def_machine.specs.State as machine
 use Rattle.def_machine.specs.State.{Level, frame, slot_at, value_at}
 use Rattle.step_laws.specs.Site.{Site, within}
-use Rattle.step_laws.proofs.Placed.{high, high-both, high-puts, left, right, the_line, frame_at, turned}
+use Rattle.step_laws.proofs.Placed.{high, high-both, high-puts, within_puts, left, right_at, the_line, frame_at, turned}
+use Rattle.step_laws.proofs.Within.{keeps}
 use Rattle.step_laws.specs.Behind.{Static, GlobalBehind, to_global}
 use Rattle.step_laws.specs.Relation.{Ground, InFrame, Common, Doing, GivesIn, Related, Step}
 use Rattle.step_laws.proofs.Untouched.{same_activations}
@@ -51,7 +52,7 @@ module _ (g : Ground) (h : Site) (static : Static h) (ks : List Item) (m : sourc
           here = d.here;
           covered = d.covered.0;
           above = d.above;
-          code = left h d.n p (does o) d.code;
+          code = left h d.n p (does o) (within_puts _ _) d.code;
           next = record {
             low = d.r;
             end = d.n + high (p ⊕ does o);
@@ -64,7 +65,8 @@ module _ (g : Ground) (h : Site) (static : Static h) (ks : List Item) (m : sourc
               first = refl;
               last = refl;
               named = d.covered.1;
-              sets = the_line h (d.n + high p) (line.Does o) (right h d.n p (does o) d.code);
+              sets = the_line h (d.n + high p) (line.Does o)
+                  (right_at h d.n d.s p (does o) d.here (keeps e (within h d.loop) d.s d.r) d.code);
               ends = omega (arith, high-both p (does o), high-puts (line.Does o));
             });
             outer = d.loop;

@@ -257,7 +257,7 @@ module _ (g : Ground) (h : Site) (static : Static h) (ks : List Item) (m : sourc
           (at_line h (d.n + 1)) (frame_at h d.x d.n) g.below (aligned k m) → Step h c (state_at g h d.x d.n (aligned k m))
       of_value to sending own turns =
           let held = subst (λ (t : Bool). HoldsCall h k.lists t d.hands.low recv []) own d.hands.called in
-          passes g h static ks m k both steady d.there c d.x d.n d.hands.low d.hands.room d.loop from (omega arith) (aligned k m)
+          passes g h static ks m k both steady d.there c d.x d.n d.hands.low d.hands.room d.loop from (omega arith) d.hands.sends.guarded (aligned k m)
           both d.hands.next q to sending recv vs 255 (ap read held.0) (block_argument m.world v) refl
           (turns ∙ ap (λ (u : Value). call_with h.program to d.hands.low 255 (block_argument m.world u) (at_line h (d.n + 1))
           (frame_at h d.x d.n) g.below (aligned k m)) block_there)
@@ -281,7 +281,7 @@ module _ (g : Ground) (h : Site) (static : Static h) (ks : List Item) (m : sourc
           ∙ s.self ∙ sym held.0 in
           let other : (i : ℕ) → d.hands.low + 1 ≤ i → value_at k'.lists h.list i ≡ value_at k.lists h.list i =
           λ i le. ap read (slot_other k.lists h.list d.hands.low i (V u) s.present (omega (arith, le))) in
-          passes g h static ks m k both steady d.there c d.x d.n d.hands.low d.hands.room d.loop from (omega arith) k'
+          passes g h static ks m k both steady d.there c d.x d.n d.hands.low d.hands.room d.loop from (omega arith) d.hands.sends.guarded k'
           (written_here g h m (aligned k m) both d.hands.low u d.hands.room.above)
           (frame_kept g h k.lists k'.lists ks (d.n + 1) d.hands.low d.loop
           (keeps_above h k.lists d.hands.low d.hands.low (V u) s.present (omega arith)) (put_only k.lists h.list d.hands.low u)

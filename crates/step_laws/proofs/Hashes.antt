@@ -34,12 +34,13 @@ use Rattle.step_laws.specs.Site.{Site, within, place_in, at_line, LineAt, Room}
 use Rattle.step_laws.specs.Covers.{CoversPairs}
 use Rattle.step_laws.specs.Calm.{Grows, Quiet}
 use Rattle.step_laws.specs.Measure.{measure}
-use Rattle.step_laws.proofs.Placed.{high, high-both, high-puts, high-nothing, line-past, Stands, moved, left, right, the_line, Rest, frame_at, turned}
+use Rattle.step_laws.proofs.Placed.{high, high-both, high-puts, high-nothing, line-past, Stands, moved, Keeps, within_puts, left, right, left_at, right_at, the_line, Rest, frame_at, turned}
 use Rattle.step_laws.specs.Behind.{Static}
 use Rattle.step_laws.specs.Relation.{Ground, over_levels, InFrame, Common, Doing, GivesIn, raised, Related, Step}
 use Rattle.step_laws.proofs.Untouched.{grown, below_running}
 use Rattle.step_laws.proofs.Matching.{by_none, by_one, in_loop, going, state_at, written, stays}
 use Rattle.step_laws.proofs.Calling.{leaves_frame}
+use Rattle.step_laws.proofs.Within.{keeps_both, keeps_ends, keeps, pairs_keep}
 use Rattle.step_laws.proofs.Literals.{aligned}
 use Rattle.step_laws.proofs.Gathered.{kept}
 
@@ -58,8 +59,11 @@ on_with g h j id (pair a b ps) ks m k x n low end loop s both there room covered
     let o = op.HashAdd low 1 in
     let one = (p ⊕ q) ⊕ does o in
     let others = gather_pairs (within h loop) (past s one) low ps in
-    let first = left h n one others code in
-    let two = left h n (p ⊕ q) (does o) first in
+    let kept_first : Keeps s p = keeps a (within h loop) s (low + 1) in
+    let kept_second : Keeps (past s p) q = keeps b (within h loop) (past s p) (low + 1 + 1) in
+    let kept_two : Keeps s (p ⊕ q) = keeps_both s p q kept_first kept_second in
+    let first = left_at h n s one others here (pairs_keep ps (within h loop) (past s one) low) code in
+    let two = left h n (p ⊕ q) (does o) (within_puts _ _) first in
     let tall : high one ≡ high p + high q + 1 =
     omega (arith, high-both (p ⊕ q) (does o), high-both p q, high-puts (line.Does o)) in
     let next_line : (past s one).line ≡ n + high one = omega (arith, line-past s one, here) in (
@@ -77,7 +81,7 @@ on_with g h j id (pair a b ps) ks m k x n low end loop s both there room covered
         here = here;
         covered = covered.0;
         above = omega (arith, room.above);
-        code = left h n p q two;
+        code = left_at h n s p q here kept_second two;
         next = record {
           low = low;
           end = end;
@@ -90,12 +94,13 @@ on_with g h j id (pair a b ps) ks m k x n low end loop s both there room covered
             here = omega (arith, line-past s p, here);
             room = room;
             covered = (covered.1, covered.2);
-            value = right h n p q two;
+            value = right_at h n s p q here kept_first two;
             next = past s one;
             next_line = omega (arith, next_line, tall);
             puts = subst (λ (i : ℕ). LineAt h i (line.Does o)) (omega (arith, high-both p q))
-                (the_line h (n + high (p ⊕ q)) (line.Does o) (right h n (p ⊕ q) (does o) first));
-            code = moved h (n + high one) (past s one).line others (sym next_line) (right h n one others code);
+                (the_line h (n + high (p ⊕ q)) (line.Does o) (right_at h n s (p ⊕ q) (does o) here kept_two first));
+            code = moved h (n + high one) (past s one).line others (sym next_line)
+                (right_at h n s one others here (keeps_ends s (p ⊕ q) (line.Does o) kept_two) code);
             ends = omega (arith, ends, next_line, high-both one others);
           };
           outer = loop;
@@ -152,10 +157,11 @@ module _ (g : Ground) (h : Site) (static : Static h) (ks : List Item) (m : sourc
       by_one h (Run (perform j (hash ps)) ks m) (state_at g h d.x d.n (aligned k m))
       (state_at g h d.x (d.n + 1) (written h (machine.with_world k w) d.r (Obj id)))
       (going (perform j (hash ps)) ks m (frame (frame_at h d.x d.n) ∷ g.below) (aligned k m) refl)
-      (turned h d.x d.n o g.below (aligned k m) (the_line h d.n (line.Does o) (left h d.n p q d.code)))
+      (turned h d.x d.n o g.below (aligned k m) (the_line h d.n (line.Does o)
+      (left_at h d.n d.s p q d.here (pairs_keep ps (within h d.loop) (past d.s p) d.r) d.code)))
       (on_with g h j id ps ks (source.with_world m w) (written h (machine.with_world k w) d.r (Obj id)) d.x (d.n + 1) d.r
       end d.loop (past d.s p) t.common d.there d.covered.0 d.covered.1 (omega (arith, line-past d.s p, d.here, tall))
-      (moved h (d.n + high p) (d.n + 1) q (omega (arith, tall)) (right h d.n p q d.code))
+      (moved h (d.n + high p) (d.n + 1) q (omega (arith, tall)) (right h d.n p q (within_puts _ _) d.code))
       (omega (arith, tall, high-both p q)) t.held t.next)
 
   -- the value of the pair is next
@@ -263,5 +269,6 @@ module _ (g : Ground) (h : Site) (static : Static h) (ks : List Item) (m : sourc
             out = sym still.0;
             both = grown (over_levels g (frame (frame_at h d.x d.n) ∷ g.below)) m (aligned k m)
                 (below_running g h m (aligned k m) both (frame_at h d.x d.n) refl) m.place w still.1;
-            leaving = leaves_frame g h k.lists ks d.next.end low d.next.outer d.x d.n both.site d.next.next;
+            leaving = leaves_frame g h k.lists ks d.next.end low d.next.outer d.x d.n both.site
+                d.next.behind.puts.guarded d.next.next;
           })))

@@ -1,7 +1,6 @@
 -- Breaks and nexts in a loop: to the loop part by part, and there to its end or to its next round.
-use Rattle.std.proofs.Common.{◌≡◌, ◌⊎◌, inl, inr, ℕ, ◌+◌, ◌<◌, List, [], ◌∷◌, ◌++◌, refl, sym, ap, ◌∙◌, subst, arith, length, reverse, Bool, true}
+use Rattle.std.proofs.Common.{◌≡◌, ◌⊎◌, inl, inr, ℕ, ◌+◌, ◌<◌, List, [], ◌∷◌, ◌++◌, refl, sym, ap, ◌∙◌, subst, arith, length, Bool, true, map}
 use Rattle.std.proofs.lemmas.Bool.{eq-eqb}
-use Rattle.std.specs.List.{filter}
 use Rattle.std.specs.Prelude.{pos, ◌-ℤ◌, ◌||◌, unwrap_or, if◌then◌else◌, Option, Some, None}
 use Rattle.rb_value.specs.declared.value.Value.{Value}
 use Rattle.rb_value.specs.declared.exit.Exit.TheVariants.{Jump}
@@ -14,7 +13,7 @@ use Rattle.rite_code.specs.declared.operation.Operation.TheVariants as op
 use Rattle.ir_core.specs.CoreForm.{CoreForm, break_form, next_form, Forms}
 use Rattle.gen_parts.specs.declared.line.Line.TheVariants as line
 use Rattle.gen_parts.specs.Pieces.{does, leave, ◌⊕◌}
-use Rattle.gen_parts.specs.Assembly.{instruction_before}
+use Rattle.gen_parts.specs.Assembly.{instruction_before, entry_by}
 use Rattle.gen_forms.specs.declared.context.Loop.{Loop}
 use Rattle.gen_forms.specs.Gen.{gen, break_by, next_by}
 use Rattle.def_eval.specs.Configuration as source
@@ -25,14 +24,17 @@ use Rattle.def_eval.specs.Exits.{travel_loop, travel_part, do_travel}
 use Rattle.def_eval.specs.Transition.{go}
 use Rattle.def_machine.specs.State as machine
 use Rattle.def_machine.specs.State.{Registers, Level, frame, State, On, slot_at, put}
-use Rattle.def_machine.specs.Unwind.{covers, covering, handler, at_frame, unwind, closed, Landing, lands, land, throw_within, throw}
+use Rattle.def_machine.specs.Unwind.{handler, at_frame, unwind, closed, Landing, lands, land, throw_within, throw}
 use Rattle.def_machine.specs.Turn.{target as led_to, turn, act_at}
-use Rattle.step_laws.specs.Site.{Site, within, place_in, at_line, LineAt, Room}
+use Rattle.step_laws.specs.Site.{Site, AllCover, StaysIn, within, place_in, at_line, LineAt, Room}
 use Rattle.step_laws.specs.Measure.{measure}
 use Rattle.step_laws.specs.Far.{breaks_far}
-use Rattle.step_laws.proofs.Placed.{high, high-puts, Stands, moved, left, right, the_line, Rest, frame_at, turned, leads, jumped}
+use Rattle.step_laws.proofs.Placed.{high, high-puts, Stands, moved, left, right, right_at, the_line, Rest, frame_at, turned, leads, jumped}
 use Rattle.step_laws.specs.Behind.{Static, LoopAt, BreakBehind, NextBehind, breaks, begins_round, ends_body, goes_far}
 use Rattle.step_laws.specs.Relation.{Ground, uses, InFrame, Common, Doing, GivesIn, LoopWay, WayBy, Way, LeavesTo, to_end, to_round, leaping, Related, Step}
+use Rattle.step_laws.proofs.Outside.{stays_there, jump_stays}
+use Rattle.step_laws.proofs.Guards.{within_both, within_puts}
+use Rattle.step_laws.proofs.Within.{keeps}
 use Rattle.step_laws.proofs.Registers.{slot_same, keeps_above}
 use Rattle.step_laws.proofs.Untouched.{put_only, frame_kept, same_here, written_here}
 use Rattle.step_laws.proofs.Matching.{by_none, by_one, by_two, going, state_at, written, stays}
@@ -41,13 +43,15 @@ use Rattle.step_laws.proofs.Loops.{at_test}
 use Rattle.step_laws.proofs.Exits.{weight_pos}
 use Rattle.step_laws.proofs.Leaving.{begins_last}
 
--- A jump through ensure parts leaves the frame where it is, since the body has none.
-left_to : (g : Ground) (h : Site) → Static h → (x : Rest) (n to : ℕ) (k : machine.Memory) → LineAt h n (line.Leave to)
+-- A jump through ensure parts leaves the frame where it is: the entries that cover it cover where it leads, too.
+left_to : (g : Ground) (h : Site) (x : Rest) (n to : ℕ) (k : machine.Memory) → LineAt h n (line.Leave to) → StaysIn h to
     → turn h.program (state_at g h x n k) ≡ state_at g h x to k
-unfolding instruction_before throw unwind covering
-left_to g h static x n to k l =
+unfolding instruction_before throw unwind
+left_to g h x n to k l stays =
     ap (λ (i : Option (Instruction × ℕ)). act_at h.program i (frame_at h x n) g.below k) l.here
-    ∙ ap thrown static.no_catches
+    ∙ ap thrown l.guarded
+    ∙ ap landed (jump_stays h.activation goal (map (entry_by h.at) h.guards)
+    (subst (λ (i : ℕ). AllCover i (map (entry_by h.at) h.guards)) (sym (leads (at_line h (n + 1)) (at_line h to))) stays))
     ∙ ap by (eq-eqb h.activation h.activation refl)
     ∙ ap (λ (p : ℕ). On (frame (record (frame_at h x n) { place = p }) ∷ g.below) k) (leads (at_line h (n + 1)) (at_line h to))
   where
@@ -57,10 +61,12 @@ left_to g h static x n to k l =
     further : Landing
     further = unwind h.program (Jump h.activation goal) g.below (closed k h.activation)
 
+    landed : Option ℕ → State
+    landed o = land (λ y ls l. throw_within (length k.fibers.others) h.program y ls l)
+        (at_frame o (Jump h.activation goal) (frame_at h x n) g.below k further)
+
     thrown : List CatchEntry → State
-    thrown cs = land (λ y ls l. throw_within (length k.fibers.others) h.program y ls l)
-        (at_frame (handler (Jump h.activation goal) (filter (covers (at_line h n)) (reverse cs))) (Jump h.activation goal)
-        (frame_at h x n) g.below k further)
+    thrown cs = landed (handler (Jump h.activation goal) cs)
 
     by : Bool → State
     by b = land (λ y ls l. throw_within (length k.fibers.others) h.program y ls l)
@@ -206,7 +212,8 @@ module _ (g : Ground) (h : Site) (static : Static h) (ks : List Item) (m : sourc
           let move = does (op.Move target.value d.r) in
           let out = leave target.out in
           let code = subst (λ (o : Option Loop). Stands h d.n (p ⊕ break_by o d.r)) is d.code in
-          let last = right h d.n p (move ⊕ out) code in
+          let kept = keeps e (within h d.loop) d.s d.r in
+          let last = right_at h d.n d.s p (move ⊕ out) d.here kept code in
           let one : high move ≡ 1 = high-puts (line.Does (op.Move target.value d.r)) in
           by_none h (Run (perform j (break_form e)) ks m) (state_at g h d.x d.n (aligned k m)) (omega arith) (
             g,
@@ -223,7 +230,7 @@ module _ (g : Ground) (h : Site) (static : Static h) (ks : List Item) (m : sourc
               here = d.here;
               covered = d.covered;
               above = d.above;
-              code = left h d.n p (move ⊕ out) code;
+              code = left h d.n p (move ⊕ out) (within_both _ move out (within_puts _ _) (within_puts _ _)) code;
               next = record {
                 low = d.r;
                 end = d.n + high (gen (within h d.loop) d.s d.r (break_form e));
@@ -237,10 +244,10 @@ module _ (g : Ground) (h : Site) (static : Static h) (ks : List Item) (m : sourc
                   target = target;
                   inside = is;
                   moves = the_line h (d.n + high p) (line.Does (op.Move target.value d.r))
-                      (left h (d.n + high p) move out last);
+                      (left h (d.n + high p) move out (within_puts _ _) last);
                   leaves = the_line h (d.n + high p + 1) (line.Leave target.out)
                       (moved h (d.n + high p + high move) (d.n + high p + 1) out (omega (arith, one))
-                      (right h (d.n + high p) move out last));
+                      (right h (d.n + high p) move out (within_puts _ _) last));
                 });
                 outer = d.loop;
                 inner = refl;
@@ -324,7 +331,7 @@ module _ (g : Ground) (h : Site) (static : Static h) (ks : List Item) (m : sourc
               here = d.here;
               covered = d.covered;
               above = d.above;
-              code = left h d.n p out code;
+              code = left h d.n p out (within_puts _ _) code;
               next = record {
                 low = d.r;
                 end = d.n + high (gen (within h d.loop) d.s d.r (next_form e));
@@ -336,7 +343,8 @@ module _ (g : Ground) (h : Site) (static : Static h) (ks : List Item) (m : sourc
                   last = refl;
                   target = target;
                   inside = is;
-                  leaves = the_line h (d.n + high p) (line.Leave target.round) (right h d.n p out code);
+                  leaves = the_line h (d.n + high p) (line.Leave target.round)
+                      (right_at h d.n d.s p out d.here (keeps e (within h d.loop) d.s d.r) code);
                 });
                 outer = d.loop;
                 inner = refl;
@@ -395,7 +403,7 @@ module _ (g : Ground) (h : Site) (static : Static h) (ks : List Item) (m : sourc
         by_two h conf (state_at g h q.x q.n (aligned k m)) (state_at g h q.x to (aligned k m))
         (state_at g h q.x w.end (aligned k m))
         (going (travel e) (part p ∷ ks) m (frame (frame_at h q.x q.n) ∷ g.below) (aligned k m) refl)
-        (left_to g h static q.x q.n to (aligned k m) leaves)
+        (left_to g h q.x q.n to (aligned k m) leaves (stays_there h to leap.guarded))
         (going (travel e) (part p ∷ ks) m (frame (frame_at h q.x to) ∷ g.below) (aligned k m) refl)
         (jumped h q.x to w.end g.below (aligned k m) leap)
         (subst (λ (z : Config). Related h z (state_at g h q.x w.end (aligned k m)))
@@ -406,6 +414,9 @@ module _ (g : Ground) (h : Site) (static : Static h) (ks : List Item) (m : sourc
       where
         test_line : ℕ
         test_line = w.loop.test_spot.line
+
+        stays_in : StaysIn h q.target.round
+        stays_in = subst (λ (l : Loop). StaysIn h l.round) w.inside w.loop.stays
 
         goes' : go h.source conf ≡ Run (perform n t) (part (loop_test n t b) ∷ ks) m
         goes' = goes ∙ ap (λ (y : Exit). travel_loop y n t b ks m) is
@@ -419,13 +430,13 @@ module _ (g : Ground) (h : Site) (static : Static h) (ks : List Item) (m : sourc
         by (inl here) =
             by_one h conf (state_at g h q.x q.n (aligned k m)) (state_at g h q.x test_line (aligned k m))
             (going (travel e) (part p ∷ ks) m (frame (frame_at h q.x q.n) ∷ g.below) (aligned k m) refl)
-            (left_to g h static q.x q.n q.target.round (aligned k m) leaves
+            (left_to g h q.x q.n q.target.round (aligned k m) leaves stays_in
             ∙ ap (λ (i : ℕ). state_at g h q.x i (aligned k m)) (sym (ap (λ (l : Loop). l.round) w.inside) ∙ here)) related
         by (inr leap) =
             by_two h conf (state_at g h q.x q.n (aligned k m)) (state_at g h q.x q.target.round (aligned k m))
             (state_at g h q.x test_line (aligned k m))
             (going (travel e) (part p ∷ ks) m (frame (frame_at h q.x q.n) ∷ g.below) (aligned k m) refl)
-            (left_to g h static q.x q.n q.target.round (aligned k m) leaves)
+            (left_to g h q.x q.n q.target.round (aligned k m) leaves stays_in)
             (going (travel e) (part p ∷ ks) m (frame (frame_at h q.x q.target.round) ∷ g.below) (aligned k m) refl)
             (jumped h q.x q.target.round test_line g.below (aligned k m)
             (subst (λ (l : Loop). LineAt h l.round (line.Jump test_line)) w.inside leap)) related

@@ -15,14 +15,16 @@ use Rattle.def_eval.specs.Forms.{is_under_way, is_loop, in_loop}
 use Rattle.def_eval.specs.Transition.{go}
 use Rattle.def_machine.specs.State as machine
 use Rattle.def_machine.specs.State.{Registers, Level}
-use Rattle.step_laws.specs.Site.{Site, within, LineAt}
+use Rattle.step_laws.specs.Site.{Site, guarded_by, bare, within, LineAt}
 use Rattle.step_laws.specs.Covers.{Covers}
 use Rattle.step_laws.specs.Measure.{size, measure}
 use Rattle.step_laws.specs.Behind.{OperandBehind, Behind, IsAround}
 use Rattle.step_laws.specs.Relation.{Waits, Ground, InFrame, IsLeft, Common, Doing, Home, Related, Step}
-use Rattle.step_laws.proofs.Placed.{high, Stands, left, right, the_line}
+use Rattle.step_laws.proofs.Placed.{high, Stands, within_puts, left, right_at, the_line}
+use Rattle.step_laws.proofs.Within.{keeps}
 use Rattle.step_laws.proofs.Untouched.{leaves_end}
 use Rattle.step_laws.proofs.Matching.{by_none, state_at}
+use Rattle.step_laws.proofs.Outside.{outside_passed}
 use Rattle.step_laws.proofs.Calling.{passed}
 use Rattle.step_laws.proofs.Literals.{aligned}
 
@@ -63,11 +65,13 @@ home_of g h l round (part p ∷ ks) n r around e a = (
   left_by round h l p a.low n r a.end around e a.behind,
   home_of g h l round ks a.end a.low a.outer
       (λ t. subst (λ (o : Stop). IsAround o around a.outer) (free h l p a.low n r a.end around (e t) a.behind) a.inner ∙ e t)
-      a.next,
+      (outside_passed (stop_of p) h.guards (λ gs. InFrame g (guarded_by h gs) l ks a.end a.low a.outer)
+      (passed h l p a.low n r a.end around a.behind) a.next),
 )
 home_of g h l round (activation c p ∷ ks) n r around e a = (
   a.0.is,
-  leaves_end h g.fiber g.below (λ q js. Waits g.sites g.fiber l js q g.below) g.sites l (λ q js w. w) p ks n r a.0.by,
+  leaves_end (bare h) g.fiber g.below (λ q js. Waits g.sites g.fiber l js q g.below) g.sites l (λ q js w. w) p ks n r a.0.by,
+  a.2,
 )
 home_of g h l round (iteration c it p ∷ ks) n r around e a = absurd a
 home_of g h l round (ensuring o ∷ ks) n r around e a = absurd a
@@ -118,13 +122,14 @@ module _ (g : Ground) (h : Site) (ks : List Item) (m : source.Memory) (ls : List
           here = d.here;
           covered = covered;
           above = d.above;
-          code = left h d.n p (does o) code;
+          code = left h d.n p (does o) (within_puts _ _) code;
           next = record {
             low = d.r;
             end = d.n + high (gen (within h d.loop) d.s d.r f);
             above = d.above;
             below = omega arith;
-            behind = behind (d.n + high p) (the_line h (d.n + high p) (line.Does o) (right h d.n p (does o) code));
+            behind = behind (d.n + high p) (the_line h (d.n + high p) (line.Does o)
+                (right_at h d.n d.s p (does o) d.here (keeps e (within h d.loop) d.s d.r) code));
             outer = d.loop;
             inner = refl;
             next = d.next;

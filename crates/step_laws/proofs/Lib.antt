@@ -1,4 +1,9 @@
 pub mod Placed
+pub mod Guards
+pub mod Bared
+pub mod Outside
+pub mod Within
+pub mod Entries
 pub mod Around
 pub mod Registers
 pub mod Untouched

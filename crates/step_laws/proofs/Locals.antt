@@ -24,7 +24,8 @@ use Rattle.def_machine.specs.State as machine
 use Rattle.def_machine.specs.State.{Registers, Level, frame, slot_at, value_at, list_out, put}
 use Rattle.def_machine.specs.Turn.{act}
 use Rattle.step_laws.specs.Site.{Site, place_in, within, at_line, LineAt, register, Known, Reaches, of_the_body, of_one_around}
-use Rattle.step_laws.proofs.Placed.{Rest, high, high-puts, heights, left, right, the_line, frame_at, turned}
+use Rattle.step_laws.proofs.Placed.{Rest, high, high-puts, heights, within_puts, left, right_at, the_line, frame_at, turned}
+use Rattle.step_laws.proofs.Within.{keeps}
 use Rattle.step_laws.specs.Behind.{Static, LocalBehind, OuterBehind, OperandBehind, to_local, to_outer}
 use Rattle.step_laws.specs.Relation.{Ground, InFrame, Common, Doing, GivesIn, Related, Step}
 use Rattle.step_laws.proofs.Registers.{slot_other, keeps_local, named_is}
@@ -135,7 +136,8 @@ module _ (g : Ground) (h : Site) (static : Static h) (ks : List Item) (m : sourc
   do_set_local j x e d =
       let p = gen (within h d.loop) d.s d.r e in
       let o = write d.r (place_of h.context.scopes x) in
-      let l = the_line h (d.n + high p) (line.Does o) (right h d.n p (does o) d.code) in
+      let l = the_line h (d.n + high p) (line.Does o)
+      (right_at h d.n d.s p (does o) d.here (keeps e (within h d.loop) d.s d.r) d.code) in
       by_none h (Run (perform j (set_local x e)) ks m) (state_at g h d.x d.n (aligned k m)) (omega arith) (
         g,
         h,
@@ -151,7 +153,7 @@ module _ (g : Ground) (h : Site) (static : Static h) (ks : List Item) (m : sourc
           here = d.here;
           covered = d.covered.0;
           above = d.above;
-          code = left h d.n p (does o) d.code;
+          code = left h d.n p (does o) (within_puts _ _) d.code;
           next = record {
             low = d.r;
             end = d.n + high (p ⊕ does o);

@@ -22,9 +22,12 @@ use Rattle.def_machine.specs.State.{Level, frame, slot_at}
 use Rattle.def_machine.specs.Turn.{turn}
 use Rattle.step_laws.specs.Site.{Site, within, place_in, LineAt}
 use Rattle.step_laws.specs.Covers.{Covers}
-use Rattle.step_laws.proofs.Placed.{high, high-both, high-puts, line-past, line-behind, Stands, moved, left, right, the_line, Rest, frame_at, turned, jumped}
+use Rattle.step_laws.proofs.Placed.{high, high-both, high-puts, line-past, line-behind, Stands, moved, KeepsWithin, left, right, the_line, Rest, frame_at, turned, jumped}
 use Rattle.step_laws.specs.Behind.{Static, LoopAt}
 use Rattle.step_laws.specs.Relation.{Ground, InFrame, Common, Doing, GivesIn, Related, Step}
+use Rattle.step_laws.proofs.Outside.{first_stays}
+use Rattle.step_laws.proofs.Guards.{within_both, within_puts, within_moved}
+use Rattle.step_laws.proofs.Within.{keeps}
 use Rattle.step_laws.proofs.Matching.{by_none, by_one, by_two, going, state_at, written, writes}
 use Rattle.step_laws.proofs.Literals.{aligned}
 use Rattle.step_laws.proofs.Branches.{jumped_not, jumped_if}
@@ -71,16 +74,28 @@ module _ (h : Site) (n r end j : ℕ) (o : Option Loop) (s : Spot) (t b : CoreFo
       let body_line : v.line ≡ start.line + high p + 1 = omega (arith, line-behind (past start p), line-past start p) in
       let z_line : z ≡ start.line + high p + 1 + high q + 1 =
       omega (arith, line-past v body, body_line, high-both q back, e4) in
-      let rest = right h n enter (out ⊕ whole) code in
+      let kept_test : KeepsWithin start.line p = keeps t (within h inside) start r in
+      let kept_body : KeepsWithin v.line q = keeps b (within h inside) v r in
+      let kept_back : KeepsWithin (start.line + high p + high skip) body =
+      within_moved v.line (start.line + high p + high skip) body (omega (arith, e3, body_line))
+      (within_both v.line q back kept_body (within_puts _ _)) in
+      let kept_rest : KeepsWithin (start.line + high p) (skip ⊕ body) =
+      within_both (start.line + high p) skip body (within_puts _ _) kept_back in
+      let kept_all : KeepsWithin start.line (p ⊕ skip ⊕ body) =
+      within_both start.line p (skip ⊕ body) kept_test kept_rest in
+      let kept_whole : KeepsWithin (n + high enter + high out) whole =
+      within_moved start.line (n + high enter + high out) whole (omega (arith, e1, e2, begins))
+      (within_both start.line (p ⊕ skip ⊕ body) load kept_all (within_puts _ _)) in
+      let rest = right h n enter (out ⊕ whole) (within_puts _ _) code in
       let inner = moved h (n + high enter + high out) start.line whole (omega (arith, e1, e2, begins))
-      (right h (n + high enter) out whole rest) in
-      let tests = left h start.line (p ⊕ skip ⊕ body) load inner in
-      let behind_test = right h start.line p (skip ⊕ body) tests in
+      (right h (n + high enter) out whole (within_puts _ _) rest) in
+      let tests = left h start.line (p ⊕ skip ⊕ body) load (within_puts _ _) inner in
+      let behind_test = right h start.line p (skip ⊕ body) kept_test tests in
       let at_body = moved h (start.line + high p + high skip) v.line body (omega (arith, e3, body_line))
-      (right h (start.line + high p) skip body behind_test) in
+      (right h (start.line + high p) skip body (within_puts _ _) behind_test) in
       let load_line = moved h (start.line + high (p ⊕ skip ⊕ body)) z load
       (omega (arith, z_line, high-both p (skip ⊕ body), high-both skip body, high-both q back, e3, e4))
-      (right h start.line (p ⊕ skip ⊕ body) load inner) in
+      (right h start.line (p ⊕ skip ⊕ body) load kept_all inner) in
       record {
         loop = record {
           loop = inside;
@@ -89,22 +104,26 @@ module _ (h : Site) (n r end j : ℕ) (o : Option Loop) (s : Spot) (t b : CoreFo
           value = refl;
           leads_out = leads (n + high enter) (behind s).line (past start whole).line (omega (arith, e1, line-behind s, here))
               (omega (arith, ends, high-both enter (out ⊕ whole), high-both out whole, e1, e2, line-past start whole, begins))
-              (the_line h (n + high enter) (line.Jump (past start whole).line) (left h (n + high enter) out whole rest));
+              (the_line h (n + high enter) (line.Jump (past start whole).line)
+              (left h (n + high enter) out whole kept_whole rest));
           test_spot = start;
           body_spot = v;
           room = covers.0;
           test_covered = covers.1;
           body_covered = covers.2;
-          test = left h start.line p (skip ⊕ body) tests;
-          body = left h v.line q back at_body;
+          test = left h start.line p (skip ⊕ body) kept_rest tests;
+          body = left h v.line q back (within_puts _ _) at_body;
           out = z;
           branches = inl (
-            the_line h (start.line + high p) (line.JumpNot r z) (left h (start.line + high p) skip body behind_test),
+            the_line h (start.line + high p) (line.JumpNot r z)
+                (left h (start.line + high p) skip body kept_back behind_test),
             body_line,
           );
-          back = inl (the_line h (v.line + high q) (line.Jump start.line) (right h v.line q back at_body));
+          back = inl (the_line h (v.line + high q) (line.Jump start.line) (right h v.line q back kept_body at_body));
           load = the_line h z (line.Does (op.LoadNil r)) load_line;
           round = inl refl;
+          stays = first_stays h start.line (p ⊕ skip ⊕ body)
+              (omega (arith, high-both p (skip ⊕ body), high-both skip body, e3)) tests;
           ends = omega (
             arith,
             ends,
@@ -123,7 +142,9 @@ module _ (h : Site) (n r end j : ℕ) (o : Option Loop) (s : Spot) (t b : CoreFo
             z_line,
           );
         };
-        enters = the_line h n (line.Jump start.line) (left h n enter (out ⊕ whole) code);
+        enters = the_line h n (line.Jump start.line)
+            (left h n enter (out ⊕ whole)
+            (within_both (n + high enter) out whole (within_puts _ _) kept_whole) code);
       }
 
   body_first : Covers h o r s j (while_form true t b)
@@ -153,17 +174,31 @@ module _ (h : Site) (n r end j : ℕ) (o : Option Loop) (s : Spot) (t b : CoreFo
       let body_line : v.line ≡ round.line + 1 = line-behind round in
       let test_line : w.line ≡ v.line + high q =
       omega (arith, line-past round (leap ⊕ q), high-both leap q, e3, body_line) in
-      let rest = right h n enter (out ⊕ whole) code in
+      let kept_body : KeepsWithin (round.line + high leap) q =
+      within_moved v.line (round.line + high leap) q (omega (arith, e3, body_line)) (keeps b (within h inside) v r) in
+      let kept_test : KeepsWithin w.line p = keeps t (within h inside) w r in
+      let kept_bodies : KeepsWithin round.line (leap ⊕ q) =
+      within_both round.line leap q (within_puts _ _) kept_body in
+      let kept_tests : KeepsWithin (round.line + high (leap ⊕ q)) (p ⊕ again) =
+      within_moved w.line (round.line + high (leap ⊕ q)) (p ⊕ again)
+      (omega (arith, test_line, high-both leap q, e3, body_line))
+      (within_both w.line p again kept_test (within_puts _ _)) in
+      let kept_all : KeepsWithin round.line ((leap ⊕ q) ⊕ p ⊕ again) =
+      within_both round.line (leap ⊕ q) (p ⊕ again) kept_bodies kept_tests in
+      let kept_whole : KeepsWithin (n + high enter + high out) whole =
+      within_moved round.line (n + high enter + high out) whole (omega (arith, e1, e2, begins))
+      (within_both round.line ((leap ⊕ q) ⊕ p ⊕ again) load kept_all (within_puts _ _)) in
+      let rest = right h n enter (out ⊕ whole) (within_puts _ _) code in
       let inner = moved h (n + high enter + high out) round.line whole (omega (arith, e1, e2, begins))
-      (right h (n + high enter) out whole rest) in
-      let parts = left h round.line ((leap ⊕ q) ⊕ p ⊕ again) load inner in
-      let bodies = left h round.line (leap ⊕ q) (p ⊕ again) parts in
+      (right h (n + high enter) out whole (within_puts _ _) rest) in
+      let parts = left h round.line ((leap ⊕ q) ⊕ p ⊕ again) load (within_puts _ _) inner in
+      let bodies = left h round.line (leap ⊕ q) (p ⊕ again) kept_tests parts in
       let tests = moved h (round.line + high (leap ⊕ q)) w.line (p ⊕ again)
-      (omega (arith, test_line, high-both leap q, e3, body_line)) (right h round.line (leap ⊕ q) (p ⊕ again) parts) in
+      (omega (arith, test_line, high-both leap q, e3, body_line)) (right h round.line (leap ⊕ q) (p ⊕ again) kept_bodies parts) in
       let z = w.line + high p + 1 in
       let load_line = moved h (round.line + high ((leap ⊕ q) ⊕ p ⊕ again)) z load
       (omega (arith, high-both (leap ⊕ q) (p ⊕ again), high-both leap q, high-both p again, e3, e4, test_line, body_line))
-      (right h round.line ((leap ⊕ q) ⊕ p ⊕ again) load inner) in
+      (right h round.line ((leap ⊕ q) ⊕ p ⊕ again) load kept_all inner) in
       record {
         loop = record {
           loop = inside;
@@ -172,21 +207,23 @@ module _ (h : Site) (n r end j : ℕ) (o : Option Loop) (s : Spot) (t b : CoreFo
           value = refl;
           leads_out = leads (n + high enter) (behind s).line (past round whole).line (omega (arith, e1, line-behind s, here))
               (omega (arith, ends, high-both enter (out ⊕ whole), high-both out whole, e1, e2, line-past round whole, begins))
-              (the_line h (n + high enter) (line.Jump (past round whole).line) (left h (n + high enter) out whole rest));
+              (the_line h (n + high enter) (line.Jump (past round whole).line)
+              (left h (n + high enter) out whole kept_whole rest));
           test_spot = w;
           body_spot = v;
           room = covers.0;
           test_covered = covers.1;
           body_covered = covers.2;
-          test = left h w.line p again tests;
+          test = left h w.line p again (within_puts _ _) tests;
           body = moved h (round.line + high leap) v.line q (omega (arith, e3, body_line))
-              (right h round.line leap q bodies);
+              (right h round.line leap q (within_puts _ _) bodies);
           out = z;
-          branches = inr (the_line h (w.line + high p) (line.JumpIf r v.line) (right h w.line p again tests), refl);
+          branches = inr (the_line h (w.line + high p) (line.JumpIf r v.line) (right h w.line p again kept_test tests), refl);
           back = inr test_line;
           load = the_line h z (line.Does (op.LoadNil r)) load_line;
           round = inr (subst (λ (i : ℕ). LineAt h round.line (line.Jump i)) (omega (arith, line-past v q, test_line))
-              (the_line h round.line (line.Jump (past v q).line) (left h round.line leap q bodies)));
+              (the_line h round.line (line.Jump (past v q).line) (left h round.line leap q kept_body bodies)));
+          stays = first_stays h round.line (leap ⊕ q) (omega (arith, high-both leap q, e3)) bodies;
           ends = omega (
             arith,
             ends,
@@ -206,7 +243,9 @@ module _ (h : Site) (n r end j : ℕ) (o : Option Loop) (s : Spot) (t b : CoreFo
             test_line,
           );
         };
-        enters = the_line h n (line.Jump v.line) (left h n enter (out ⊕ whole) code);
+        enters = the_line h n (line.Jump v.line)
+            (left h n enter (out ⊕ whole)
+            (within_both (n + high enter) out whole (within_puts _ _) kept_whole) code);
       }
 
 module _ (g : Ground) (h : Site) (static : Static h) (ks : List Item) (m : source.Memory) (ls : List Level)

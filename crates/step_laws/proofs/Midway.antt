@@ -90,7 +90,7 @@ raises_behind g h c e w u ks m x l n r i o around out still goes at acts less bo
       out = out ∙ sym quiet.0;
       both = grown (over_levels g (frame (frame_at h x n) ∷ g.below)) m (aligned l m)
           (below_running g h m (aligned l m) both (frame_at h x n) refl) m.place u quiet.1;
-      leaving = leaves_frame g h l.lists ks i r around x n both.site next;
+      leaving = leaves_frame g h l.lists ks i r around x n both.site at.guarded next;
     })))
 
 -- The answer of an instruction behind others of its form, whose output is as it was.

@@ -12,7 +12,7 @@ use Rattle.def_calls.specs.World.{World}
 use Rattle.def_calls.specs.Fibers as fibers
 use Rattle.def_eval.specs.Source.{Source}
 use Rattle.def_eval.specs.Configuration as source
-use Rattle.def_eval.specs.Configuration.{Place, Scope, Item, part, activation, iteration, ensuring, Kept}
+use Rattle.def_eval.specs.Configuration.{Place, Scope, stop_of, Item, part, activation, iteration, ensuring, Kept}
 use Rattle.def_eval.specs.Scopes.{no_scope, value_in, scope_at}
 use Rattle.def_eval.specs.Entering.{first_of}
 use Rattle.def_core.specs.Sound.{OptionIs}
@@ -21,10 +21,12 @@ use Rattle.step_laws.specs.Around.{further_slots}
 use Rattle.def_machine.specs.State as machine
 use Rattle.def_machine.specs.State.{Registers, no_registers, Frame, Level, frame, list_at, slot_at}
 use Rattle.scope_laws.specs.Numbers.{parents}
-use Rattle.step_laws.specs.Site.{Site, register}
+use Rattle.step_laws.specs.Site.{Site, guarded_by, bare, register}
 use Rattle.step_laws.specs.Calm.{Grows}
 use Rattle.step_laws.specs.Relation.{Inside, Ends, Waits, Same, Mirrors, SiteIs, Linked, SeesIn, SitesAre, FibersAre, AllFibers, uses, uses_in, Ground, over_levels, Both, Running}
 use Rattle.step_laws.proofs.Registers.{Keeps, inside_kept}
+use Rattle.step_laws.proofs.Bared.{site_of}
+use Rattle.step_laws.proofs.Outside.{outside_any}
 use Rattle.step_laws.proofs.Untouched.{ends_kept, leaves_end, sites_grow}
 
 -- Elements that are there stay.
@@ -70,7 +72,9 @@ pub inside_end : (h : Site) (l : List Registers) (AtEnd : ℕ → Place → List
     → ((a : ℕ) (p : Place) (is : List Item) (i t : ℕ) → AtEnd a p is i t → C) → (ks : List Item) (n r : ℕ)
     (around : Option Loop) → Inside h l AtEnd ks n r around → C
 inside_end h l E C to [] n r around a = absurd a
-inside_end h l E C to (part q ∷ ks) n r around a = inside_end h l E C to ks a.end a.low a.outer a.next
+inside_end h l E C to (part q ∷ ks) n r around a =
+    outside_any (stop_of q) h.guards (λ gs. Inside (guarded_by h gs) l E ks a.end a.low a.outer) C
+    (λ gs x. inside_end (guarded_by h gs) l E C to ks a.end a.low a.outer x) a.next
 inside_end h l E C to (activation c q ∷ ks) n r around a = to c q ks n r a.0
 inside_end h l E C to (iteration c it q ∷ ks) n r around a = absurd a
 inside_end h l E C to (ensuring o ∷ ks) n r around a = absurd a
@@ -86,22 +90,23 @@ pub waits_more : (hs : List Site) (d : Site) (fiber : fibers.Name) (l : List Reg
     → Waits (hs ++ d ∷ []) fiber (l ++ r ∷ []) ks place ls
 waits_more hs d fiber l r long ks place [] w = w
 waits_more hs d fiber l r long ks place (frame f ∷ ls) w =
-    let lt = low_enough hs w.h.list w.h w.site in
+    let lt = low_enough hs w.h.list (bare w.h) w.site in
     record {
       h = w.h;
       x = w.x;
       at = w.at;
       n = w.n;
       is = w.is;
-      site = there_before hs (d ∷ []) w.h.list w.h w.site;
+      site = there_before hs (d ∷ []) w.h.list (bare w.h) w.site;
       after = w.after;
       room = w.room;
       there = w.there;
+      guarded = w.guarded;
       around = w.around;
       next = inside_kept w.h l (l ++ r ∷ [])
-          (λ b p is i t. Ends w.h fiber ls (λ q js. Waits hs fiber l js q ls) b p is i t)
-          (λ b p is i t. Ends w.h fiber ls (λ q js. Waits (hs ++ d ∷ []) fiber (l ++ r ∷ []) js q ls) b p is i t)
-          (ends_kept w.h fiber ls (λ q js. Waits hs fiber l js q ls)
+          (λ b p is i t. Ends (bare w.h) fiber ls (λ q js. Waits hs fiber l js q ls) b p is i t)
+          (λ b p is i t. Ends (bare w.h) fiber ls (λ q js. Waits (hs ++ d ∷ []) fiber (l ++ r ∷ []) js q ls) b p is i t)
+          (ends_kept (bare w.h) fiber ls (λ q js. Waits hs fiber l js q ls)
           (λ q js. Waits (hs ++ d ∷ []) fiber (l ++ r ∷ []) js q ls)
           (λ q js. waits_more hs d fiber l r long js q ls)) ks w.n w.x.waits w.around
           (keeps_before w.h l r w.x.waits (omega (arith, lt, long))) w.next;
@@ -149,13 +154,13 @@ pub unused : (hs : List Site) (fiber : fibers.Name) (l : List Registers) (n : �
     (place : Place) (ls : List Level) → Waits hs fiber l ks place ls → uses n ls ≡ 0
 unused hs fiber l n le ks place [] w = refl
 unused hs fiber l n le ks place (frame f ∷ ls) w = at (nat_eq n f.list) refl
-    (inside_end w.h l (λ b p is i t. Ends w.h fiber ls (λ q js. Waits hs fiber l js q ls) b p is i t)
+    (inside_end w.h l (λ b p is i t. Ends (bare w.h) fiber ls (λ q js. Waits hs fiber l js q ls) b p is i t)
     (uses n ls ≡ 0) (λ b p is i t e. unused hs fiber l n le is p ls
-    (leaves_end w.h fiber ls (λ q js. Waits hs fiber l js q ls) hs l (λ q js u. u) p is i t e.by)) ks w.n w.x.waits
+    (leaves_end (bare w.h) fiber ls (λ q js. Waits hs fiber l js q ls) hs l (λ q js u. u) p is i t e.by)) ks w.n w.x.waits
     w.around w.next)
   where
     lt : w.h.list < length hs
-    lt = low_enough hs w.h.list w.h w.site
+    lt = low_enough hs w.h.list (bare w.h) w.site
 
     at : (b : Bool) → nat_eq n f.list ≡ b → uses n ls ≡ 0 → (if b then 1 else 0) + uses n ls ≡ 0
     at true e below =
@@ -195,14 +200,14 @@ same_before h cs c l r s =
 -- what is around the scopes stays, and around the new one is what is said
 linked_more : (hs ds : List Site) (around : Scopes) (o : Option ℕ) → Linked hs around o → Linked (hs ++ ds) around o
 linked_more hs ds around None x = x
-linked_more hs ds around (Some n) x = (x.0, there_before hs ds x.0.list x.0 x.1, x.2, x.3)
+linked_more hs ds around (Some n) x = (x.0, there_before hs ds x.0.list (bare x.0) x.1, x.2, x.3)
 
 sees_more : (s : Source) (hs ds : List Site) (b : ℕ) (ns : List ℕ) → SeesIn s hs b ns → SeesIn s (hs ++ ds) b ns
 sees_more s hs ds b ns x = (x.0, x.1, linked_more hs ds x.0 (first_of ns) x.2)
 
 below_end : (hs : List Site) (around : Scopes) (o : Option ℕ) → Linked hs around o → OptionIs (λ n. n < length hs) o
 below_end hs around None x = tt
-below_end hs around (Some n) x = subst (λ (i : ℕ). i < length hs) x.2 (low_enough hs x.0.list x.0 x.1)
+below_end hs around (Some n) x = subst (λ (i : ℕ). i < length hs) x.2 (low_enough hs x.0.list (bare x.0) x.1)
 
 parents_more : (cs : List Scope) (c : Scope) → parents (cs ++ c ∷ []) ≡ parents cs ++ c.parent ∷ []
 parents_more cs c = map-append (λ (q : Scope). q.parent) cs (c ∷ [])
@@ -228,14 +233,15 @@ sites_more s p hs d cs c l r w a e out link new = record {
       ∙ ap (λ (o : Option ℕ). parents cs ++ o ∷ []) out ∙ sym (map-append (λ (q : Scope). q.parent) cs (c ∷ []));
   scopes = omega (arith, a.scopes, length-append cs (c ∷ []), length-append hs (d ∷ []));
   lists = omega (arith, a.lists, length-append l (r ∷ []), length-append hs (d ∷ []));
-  each = λ h is. ⊎_elim (λ lt. old h (a.each h (before_or_new hs d h.list h is lt)))
-      (λ le. subst (λ (q : Site). SiteIs s p q (cs ++ c ∷ []) (l ++ r ∷ []) w) (sym (the_new hs d h.list h is le)) new)
+  each = λ h is. ⊎_elim (λ lt. old h (a.each h (before_or_new hs d h.list (bare h) is lt)))
+      (λ le. site_of s p h (cs ++ c ∷ []) (l ++ r ∷ []) w
+      (subst (λ (q : Site). SiteIs s p q (cs ++ c ∷ []) (l ++ r ∷ []) w) (sym (the_new hs d h.list (bare h) is le)) new))
       (cases_lt h.list (length hs));
-  linked = λ h is. ⊎_elim (λ lt. linked_before h lt (a.linked h (before_or_new hs d h.list h is lt)))
-      (λ le. subst (λ (q : Site). Links q) (sym (the_new hs d h.list h is le)) linked_now)
+  linked = λ h is. ⊎_elim (λ lt. linked_before h lt (a.linked h (before_or_new hs d h.list (bare h) is lt)))
+      (λ le. subst (λ (q : Site). Links q) (sym (the_new hs d h.list (bare h) is le)) linked_now)
       (cases_lt h.list (length hs));
-  below = λ h is. ⊎_elim (λ lt. below_before h lt (a.below h (before_or_new hs d h.list h is lt)))
-      (λ le. subst (λ (q : Site). Below q) (sym (the_new hs d h.list h is le)) below_now)
+  below = λ h is. ⊎_elim (λ lt. below_before h lt (a.below h (before_or_new hs d h.list (bare h) is lt)))
+      (λ le. subst (λ (q : Site). Below q) (sym (the_new hs d h.list (bare h) is le)) below_now)
       (cases_lt h.list (length hs));
   procs = λ b ns has. sees_more s hs (d ∷ []) b ns (a.procs b ns has);
 }
@@ -280,13 +286,13 @@ sites_more s p hs d cs c l r w a e out link new = record {
 -- A body runs whose scope and list are new, above what waits for it.
 pub opened : (s : Source) (p : Program) (g : Ground) (gs : List Level) (m : source.Memory) (k : machine.Memory) (d : Site)
     (c : Scope) (r : Registers) (place : Place) (w : World) (ks : List Item) (back : Place)
-    → Both s p (over_levels g gs) m k → Waits g.sites g.fiber k.lists ks back gs → d.list ≡ length g.sites
+    → bare d ≡ d → Both s p (over_levels g gs) m k → Waits g.sites g.fiber k.lists ks back gs → d.list ≡ length g.sites
     → r.outer ≡ c.parent → Linked g.sites (further_slots d.context.scopes) c.parent
     → SiteIs s p d (m.scopes ++ c ∷ []) (k.lists ++ r ∷ []) w → Grows m.world w
     → Running s p (record { sites = g.sites ++ d ∷ []; fiber = g.fiber; below = gs }) d
     (record m { place = place; scopes = m.scopes ++ c ∷ []; world = w })
     (record k { lists = k.lists ++ r ∷ []; world = w })
-opened s p g gs m k d c r place w ks back b waits e out link new grows = record {
+opened s p g gs m k d c r place w ks back plain b waits e out link new grows = record {
   all = record {
     world = refl;
     sites = sites_more s p g.sites d m.scopes c k.lists r w
@@ -294,7 +300,7 @@ opened s p g gs m k d c r place w ks back b waits e out link new grows = record 
     fibers = all_fibers_more g.sites d g.fiber k.lists r b.sites.lists m.fibers k.fibers b.fibers;
     apart = b.apart;
   };
-  site = subst (λ (n : ℕ). slice_get (g.sites ++ d ∷ []) n ≡ Some d) (sym e) (last_site g.sites d);
+  site = subst (λ (n : ℕ). slice_get (g.sites ++ d ∷ []) n ≡ Some d) (sym e) (last_site g.sites d) ∙ ap Some (sym plain);
   free = omega (
     arith,
     unused g.sites g.fiber k.lists d.list (omega (arith, e)) ks back gs waits,

@@ -1,6 +1,5 @@
 -- What an exit to an activation further out passes, and where it ends.
-use Rattle.std.proofs.Common.{◌≡◌, ℕ, ◌+◌, ◌<◌, ◌≤◌, List, [], ◌∷◌, refl, sym, ap, ◌∙◌, subst, arith, length, Bool, true, false, true≢false, reverse}
-use Rattle.std.specs.List.{filter}
+use Rattle.std.proofs.Common.{◌≡◌, ℕ, ◌+◌, ◌<◌, ◌≤◌, List, [], ◌∷◌, refl, sym, ap, ◌∙◌, subst, arith, length, Bool, true, false, true≢false}
 use Rattle.std.specs.Prelude.{if◌then◌else◌, ◌||◌, nat_eq}
 use Rattle.std.proofs.lemmas.Bool.{eqb-true, eqb-false, ne_eqb, eq-eqb}
 use Rattle.rb_value.specs.declared.value.Value.{Value}
@@ -18,13 +17,12 @@ use Rattle.def_eval.specs.Exits.{travel_part, travel_activation, travel_iteratio
 use Rattle.def_eval.specs.Transition.{go}
 use Rattle.def_machine.specs.State as machine
 use Rattle.def_machine.specs.State.{Level, frame, State, On}
-use Rattle.def_machine.specs.Unwind.{covers, covering, handler, reach, at_frame, unwind, closed, receive, land, throw_within, throw}
+use Rattle.def_machine.specs.Unwind.{covering, handler, reach, at_frame, unwind, closed, receive, land, throw_within, throw}
 use Rattle.def_machine.specs.Turn.{turn}
 use Rattle.step_laws.specs.Site.{Site, at_line}
 use Rattle.step_laws.specs.Calm.{Grows, Quiet}
 use Rattle.step_laws.specs.Measure.{burden, measure}
 use Rattle.step_laws.specs.Far.{Far, returns_far, breaks_far, exit_to, thrown_to}
-use Rattle.step_laws.specs.Behind.{Static}
 use Rattle.step_laws.specs.Relation.{Waits, Ground, over_levels, IsPassed, uses, uses_in, Both, GoesFar, going_far, Alike, Advances}
 use Rattle.step_laws.proofs.Placed.{Rest, frame_at}
 use Rattle.step_laws.proofs.Untouched.{grown, without_top}
@@ -80,24 +78,24 @@ unfolding throw
 landed p q i v ls k true = refl
 landed p q i v ls k false = refl
 
-past_frame_far : (h : Site) → Static h → (q : Far) (i : ℕ) (v : Value) (x : Rest) (n : ℕ) (ls : List Level)
-    (k : machine.Memory) → throw h.program (thrown_to q i v) (frame (frame_at h x n) ∷ ls) k
+past_frame_far : (h : Site) (n : ℕ) → covering h.program h.body (at_line h n) ≡ [] → (q : Far) (i : ℕ) (v : Value) (x : Rest)
+    (ls : List Level) (k : machine.Memory) → throw h.program (thrown_to q i v) (frame (frame_at h x n) ∷ ls) k
     ≡ reached h.program q i v ls (closed k h.activation) (nat_eq i h.activation)
-unfolding throw unwind covering
-past_frame_far h static returns_far i v x n ls k =
-    ap by static.no_catches ∙ landed h.program returns_far i v ls (closed k h.activation) (nat_eq i h.activation)
+unfolding throw unwind
+past_frame_far h n none returns_far i v x ls k =
+    ap by none ∙ landed h.program returns_far i v ls (closed k h.activation) (nat_eq i h.activation)
   where
     by : List CatchEntry → State
     by cs = land (λ y gs l. throw_within (length k.fibers.others) h.program y gs l)
-        (at_frame (handler (thrown_to returns_far i v) (filter (covers (at_line h n)) (reverse cs)))
+        (at_frame (handler (thrown_to returns_far i v) cs)
         (thrown_to returns_far i v) (frame_at h x n) ls k
         (unwind h.program (thrown_to returns_far i v) ls (closed k h.activation)))
-past_frame_far h static breaks_far i v x n ls k =
-    ap by static.no_catches ∙ landed h.program breaks_far i v ls (closed k h.activation) (nat_eq i h.activation)
+past_frame_far h n none breaks_far i v x ls k =
+    ap by none ∙ landed h.program breaks_far i v ls (closed k h.activation) (nat_eq i h.activation)
   where
     by : List CatchEntry → State
     by cs = land (λ y gs l. throw_within (length k.fibers.others) h.program y gs l)
-        (at_frame (handler (thrown_to breaks_far i v) (filter (covers (at_line h n)) (reverse cs)))
+        (at_frame (handler (thrown_to breaks_far i v) cs)
         (thrown_to breaks_far i v) (frame_at h x n) ls k
         (unwind h.program (thrown_to breaks_far i v) ls (closed k h.activation)))
 
@@ -214,7 +212,7 @@ module _ (s : Source) (p : Program) (m : source.Memory) (ls : List Level) (k : m
       ≡ reached p t.by t.to t.value f.below (closed t.memory f.h.activation) (nat_eq t.to f.h.activation) =
       subst (λ (q : Program). throw q (thrown_to t.by t.to t.value) (frame (frame_at f.h f.x f.at) ∷ f.below) t.memory
       ≡ reached q t.by t.to t.value f.below (closed t.memory f.h.activation) (nat_eq t.to f.h.activation)) i.program
-      (past_frame_far f.h i.static t.by t.to t.value f.x f.at f.below t.memory) in
+      (past_frame_far f.h f.at f.unguarded t.by t.to t.value f.x f.below t.memory) in
       let turns = t.throws
       ∙ ap (λ (gs : List Level). throw p (thrown_to t.by t.to t.value) gs t.memory) f.is
       ∙ leaves_it

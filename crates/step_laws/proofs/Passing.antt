@@ -21,7 +21,8 @@ use Rattle.eval_laws.specs.Standing.{past_items}
 use Rattle.step_laws.specs.Site.{Site, within, LineAt, Room, Named, number}
 use Rattle.step_laws.specs.Passed.{in_array, MayHand, Passed, arguments_code}
 use Rattle.step_laws.specs.Covers.{past_items_code, past_new, Covers, CoversItems, CoversElements}
-use Rattle.step_laws.proofs.Placed.{high, high-both, high-puts, Stands, moved, left, right, the_line}
+use Rattle.step_laws.proofs.Placed.{high, high-both, high-puts, Stands, moved, within_puts, left, right, left_at, right_at, the_line}
+use Rattle.step_laws.proofs.Within.{items_keep, elements_keep}
 use Rattle.step_laws.specs.Behind.{sends, sends_self, block_sender, PassesBlock, to_value, to_self, a_method, sends_array, sends_array_self, ArrayEnds, array_alone, array_with, CallEnds, alone, with_block, packed, ArgumentsAt, one_by_one, gathered}
 
 -- By what they are.
@@ -98,7 +99,7 @@ sender_passes h r false x k n e named = to_value x e refl named refl
 sender_passes h r true x k n e named = to_self x e refl named refl
 
 module _ (h : Site) (around : Option Loop) (r : ℕ) (x : Name) (own : Bool) (is : Items) (s : Spot) (j : ℕ) (b : Maybe)
-    (n end : ℕ) (named : Named h x) where
+    (n end : ℕ) (named : Named h x) (here : s.line ≡ n) where
   abbrev each : Code
   each = λ d t i. pass_in_registers d t i is
 
@@ -165,8 +166,9 @@ module _ (h : Site) (around : Option Loop) (r : ℕ) (x : Name) (own : Bool) (is
       let o = op.Array (r + 1) (item_count is) in
       let all : in_array is ≡ true = ap (λ (t : Bool). t || nat_lt 253 (item_count is)) unspread ∙ many in
       let tall : n + high (p ⊕ does o) ≡ n + high p + 1 = omega (arith, high-both p (does o), high-puts (line.Does o)) in
-      one_by_one asked'.1 (left h n p (does o) code')
-      (packed many named asked'.0 (the_line h (n + high p) (line.Does o) (right h n p (does o) code'))
+      one_by_one asked'.1 (left h n p (does o) (within_puts _ _) code')
+      (packed many named asked'.0 (the_line h (n + high p) (line.Does o)
+      (right_at h n s p (does o) here (items_keep is (within h around) s (r + 1)) code'))
       (subst (λ (l : ℕ). ArrayEnds h around (a_method x) r own (past (past s p) (does o)) (past_items j is) b l end) tall
       (subst (λ (t : Spot). ArrayEnds h around (a_method x) r own t (past_items j is) b (n + high (p ⊕ does o)) end)
       (past-both s p (does o))
@@ -187,8 +189,9 @@ module _ (h : Site) (around : Option Loop) (r : ℕ) (x : Name) (own : Bool) (is
         spread = spreads;
         room_behind = asked'.0;
         covered = asked'.1;
-        makes = the_line h n (line.Does o) (left h n p q code');
-        code = moved h (n + high p) (n + 1) q one (right h n p q code');
+        makes = the_line h n (line.Does o)
+            (left_at h n s p q here (elements_keep is (within h around) (past s p) (r + 1)) code');
+        code = moved h (n + high p) (n + 1) q one (right h n p q (within_puts _ _) code');
         ends = subst (λ (l : ℕ). ArrayEnds h around (a_method x) r own (past (past s p) q) (past_items j is) b l end) tall
             (subst (λ (t : Spot). ArrayEnds h around (a_method x) r own t (past_items j is) b (n + high (p ⊕ q)) end)
             (past-both s p q) (array_sent all (past s (p ⊕ q)) (n + high (p ⊕ q)) sent'));

@@ -30,13 +30,15 @@ use Rattle.step_laws.specs.Site.{Site, within, at_line}
 use Rattle.step_laws.specs.Covers.{past_singleton}
 use Rattle.step_laws.specs.Calm.{Quiet}
 use Rattle.step_laws.specs.Measure.{burden, measure}
-use Rattle.step_laws.proofs.Placed.{high, high-both, high-puts, left, right, moved, the_line, frame_at, turned}
+use Rattle.step_laws.proofs.Placed.{high, high-both, high-puts, left, right_at, moved, the_line, frame_at, turned}
 use Rattle.step_laws.specs.Behind.{Static, DefineBehind, defines_method}
 use Rattle.step_laws.specs.Relation.{Ground, InFrame, Common, Doing, GivesIn, Step}
 use Rattle.step_laws.proofs.Registers.{keeps_above, slot_same}
 use Rattle.step_laws.proofs.Untouched.{put_only, frame_kept, same_here, written_here}
 use Rattle.step_laws.proofs.Matching.{going, going_out, state_at, written}
 use Rattle.step_laws.proofs.Literals.{aligned}
+use Rattle.step_laws.proofs.Guards.{within_puts, within_makes}
+use Rattle.step_laws.proofs.Within.{keeps_ends, keeps}
 use Rattle.step_laws.proofs.Definitions.{made_line, high_made}
 use Rattle.step_laws.proofs.Midway.{few_of, few_before, raises_behind, answer_behind, answer_out, begins_first}
 
@@ -58,12 +60,13 @@ module _ (g : Ground) (h : Site) (static : Static h) (ks : List Item) (m : sourc
       let o = op.Def d.r (entry_of h.context x) t.child in
       let bodies = body_code kind.Method h.context.scopes t.body f in
       let made = makes o t.body bodies in
-      let first = left h d.n (p ⊕ q) made d.code in
+      let kept = keeps e (within h d.loop) d.s d.r in
+      let first = left h d.n (p ⊕ q) made (within_makes _ _ _ _) d.code in
       let n = d.n + high p in
       let one : high (p ⊕ q) ≡ high p + 1 = omega (arith, high-both p q, high-puts (line.Does (op.SClass d.r))) in
       begins_first g h ks m ls k both j (j + span e) (form_on e x f) e (define_on x (j + span e)) none d refl
       (omega arith)
-      d.covered.1 (left h d.n p q first) (defines_method (record {
+      d.covered.1 (left h d.n p q (within_puts _ _) first) (defines_method (record {
         at = refl;
         name = x;
         body = j + span e;
@@ -74,9 +77,10 @@ module _ (g : Ground) (h : Site) (static : Static h) (ks : List Item) (m : sourc
         room = d.covered.0;
         child = t.child;
         makes = d.covered.2.child;
-        opens = the_line h n (line.Does (op.SClass d.r)) (right h d.n p q first);
+        opens = the_line h n (line.Does (op.SClass d.r)) (right_at h d.n d.s p q d.here kept first);
         defines = made_line h (n + 1) t.body o bodies
-            (moved h (d.n + high (p ⊕ q)) (n + 1) made (omega (arith, one)) (right h d.n (p ⊕ q) made d.code));
+            (moved h (d.n + high (p ⊕ q)) (n + 1) made (omega (arith, one))
+            (right_at h d.n d.s (p ⊕ q) made d.here (keeps_ends d.s p (line.Does (op.SClass d.r)) kept) d.code));
         ends = omega (arith, one, high-both (p ⊕ q) made, high_made o t.body bodies);
       }))
 

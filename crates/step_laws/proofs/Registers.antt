@@ -7,18 +7,20 @@ use Rattle.rb_value.specs.declared.exit.Slot.{Slot}
 use Rattle.rb_value.specs.declared.exit.Slot.TheVariants.{V}
 use Rattle.rb_value.specs.Slot.{read}
 use Rattle.ir_core.specs.CoreForm.{Local, Forms}
+use Rattle.gen_parts.specs.declared.line.Catch.{Catch}
 use Rattle.gen_forms.specs.declared.context.Loop.{Loop}
-use Rattle.def_eval.specs.Configuration.{Place, Scope, Action, Part, operands, receiver, items, block, elements, hash_key, hash_value, pieces, rest as rest_part, test, chosen, and_then, or_else, loop_test, loop_body, rescued, clause_class, clause_target, clause_body, ensured, Item, part, activation, iteration, ensuring, Memory}
+use Rattle.def_eval.specs.Configuration.{Place, Scope, Action, Part, operands, receiver, items, block, elements, hash_key, hash_value, pieces, rest as rest_part, test, chosen, and_then, or_else, loop_test, loop_body, rescued, clause_class, clause_target, clause_body, ensured, stop_of, Item, part, activation, iteration, ensuring, Memory}
 use Rattle.def_eval.specs.Scopes.{same_local, value_in, put_value, no_scope, scope_at, outward, scopes_around, first_with, scope_of, variable, put_in, with_variable}
 use Rattle.def_machine.specs.State.{Registers, no_registers, body_at, list_at, slot_at, value_at, put}
 use Rattle.scope_laws.specs.Numbers.{parents, outers}
-use Rattle.step_laws.specs.Site.{Site, place_in, register, Known}
+use Rattle.step_laws.specs.Site.{Site, guarded_by, bare, place_in, register, Known}
 use Rattle.step_laws.specs.Behind.{Static, Holds, HoldsCall, OperandBehind, in_literal, in_call, Behind, to_local, to_outer, to_global, strict, breaks, begins_round, leaves_body, ends_body, goes_far, defines_method, opens_space, opens_without, opens_under}
 use Rattle.scope_resolver.specs.declared.seek.Search.TheVariants.{Past}
 use Rattle.scope_resolver.specs.Layout.{seek}
 use Rattle.step_laws.specs.Around.{is_found, first_slots}
 use Rattle.step_laws.specs.Relation.{Inside, Mirrors, Same}
 use Rattle.code_laws.specs.Bound.{IsSeen}
+use Rattle.step_laws.proofs.Outside.{outside_kept}
 use Rattle.step_laws.proofs.Apart.{own_place}
 use Rattle.step_laws.proofs.Seen.{Sort, seen, unseen, sort, seen_scope, same, is_same}
 
@@ -79,6 +81,11 @@ keeps_above h l r i v lt le = record { same = λ j above below. slot_other l h.l
 pub keeps_local : (h : Site) (l : List Registers) (r i : ℕ) (v : Slot) → h.list < length l → i < h.first
     → Keeps h l (put l h.list i v) r
 keeps_local h l r i v lt le = record { same = λ j above below. slot_other l h.list i j v lt (omega arith) }
+
+pub keeps_by : (h d : Site) (l l' : List Registers) (r : ℕ) → bare d ≡ bare h → Keeps h l l' r → Keeps d l l' r
+keeps_by h d l l' r e k =
+    let there = subst (λ (q : Site). Keeps q l l' r) (sym e) (record { same = k.same }) in
+    record { same = there.same }
 
 lower : (h : Site) (l l' : List Registers) (r s : ℕ) → s ≤ r → Keeps h l l' r → Keeps h l l' s
 lower h l l' r s le k = record { same = λ i above below. k.same i above (omega arith) }
@@ -244,6 +251,11 @@ behind_kept h l l' (clause_target j e t q) low n r end around k above b = absurd
 behind_kept h l l' (clause_body q) low n r end around k above b = absurd b
 behind_kept h l l' (ensured j e) low n r end around k above b = absurd b
 
+-- with other entries around a form
+keeps_guarded : (h : Site) (gs : List Catch) (l l' : List Registers) (r : ℕ) → Keeps h l l' r
+    → Keeps (guarded_by h gs) l l' r
+keeps_guarded h gs l l' r k = record { same = k.same }
+
 pub inside_kept : (h : Site) (l l' : List Registers) (AtEnd AtEnd' : ℕ → Place → List Item → ℕ → ℕ → Type 0)
     → ((a : ℕ) (p : Place) (is : List Item) (i t : ℕ) → AtEnd a p is i t → AtEnd' a p is i t)
     → (ks : List Item) (n r : ℕ) (around : Option Loop) → Keeps h l l' r → Inside h l AtEnd ks n r around
@@ -257,9 +269,12 @@ inside_kept h l l' E F to (part p ∷ ks) n r around k a = record {
   behind = behind_kept h l l' p a.low n r a.end around k a.above a.behind;
   outer = a.outer;
   inner = a.inner;
-  next = inside_kept h l l' E F to ks a.end a.low a.outer (lower h l l' r a.low a.below k) a.next;
+  next = outside_kept (stop_of p) h.guards (λ gs. Inside (guarded_by h gs) l E ks a.end a.low a.outer)
+      (λ gs. Inside (guarded_by h gs) l' F ks a.end a.low a.outer)
+      (λ gs x. inside_kept (guarded_by h gs) l l' E F to ks a.end a.low a.outer
+      (keeps_guarded h gs l l' a.low (lower h l l' r a.low a.below k)) x) a.next;
 }
-inside_kept h l l' E F to (activation c p ∷ ks) n r around k a = (to c p ks n r a.0, a.1)
+inside_kept h l l' E F to (activation c p ∷ ks) n r around k a = (to c p ks n r a.0, a.1, a.2)
 inside_kept h l l' E F to (iteration c it p ∷ ks) n r around k a = absurd a
 inside_kept h l l' E F to (ensuring o ∷ ks) n r around k a = absurd a
 

@@ -1,5 +1,5 @@
 -- Returns: to the end of the activation part by part, and there to what waits below.
-use Rattle.std.proofs.Common.{◌≡◌, ℕ, ◌+◌, ◌<◌, List, [], ◌∷◌, ◌++◌, refl, sym, ap, ◌∙◌, subst, arith, Bool, true, false}
+use Rattle.std.proofs.Common.{◌≡◌, ℕ, ◌+◌, ◌<◌, List, [], ◌∷◌, ◌++◌, refl, sym, ap, ◌∙◌, subst, arith, Bool, true, false, map}
 use Rattle.std.proofs.lemmas.Bool.{eq-eqb}
 use Rattle.std.specs.Prelude.{if◌then◌else◌, Some}
 use Rattle.rb_value.specs.declared.value.Value.{Value}
@@ -28,6 +28,7 @@ use Rattle.def_eval.specs.Transition.{go}
 use Rattle.def_machine.specs.State as machine
 use Rattle.def_machine.specs.State.{Level, frame, slot_at}
 use Rattle.def_machine.specs.Unwind.{receive, throw}
+use Rattle.gen_parts.specs.Assembly.{entry_by}
 use Rattle.step_laws.specs.Site.{Site, within, LineAt}
 use Rattle.step_laws.specs.Calm.{Quiet}
 use Rattle.step_laws.specs.Measure.{measure}
@@ -227,7 +228,7 @@ module _ (g : Ground) (h : Site) (static : Static h) (ks : List Item) (m : sourc
       (turned h q.x q.n (op.Return q.r) g.below (aligned k m) q.at
       ∙ ap (λ (u : Value). throw h.program (Return h.activation u) (frame (frame_at h q.x q.n) ∷ g.below) (aligned k m))
       (ap read q.stands)
-      ∙ returned_by h static v q.x q.n g.below (aligned k m)
+      ∙ returned_by h q.n (q.at.guarded ∙ ap (map (entry_by h.at)) q.home.2) v q.x g.below (aligned k m)
       ∙ ap (λ (c : ℕ). receive v g.below (machine.with_world k (close m.world c))) (sym q.home.0))
       (falls g.below ks m' conf (omega arith))
       (record { world = b.world; sites = b.sites; fibers = b.fibers; apart = b.apart }) q.home.1).advances

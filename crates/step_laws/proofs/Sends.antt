@@ -32,12 +32,13 @@ use Rattle.def_machine.specs.State.{Registers, frame, value_at}
 use Rattle.def_machine.specs.Entering.{enter as enter_machine}
 use Rattle.def_machine.specs.Unwind.{after as after_machine}
 use Rattle.def_machine.specs.Turn.{turn, call as call_machine, row, make_array, arguments}
-use Rattle.step_laws.specs.Site.{Site, within, place_in, at_line, LineAt, Room, number}
+use Rattle.step_laws.specs.Site.{Site, IsGuarded, within, place_in, at_line, LineAt, Room, number}
 use Rattle.step_laws.specs.Covers.{past_items_code, Covers, CoversItems}
 use Rattle.step_laws.specs.Calm.{IsSteady, IsBlock, Still}
 use Rattle.step_laws.specs.Bodies.{EntersBody, CallsBodies}
 use Rattle.step_laws.specs.Measure.{size, size_items, size_block, burden, measure}
-use Rattle.step_laws.proofs.Placed.{high, high-both, high-puts, high-nothing, line-past, Stands, left, right, Rest, frame_at, turned}
+use Rattle.step_laws.proofs.Placed.{high, high-both, high-puts, high-nothing, line-past, Stands, left_at, right_at, Rest, frame_at, turned}
+use Rattle.step_laws.proofs.Within.{keeps, items_keep}
 use Rattle.step_laws.proofs.Matching.{Within, Soon, soon_none, later, state_at, written}
 use Rattle.step_laws.specs.Behind.{Static, Holds, HoldsCall, CallBy, block_sender, PassesBlock, Callee, a_method, sending_of, ArrayEnds, CallEnds, alone, with_block, packed, ItemsEnd, by_call, by_yield, by_block, AsksBlock, by_own, by_array}
 use Rattle.step_laws.specs.Relation.{Ground, InFrame, Common, Related}
@@ -135,18 +136,18 @@ module _ (g : Ground) (h : Site) (static : Static h) (ks : List Item) (m : sourc
 
   -- The instruction of a call whose value and items stand in their registers.
   called_at : (c : Config) (x : Rest) (n low : ℕ) (around : Option Loop) (q : Sending) (recv : Value) (vs : List Value)
-      (count : ℕ) (k' : machine.Memory) → Common g h m k' → Room h low → InFrame g h k'.lists ks (n + 1) low around
+      (count : ℕ) (k' : machine.Memory) → Common g h m k' → Room h low → IsGuarded h n → InFrame g h k'.lists ks (n + 1) low around
       → value_at k'.lists h.list low ≡ recv → Holds k'.lists h.list (low + 1) vs → count ≡ length vs
       → nat_lt 253 count ≡ false → k'.world ≡ m.world → From h c (frame (frame_at h x n) ∷ g.below) (aligned k m) m
       → go h.source c ≡ enter h.source (the_entry q recv vs) None ks m
       → turn h.program (state_at g h x n (aligned k m))
       ≡ call_machine h.program q low count None (at_line h (n + 1)) (frame_at h x n) g.below k'
       → burden ks m < measure c → MayCall c → Soon h.source h.program c (state_at g h x n (aligned k m))
-  called_at c x n low around q recv vs count k' both' room next first held all n253 same from goes turns less calls =
+  called_at c x n low around q recv vs count k' both' room guarded next first held all n253 same from goes turns less calls =
       let f = frame_at h (asking h x n low) n in
       entered h.source h.program c (frame (frame_at h x n) ∷ g.below) (aligned k m) m from (the_entry q recv vs) None ks m g
       (frame f ∷ g.below) k' goes (turns ∙ turns_in x n low count k' recv vs q first held all n253 same) less refl
-      (waiting_worlds g h m k' both' f refl) (waiting_frame g h ks m x n low around k' at_home both'.site room next) (enters_by c q recv vs calls)
+      (waiting_worlds g h m k' both' f refl) (waiting_frame g h ks m x n low around k' at_home both'.site room guarded next) (enters_by c q recv vs calls)
 
   -- behind the last item stands one line
   behind_last : (s : Spot) (r n end low : ℕ) (o : Operation) (loop : Option Loop)
@@ -185,7 +186,7 @@ module _ (g : Ground) (h : Site) (static : Static h) (ks : List Item) (m : sourc
           → Soon h.source h.program c (state_at g h x n (aligned k m))
       by false by_that held at next goes' count n253 =
           called_at c x n b.low b.loop (by_name (number h.source y)) recv vs (length vs + item_count no_items) (aligned k m)
-          both b.room next (ap read held.0) held.1 count n253 refl from goes'
+          both b.room at.guarded next (ap read held.0) held.1 count n253 refl from goes'
           (turned h x n o g.below (aligned k m) at
           ∙ calls_value g h x n b.low (at_line h (n + 1)) (aligned k m) y (length vs + item_count no_items) o steady by_that)
           less calls
@@ -200,7 +201,7 @@ module _ (g : Ground) (h : Site) (static : Static h) (ks : List Item) (m : sourc
           (keeps_above h k.lists b.low b.low (V v) s.present (omega arith)) (put_only k.lists h.list b.low v)
           (omega (arith, both.free)) next in
           called_at c x n b.low b.loop (by_name (number h.source y)) recv vs (length vs + item_count no_items) k'
-          (written_here g h m (aligned k m) both b.low v b.room.above) b.room next' first
+          (written_here g h m (aligned k m) both b.low v b.room.above) b.room at.guarded next' first
           (items_kept h k.lists (b.low + 1) b.low v vs s.present (omega arith) held.1) count n253 refl from goes'
           (turned h x n o g.below (aligned k m) at
           ∙ calls_self g h x n b.low (at_line h (n + 1)) (aligned k m) y (length vs + item_count no_items) o steady by_that)
@@ -221,7 +222,7 @@ module _ (g : Ground) (h : Site) (static : Static h) (ks : List Item) (m : sourc
       let o = op.Call b.low (length vs + item_count no_items) in
       let held = subst (λ (t : Bool). HoldsCall h k.lists t b.low recv vs) own b.held in
       let last = behind_last b.s b.r n b.end b.low o b.loop stands tall b.next in
-      called_at c x n b.low b.loop to_proc recv vs (length vs + item_count no_items) (aligned k m) both b.room last.1
+      called_at c x n b.low b.loop to_proc recv vs (length vs + item_count no_items) (aligned k m) both b.room last.0.guarded last.1
       (ap read held.0) held.1 count n253 refl from
       (goes ∙ goes_in j sender recv vs to_proc e refl refl (ap (nat_lt 253) (sym count) ∙ n253))
       (turned h x n o g.below (aligned k m) last.0) less calls
@@ -479,7 +480,7 @@ module _ (g : Ground) (h : Site) (static : Static h) (ks : List Item) (m : sourc
           here = b.here;
           covered = b.covered.0;
           above = omega (arith, b.room.above, b.row);
-          code = left h n p q b.code;
+          code = left_at h n b.s p q b.here (items_keep is (within h b.loop) (past b.s p) (r + 1)) b.code;
           next = record {
             low = b.low;
             end = b.end;
@@ -493,7 +494,7 @@ module _ (g : Ground) (h : Site) (static : Static h) (ks : List Item) (m : sourc
               room = b.room;
               covered = b.covered.1;
               held = b.held;
-              code = right h n p q b.code;
+              code = right_at h n b.s p q b.here (keeps i (within h b.loop) b.s r) b.code;
               ends = sent_moved h b.loop sender b.low (length vs + item_count (plain i is)) (length vs + 1 + item_count is) b.own
                   (past_items_code h b.loop r b.s (plain i is)) (past_items_code h b.loop (r + 1) (past b.s p) is)
                   (past_items j (plain i is)) mb (n + high (p ⊕ q)) (n + high p + high q) b.end more (past-both b.s p q)

@@ -15,7 +15,8 @@ use Rattle.def_eval.specs.Giving.{give_part, do_give}
 use Rattle.def_machine.specs.State as machine
 use Rattle.def_machine.specs.State.{Level, frame, slot_at}
 use Rattle.step_laws.specs.Site.{Site, within}
-use Rattle.step_laws.proofs.Placed.{high, high-both, high-puts, high-nothing, heights, line-past, left, right, the_line, frame_at}
+use Rattle.step_laws.proofs.Placed.{high, high-both, high-puts, high-nothing, heights, line-past, left_at, right_at, the_line, frame_at}
+use Rattle.step_laws.proofs.Within.{keeps, others_keep}
 use Rattle.step_laws.specs.Measure.{poise}
 use Rattle.step_laws.specs.Behind.{Static}
 use Rattle.step_laws.specs.Relation.{Ground, InFrame, Common, Doing, GivesIn, Step}
@@ -51,7 +52,7 @@ module _ (g : Ground) (h : Site) (static : Static h) (ks : List Item) (m : sourc
           here = d.here;
           covered = d.covered.1.0;
           above = d.above;
-          code = left h d.n p q d.code;
+          code = left_at h d.n d.s p q d.here (others_keep es (within h d.loop) (past d.s p) d.r) d.code;
           next = record {
             low = d.r;
             end = d.n + high (p ⊕ q);
@@ -62,7 +63,7 @@ module _ (g : Ground) (h : Site) (static : Static h) (ks : List Item) (m : sourc
               s = past d.s p;
               here = line-past d.s p ∙ ap (λ (i : ℕ). i + high p) d.here;
               covered = d.covered.1.1;
-              code = right h d.n p q d.code;
+              code = right_at h d.n d.s p q d.here (keeps e (within h d.loop) d.s d.r) d.code;
               ends = simp heights (omega arith);
             };
             outer = d.loop;
@@ -102,7 +103,7 @@ module _ (g : Ground) (h : Site) (static : Static h) (ks : List Item) (m : sourc
           here = b.here;
           covered = b.covered.0;
           above = d.next.above;
-          code = left h d.n p q b.code;
+          code = left_at h d.n b.s p q b.here (others_keep es (within h d.loop) (past b.s p) d.next.low) b.code;
           next = record {
             low = d.next.low;
             end = d.next.end;
@@ -113,7 +114,7 @@ module _ (g : Ground) (h : Site) (static : Static h) (ks : List Item) (m : sourc
               s = past b.s p;
               here = line-past b.s p ∙ ap (λ (i : ℕ). i + high p) b.here;
               covered = b.covered.1;
-              code = right h d.n p q b.code;
+              code = right_at h d.n b.s p q b.here (keeps e (within h d.loop) b.s d.next.low) b.code;
               ends = omega (arith, high-both p q, b.ends);
             };
             outer = d.next.outer;

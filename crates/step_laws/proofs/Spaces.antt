@@ -115,6 +115,7 @@ module _ (g : Ground) (h : Site) (static : Static h) (ks : List Item) (m : sourc
     after = refl;
     room = room;
     there = at_home;
+    guarded = at.guarded;
     around = around;
     next = next;
   }

@@ -35,7 +35,7 @@ use Rattle.step_laws.specs.Site.{Site, within, place_in, Room}
 use Rattle.step_laws.specs.Covers.{past_new, Covers, CoversElements}
 use Rattle.step_laws.specs.Calm.{Grows, IsSteady, Quiet, Still, Peace}
 use Rattle.step_laws.specs.Bodies.{CallsBodies}
-use Rattle.step_laws.proofs.Placed.{high, high-both, high-puts, high-nothing, line-past, Stands, moved, left, right, the_line, Rest, frame_at, turned}
+use Rattle.step_laws.proofs.Placed.{high, high-both, high-puts, high-nothing, line-past, Stands, moved, Keeps, within_puts, left, left_at, right_at, the_line, Rest, frame_at, turned}
 use Rattle.step_laws.specs.Behind.{Static, HoldsCall, push, Callee, sending_of, ArrayEnds, GatheredAt, ArgumentBehind, in_call}
 use Rattle.step_laws.specs.Relation.{Ground, InFrame, Common, GivesIn, Related, Step}
 use Rattle.step_laws.proofs.Registers.{slot_same, keeps_above, call_kept}
@@ -43,6 +43,7 @@ use Rattle.step_laws.proofs.Untouched.{put_only, frame_kept, grown_here, same_he
 use Rattle.step_laws.proofs.Matching.{Soon, soon_one, by_one, in_loop, going, state_at, written}
 use Rattle.step_laws.proofs.Calling.{From}
 use Rattle.step_laws.proofs.Literals.{aligned}
+use Rattle.step_laws.proofs.Within.{keeps_ends, keeps, elements_keep}
 use Rattle.step_laws.proofs.Packing.{steady_kept, splat_symbols}
 use Rattle.step_laws.proofs.Arguments.{array_on}
 use Rattle.step_laws.proofs.Arrays.{more, pushed, element_of}
@@ -96,7 +97,8 @@ argument_on g h ks m k x n j sender recv id b e is all spread both there z cover
     let one = p ⊕ does o in
     let q = gather c (past z.s one) (z.low + 1) is in
     let code : Stands h n (one ⊕ q) = subst (Stands h n) same z.code in
-    let first = left h n one q code in
+    let kept_first : Keeps z.s p = keeps e c z.s (z.low + 1 + 1) in
+    let first = left_at h n z.s one q z.here (elements_keep is c (past z.s one) (z.low + 1)) code in
     let tall : high one ≡ high p + 1 = omega (arith, high-both p (does o), high-puts (line.Does o)) in
     let ends : ArrayEnds h z.loop z.callee z.low z.own (past z.s (one ⊕ q)) (past_items (j + span e) is) b
     (n + high (one ⊕ q)) z.end =
@@ -117,7 +119,7 @@ argument_on g h ks m k x n j sender recv id b e is all spread both there z cover
         here = z.here;
         covered = covered;
         above = omega (arith, z.room.above);
-        code = left h n p (does o) first;
+        code = left h n p (does o) (within_puts _ _) first;
         next = record {
           low = z.low;
           end = z.end;
@@ -139,8 +141,9 @@ argument_on g h ks m k x n j sender recv id b e is all spread both there z cover
             room = z.room;
             room_behind = z.room_behind;
             covered = others;
-            pushes = the_line h (n + high p) (line.Does o) (right h n p (does o) first);
-            code = moved h (n + high one) (n + high p + 1) q (omega (arith, tall)) (right h n one q code);
+            pushes = the_line h (n + high p) (line.Does o) (right_at h n z.s p (does o) z.here kept_first first);
+            code = moved h (n + high one) (n + high p + 1) q (omega (arith, tall))
+                (right_at h n z.s one q z.here (keeps_ends z.s p (line.Does o) kept_first) code);
             ends = array_moved h z.loop z.callee z.low z.own (past z.s (one ⊕ q)) (past (past z.s one) q)
                 (past_items (j + span e) is) b (n + high (one ⊕ q)) (n + high p + 1 + high q) z.end (past-both z.s one q)
                 (omega (arith, tall, high-both one q)) ends;

@@ -35,7 +35,8 @@ use Rattle.step_laws.specs.Strict.{strict_op, IsReady, arity}
 use Rattle.step_laws.specs.Covers.{Covers}
 use Rattle.step_laws.specs.Calm.{IsSteady, Quiet}
 use Rattle.step_laws.specs.Measure.{size, burden, measure}
-use Rattle.step_laws.proofs.Placed.{high, high-both, high-puts, high-nothing, line-past, Stands, nothing_stands, left, right, the_line, Rest, frame_at}
+use Rattle.step_laws.proofs.Placed.{high, high-both, high-puts, high-nothing, line-past, Stands, nothing_stands, within_puts, left, left_at, right_at, the_line, Rest, frame_at}
+use Rattle.step_laws.proofs.Within.{keeps_both, keeps}
 use Rattle.step_laws.specs.Behind.{Static, Holds, StrictBehind, strict}
 use Rattle.step_laws.specs.Relation.{Ground, InFrame, Common, GivesIn, Related, Step}
 use Rattle.step_laws.proofs.Matching.{by_none, going, state_at}
@@ -332,7 +333,7 @@ module _ (g : Ground) (h : Site) (static : Static h) (ks : List Item) (m : sourc
           here = line_is;
           covered = covered;
           above = room.above;
-          code = left h n p (does o) code;
+          code = left h n p (does o) (within_puts _ _) code;
           next = record {
             low = r;
             end = n + high (p ⊕ does o);
@@ -351,7 +352,8 @@ module _ (g : Ground) (h : Site) (static : Static h) (ks : List Item) (m : sourc
               count = omega (arith, count);
               code = nothing_stands h (n + high p);
               calls = subst (λ (i : ℕ). LineAt h i (line.Does o)) (omega (arith, high-nothing))
-                  (the_line h (n + high p) (line.Does o) (right h n p (does o) code));
+                  (the_line h (n + high p) (line.Does o)
+                  (right_at h n s p (does o) line_is (keeps e (within h loop) s r) code));
               ends = omega (arith, high-nothing, high-both p (does o), high-puts (line.Does o));
             });
             outer = loop;
@@ -373,7 +375,9 @@ module _ (g : Ground) (h : Site) (static : Static h) (ks : List Item) (m : sourc
   two_operands c x n r j loop s e f a o goes less line_is covered covered_too room is ready count code next =
       let p = gen (within h loop) s r e in
       let q = gen (within h loop) (past s p) (r + 1) f in
-      let both_code = left h n (p ⊕ q) (does o) code in
+      let kept = keeps e (within h loop) s r in
+      let kept_too = keeps f (within h loop) (past s p) (r + 1) in
+      let both_code = left h n (p ⊕ q) (does o) (within_puts _ _) code in
       by_none h c (state_at g h x n (aligned k m))
       (subst (λ (d : Config). measure d < measure c) (sym goes) (omega (arith, less)))
       (subst (λ (d : Config). Related h d (state_at g h x n (aligned k m))) (sym goes) (
@@ -391,7 +395,7 @@ module _ (g : Ground) (h : Site) (static : Static h) (ks : List Item) (m : sourc
           here = line_is;
           covered = covered;
           above = room.above;
-          code = left h n p q both_code;
+          code = left_at h n s p q line_is kept_too both_code;
           next = record {
             low = r;
             end = n + high ((p ⊕ q) ⊕ does o);
@@ -408,9 +412,10 @@ module _ (g : Ground) (h : Site) (static : Static h) (ks : List Item) (m : sourc
               by = is;
               ready = ready;
               count = omega (arith, count);
-              code = right h n p q both_code;
+              code = right_at h n s p q line_is kept both_code;
               calls = subst (λ (i : ℕ). LineAt h i (line.Does o)) (omega (arith, high-both p q))
-                  (the_line h (n + high (p ⊕ q)) (line.Does o) (right h n (p ⊕ q) (does o) code));
+                  (the_line h (n + high (p ⊕ q)) (line.Does o)
+                  (right_at h n s (p ⊕ q) (does o) line_is (keeps_both s p q kept kept_too) code));
               ends = omega (arith, high-both (p ⊕ q) (does o), high-both p q, high-puts (line.Does o));
             });
             outer = loop;

@@ -24,7 +24,9 @@ use Rattle.step_laws.specs.Covers.{past_items_code, past_new, Covers, CoversItem
 use Rattle.step_laws.specs.Calm.{IsSteady, Peace}
 use Rattle.step_laws.specs.Behind.{Static, HoldsCall, to_above, a_super, ArrayEnds, array_with, ItemsEnd, by_block, AsksBlock, by_own, by_array}
 use Rattle.step_laws.specs.Relation.{Ground, Common, Doing, Step}
-use Rattle.step_laws.proofs.Placed.{high, high-both, high-puts, line-past, line-behind, Stands, moved, left, right, the_line, frame_at}
+use Rattle.step_laws.proofs.Placed.{high, high-both, high-puts, line-past, line-behind, Stands, moved, Keeps, past_here, left, right, left_at, right_at, the_line, frame_at}
+use Rattle.step_laws.proofs.Guards.{within_both, within_puts}
+use Rattle.step_laws.proofs.Within.{keeps_ends, own_keeps, keeps, items_keep, elements_keep, arguments_keep}
 use Rattle.step_laws.proofs.Untouched.{same_here}
 use Rattle.step_laws.proofs.Matching.{Within, later, going, state_at}
 use Rattle.step_laws.proofs.Calling.{From}
@@ -40,15 +42,17 @@ record SuperParts (h : Site) (n r count : ℕ) (p q : Piece) (end : ℕ) : Type 
   pub calls : LineAt h (n + high p + high q) (line.Does (op.Super r count))
   pub ends : n + high p + high q + 1 ≡ end
 
-super_parts : (h : Site) (n r count : ℕ) (p q : Piece) → Stands h n (p ⊕ q ⊕ does (op.Super r count))
+super_parts : (h : Site) (n r count : ℕ) (s : Spot) (p q : Piece) → s.line ≡ n → Keeps s p → Keeps (past s p) q
+    → Stands h n (p ⊕ q ⊕ does (op.Super r count))
     → SuperParts h n r count p q (n + high (p ⊕ q ⊕ does (op.Super r count)))
-super_parts h n r count p q s =
+super_parts h n r count s p q here x y code =
     let o = op.Super r count in
-    let rest = right h n p (q ⊕ does o) s in
+    let rest = right_at h n s p (q ⊕ does o) here x code in
     record {
-      arguments = left h n p (q ⊕ does o) s;
-      block = left h (n + high p) q (does o) rest;
-      calls = the_line h (n + high p + high q) (line.Does o) (right h (n + high p) q (does o) rest);
+      arguments = left_at h n s p (q ⊕ does o) here (keeps_ends (past s p) q (line.Does o) y) code;
+      block = left h (n + high p) q (does o) (within_puts _ _) rest;
+      calls = the_line h (n + high p + high q) (line.Does o)
+          (right_at h (n + high p) (past s p) q (does o) (past_here s p n here) y rest);
       ends = omega (arith, high-both p (q ⊕ does o), high-both q (does o), high-puts (line.Does o));
     }
 
@@ -65,16 +69,18 @@ asks_parts h n t r here s =
     let three : high b ≡ 1 = high-puts (line.Does (op.BlkPush r)) in
     let there : to ≡ n + 1 + 1 + 1 =
     omega (arith, line-past (behind (past t p)) b, line-behind (past t p), line-past t p, one, three, here) in
-    let rest = right h n p (skip ⊕ b) s in
+    let rest = right h n p (skip ⊕ b) (within_puts _ _) s in
     let second : n + high p ≡ n + 1 = omega (arith, one) in
     let third : n + high p + high skip ≡ n + 1 + 1 = omega (arith, one, two) in (
       record {
-        defined = the_line h n (line.Does (op.Defined r 6 0)) (left h n p (skip ⊕ b) s);
+        defined = the_line h n (line.Does (op.Defined r 6 0))
+            (left h n p (skip ⊕ b) (within_both _ skip b (within_puts _ _) (within_puts _ _)) s);
         skips = subst (λ (i : ℕ). LineAt h (n + 1) (line.JumpNot r i)) there
             (subst (λ (i : ℕ). LineAt h i (line.JumpNot r to)) second
-            (the_line h (n + high p) (line.JumpNot r to) (left h (n + high p) skip b rest)));
+            (the_line h (n + high p) (line.JumpNot r to) (left h (n + high p) skip b (within_puts _ _) rest)));
         pushes = subst (λ (i : ℕ). LineAt h i (line.Does (op.BlkPush r))) third
-            (the_line h (n + high p + high skip) (line.Does (op.BlkPush r)) (right h (n + high p) skip b rest));
+            (the_line h (n + high p + high skip) (line.Does (op.BlkPush r))
+            (right h (n + high p) skip b (within_puts _ _) rest));
       },
       omega (arith, high-both p (skip ⊕ b), high-both skip b, one, two, three),
     )
@@ -98,8 +104,10 @@ module _ (g : Ground) (h : Site) (static : Static h) (ks : List Item) (m : sourc
         (own_block (past d.s (items_by p)) (d.r + 1 + registers_of p)) last_line
 
     own_parts : OwnBy (passing is)
-    own_parts = super_parts h d.n d.r (count_operand (passing is)) (items_by (passing is))
-        (own_block (past d.s (items_by (passing is))) (d.r + 1 + registers_of (passing is))) d.code
+    own_parts = super_parts h d.n d.r (count_operand (passing is)) d.s (items_by (passing is))
+        (own_block (past d.s (items_by (passing is))) (d.r + 1 + registers_of (passing is))) d.here
+        (arguments_keep is (within h d.loop) d.s d.r)
+        (own_keeps (past d.s (items_by (passing is))) (d.r + 1 + registers_of (passing is))) d.code
 
     own_goes : has_splats is ≡ false → go h.source own ≡ next_item h.source j to_super (self_of m) [] is absent ks m
     unfolding do_form
@@ -176,7 +184,9 @@ module _ (g : Ground) (h : Site) (static : Static h) (ks : List Item) (m : sourc
     BlockBy p = Covers h d.loop (d.r + 1 + registers_of p) (past d.s (code_by p)) (past_items j is) b
 
     parts : PartsBy (passing is)
-    parts = super_parts h d.n d.r (count_operand (passing is)) (code_by (passing is)) (block_by (passing is)) d.code
+    parts = super_parts h d.n d.r (count_operand (passing is)) d.s (code_by (passing is)) (block_by (passing is)) d.here
+        (arguments_keep is (within h d.loop) d.s d.r)
+        (keeps b (within h d.loop) (past d.s (code_by (passing is))) (d.r + 1 + registers_of (passing is))) d.code
 
     called : HoldsCall h k.lists true d.r (self_of m) []
     called = (self_is g h m (aligned k m) both d.there ∙ (same_here g h m (aligned k m) both).self, tt)
@@ -250,8 +260,9 @@ module _ (g : Ground) (h : Site) (static : Static h) (ks : List Item) (m : sourc
         let tall : d.n + high (q ⊕ does o) ≡ d.n + high q + 1 = omega (arith, high-both q (does o), high-puts (line.Does o)) in
         let ends = array_ends all (past d.s (q ⊕ does o)) (d.n + high (q ⊕ does o)) (subst BlockBy e d.covered.2) y.block y.calls
         y.ends in
-        items_then asked.1 (left h d.n q (does o) y.arguments)
-        (by_array a_super refl many asked.0 (the_line h (d.n + high q) (line.Does o) (right h d.n q (does o) y.arguments))
+        items_then asked.1 (left h d.n q (does o) (within_puts _ _) y.arguments)
+        (by_array a_super refl many asked.0 (the_line h (d.n + high q) (line.Does o)
+        (right_at h d.n d.s q (does o) d.here (items_keep is (within h d.loop) d.s (d.r + 1)) y.arguments))
         (subst (λ (t : Spot). ArrayEnds h d.loop a_super d.r true t (past_items j is) (there b) (d.n + high q + 1) end)
         (past-both d.s q (does o))
         (subst (λ (i : ℕ). ArrayEnds h d.loop a_super d.r true (past d.s (q ⊕ does o)) (past_items j is) (there b) i end) tall
@@ -272,8 +283,11 @@ module _ (g : Ground) (h : Site) (static : Static h) (ks : List Item) (m : sourc
           spread = spreads;
           room_behind = asked.0;
           covered = asked.1;
-          makes = the_line h d.n (line.Does o) (left h d.n (does o) q y.arguments);
-          code = moved h (d.n + high (does o)) (d.n + 1) q one (right h d.n (does o) q y.arguments);
+          makes = the_line h d.n (line.Does o)
+              (left_at h d.n d.s (does o) q d.here
+              (elements_keep is (within h d.loop) (past_new (d.r + 1) d.s) (d.r + 1)) y.arguments);
+          code = moved h (d.n + high (does o)) (d.n + 1) q one
+              (right h d.n (does o) q (within_puts _ _) y.arguments);
           ends = subst (λ (t : Spot). ArrayEnds h d.loop a_super d.r true t (past_items j is) (there b) (d.n + 1 + high q) end)
               (past-both d.s (does o) q)
               (subst (λ (i : ℕ). ArrayEnds h d.loop a_super d.r true (past d.s (does o ⊕ q)) (past_items j is) (there b) i end)

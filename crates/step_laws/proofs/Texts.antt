@@ -31,11 +31,12 @@ use Rattle.step_laws.specs.Site.{Site, within, place_in, at_line, Room}
 use Rattle.def_eval.specs.Transition.{go}
 use Rattle.step_laws.specs.Calm.{Grows, Quiet}
 use Rattle.step_laws.specs.Covers.{CoversPieces}
-use Rattle.step_laws.proofs.Placed.{high, high-both, high-puts, high-nothing, line-past, Stands, moved, left, right, the_line, Rest, frame_at, turned}
+use Rattle.step_laws.proofs.Placed.{high, high-both, high-puts, high-nothing, line-past, Stands, moved, Keeps, within_puts, left, right, left_at, right_at, the_line, Rest, frame_at, turned}
 use Rattle.step_laws.specs.Behind.{Static}
 use Rattle.step_laws.specs.Relation.{Ground, InFrame, Common, Doing, GivesIn, Related, Step}
 use Rattle.step_laws.proofs.Matching.{by_one, in_loop, going, state_at, written, stays}
 use Rattle.step_laws.proofs.Literals.{aligned}
+use Rattle.step_laws.proofs.Within.{keeps_ends, keeps, text_keeps}
 use Rattle.step_laws.proofs.Gathered.{kept}
 
 -- The next piece is about to be done, or the String is given.
@@ -52,7 +53,8 @@ on_with g h j id (more e es) ks m k x n low end loop s both there room covered h
     let o = op.StrCat low in
     let one = p ⊕ does o in
     let q = gather_text (within h loop) (past s one) low es in
-    let first = left h n one q code in
+    let kept_first : Keeps s p = keeps e (within h loop) s (low + 1) in
+    let first = left_at h n s one q here (text_keeps es (within h loop) (past s one) low) code in
     let tall : high one ≡ high p + 1 = omega (arith, high-both p (does o), high-puts (line.Does o)) in (
       g,
       h,
@@ -68,7 +70,7 @@ on_with g h j id (more e es) ks m k x n low end loop s both there room covered h
         here = here;
         covered = covered.0;
         above = omega (arith, room.above);
-        code = left h n p (does o) first;
+        code = left h n p (does o) (within_puts _ _) first;
         next = record {
           low = low;
           end = end;
@@ -81,8 +83,9 @@ on_with g h j id (more e es) ks m k x n low end loop s both there room covered h
             here = omega (arith, line-past s one, here, tall);
             room = room;
             covered = covered.1;
-            adds = the_line h (n + high p) (line.Does o) (right h n p (does o) first);
-            code = moved h (n + high one) (n + high p + 1) q (omega (arith, tall)) (right h n one q code);
+            adds = the_line h (n + high p) (line.Does o) (right_at h n s p (does o) here kept_first first);
+            code = moved h (n + high one) (n + high p + 1) q (omega (arith, tall))
+                (right_at h n s one q here (keeps_ends s p (line.Does o) kept_first) code);
             ends = omega (arith, ends, tall, high-both one q);
           };
           outer = loop;
@@ -134,12 +137,13 @@ module _ (g : Ground) (h : Site) (static : Static h) (ks : List Item) (m : sourc
       by_one h (Run (perform j (text es)) ks m) (state_at g h d.x d.n (aligned k m))
       (state_at g h d.x (d.n + 1) (written h (machine.with_world k w) d.r (Obj id)))
       (going (perform j (text es)) ks m (frame (frame_at h d.x d.n) ∷ g.below) (aligned k m) refl)
-      (turned h d.x d.n o g.below (aligned k m) (the_line h d.n (line.Does o) (left h d.n p q d.code))
+      (turned h d.x d.n o g.below (aligned k m) (the_line h d.n (line.Does o)
+      (left_at h d.n d.s p q d.here (text_keeps es (within h d.loop) (past d.s p) d.r) d.code))
       ∙ ap (λ (i : Option PoolItem). new_text h.program i d.r (at_line h (d.n + 1)) (frame_at h d.x d.n) g.below (aligned k m))
       d.covered.1)
       (on_with g h j id es ks (source.with_world m w) (written h (machine.with_world k w) d.r (Obj id)) d.x (d.n + 1) d.r
       end d.loop (past d.s p) t.common d.there d.covered.0 d.covered.2 (omega (arith, line-past d.s p, d.here, tall))
-      (moved h (d.n + high p) (d.n + 1) q (omega (arith, tall)) (right h d.n p q d.code))
+      (moved h (d.n + high p) (d.n + 1) q (omega (arith, tall)) (right h d.n p q (within_puts _ _) d.code))
       (omega (arith, tall, high-both p q)) t.held t.next)
 
   pub give_piece : (v : Value) (j : ℕ) (id : ObjId) (es : Forms)

@@ -27,7 +27,7 @@ use Rattle.def_machine.specs.Unwind.{after as after_machine}
 use Rattle.def_machine.specs.Turn.{symbol as symbol_machine}
 use Rattle.step_laws.specs.Site.{Site, at_line, LineAt}
 use Rattle.step_laws.specs.Calm.{HasObject, Quiet}
-use Rattle.step_laws.proofs.Placed.{high, high-both, high-puts, moved, left, right, the_line, frame_at, turned}
+use Rattle.step_laws.proofs.Placed.{high, high-both, high-puts, moved, within_puts, left, right, the_line, frame_at, turned}
 use Rattle.step_laws.specs.Behind.{Static}
 use Rattle.step_laws.specs.Relation.{Ground, InFrame, Common, Doing, Step}
 use Rattle.step_laws.proofs.Registers.{keeps_above, slot_same}
@@ -50,10 +50,10 @@ do_top_constant g h static j ks m ls k both y d there quiet =
     let o = op.GetMCnst r (entry_of h.context y) in
     let one : high p ≡ 1 = high-puts (line.Does (op.OClass r 0)) in
     let first : LineAt h d.n (line.Does (op.OClass r 0)) =
-    the_line h d.n (line.Does (op.OClass r 0)) (left h d.n p (does o) d.code) in
+    the_line h d.n (line.Does (op.OClass r 0)) (left h d.n p (does o) (within_puts _ _) d.code) in
     let second : LineAt h (d.n + 1) (line.Does o) =
     the_line h (d.n + 1) (line.Does o)
-    (moved h (d.n + high p) (d.n + 1) (does o) (omega (arith, one)) (right h d.n p (does o) d.code)) in
+    (moved h (d.n + high p) (d.n + 1) (does o) (omega (arith, one)) (right h d.n p (does o) (within_puts _ _) d.code)) in
     let s = same_here g h m (aligned k m) both in
     let held : value_at holding.lists h.list r ≡ Obj object =
     ap read (slot_same k.lists h.list r (V (Obj object)) s.present (omega (arith, s.long, d.covered.0.within))) in

@@ -19,14 +19,15 @@ use Rattle.def_eval.specs.Configuration.{Place, Scope, Item, Kept}
 use Rattle.def_eval.specs.Scopes.{value_in, scope_at, scope_of, put_in, with_variable}
 use Rattle.def_machine.specs.State as machine
 use Rattle.def_machine.specs.State.{Registers, Frame, Level, frame, body_at, list_at, slot_at, value_at, put}
-use Rattle.step_laws.specs.Site.{Site, place_in, register, Known}
+use Rattle.step_laws.specs.Site.{bare, Site, place_in, register, Known}
 use Rattle.step_laws.specs.Calm.{GrowsBy, Grows}
 use Rattle.def_core.specs.Sound.{OptionIs}
 use Rattle.eval_laws.specs.Procs.{HasProc}
 use Rattle.step_laws.specs.Around.{further_slots}
 use Rattle.step_laws.specs.Relation.{EndsBy, stops, returns, Ends, IsSite, Waits, Ground, over_levels, InFrame, Same, Mirrors, SiteIs, Linked, SeesIn, SitesAre, FibersAre, AllFibers, uses, uses_in, Both, Running}
 use Rattle.scope_laws.specs.Numbers.{parents, outers}
-use Rattle.step_laws.proofs.Registers.{Keeps, keeps_local, inside_kept, outers_put, parents_put, list_other, length_put, scope_other, same_above, put_alike, assigned}
+use Rattle.step_laws.proofs.Bared.{same_by}
+use Rattle.step_laws.proofs.Registers.{keeps_by, Keeps, keeps_local, inside_kept, outers_put, parents_put, list_other, length_put, scope_other, same_above, put_alike, assigned}
 
 -- lists that differ in that of one number alone
 pub record OnlyIn (c : ℕ) (l l' : List Registers) : Type 0 where
@@ -111,10 +112,11 @@ module _ (hs : List Site) (l l' : List Registers) (P : ℕ → Type 0)
     after = w.after;
     room = w.room;
     there = w.there;
+    guarded = w.guarded;
     around = w.around;
-    next = inside_kept w.h l l' (λ b p is i t. Ends w.h fiber ls (λ q js. Waits hs fiber l js q ls) b p is i t)
-        (λ b p is i t. Ends w.h fiber ls (λ q js. Waits hs fiber l' js q ls) b p is i t)
-        (ends_kept w.h fiber ls (λ q js. Waits hs fiber l js q ls) (λ q js. Waits hs fiber l' js q ls)
+    next = inside_kept w.h l l' (λ b p is i t. Ends (bare w.h) fiber ls (λ q js. Waits hs fiber l js q ls) b p is i t)
+        (λ b p is i t. Ends (bare w.h) fiber ls (λ q js. Waits hs fiber l' js q ls) b p is i t)
+        (ends_kept (bare w.h) fiber ls (λ q js. Waits hs fiber l js q ls) (λ q js. Waits hs fiber l' js q ls)
         (λ q js. waits_by fiber js q ls u.1)) ks w.n w.x.waits w.around
         (kept w.h w.site (subst (λ (q : Frame). P q.list) w.is u.0) w.x.waits) w.next;
   }
@@ -159,16 +161,16 @@ pub frame_kept : (g : Ground) (h : Site) (l l' : List Registers) (ks : List Item
     → Keeps h l l' r → OnlyIn h.list l l' → uses h.list g.below ≡ 0 → InFrame g h l ks n r around
     → InFrame g h l' ks n r around
 frame_kept g h l l' ks n r around k o u a =
-    inside_kept h l l' (λ b p is i t. Ends h g.fiber g.below (λ q js. Waits g.sites g.fiber l js q g.below) b p is i t)
-    (λ b p is i t. Ends h g.fiber g.below (λ q js. Waits g.sites g.fiber l' js q g.below) b p is i t)
-    (ends_kept h g.fiber g.below (λ q js. Waits g.sites g.fiber l js q g.below)
+    inside_kept h l l' (λ b p is i t. Ends (bare h) g.fiber g.below (λ q js. Waits g.sites g.fiber l js q g.below) b p is i t)
+    (λ b p is i t. Ends (bare h) g.fiber g.below (λ q js. Waits g.sites g.fiber l' js q g.below) b p is i t)
+    (ends_kept (bare h) g.fiber g.below (λ q js. Waits g.sites g.fiber l js q g.below)
     (λ q js. Waits g.sites g.fiber l' js q g.below)
     (λ q js. waits_kept g.sites g.fiber l l' h.list o js q g.below u)) ks n r around k a
 
 -- Sites.
 
 -- a list has one site
-site_is : (hs : List Site) (h d : Site) → IsSite hs h → IsSite hs d → d.list ≡ h.list → d ≡ h
+site_is : (hs : List Site) (h d : Site) → IsSite hs h → IsSite hs d → d.list ≡ h.list → bare d ≡ bare h
 site_is hs h d a b e = ap (λ (o : Option Site). unwrap_or o h) (sym b ∙ ap (slice_get hs) e ∙ a)
 
 same_elsewhere : (h : Site) (cs cs' : List Scope) (l l' : List Registers) → Same h cs l
@@ -199,7 +201,7 @@ sites_changed s p hs cs cs' l l' w h a site same scopes lists elsewhere o outsid
   procs = a.procs;
   scopes = scopes ∙ a.scopes;
   lists = lists ∙ a.lists;
-  each = λ d is. ⊎_elim (λ e. at d is (a.each d is) (subst (λ (q : Site). Same q cs' l') (sym (site_is hs h d site is e)) same))
+  each = λ d is. ⊎_elim (λ e. at d is (a.each d is) (same_by h d cs' l' (site_is hs h d site is e) same))
       (λ ne. at d is (a.each d is) (same_elsewhere d cs cs' l l' (a.each d is).same (elsewhere d.list ne) scopes
       (o.others d.list ne) lists)) (cases_eq d.list h.list);
 }
@@ -221,8 +223,7 @@ sites_changed s p hs cs cs' l l' w h a site same scopes lists elsewhere o outsid
 low_kept : (hs : List Site) (l : List Registers) (g : Site) (i : ℕ) (v : Value) → IsSite hs g → g.list < length l
     → i < g.first → (d : Site) → IsSite hs d → (r : ℕ) → Keeps d l (put l g.list i (V v)) r
 low_kept hs l g i v site lt low d is r =
-    ⊎_elim (λ e. subst (λ (q : Site). Keeps q l (put l g.list i (V v)) r) (sym (site_is hs g d site is e))
-    (keeps_local g l r i (V v) lt low))
+    ⊎_elim (λ e. keeps_by g d l (put l g.list i (V v)) r (site_is hs g d site is e) (keeps_local g l r i (V v) lt low))
     (λ ne. keeps_other d l (put l g.list i (V v)) g.list r (put_only l g.list i v) ne) (cases_eq d.list g.list)
 
 -- activations that are there stay
@@ -418,9 +419,9 @@ module _ {s : Source} {p : Program} where
       let l = k.lists in
       let l' = put l d.list (register d x) (V v) in
       let kept = low_kept g.sites l d (register d x) v site i.same.present known.low in
-      inside_kept h l l' (λ c p is i t. Ends h g.fiber g.below (λ q js. Waits g.sites g.fiber l js q g.below) c p is i t)
-      (λ c p is i t. Ends h g.fiber g.below (λ q js. Waits g.sites g.fiber l' js q g.below) c p is i t)
-      (ends_kept h g.fiber g.below (λ q js. Waits g.sites g.fiber l js q g.below)
+      inside_kept h l l' (λ c p is i t. Ends (bare h) g.fiber g.below (λ q js. Waits g.sites g.fiber l js q g.below) c p is i t)
+      (λ c p is i t. Ends (bare h) g.fiber g.below (λ q js. Waits g.sites g.fiber l' js q g.below) c p is i t)
+      (ends_kept (bare h) g.fiber g.below (λ q js. Waits g.sites g.fiber l js q g.below)
       (λ q js. Waits g.sites g.fiber l' js q g.below)
       (λ q js. waits_by g.sites l l' (λ n. Unit {0}) (λ q is u r. kept q is r) g.fiber js q g.below (any_only g.below)))
       ks n r around (kept h b.site r) a

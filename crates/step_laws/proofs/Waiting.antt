@@ -6,7 +6,7 @@ use Rattle.def_eval.specs.Configuration as source
 use Rattle.def_eval.specs.Configuration.{Item}
 use Rattle.def_machine.specs.State as machine
 use Rattle.def_machine.specs.State.{Frame, frame}
-use Rattle.step_laws.specs.Site.{Site, place_in, at_line, Room}
+use Rattle.step_laws.specs.Site.{Site, IsGuarded, place_in, at_line, Room}
 use Rattle.step_laws.specs.Relation.{IsSite, Waits, Ground, over_levels, InFrame, Common}
 use Rattle.step_laws.proofs.Placed.{Rest, frame_at}
 use Rattle.step_laws.proofs.Untouched.{grown, below_running}
@@ -22,10 +22,10 @@ waiting_worlds g h m k b f e w grows =
     grown (over_levels g (frame f ∷ g.below)) m k (below_running g h m k b f e) m.place w grows
 
 pub waiting_frame : (g : Ground) (h : Site) (ks : List Item) (m : source.Memory) (x : Rest) (n r : ℕ)
-    (around : Option Loop) (k : machine.Memory) → m.place ≡ place_in h → IsSite g.sites h → Room h r
+    (around : Option Loop) (k : machine.Memory) → m.place ≡ place_in h → IsSite g.sites h → Room h r → IsGuarded h n
     → InFrame g h k.lists ks (n + 1) r around
     → Waits g.sites g.fiber k.lists ks m.place (frame (frame_at h (asking h x n r) n) ∷ g.below)
-waiting_frame g h ks m x n r around k at_home site room next = record {
+waiting_frame g h ks m x n r around k at_home site room guarded next = record {
   h = h;
   x = asking h x n r;
   at = n;
@@ -35,6 +35,7 @@ waiting_frame g h ks m x n r around k at_home site room next = record {
   after = refl;
   room = room;
   there = at_home;
+  guarded = guarded;
   around = around;
   next = next;
 }

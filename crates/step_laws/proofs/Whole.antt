@@ -29,6 +29,7 @@ use Rattle.def_machine.specs.State.{Level, State, On, Off, Stuck, start, shown, 
 use Rattle.def_machine.specs.Turn.{turn}
 use Rattle.def_core.specs.Sound.{OptionIs}
 use Rattle.eval_laws.specs.Procs.{HasProc}
+use Rattle.step_laws.proofs.Bared.{site_of}
 use Rattle.step_laws.proofs.Symbols.{opening_objects}
 use Rattle.step_laws.proofs.Procless.{are_bodiless, has_none, opening_bodiless}
 use Rattle.scope_resolver.specs.declared.seek.Search.TheVariants.{Past}
@@ -36,7 +37,7 @@ use Rattle.scope_resolver.specs.Layout.{Scopes, named_slots, seek}
 use Rattle.step_laws.specs.Around.{is_found, first_slots, further_slots}
 use Rattle.step_laws.proofs.Parameters.{sought, lined_nils}
 use Rattle.step_laws.proofs.Begun.{mirrored_by}
-use Rattle.step_laws.specs.Site.{Site, LineAt, register, opening_store}
+use Rattle.step_laws.specs.Site.{bare, Site, LineAt, register, opening_store}
 use Rattle.step_laws.specs.Covers.{Covers}
 use Rattle.step_laws.specs.Calm.{IsCalm, StaysCalm}
 use Rattle.step_laws.specs.Measure.{measure}
@@ -431,7 +432,6 @@ module _ (s : Source) (p : Program) (input : List ℕ) (c : IsCodeOf s p) where
     some = c.some;
     low = c.low;
     room = c.room;
-    no_catches = c.no_catches;
   }
 
   abbrev first_rest : Rest
@@ -488,7 +488,7 @@ module _ (s : Source) (p : Program) (input : List ℕ) (c : IsCodeOf s p) where
       nothing zero = tt
       nothing (suc n) = tt
 
-      alone : (d : Site) (n : ℕ) → slice_get (h ∷ []) n ≡ Some d
+      alone : (d : Site) (n : ℕ) → slice_get (h ∷ []) n ≡ Some (bare d)
           → Linked (h ∷ []) (further_slots d.context.scopes) (get_or (None ∷ []) n None)
       alone d zero e = subst (λ (q : Site). further_slots q.context.scopes ≡ [])
           (ap (λ (o : Option Site). unwrap_or o h) e) (ap further_slots c.scopes)
@@ -508,13 +508,15 @@ module _ (s : Source) (p : Program) (input : List ℕ) (c : IsCodeOf s p) where
         home = λ e. refl;
       }
 
-      at : (d : Site) (n : ℕ) → slice_get (h ∷ []) n ≡ Some d
+      at : (d : Site) (n : ℕ) → slice_get (h ∷ []) n ≡ Some (bare d)
           → SiteIs s p d (record { parent = None; variables = all_nil (locals_of (body_at s 0)) } ∷ [])
           (machine.fresh_registers (machine.body_at p 0) None (Obj main_object) ∷ []) (opening_world (all_names s) input)
-      at d zero e = subst (λ (q : Site). SiteIs s p q
+      at d zero e = site_of s p d (record { parent = None; variables = all_nil (locals_of (body_at s 0)) } ∷ [])
+          (machine.fresh_registers (machine.body_at p 0) None (Obj main_object) ∷ []) (opening_world (all_names s) input)
+          (subst (λ (q : Site). SiteIs s p q
           (record { parent = None; variables = all_nil (locals_of (body_at s 0)) } ∷ [])
           (machine.fresh_registers (machine.body_at p 0) None (Obj main_object) ∷ []) (opening_world (all_names s) input))
-          (ap (λ (o : Option Site). unwrap_or o h) e) main
+          (ap (λ (o : Option Site). unwrap_or o h) e) main)
       at d (suc n) e = absurd (cc e)
 
   pub opening_related : Alike s p (opening s input) (start p input)
@@ -560,6 +562,7 @@ module _ (s : Source) (p : Program) (input : List ℕ) (c : IsCodeOf s p) where
               by = stops (subst (λ (i : ℕ). LineAt h i (line.Does op.Stop)) (omega arith) c.stop) refl refl refl refl;
             },
             c.outside,
+            refl,
           );
         },
       )

@@ -1,5 +1,5 @@
 -- A call of the block of a method: it stands in a register before the items, or there is none.
-use Rattle.std.proofs.Common.{◌≡◌, ℕ, ◌+◌, List, [], ◌∷◌, refl, ap, ◌∙◌, subst, arith, Bool, true, false}
+use Rattle.std.proofs.Common.{◌≡◌, ℕ, ◌+◌, List, [], ◌∷◌, refl, sym, ap, ◌∙◌, subst, arith, Bool, true, false}
 use Rattle.std.specs.Prelude.{if◌then◌else◌, Option, Some, None}
 use Rattle.rb_value.specs.declared.value.Value.TheVariants.{Obj}
 use Rattle.rb_value.specs.declared.value.ObjId.{ObjId}
@@ -29,7 +29,9 @@ use Rattle.step_laws.specs.Covers.{past_items_code, past_new, CoversItems, Cover
 use Rattle.step_laws.specs.Calm.{IsSteady, Peace}
 use Rattle.step_laws.specs.Behind.{Static, HoldsCall, a_block, yields_array, array_alone, ItemsEnd, by_yield, by_array}
 use Rattle.step_laws.specs.Relation.{Ground, InFrame, Common, Doing, Step}
-use Rattle.step_laws.proofs.Placed.{high, high-both, high-puts, line-past, Stands, moved, left, right, the_line, frame_at, turned}
+use Rattle.step_laws.proofs.Placed.{high, high-both, high-puts, line-past, Stands, moved, KeepsWithin, Keeps, left, right, left_at, right_at, the_line, frame_at, turned}
+use Rattle.step_laws.proofs.Guards.{within_both, within_puts, within_moved}
+use Rattle.step_laws.proofs.Within.{items_keep, elements_keep, arguments_keep}
 use Rattle.step_laws.proofs.Registers.{slot_same, keeps_above}
 use Rattle.step_laws.proofs.Untouched.{put_only, frame_kept, same_here, written_here}
 use Rattle.step_laws.proofs.Matching.{Within, one_more, later, going, state_at, written}
@@ -47,18 +49,21 @@ record YieldParts (h : Site) (n r count : ℕ) (q : Piece) (end : ℕ) : Type 0 
   pub calls : LineAt h (n + 1 + high q) (line.Does (op.Call r count))
   pub ends : n + 1 + high q + 1 ≡ end
 
-yield_parts : (h : Site) (n r count : ℕ) (q : Piece) → Stands h n (does (op.BlkPush r) ⊕ q ⊕ does (op.Call r count))
+yield_parts : (h : Site) (n r count : ℕ) (s : Spot) (q : Piece) → s.line ≡ n + 1 → Keeps s q
+    → Stands h n (does (op.BlkPush r) ⊕ q ⊕ does (op.Call r count))
     → YieldParts h n r count q (n + high (does (op.BlkPush r) ⊕ q ⊕ does (op.Call r count)))
-yield_parts h n r count q s =
+yield_parts h n r count s q here x code =
     let p = does (op.BlkPush r) in
     let o = op.Call r count in
     let one : n + high p ≡ n + 1 = omega (arith, high-puts (line.Does (op.BlkPush r))) in
-    let rest = right h n p (q ⊕ does o) s in
+    let kept : KeepsWithin (n + high p) q = within_moved s.line (n + high p) q (here ∙ sym one) x in
+    let rest = right h n p (q ⊕ does o) (within_puts _ _) code in
     record {
-      block = the_line h n (line.Does (op.BlkPush r)) (left h n p (q ⊕ does o) s);
-      items = moved h (n + high p) (n + 1) q one (left h (n + high p) q (does o) rest);
+      block = the_line h n (line.Does (op.BlkPush r))
+          (left h n p (q ⊕ does o) (within_both _ q (does o) kept (within_puts _ _)) code);
+      items = moved h (n + high p) (n + 1) q one (left h (n + high p) q (does o) (within_puts _ _) rest);
       calls = subst (λ (i : ℕ). LineAt h (i + high q) (line.Does o)) one
-          (the_line h (n + high p + high q) (line.Does o) (right h (n + high p) q (does o) rest));
+          (the_line h (n + high p + high q) (line.Does o) (right h (n + high p) q (does o) kept rest));
       ends = omega (
         arith,
         one,
@@ -101,7 +106,9 @@ module _ (g : Ground) (h : Site) (static : Static h) (ks : List Item) (m : sourc
         (CoversElements h d.loop (d.r + 1) (past_new (d.r + 1) s) j is)
 
     parts : CallStands (passing is)
-    parts = yield_parts h d.n d.r (count_operand (passing is)) (code_by (passing is)) d.code
+    parts = yield_parts h d.n d.r (count_operand (passing is)) s (code_by (passing is))
+        (omega (arith, line-past d.s (does (op.BlkPush d.r)), d.here, high-puts (line.Does (op.BlkPush d.r))))
+        (arguments_keep is (within h d.loop) s d.r) d.code
 
     goes_by : (o : Option ObjId) → block_here ≡ o → go h.source conf ≡ yields_in h.source j o is ks m
     unfolding do_form
@@ -119,7 +126,7 @@ module _ (g : Ground) (h : Site) (static : Static h) (ks : List Item) (m : sourc
     -- without a block both sides raise
     fails : block_here ≡ None → Step h conf (state_at g h d.x d.n (aligned k m))
     fails e =
-        fails_here g h ks m k both conf d.x d.n d.r (record {
+        fails_here g h ks m k both conf d.x d.n d.r parts.block.guarded (record {
           alike = going (perform j (yield_form is)) ks m (frame (frame_at h d.x d.n) ∷ g.below) (aligned k m) refl;
           out = refl;
           quiet = peace.quiet;
@@ -202,9 +209,10 @@ module _ (g : Ground) (h : Site) (static : Static h) (ks : List Item) (m : sourc
           let o = op.Array (d.r + 1) (item_count is) in
           let tall : d.n + 1 + high (q ⊕ does o) ≡ d.n + 1 + high q + 1 =
           omega (arith, high-both q (does o), high-puts (line.Does o)) in
-          items_then asked.1 (left h (d.n + 1) q (does o) y.items)
+          items_then asked.1 (left h (d.n + 1) q (does o) (within_puts _ _) y.items)
           (by_array a_block refl many asked.0
-          (the_line h (d.n + 1 + high q) (line.Does o) (right h (d.n + 1) q (does o) y.items))
+          (the_line h (d.n + 1 + high q) (line.Does o)
+          (right_at h (d.n + 1) s q (does o) here (items_keep is (within h d.loop) s (d.r + 1)) y.items))
           (array_alone (op.Call d.r 255) refl (yields_array refl refl refl)
           (subst (λ (i : ℕ). LineAt h i (line.Does (op.Call d.r 255))) tall y.calls) (omega (arith, tall, y.ends))))
       arguments_then (gathered_all e spreads) =
@@ -220,8 +228,11 @@ module _ (g : Ground) (h : Site) (static : Static h) (ks : List Item) (m : sourc
             spread = spreads;
             room_behind = asked.0;
             covered = asked.1;
-            makes = the_line h (d.n + 1) (line.Does o) (left h (d.n + 1) (does o) q y.items);
-            code = moved h (d.n + 1 + high (does o)) (d.n + 1 + 1) q one (right h (d.n + 1) (does o) q y.items);
+            makes = the_line h (d.n + 1) (line.Does o)
+                (left_at h (d.n + 1) s (does o) q here
+                (elements_keep is (within h d.loop) (past_new (d.r + 1) s) (d.r + 1)) y.items);
+            code = moved h (d.n + 1 + high (does o)) (d.n + 1 + 1) q one
+                (right h (d.n + 1) (does o) q (within_puts _ _) y.items);
             ends = array_alone (op.Call d.r 255) refl (yields_array refl refl refl)
                 (subst (λ (i : ℕ). LineAt h i (line.Does (op.Call d.r 255))) tall y.calls) (omega (arith, tall, y.ends));
           }) here d.covered.0 called refl next (goes true (same_splats is ∙ spreads)))

@@ -8,7 +8,7 @@ use Rattle.rite_code.specs.declared.operation.Operation.{Operation}
 use Rattle.rite_code.specs.declared.operation.Operation.TheVariants as op
 use Rattle.ir_counts.specs.Tables.{item_count}
 use Rattle.ir_walk.specs.Width.{has_splat}
-use Rattle.ir_core.specs.CoreForm.{Name, Local, named, CoreForm, Maybe, absent, there, Forms, none, more, Items, Pairs, Branches}
+use Rattle.ir_core.specs.CoreForm.{Name, Local, CoreForm, Maybe, absent, there, Forms, none, more, Items, Pairs, Branches}
 use Rattle.scope_resolver.specs.Layout.{place_of}
 use Rattle.step_laws.specs.Around.{first_slots}
 use Rattle.gen_parts.specs.declared.line.Line.TheVariants as line
@@ -24,7 +24,7 @@ use Rattle.def_eval.specs.Source.{Source, span}
 use Rattle.eval_laws.specs.Kinds.{IsKind, of_class}
 use Rattle.eval_laws.specs.Standing.{past_items, past_branches}
 use Rattle.def_machine.specs.State.{Registers, body_at, slot_at}
-use Rattle.step_laws.specs.Site.{Site, within, LineAt, Room, register, Known, IsThere, Named, number}
+use Rattle.step_laws.specs.Site.{Site, StaysIn, within, LineAt, Room, register, Known, IsThere, Named, number}
 use Rattle.step_laws.specs.Strict.{strict_op, IsReady, arity}
 use Rattle.step_laws.specs.Passed.{IsAtOnce}
 use Rattle.step_laws.specs.Far.{Far, returns_far, breaks_far, action_of, leaving_op, ends_itself}
@@ -38,7 +38,6 @@ pub record Static (h : Site) : Type 0 where
   -- its own slots stand below the registers of its form
   pub low : 1 + length (first_slots h.context.scopes) ≤ h.first
   pub room : h.first ≤ (body_at h.program h.body).registers
-  pub no_catches : (body_at h.program h.body).catches ≡ []
 
 -- these values stand in a row of registers
 abbrev pub Holds : List Registers → ℕ → ℕ → List Value → Type 0
@@ -197,6 +196,8 @@ pub record LoopAt (h : Site) (r : ℕ) (j : ℕ) (t b : CoreForm) (end : ℕ) : 
       ⊎ (test_spot.line ≡ body_spot.line + high (gen (within h loop) body_spot r b))
   pub load : LineAt h out (line.Does (op.LoadNil r))
   pub round : (target.round ≡ test_spot.line) ⊎ LineAt h target.round (line.Jump test_spot.line)
+  -- a next stays in what is around the loop
+  pub stays : StaysIn h target.round
   pub ends : out + 1 ≡ end
 
 -- Operands.

@@ -106,6 +106,7 @@ pub record BodyCode (s : Source) (p : Program) (b : ℕ) : Type 0 where
     at = at;
     context = context;
     first = first;
+    guards = [];
   })
 
 -- and that of a block, in which a return is for the method around it
@@ -150,6 +151,7 @@ pub record ClassCode (s : Source) (p : Program) (b : ℕ) : Type 0 where
     at = at;
     context = context;
     first = first;
+    guards = [];
   })
 
 -- A body that is entered is that of a method, or of a Proc that there was before.

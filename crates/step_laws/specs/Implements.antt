@@ -19,7 +19,8 @@ use Rattle.def_machine.specs.State as machine
 use Rattle.def_machine.specs.State.{all_symbols, start, shown}
 use Rattle.def_machine.specs.Turn.{turn}
 use Rattle.eval_laws.specs.Kinds.{IsKind, of_method, of_block, of_class}
-use Rattle.step_laws.specs.Site.{Site, at_line, LineAt, Lines, Known, register}
+use Rattle.step_laws.specs.Site.{Site, at_line, LineAt, Known, register}
+use Rattle.step_laws.specs.Standing.{Stands}
 use Rattle.scope_resolver.specs.Layout.{named_slots}
 use Rattle.step_laws.specs.Around.{first_slots}
 use Rattle.step_laws.specs.Covers.{Covers}
@@ -39,6 +40,7 @@ main_site s p wide at c first = record {
   at = at;
   context = c;
   first = first;
+  guards = [];
 }
 
 -- The first body is the code of the main program, and a stop behind it; the others are those of methods, of blocks and
@@ -55,14 +57,12 @@ pub record IsCodeOf (s : Source) (p : Program) : Type 0 where
   pub begins : at_line (main_site s p wide at context first) 0 ≡ 0
   pub some : 0 < first
   pub room : first ≤ (machine.body_at p 0).registers
-  pub no_catches : (machine.body_at p 0).catches ≡ []
   pub outside : context.loop ≡ None
   -- its locals have slots, and nothing is around them
   pub scopes : context.scopes ≡ named_slots (locals_of (body_at s 0)) ∷ []
   pub low : 1 + length (first_slots context.scopes) ≤ first
   pub covered : Covers (main_site s p wide at context first) None first (first_spot 0) 1 (form_of (body_at s 0))
-  pub code : Lines (main_site s p wide at context first) 0
-      (gen context (first_spot 0) first (form_of (body_at s 0))).lines
+  pub code : Stands (main_site s p wide at context first) 0 (gen context (first_spot 0) first (form_of (body_at s 0)))
   pub stop : LineAt (main_site s p wide at context first)
       (length (gen context (first_spot 0) first (form_of (body_at s 0))).lines) (line.Does op.Stop)
   pub methods : (b : ℕ) → IsKind s b of_method → BodyCode s p b

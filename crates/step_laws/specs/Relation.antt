@@ -9,8 +9,9 @@ use Rattle.rb_value.specs.declared.exit.Slot.TheVariants.{V}
 use Rattle.rite_code.specs.Code.{Program}
 use Rattle.rite_code.specs.declared.operation.Operation.{Operation}
 use Rattle.rite_code.specs.declared.operation.Operation.TheVariants as op
-use Rattle.ir_core.specs.CoreForm.{Name, Local, CoreForm}
+use Rattle.ir_core.specs.CoreForm.{Local, CoreForm}
 use Rattle.gen_parts.specs.declared.line.Line.TheVariants as line
+use Rattle.gen_parts.specs.declared.line.Catch.{Catch}
 use Rattle.gen_parts.specs.declared.emitter.Spot.{Spot}
 use Rattle.gen_forms.specs.declared.context.Loop.{Loop}
 use Rattle.gen_forms.specs.Gen.{gen}
@@ -29,7 +30,7 @@ use Rattle.def_eval.specs.Forms.{is_under_way}
 use Rattle.def_eval.specs.Transition.{go}
 use Rattle.def_machine.specs.State as machine
 use Rattle.def_machine.specs.State.{Registers, Frame, Level, frame, State, On, Off, Stuck, body_at, list_at, slot_at, value_at, shown}
-use Rattle.def_machine.specs.Unwind.{receive, throw}
+use Rattle.def_machine.specs.Unwind.{covering, receive, throw}
 use Rattle.def_machine.specs.Turn.{turn}
 use Rattle.scope_laws.specs.Numbers.{parents, outers}
 use Rattle.scope_resolver.specs.declared.seek.Search.TheVariants.{Past}
@@ -39,7 +40,7 @@ use Rattle.def_core.specs.Sound.{OptionIs}
 use Rattle.def_eval.specs.Entering.{first_of}
 use Rattle.eval_laws.specs.Procs.{HasProc}
 use Rattle.step_laws.specs.Around.{is_found, Around, first_slots, further_slots}
-use Rattle.step_laws.specs.Site.{Site, within, place_in, at_line, LineAt, Room, register, Known}
+use Rattle.step_laws.specs.Site.{Site, guarded_by, bare, IsGuarded, within, place_in, at_line, LineAt, Room, register, Known}
 use Rattle.step_laws.specs.Passed.{IsAtOnce}
 use Rattle.step_laws.specs.Covers.{Covers}
 use Rattle.step_laws.specs.Calm.{StaysCalm}
@@ -48,8 +49,17 @@ use Rattle.step_laws.specs.Far.{ends_itself, Far, exit_to, thrown_to, home_exit}
 use Rattle.step_laws.specs.Standing.{high, Stands, Rest, frame_at}
 use Rattle.step_laws.specs.Behind.{Static, HoldsCall, PassesBlock, LoopAt, Behind, IsAround}
 
+-- What is so of the entries around what waits behind a part: behind one that takes exits there is one entry less.
+abbrev pub Outside : Stop → List Catch → (List Catch → Type 0) → Type 0
+Outside passes gs P = P gs
+Outside (loops n t b) gs P = P gs
+Outside (rescues n r) gs P = (c : Catch) × (ds : List Catch) × (gs ≡ c ∷ ds) × P ds
+Outside (assigns e r) gs P = P gs
+Outside (retries r) gs P = P gs
+Outside (ensures n e) gs P = (c : Catch) × (ds : List Catch) × (gs ≡ c ∷ ds) × P ds
+
 -- The items inside of an activation, where a value is awaited in register r at line n in the code of that loop. What holds
--- at its end, of its number, the place of its caller and the items below, is a parameter.
+-- at its end, of its number, the place of its caller and the items below, is a parameter; no entry is around that.
 abbrev pub Inside : Site → List Registers → (ℕ → Place → List Item → ℕ → ℕ → Type 0) → List Item → ℕ → ℕ → Option Loop
     → Type 0
 Inside h l AtEnd [] n r around = ⊥
@@ -61,9 +71,9 @@ Inside h l AtEnd (part k ∷ ks) n r around = record {
   behind : Behind h l k low n r end around;
   outer : Option Loop;
   inner : IsAround (stop_of k) around outer;
-  next : Inside h l AtEnd ks end low outer;
+  next : Outside (stop_of k) h.guards (λ gs. Inside (guarded_by h gs) l AtEnd ks end low outer);
 }
-Inside h l AtEnd (activation a place ∷ ks) n r around = AtEnd a place ks n r × (around ≡ None)
+Inside h l AtEnd (activation a place ∷ ks) n r around = AtEnd a place ks n r × (around ≡ None) × (h.guards ≡ [])
 Inside h l AtEnd (iteration a it place ∷ ks) n r around = ⊥
 Inside h l AtEnd (ensuring o ∷ ks) n r around = ⊥
 
@@ -80,9 +90,9 @@ pub record Ends (h : Site) (fiber : fibers.Name) (below : List Level) (Further :
   pub is : a ≡ h.activation
   pub by : EndsBy h fiber below Further place ks n r
 
--- a site is that of its list of registers
+-- a site is that of its list of registers, with any guards
 abbrev pub IsSite : List Site → Site → Type 0
-IsSite hs h = slice_get hs h.list ≡ Some h
+IsSite hs h = slice_get hs h.list ≡ Some (bare h)
 
 -- A frame that waits for the value of a call, from that place on.
 pub record WaitsIn (hs : List Site) (fiber : fibers.Name) (l : List Registers) (below : List Level)
@@ -96,8 +106,9 @@ pub record WaitsIn (hs : List Site) (fiber : fibers.Name) (l : List Registers) (
   pub after : x.after ≡ at_line h n
   pub room : Room h x.waits
   pub there : place ≡ place_in h
+  pub guarded : IsGuarded h at
   pub around : Option Loop
-  pub next : Inside h l (λ a p is i r. Ends h fiber below Further a p is i r) ks n x.waits around
+  pub next : Inside h l (λ a p is i r. Ends (bare h) fiber below Further a p is i r) ks n x.waits around
 
 -- The levels of a fiber that wait for a value as its items do, from that place on: frames and iterations, down to the
 -- last.
@@ -129,8 +140,8 @@ WaitsBelow g l ks place = Waits g.sites g.fiber l ks place g.below
 -- the items of the frame that runs, and what waits below them
 abbrev pub InFrame : Ground → Site → List Registers → List Item → ℕ → ℕ → Option Loop → Type 0
 InFrame g h l ks n r around =
-    Inside h l (λ a p is i t. Ends h g.fiber g.below (λ q js. Waits g.sites g.fiber l js q g.below) a p is i t) ks n r
-    around
+    Inside h l (λ a p is i t. Ends (bare h) g.fiber g.below (λ q js. Waits g.sites g.fiber l js q g.below) a p is i t) ks n
+    r around
 
 -- parts that an exception passes
 abbrev pub IsPassed : Stop → Type 0
@@ -153,6 +164,7 @@ Leaving hs fiber l (activation a place ∷ ks) ls = record {
   is : ls ≡ frame (frame_at h x at) ∷ below;
   site : IsSite hs h;
   same : a ≡ h.activation;
+  unguarded : covering h.program h.body (at_line h at) ≡ [];
   next : Waits hs fiber l ks place below;
 }
 Leaving hs fiber l (iteration a it p ∷ ks) ls = record {
@@ -469,7 +481,8 @@ IsLeft true o = o ≡ passes
 abbrev pub Home : Ground → Site → List Registers → Bool → List Item → Type 0
 Home g h l round [] = ⊥
 Home g h l round (part k ∷ ks) = IsLeft round (stop_of k) × Home g h l round ks
-Home g h l round (activation a place ∷ ks) = (a ≡ h.activation) × Waits g.sites g.fiber l ks place g.below
+Home g h l round (activation a place ∷ ks) =
+    (a ≡ h.activation) × Waits g.sites g.fiber l ks place g.below × (h.guards ≡ [])
 Home g h l round (iteration a it place ∷ ks) = ⊥
 Home g h l round (ensuring o ∷ ks) = ⊥
 

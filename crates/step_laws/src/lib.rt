@@ -20,6 +20,7 @@
 //! - `specs::Peaceful`: what of this isn't so of every program
 //! - `specs::Implements`: code of a source, and what it means that code implements a source
 //! - `specs::Behind`: the code behind each part of a form that waits for its value
+//! - `specs::Guards`: the entries of the catch table that cover a line, of a piece of code and around it
 //! - `specs::Relation`: when a configuration and a state are alike (`Alike`): one world on both sides; the focus goes with
 //!   the frame or the iteration that runs; below it frames and iterations wait for values as the items do, whichever and
 //!   however many; so in each other fiber; each scope has the list of registers of its number, of a body that has a
