@@ -1,5 +1,5 @@
 -- Branches: conditions, `and` and `or`.
-use Rattle.std.proofs.Common.{◌≡◌, ℕ, ◌+◌, ◌<◌, ◌≤◌, List, ◌∷◌, refl, sym, ap, ◌∙◌, subst, arith, Bool, true, false}
+use Rattle.std.proofs.Common.{◌≡◌, ℕ, ◌+◌, ◌<◌, ◌≤◌, List, ◌∷◌, refl, sym, ap, ◌∙◌, subst, arith, Bool, true, false, ◌⊎◌, inl, inr}
 use Rattle.std.specs.Prelude.{pos, ◌-ℤ◌, if◌then◌else◌, Option}
 use Rattle.rb_value.specs.declared.value.Value.{Value}
 use Rattle.rb_value.specs.declared.exit.Slot.{Slot}
@@ -27,14 +27,14 @@ use Rattle.def_machine.specs.Turn.{turn, target, act_at}
 use Rattle.step_laws.specs.Site.{Site, within, place_in, at_line, LineAt}
 use Rattle.eval_laws.specs.Standing.{past_branches}
 use Rattle.step_laws.specs.Covers.{past_choices, Covers, CoversBranches}
-use Rattle.step_laws.specs.Measure.{measure}
+use Rattle.step_laws.specs.Measure.{measure, poise}
 use Rattle.step_laws.proofs.Placed.{high, high-both, high-puts, line-past, line-behind, Stands, moved, KeepsWithin, Keeps, left, right, left_at, right_at, the_line, Rest, frame_at, leads, jumped}
 use Rattle.step_laws.proofs.Guards.{within_both, within_puts, within_moved}
 use Rattle.step_laws.proofs.Within.{keeps_both, keeps_begins, keeps, choice_keeps}
 use Rattle.step_laws.specs.Behind.{Static, after_test}
 use Rattle.step_laws.specs.Relation.{Ground, InFrame, Common, Doing, GivesIn, Related, Step}
 use Rattle.step_laws.proofs.Focused.{doing_in}
-use Rattle.step_laws.proofs.Matching.{by_none, by_one, in_loop, going, state_at, stays}
+use Rattle.step_laws.proofs.Matching.{by_none, by_one, in_loop, given_light, going, state_at, stays}
 use Rattle.step_laws.proofs.Literals.{aligned}
 
 -- The turn of a jump that looks at a register.
@@ -296,7 +296,7 @@ module _ (g : Ground) (h : Site) (static : Static h) (ks : List Item) (m : sourc
             end = d.next.end;
             above = d.next.above;
             below = omega arith;
-            behind = record { at = refl; jump = y.leave };
+            behind = record { at = refl; jump = inl y.leave };
             outer = d.next.outer;
             inner = d.next.inner;
             next = d.next.next;
@@ -328,13 +328,25 @@ module _ (g : Ground) (h : Site) (static : Static h) (ks : List Item) (m : sourc
   pub give_chosen : (v : Value) (d : GivesIn g h v (part chosen ∷ ks) m.place ls k.lists)
       → Step h (Run (give v) (part chosen ∷ ks) m) (state_at g h d.x d.n (aligned k m))
   unfolding do_give give_part
-  give_chosen v d =
-      by_one h (Run (give v) (part chosen ∷ ks) m) (state_at g h d.x d.n (aligned k m))
-      (state_at g h d.x d.next.end (aligned k m))
-      (going (give v) (part chosen ∷ ks) m (frame (frame_at h d.x d.n) ∷ g.below) (aligned k m) refl)
-      (jumped h d.x d.n d.next.end g.below (aligned k m) d.next.behind.jump)
-      (stays g h v ks m d.x (aligned k m) d.next.end d.next.low d.next.outer both d.there
-      (subst (λ (i : ℕ). slot_at k.lists h.list i ≡ V v) (sym d.next.behind.at) d.stands) d.next.next)
+  give_chosen v d = by d.next.behind.jump
+    where
+      given : Related h (Run (give v) ks m) (state_at g h d.x d.next.end (aligned k m))
+      given =
+          stays g h v ks m d.x (aligned k m) d.next.end d.next.low d.next.outer both d.there
+          (subst (λ (i : ℕ). slot_at k.lists h.list i ≡ V v) (sym d.next.behind.at) d.stands) d.next.next
+
+      by : LineAt h d.n (line.Jump d.next.end) ⊎ (d.n ≡ d.next.end)
+          → Step h (Run (give v) (part chosen ∷ ks) m) (state_at g h d.x d.n (aligned k m))
+      by (inl jump) =
+          by_one h (Run (give v) (part chosen ∷ ks) m) (state_at g h d.x d.n (aligned k m))
+          (state_at g h d.x d.next.end (aligned k m))
+          (going (give v) (part chosen ∷ ks) m (frame (frame_at h d.x d.n) ∷ g.below) (aligned k m) refl)
+          (jumped h d.x d.n d.next.end g.below (aligned k m) jump) given
+      by (inr at_end) =
+          let light : poise (give v) ks ≡ 1 =
+          given_light g h k.lists ks d.next.end d.next.low d.next.outer v d.next.next in
+          by_none h (Run (give v) (part chosen ∷ ks) m) (state_at g h d.x d.n (aligned k m)) (omega (arith, light))
+          (subst (λ (i : ℕ). Related h (Run (give v) ks m) (state_at g h d.x i (aligned k m))) (sym at_end) given)
 
   -- `and` and `or` begin with their first operand
   pub do_and : (j : ℕ) (a b : CoreForm) (d : Doing g h j (and_form a b) ks m.place ls k.lists)

@@ -4,6 +4,7 @@ use Rattle.std.specs.Prelude.{Option}
 use Rattle.rb_value.specs.declared.value.Value.{Value}
 use Rattle.rb_value.specs.declared.exit.Slot.TheVariants.{V}
 use Rattle.rite_code.specs.Code.{Program}
+use Rattle.ir_core.specs.CoreForm.{no_clauses, clause}
 use Rattle.gen_forms.specs.declared.context.Loop.{Loop}
 use Rattle.def_calls.specs.World.{World, Result, gives, raises}
 use Rattle.def_calls.specs.Fibers as fibers
@@ -75,7 +76,8 @@ passed h l (and_then j e) low n r end around b = tt
 passed h l (or_else j e) low n r end around b = tt
 passed h l (loop_test j t e) low n r end around b = tt
 passed h l (loop_body j t e) low n r end around b = tt
-passed h l (rescued j t cs o) low n r end around b = absurd b
+passed h l (rescued j t no_clauses o) low n r end around b = tt
+passed h l (rescued j t (clause es u d cs) o) low n r end around b = absurd b
 passed h l (clause_class j e es t d cs q) low n r end around b = absurd b
 passed h l (clause_target j e t q) low n r end around b = absurd b
 passed h l (clause_body q) low n r end around b = absurd b

@@ -1,5 +1,5 @@
--- The code of plain forms has no entry in the catch table, and makes as many bodies as stand in them.
-use Rattle.std.proofs.Common.{◌≡◌, ℕ, ◌+◌, List, [], ◌∷◌, ◌++◌, length, arith, refl, ap, ◌∙◌, length-append, Bool, true, false}
+-- The code of plain forms makes as many bodies as stand in them.
+use Rattle.std.proofs.Common.{◌≡◌, ℕ, ◌+◌, List, [], ◌∷◌, length, arith, refl, ap, length-append, Bool, true, false}
 use Rattle.std.specs.Prelude.{pos, neg_ℤ, is_some, Option, Some, None}
 use Rattle.rite_code.specs.declared.code.Irep.{Irep}
 use Rattle.rite_code.specs.declared.operation.Operation.{Operation}
@@ -12,7 +12,6 @@ use Rattle.scope_resolver.specs.declared.body_kind.BodyKind.TheVariants as kind
 use Rattle.scope_resolver.specs.Layout.{Scopes, place_of}
 use Rattle.gen_parts.specs.declared.line.Line.{Line}
 use Rattle.gen_parts.specs.declared.line.Line.TheVariants as line
-use Rattle.gen_parts.specs.declared.line.Catch.{Catch}
 use Rattle.gen_parts.specs.declared.emitter.Spot.{Spot}
 use Rattle.gen_parts.specs.declared.emitter.Held.{Held}
 use Rattle.gen_parts.specs.declared.emitter.Held.TheVariants as held
@@ -28,26 +27,22 @@ use Rattle.step_laws.proofs.Spans.{none_asked}
 use Rattle.step_laws.proofs.Making.{body_irep, inner_bodies, form_spot, code_of_method, code_of_block, code_of_class}
 
 pub record HasBodies (n : ℕ) (p : Piece) : Type 0 where
-  pub catches : p.catches ≡ []
   pub long : length p.bodies ≡ n
 
 pub bodies_moved : (m n : ℕ) (p : Piece) → m ≡ n → HasBodies m p → HasBodies n p
-bodies_moved m n p e x = record { catches = x.catches; long = omega (arith, e, x.long) }
+bodies_moved m n p e x = record { long = omega (arith, e, x.long) }
 
 pub bodies_both : (m n : ℕ) (p q : Piece) → HasBodies m p → HasBodies n q → HasBodies (m + n) (p ⊕ q)
 unfolding both
-bodies_both m n p q x y = record {
-  catches = ap (λ (cs : List Catch). cs ++ q.catches) x.catches ∙ y.catches;
-  long = omega (arith, length-append p.bodies q.bodies, x.long, y.long);
-}
+bodies_both m n p q x y = record { long = omega (arith, length-append p.bodies q.bodies, x.long, y.long) }
 
 pub none_put : (l : Line) → HasBodies 0 (puts l)
 unfolding puts
-none_put l = record { catches = refl; long = refl }
+none_put l = record { long = refl }
 
 pub none_there : HasBodies 0 nothing
 unfolding nothing
-none_there = record { catches = refl; long = refl }
+none_there = record { long = refl }
 
 pub bodies_ends : (n : ℕ) (p : Piece) (l : Line) → HasBodies n p → HasBodies n (p ⊕ puts l)
 bodies_ends n p l x = bodies_moved (n + 0) n (p ⊕ puts l) (omega arith) (bodies_both n 0 p (puts l) x (none_put l))
@@ -160,7 +155,7 @@ body_made o i k sc n p ls f bodies is inner =
     let b = form.body p ls f in
     let t = tally b in
     let x = inner (opening k b sc t) (form_spot n (length p.optional)) (first_register k b t) in
-    record { catches = refl; long = omega (arith, ap length is, x.long) }
+    record { long = omega (arith, ap length is, x.long) }
 
 -- that of a class with those in it
 class_made : (o : Operation) (i : ℕ) (sc : Scopes) (n : ℕ) (p : form.Parameters) (ls : List form.Local) (f : CoreForm)
@@ -171,13 +166,13 @@ class_made o i sc n p ls f inner =
     let b = form.body p ls f in
     let t = tally b in
     let x = inner (opening kind.Class b [] t) (first_spot n) (first_register kind.Class b t) in
-    record { catches = refl; long = omega (arith, ap length (code_of_class sc n b), x.long) }
+    record { long = omega (arith, ap length (code_of_class sc n b), x.long) }
 
 -- forms in turn have those of each of them
 bodies_in_turn : (n : ℕ) (es : Forms) (c : Context) (s : Spot) (r : ℕ) → HasBodies n (others_in_turn c s r es)
     → HasBodies n (in_turn c s r es)
 unfolding puts nothing
-bodies_in_turn n form.none c s r x = record { catches = x.catches; long = x.long }
+bodies_in_turn n form.none c s r x = record { long = x.long }
 bodies_in_turn n (form.more e es) c s r x = x
 
 mutual
@@ -329,7 +324,14 @@ mutual
       let b = form.body p ls f in
       body_made (op.Lambda r s.child) s.body kind.Block c.scopes s.body p ls f (body_code kind.Block c.scopes s.body b)
       (code_of_block c.scopes s.body b is.0) (bodies_of f is.1)
-  bodies_of (form.begin_form b cs o e) is c s r = absurd is
+  bodies_of (form.begin_form b form.no_clauses o form.absent) is c s r =
+      let p = gen c s r b in
+      let k = over_maybe how_many o in
+      bodies_moved (span b + k) (span b + (k + (0 + 0))) (p ⊕ gen_maybe c (past s p) r o) (omega arith)
+      (bodies_both (span b) k p (gen_maybe c (past s p) r o) (bodies_of b is.0 c s r)
+      (bodies_in_block o is.1 c (past s p) r))
+  bodies_of (form.begin_form b form.no_clauses o (form.there e)) is c s r = absurd is
+  bodies_of (form.begin_form b (form.clause es t f cs) o e) is c s r = absurd is
   bodies_of (form.return_form e) is c s r =
       bodies_ends (span e) (gen c s r e) (line.Does (return_by c.kind_of r)) (bodies_of e is c s r)
   bodies_of (form.break_form e) is c s r = break_bodies (span e) (gen c s r e) c.loop r (bodies_of e is c s r)

@@ -159,7 +159,7 @@ module _ (s : Source) (c : Program) (n : ℕ) (g : CodedClass s c n) (activation
 
     covers : children.Shapes s c → Covers h None (first s c n g) (first_spot n) (n + 1) (f s c n g)
     covers shapes =
-        cover h (named_slots (ls s c n g)) (ls s c n g) (t s c n g) (first s c n g + width (f s c n g)) has shapes
+        cover h (named_slots (ls s c n g)) (ls s c n g) (t s c n g) (first s c n g + width (f s c n g)) has shapes []
         (f s c n g) None
         (first s c n g) (first_spot n) (n + 1) (within_class (ls s c n g)) (refl, λ e. absurd (cc e)) g.written.plain
         (fits s c n g).1 g.written.formed (omega arith) (omega arith) g.written.stands settled

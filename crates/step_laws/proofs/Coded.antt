@@ -284,7 +284,7 @@ module _ (p : Parameters) (ls : List Local) (f : CoreForm) (program_is : IsProgr
 
   covers : Covers site None start (first_spot 0) 1 f
   covers =
-      cover site (named_slots ls) ls t (start + width f) has shapes f None start (first_spot 0) 1 (within_program ls)
+      cover site (named_slots ls) ls t (start + width f) has shapes [] f None start (first_spot 0) 1 (within_program ls)
       (refl, λ e. tt) plain
       fits.1 formed (omega arith) (omega arith) (program_stands b program_is) settled
 

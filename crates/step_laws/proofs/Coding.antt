@@ -293,7 +293,7 @@ module _ (s : Source) (c : Program) (n : ℕ) (g : Coded s c n) (activation list
 
   covers : children.Shapes s c → Covers h None (first s c n g) (spot s c n g) (n + 1) (f s c n g)
   covers shapes =
-      cover h (ss s c n g) g.written.within.known (t s c n g) (first s c n g + width (f s c n g)) has shapes (f s c n g) None
+      cover h (ss s c n g) g.written.within.known (t s c n g) (first s c n g + width (f s c n g)) has shapes [] (f s c n g) None
       (first s c n g) (spot s c n g) (n + 1) g.written.within (refl, λ e. may_return g.kind_of g.enters)
       g.written.plain (fits s c n g).1 g.written.formed
       (omega arith) (omega arith) g.written.stands settled

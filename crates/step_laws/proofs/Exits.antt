@@ -18,8 +18,9 @@ use Rattle.def_calls.specs.Fibers.{Fiber, Fibers, Onward, back_to, finish}
 use Rattle.def_calls.specs.Fibers as fibers
 use Rattle.def_eval.specs.Source.{Source}
 use Rattle.def_eval.specs.Configuration as source
-use Rattle.def_eval.specs.Configuration.{Place, Exit, raise, Part, Stop, passes, loops, rescues, assigns, retries, ensures, stop_of, Item, part, activation, iteration, Kept, give, travel, Config, Run, Halt}
-use Rattle.def_eval.specs.Giving.{returned, end_fiber, do_give}
+use Rattle.def_eval.specs.Configuration.{Place, Exit, raise, Rescue, Part, Stop, passes, loops, rescues, assigns, retries, ensures, stop_of, Item, part, activation, iteration, Kept, give, travel, Config, Run, Halt}
+use Rattle.ir_core.specs.CoreForm.{Clauses, no_clauses, clause}
+use Rattle.def_eval.specs.Giving.{returned, next_clause, end_fiber, do_give}
 use Rattle.def_eval.specs.Exits.{travel_part, travel_caught, end_by, end_or_ask, leave_fiber, do_travel}
 use Rattle.def_eval.specs.Transition.{go}
 use Rattle.def_machine.specs.State as machine
@@ -31,7 +32,7 @@ use Rattle.step_laws.specs.Calm.{Quiet}
 use Rattle.step_laws.specs.Measure.{weight, measure}
 use Rattle.step_laws.proofs.Placed.{Rest, frame_at, turned}
 use Rattle.step_laws.specs.Behind.{Static}
-use Rattle.step_laws.specs.Relation.{EndsBy, stops, returns, Waits, Ground, over_levels, IsPassed, uses, uses_in, Both, Common, GivesIn, GivesOut, Throwing, raised, Alike, Advances, Step}
+use Rattle.step_laws.specs.Relation.{EndsBy, stops, returns, Waits, Ground, over_levels, HasNone, IsPassed, uses, uses_in, Both, Common, GivesIn, GivesOut, Throwing, raised, Alike, Advances, Step}
 use Rattle.step_laws.proofs.Untouched.{grown, without_top}
 use Rattle.step_laws.proofs.Switching.{Onwards, nowhere, onward, finished, ground_in, switched}
 use Rattle.step_laws.proofs.Matching.{no_turn, one_turn, going, going_out, state_at}
@@ -209,12 +210,19 @@ past_fiber : (p : Program) (e : ObjId) (k : machine.Memory)
 unfolding throw unwind
 past_fiber p e k = refl
 
+-- no clause takes the exception
+no_clause : (n : ℕ) (x : ObjId) (r : Rescue) (ks : List Item) (m : source.Memory) (cs : Clauses) → HasNone cs
+    → next_clause n x cs r ks m ≡ Run (travel (raise x)) ks m
+unfolding next_clause
+no_clause n x r ks m no_clauses g = refl
+no_clause n x r ks m (clause es t b cs) g = absurd g
+
 -- an exit passes a part
 passes_part : (x : ObjId) (p : Stop) (ks : List Item) (m : source.Memory) → IsPassed p
     → travel_part (raise x) p ks m ≡ Run (travel (raise x)) ks m
 passes_part x passes ks m g = refl
 passes_part x (loops n t b) ks m g = refl
-passes_part x (rescues n r) ks m g = absurd g
+passes_part x (rescues n r) ks m g = no_clause n x r ks m r.clauses g
 passes_part x (assigns e r) ks m g = refl
 passes_part x (retries r) ks m g = refl
 passes_part x (ensures n e) ks m g = absurd g

@@ -3,14 +3,14 @@ use Rattle.std.proofs.Common.{◌≡◌, ℕ, ◌+◌, ◌<◌, List, [], ◌∷
 use Rattle.std.specs.Prelude.{◌||◌, Option, None}
 use Rattle.std.proofs.lemmas.Bool.{eq-eqb}
 use Rattle.rite_code.specs.declared.operation.Operation.{Operation}
-use Rattle.ir_core.specs.CoreForm.{CoreForm, none}
+use Rattle.ir_core.specs.CoreForm.{CoreForm, none, no_clauses, clause}
 use Rattle.gen_parts.specs.declared.line.Line.TheVariants as line
 use Rattle.gen_parts.specs.Pieces.{does, ◌⊕◌}
 use Rattle.gen_forms.specs.declared.context.Loop.{Loop}
 use Rattle.gen_forms.specs.Gen.{gen}
 use Rattle.def_eval.specs.Source.{span}
 use Rattle.def_eval.specs.Configuration as source
-use Rattle.def_eval.specs.Configuration.{Action, Stop, passes, Part, operands, receiver, items, block, elements, hash_key, hash_value, pieces, rest, test, chosen, and_then, or_else, loop_test, loop_body, rescued, clause_class, clause_target, clause_body, ensured, stop_of, Item, part, activation, iteration, ensuring, perform, Config, Run}
+use Rattle.def_eval.specs.Configuration.{Action, Stop, passes, loops, rescues, assigns, retries, ensures, Part, operands, receiver, items, block, elements, hash_key, hash_value, pieces, rest, test, chosen, and_then, or_else, loop_test, loop_body, rescued, clause_class, clause_target, clause_body, ensured, stop_of, Item, part, activation, iteration, ensuring, perform, Config, Run}
 use Rattle.def_eval.specs.Forms.{is_under_way, is_loop, in_loop}
 use Rattle.def_eval.specs.Transition.{go}
 use Rattle.def_machine.specs.State as machine
@@ -19,7 +19,7 @@ use Rattle.step_laws.specs.Site.{Site, guarded_by, bare, within, LineAt}
 use Rattle.step_laws.specs.Covers.{Covers}
 use Rattle.step_laws.specs.Measure.{size, measure}
 use Rattle.step_laws.specs.Behind.{OperandBehind, Behind, IsAround}
-use Rattle.step_laws.specs.Relation.{Waits, Ground, InFrame, IsLeft, Common, Doing, Home, Related, Step}
+use Rattle.step_laws.specs.Relation.{Waits, Ground, InFrame, IsFree, IsLeft, Common, Doing, Home, Related, Step}
 use Rattle.step_laws.proofs.Placed.{high, Stands, within_puts, left, right_at, the_line}
 use Rattle.step_laws.proofs.Within.{keeps}
 use Rattle.step_laws.proofs.Untouched.{leaves_end}
@@ -30,27 +30,45 @@ use Rattle.step_laws.proofs.Literals.{aligned}
 
 -- out of loops a part lets every exit pass
 free : (h : Site) (l : List Registers) (p : Part) (low n r end : ℕ) (around : Option Loop) → around ≡ None
-    → Behind h l p low n r end around → stop_of p ≡ passes
-free h l (operands j a vs es) low n r end around e b = refl
-free h l (receiver j x is o) low n r end around e b = refl
-free h l (items j s recv vs is o) low n r end around e b = refl
-free h l (block s recv vs) low n r end around e b = refl
-free h l (elements j g o s is) low n r end around e b = refl
-free h l (hash_key j o v ps) low n r end around e b = refl
-free h l (hash_value j o v ps) low n r end around e b = refl
-free h l (pieces j o es) low n r end around e b = refl
-free h l (rest j es) low n r end around e b = refl
-free h l (test j t bs o) low n r end around e b = refl
-free h l chosen low n r end around e b = refl
-free h l (and_then j f) low n r end around e b = refl
-free h l (or_else j f) low n r end around e b = refl
+    → Behind h l p low n r end around → IsFree (stop_of p)
+free h l (operands j a vs es) low n r end around e b = tt
+free h l (receiver j x is o) low n r end around e b = tt
+free h l (items j s recv vs is o) low n r end around e b = tt
+free h l (block s recv vs) low n r end around e b = tt
+free h l (elements j g o s is) low n r end around e b = tt
+free h l (hash_key j o v ps) low n r end around e b = tt
+free h l (hash_value j o v ps) low n r end around e b = tt
+free h l (pieces j o es) low n r end around e b = tt
+free h l (rest j es) low n r end around e b = tt
+free h l (test j t bs o) low n r end around e b = tt
+free h l chosen low n r end around e b = tt
+free h l (and_then j f) low n r end around e b = tt
+free h l (or_else j f) low n r end around e b = tt
 free h l (loop_test j t f) low n r end around e b = absurd (cc (sym e ∙ b.inside ∙ b.loop.is))
 free h l (loop_body j t f) low n r end around e b = absurd (cc (sym e ∙ b.inside ∙ b.loop.is))
-free h l (rescued j t cs o) low n r end around e b = absurd b
+free h l (rescued j t no_clauses o) low n r end around e b = tt
+free h l (rescued j t (clause es u d cs) o) low n r end around e b = absurd b
 free h l (clause_class j f es t d cs q) low n r end around e b = absurd b
 free h l (clause_target j f t q) low n r end around e b = absurd b
 free h l (clause_body q) low n r end around e b = absurd b
 free h l (ensured j f) low n r end around e b = absurd b
+
+-- what waits behind it is in the same loop
+free_around : (o : Stop) (around outer : Option Loop) → IsFree o → IsAround o around outer → outer ≡ around
+free_around passes around outer f a = a
+free_around (loops n t b) around outer f a = absurd f
+free_around (rescues n r) around outer f a = a
+free_around (assigns e r) around outer f a = absurd f
+free_around (retries r) around outer f a = absurd f
+free_around (ensures n e) around outer f a = absurd f
+
+no_loop_in : (o : Stop) → IsFree o → is_loop o ≡ false
+no_loop_in passes f = refl
+no_loop_in (loops n t b) f = absurd f
+no_loop_in (rescues n r) f = refl
+no_loop_in (assigns e r) f = absurd f
+no_loop_in (retries r) f = absurd f
+no_loop_in (ensures n e) f = absurd f
 
 left_by : (round : Bool) (h : Site) (l : List Registers) (p : Part) (low n r end : ℕ) (around : Option Loop)
     → (round ≡ true → around ≡ None) → Behind h l p low n r end around → IsLeft round (stop_of p)
@@ -64,7 +82,7 @@ home_of g h l round [] n r around e a = absurd a
 home_of g h l round (part p ∷ ks) n r around e a = (
   left_by round h l p a.low n r a.end around e a.behind,
   home_of g h l round ks a.end a.low a.outer
-      (λ t. subst (λ (o : Stop). IsAround o around a.outer) (free h l p a.low n r a.end around (e t) a.behind) a.inner ∙ e t)
+      (λ t. free_around (stop_of p) around a.outer (free h l p a.low n r a.end around (e t) a.behind) a.inner ∙ e t)
       (outside_passed (stop_of p) h.guards (λ gs. InFrame g (guarded_by h gs) l ks a.end a.low a.outer)
       (passed h l p a.low n r a.end around a.behind) a.next),
 )
@@ -88,7 +106,8 @@ under_way g h l round (ensuring o ∷ ks) w = absurd w
 
 pub no_loop : (g : Ground) (h : Site) (l : List Registers) (ks : List Item) → Home g h l true ks → in_loop ks ≡ false
 no_loop g h l [] w = absurd w
-no_loop g h l (part p ∷ ks) w = ap (λ (o : Stop). is_loop o || in_loop ks) w.0 ∙ no_loop g h l ks w.1
+no_loop g h l (part p ∷ ks) w =
+    ap (λ (b : Bool). b || in_loop ks) (no_loop_in (stop_of p) w.0) ∙ no_loop g h l ks w.1
 no_loop g h l (activation a p ∷ ks) w = refl
 no_loop g h l (iteration a it p ∷ ks) w = absurd w
 no_loop g h l (ensuring o ∷ ks) w = absurd w

@@ -20,6 +20,7 @@ pub mod Locals
 pub mod Globals
 pub mod Sequences
 pub mod Branches
+pub mod Begins
 pub mod Loops
 pub mod Operators
 pub mod Waiting
@@ -110,3 +111,4 @@ pub mod Coded
 pub mod Methods
 pub mod Objects
 pub mod Unnamed
+pub mod Otherwise

@@ -143,7 +143,12 @@ module _ (s : Source) where
         (closed f is.1 (within_block a p ls) (n + 1) st.2)
     closed (form.lambda (form.body p ls f)) is a n st =
         whole_closed n p ls f st.0 (closed f is.1 (within_block a p ls) (n + 1) st.2)
-    closed (form.begin_form b cs o e) is a n st = absurd is
+    closed (form.begin_form b form.no_clauses o form.absent) is a n st =
+        let k = over_maybe how_many o in
+        subst (λ (i : ℕ). Closed s n (n + (span b + i))) (omega arith)
+        (then_closed s n (span b) k (closed b is.0 a n st.0) (closed_block o is.1 a (n + span b) st.2))
+    closed (form.begin_form b form.no_clauses o (form.there e)) is a n st = absurd is
+    closed (form.begin_form b (form.clause es t f cs) o e) is a n st = absurd is
     closed (form.return_form e) is a n st = closed e is a n st
     closed (form.break_form e) is a n st = closed e is a n st
     closed (form.next_form e) is a n st = closed e is a n st

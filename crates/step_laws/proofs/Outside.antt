@@ -4,6 +4,7 @@ use Rattle.std.specs.Prelude.{not, ◌&&◌, if◌then◌else◌, Some, None}
 use Rattle.std.specs.List.{filter}
 use Rattle.rb_value.specs.declared.exit.Exit.TheVariants.{Jump}
 use Rattle.rite_code.specs.declared.code.CatchEntry.{CatchEntry}
+use Rattle.ir_core.specs.CoreForm.{Clauses, no_clauses, clause}
 use Rattle.gen_parts.specs.declared.line.Line.{Line}
 use Rattle.gen_parts.specs.declared.line.Catch.{Catch}
 use Rattle.gen_parts.specs.Pieces.{Piece}
@@ -14,32 +15,46 @@ use Rattle.def_machine.specs.Unwind.{covers, covering, handler}
 use Rattle.step_laws.specs.Guards.{is_over, guarding, guards_at}
 use Rattle.step_laws.specs.Site.{Site, guarded_by, at_line, IsGuarded, AllCover, StaysIn, Lines}
 use Rattle.step_laws.specs.Standing.{high, Stands}
-use Rattle.step_laws.specs.Relation.{Outside, IsPassed}
+use Rattle.step_laws.specs.Relation.{HasNone, Caught, Outside, IsPassed}
+
+caught_kept : (cs : Clauses) (gs : List Catch) (P Q : List Catch → Type 0) → ((ds : List Catch) → P ds → Q ds)
+    → Caught cs gs P → Caught cs gs Q
+caught_kept no_clauses gs P Q to x = to gs x
+caught_kept (clause es t b cs) gs P Q to x = (x.0, x.1, x.2, to x.1 x.3)
 
 pub outside_kept : (o : Stop) (gs : List Catch) (P Q : List Catch → Type 0) → ((ds : List Catch) → P ds → Q ds)
     → Outside o gs P → Outside o gs Q
 outside_kept passes gs P Q to x = to gs x
 outside_kept (loops n t b) gs P Q to x = to gs x
-outside_kept (rescues n r) gs P Q to x = (x.0, x.1, x.2, to x.1 x.3)
+outside_kept (rescues n r) gs P Q to x = caught_kept r.clauses gs P Q to x
 outside_kept (assigns e r) gs P Q to x = to gs x
 outside_kept (retries r) gs P Q to x = to gs x
 outside_kept (ensures n e) gs P Q to x = (x.0, x.1, x.2, to x.1 x.3)
 
 -- what is so however many entries are left
+caught_any : (cs : Clauses) (gs : List Catch) (P : List Catch → Type 0) (C : Type 0) → ((ds : List Catch) → P ds → C)
+    → Caught cs gs P → C
+caught_any no_clauses gs P C to x = to gs x
+caught_any (clause es t b cs) gs P C to x = to x.1 x.3
+
 pub outside_any : (o : Stop) (gs : List Catch) (P : List Catch → Type 0) (C : Type 0) → ((ds : List Catch) → P ds → C)
     → Outside o gs P → C
 outside_any passes gs P C to x = to gs x
 outside_any (loops n t b) gs P C to x = to gs x
-outside_any (rescues n r) gs P C to x = to x.1 x.3
+outside_any (rescues n r) gs P C to x = caught_any r.clauses gs P C to x
 outside_any (assigns e r) gs P C to x = to gs x
 outside_any (retries r) gs P C to x = to gs x
 outside_any (ensures n e) gs P C to x = to x.1 x.3
 
 -- behind a part that lets exits pass the entries are the same
+caught_passed : (cs : Clauses) (gs : List Catch) (P : List Catch → Type 0) → HasNone cs → Caught cs gs P → P gs
+caught_passed no_clauses gs P i x = x
+caught_passed (clause es t b cs) gs P i x = absurd i
+
 pub outside_passed : (o : Stop) (gs : List Catch) (P : List Catch → Type 0) → IsPassed o → Outside o gs P → P gs
 outside_passed passes gs P i x = x
 outside_passed (loops n t b) gs P i x = x
-outside_passed (rescues n r) gs P i x = absurd i
+outside_passed (rescues n r) gs P i x = caught_passed r.clauses gs P i x
 outside_passed (assigns e r) gs P i x = x
 outside_passed (retries r) gs P i x = x
 outside_passed (ensures n e) gs P i x = absurd i

@@ -49,7 +49,8 @@ far_passes : (q : Far) (a : ℕ) (v : Value) (p : Stop) (ks : List Item) (m : so
 far_passes q a v passes ks m g = refl
 far_passes returns_far a v (loops n t b) ks m g = refl
 far_passes breaks_far a v (loops n t b) ks m g = refl
-far_passes q a v (rescues n r) ks m g = absurd g
+far_passes returns_far a v (rescues n r) ks m g = refl
+far_passes breaks_far a v (rescues n r) ks m g = refl
 far_passes returns_far a v (assigns e r) ks m g = refl
 far_passes breaks_far a v (assigns e r) ks m g = refl
 far_passes returns_far a v (retries r) ks m g = refl

@@ -6,6 +6,7 @@ use Rattle.rb_value.specs.declared.value.Value.TheVariants.{Nil}
 use Rattle.rb_value.specs.declared.exit.Slot.{Slot}
 use Rattle.rb_value.specs.declared.exit.Slot.TheVariants.{V}
 use Rattle.rb_value.specs.Slot.{read}
+use Rattle.ir_core.specs.CoreForm as form
 use Rattle.ir_core.specs.CoreForm.{Local, Forms}
 use Rattle.gen_parts.specs.declared.line.Catch.{Catch}
 use Rattle.gen_forms.specs.declared.context.Loop.{Loop}
@@ -245,7 +246,9 @@ behind_kept h l l' (and_then j e) low n r end around k above b = b
 behind_kept h l l' (or_else j e) low n r end around k above b = b
 behind_kept h l l' (loop_test j t e) low n r end around k above b = b
 behind_kept h l l' (loop_body j t e) low n r end around k above b = b
-behind_kept h l l' (rescued j t cs o) low n r end around k above b = absurd b
+behind_kept h l l' (rescued j t form.no_clauses form.absent) low n r end around k above b = b
+behind_kept h l l' (rescued j t form.no_clauses (form.there e)) low n r end around k above b = b
+behind_kept h l l' (rescued j t (form.clause es u d cs) o) low n r end around k above b = absurd b
 behind_kept h l l' (clause_class j e es t d cs q) low n r end around k above b = absurd b
 behind_kept h l l' (clause_target j e t q) low n r end around k above b = absurd b
 behind_kept h l l' (clause_body q) low n r end around k above b = absurd b

@@ -28,14 +28,15 @@ use Rattle.def_eval.specs.Transition.{go}
 use Rattle.def_machine.specs.State as machine
 use Rattle.def_machine.specs.State.{Level, frame, slot_at}
 use Rattle.def_machine.specs.Unwind.{receive, throw}
+use Rattle.def_machine.specs.Turn.{turn}
 use Rattle.gen_parts.specs.Assembly.{entry_by}
-use Rattle.step_laws.specs.Site.{Site, within, LineAt}
+use Rattle.step_laws.specs.Site.{Site, IsGuarded, within, LineAt}
 use Rattle.step_laws.specs.Calm.{Quiet}
 use Rattle.step_laws.specs.Measure.{measure}
 use Rattle.step_laws.specs.Far.{ends_itself, MayReturn, returns_far, home_exit}
 use Rattle.step_laws.proofs.Placed.{high, Stands, Rest, frame_at, turned}
 use Rattle.step_laws.specs.Behind.{Static, OperandBehind, ReturnBehind, RoundBehind, leaves_body, goes_far}
-use Rattle.step_laws.specs.Relation.{Ground, IsPassed, IsLeft, Common, Doing, GivesIn, Home, returning, Related, Step}
+use Rattle.step_laws.specs.Relation.{Ground, IsPassed, IsFree, IsLeft, Common, Doing, GivesIn, Home, returning, Related, Step}
 use Rattle.step_laws.proofs.Untouched.{grown}
 use Rattle.step_laws.proofs.Matching.{by_none, going, state_at}
 use Rattle.step_laws.proofs.Calling.{From, falls, given_back}
@@ -48,15 +49,24 @@ return_passes : (a : ℕ) (v : Value) (p : Stop) (ks : List Item) (m : source.Me
     → travel_part (return a v) p ks m ≡ Run (travel (return a v)) ks m
 return_passes a v passes ks m g = refl
 return_passes a v (loops n t b) ks m g = refl
-return_passes a v (rescues n r) ks m g = absurd g
+return_passes a v (rescues n r) ks m g = refl
 return_passes a v (assigns e r) ks m g = refl
 return_passes a v (retries r) ks m g = refl
 return_passes a v (ensures n e) ks m g = absurd g
 
+next_passes : (v : Value) (p : Stop) (ks : List Item) (m : source.Memory) → IsFree p
+    → travel_part (next v) p ks m ≡ Run (travel (next v)) ks m
+next_passes v passes ks m g = refl
+next_passes v (loops n t b) ks m g = absurd g
+next_passes v (rescues n r) ks m g = refl
+next_passes v (assigns e r) ks m g = absurd g
+next_passes v (retries r) ks m g = absurd g
+next_passes v (ensures n e) ks m g = absurd g
+
 home_passes : (round : Bool) (a : ℕ) (v : Value) (p : Stop) (ks : List Item) (m : source.Memory) → IsLeft round p
     → travel_part (home_exit round a v) p ks m ≡ Run (travel (home_exit round a v)) ks m
 home_passes false a v p ks m g = return_passes a v p ks m g
-home_passes true a v p ks m g = ap (λ (o : Stop). travel_part (next v) o ks m) g
+home_passes true a v p ks m g = next_passes v p ks m g
 
 module _ (g : Ground) (h : Site) (static : Static h) (ks : List Item) (m : source.Memory) (ls : List Level)
     (k : machine.Memory) (both : Common g h m (aligned k m)) where
@@ -100,6 +110,15 @@ module _ (g : Ground) (h : Site) (static : Static h) (ks : List Item) (m : sourc
         leaves = l;
       }))
 
+  -- the turn of RETURN
+  return_thrown : (x : Rest) (n r : ℕ) (v : Value) → LineAt h n (line.Does (op.Return r)) → slot_at k.lists h.list r ≡ V v
+      → turn h.program (state_at g h x n (aligned k m))
+      ≡ throw h.program (Return h.activation v) (frame (frame_at h x n) ∷ g.below) (aligned k m)
+  return_thrown x n r v l stands =
+      turned h x n (op.Return r) g.below (aligned k m) l
+      ∙ ap (λ (u : Value). throw h.program (Return h.activation u) (frame (frame_at h x n) ∷ g.below) (aligned k m))
+      (ap read stands)
+
   pub give_return : (v : Value) (j : ℕ) (a : Action) (vs : List Value) (es : Forms)
       (d : GivesIn g h v (part (operands j a vs es) ∷ ks) m.place ls k.lists)
       → ReturnBehind h a vs es d.next.low d.n d.r
@@ -125,13 +144,13 @@ module _ (g : Ground) (h : Site) (static : Static h) (ks : List Item) (m : sourc
         both = both;
         x = d.x;
         n = d.n;
-        r = d.next.low;
         is = refl;
         value = v;
         round = false;
         exit = refl;
-        at = b.returns;
-        stands = subst (λ (i : ℕ). slot_at k.lists h.list i ≡ V v) (sym b.at) d.stands;
+        throws = return_thrown d.x d.n d.next.low v b.returns
+            (subst (λ (i : ℕ). slot_at k.lists h.list i ≡ V v) (sym b.at) d.stands);
+        guarded = b.returns.guarded;
         home = home;
       })))
 
@@ -155,13 +174,13 @@ module _ (g : Ground) (h : Site) (static : Static h) (ks : List Item) (m : sourc
         both = both;
         x = d.x;
         n = d.n;
-        r = d.next.low;
         is = refl;
         value = v;
         round = true;
         exit = refl;
-        at = b.returns;
-        stands = subst (λ (i : ℕ). slot_at k.lists h.list i ≡ V v) (sym b.at) d.stands;
+        throws = return_thrown d.x d.n d.next.low v b.returns
+            (subst (λ (i : ℕ). slot_at k.lists h.list i ≡ V v) (sym b.at) d.stands);
+        guarded = b.returns.guarded;
         home = home_of g h k.lists true ks d.next.end d.next.low d.next.outer (λ t. d.next.inner ∙ b.outside) d.next.next;
       })))
 
@@ -169,12 +188,12 @@ module _ (g : Ground) (h : Site) (static : Static h) (ks : List Item) (m : sourc
   pub record Homing (e : Exit) (is : List Item) : Type 0 where
     pub x : Rest
     pub n : ℕ
-    pub r : ℕ
     pub value : Value
     pub round : Bool
     pub exit : e ≡ home_exit round h.activation value
-    pub at : LineAt h n (line.Does (op.Return r))
-    pub stands : slot_at k.lists h.list r ≡ V value
+    pub throws : turn h.program (state_at g h x n (aligned k m))
+        ≡ throw h.program (Return h.activation value) (frame (frame_at h x n) ∷ g.below) (aligned k m)
+    pub guarded : IsGuarded h n
     pub home : Home g h k.lists round is
 
   -- a part is passed
@@ -194,13 +213,12 @@ module _ (g : Ground) (h : Site) (static : Static h) (ks : List Item) (m : sourc
         both = both;
         x = q.x;
         n = q.n;
-        r = q.r;
         is = refl;
         value = q.value;
         round = q.round;
         exit = refl;
-        at = q.at;
-        stands = q.stands;
+        throws = q.throws;
+        guarded = q.guarded;
         home = q.home.1;
       })))
 
@@ -225,10 +243,8 @@ module _ (g : Ground) (h : Site) (static : Static h) (ks : List Item) (m : sourc
       } in
       (given_back h.source h.program conf (frame (frame_at h q.x q.n) ∷ g.below) (aligned k m) m from v ks m' g g.below
       (machine.with_world k w) goes
-      (turned h q.x q.n (op.Return q.r) g.below (aligned k m) q.at
-      ∙ ap (λ (u : Value). throw h.program (Return h.activation u) (frame (frame_at h q.x q.n) ∷ g.below) (aligned k m))
-      (ap read q.stands)
-      ∙ returned_by h q.n (q.at.guarded ∙ ap (map (entry_by h.at)) q.home.2) v q.x g.below (aligned k m)
+      (q.throws
+      ∙ returned_by h q.n (q.guarded ∙ ap (map (entry_by h.at)) q.home.2) v q.x g.below (aligned k m)
       ∙ ap (λ (c : ℕ). receive v g.below (machine.with_world k (close m.world c))) (sym q.home.0))
       (falls g.below ks m' conf (omega arith))
       (record { world = b.world; sites = b.sites; fibers = b.fibers; apart = b.apart }) q.home.1).advances

@@ -26,6 +26,9 @@ use Rattle.def_eval.specs.Configuration.{Exit, Part, operands, receiver, items, 
 use Rattle.def_eval.specs.Transition.{go}
 use Rattle.def_machine.specs.State as machine
 use Rattle.def_machine.specs.State.{Level, State, On, Off, Stuck, start, shown, frame}
+use Rattle.rb_value.specs.declared.exit.Exit.{Exit as Thrown}
+use Rattle.rb_value.specs.declared.exit.Exit.TheVariants.{Return, Jump}
+use Rattle.def_machine.specs.Unwind.{throw}
 use Rattle.def_machine.specs.Turn.{turn}
 use Rattle.def_core.specs.Sound.{OptionIs}
 use Rattle.eval_laws.specs.Procs.{HasProc}
@@ -37,7 +40,7 @@ use Rattle.scope_resolver.specs.Layout.{Scopes, named_slots, seek}
 use Rattle.step_laws.specs.Around.{is_found, first_slots, further_slots}
 use Rattle.step_laws.proofs.Parameters.{sought, lined_nils}
 use Rattle.step_laws.proofs.Begun.{mirrored_by}
-use Rattle.step_laws.specs.Site.{bare, Site, LineAt, register, opening_store}
+use Rattle.step_laws.specs.Site.{bare, Site, at_line, LineAt, register, opening_store}
 use Rattle.step_laws.specs.Covers.{Covers}
 use Rattle.step_laws.specs.Calm.{IsCalm, StaysCalm}
 use Rattle.step_laws.specs.Measure.{measure}
@@ -61,6 +64,7 @@ use Rattle.step_laws.proofs.Texts.{do_text, give_piece}
 use Rattle.step_laws.proofs.Sequences.{do_seq, give_rest}
 use Rattle.step_laws.proofs.Bare.{do_call_bare}
 use Rattle.step_laws.proofs.Branches.{do_cond, give_test, give_chosen, do_and, do_or, give_and, give_or}
+use Rattle.step_laws.proofs.Begins.{do_begin, give_body}
 use Rattle.step_laws.proofs.Jumps.{do_break, do_next, leap_on}
 use Rattle.step_laws.proofs.Definitions.{do_define}
 use Rattle.step_laws.proofs.Receivers.{do_define_on}
@@ -130,7 +134,9 @@ module _ (g : Ground) (h : Site) (static : Static h) (ks : List Item) (m : sourc
   form_matched j (form.super_form is (form.there b)) c d = do_super g h static ks m ls k both c.0 j is b d c.3
   form_matched j (form.function f) c d = do_function g h static ks m ls k both j f d c.3.quiet
   form_matched j (form.lambda f) c d = do_lambda g h static ks m ls k both j f d c.3.quiet
-  form_matched j (form.begin_form b cs o e) c d = absurd d.covered
+  form_matched j (form.begin_form b form.no_clauses o form.absent) c d = do_begin g h ks m ls k both j b o d
+  form_matched j (form.begin_form b form.no_clauses o (form.there e)) c d = absurd d.covered
+  form_matched j (form.begin_form b (form.clause es t f cs) o e) c d = absurd d.covered
   form_matched j (form.return_form e) c d = do_return g h static ks m ls k both j e d
   form_matched j (form.break_form e) c d = do_break g h static ks m ls k both j e d
   form_matched j (form.next_form e) c d = do_next g h static ks m ls k both j e d
@@ -175,7 +181,8 @@ module _ (g : Ground) (h : Site) (static : Static h) (ks : List Item) (m : sourc
   part_matched v (or_else j e) c d = give_or g h static ks m ls k both v j e d
   part_matched v (loop_test j t b) c d = give_loop_test g h static ks m ls k both v j t b d
   part_matched v (loop_body j t b) c d = give_loop_body g h static ks m ls k both v j t b d
-  part_matched v (rescued j b cs o) c d = absurd d.next.behind
+  part_matched v (rescued j b form.no_clauses o) c d = give_body g h ks m ls k both v j b o d
+  part_matched v (rescued j b (form.clause es t f cs) o) c d = absurd d.next.behind
   part_matched v (clause_class j e es t b cs q) c d = absurd d.next.behind
   part_matched v (clause_target j e b q) c d = absurd d.next.behind
   part_matched v (clause_body q) c d = absurd d.next.behind
@@ -224,6 +231,12 @@ thrown_on s p x (activation a q ∷ ks) m ls k z calm = travel_activation_on s p
 thrown_on s p x (iteration a it q ∷ ks) m ls k z calm = travel_iteration_on s p m ls k x a it q ks z calm.2 calm.3.quiet
 thrown_on s p x (ensuring y ∷ ks) m ls k z calm = absurd z.leaving
 
+-- what a turn throws, in the world of the evaluation
+thrown_aligned : (p : Program) (x : Thrown) (ls : List Level) (m : source.Memory) (k : machine.Memory)
+    → k.world ≡ m.world → turn p (On ls k) ≡ throw p x ls k → turn p (On ls (aligned k m)) ≡ throw p x ls (aligned k m)
+thrown_aligned p x ls m k same t =
+    subst (λ (w : World). turn p (On ls (machine.with_world k w)) ≡ throw p x ls (machine.with_world k w)) same t
+
 leapt_on : (s : Source) (p : Program) (x : Exit) (ks : List Item) (m : source.Memory) (ls : List Level)
     (k : machine.Memory) → Leaps s p x ks m ls k → IsCalm s p (Run (travel x) ks m)
     → Advances s p (Run (travel x) ks m) (On ls k)
@@ -232,7 +245,18 @@ leapt_on s p x (part q ∷ ks) m ls k z calm =
     in_frame s p (part q ∷ ks) m ls k (travel x) z.g z.h z.both (λ static both here.
     on_levels s p (part q ∷ ks) m ls k (travel x) z.h (frame (frame_at z.h z.x z.n) ∷ z.g.below) z.is
     (leap_on z.g z.h static ks m ls k both x q
-    (record { x = z.x; n = z.n; there = z.there; target = z.target; by = z.by; way = z.way }))) calm
+    (record {
+      x = z.x;
+      n = z.n;
+      there = z.there;
+      to = z.to;
+      throws = thrown_aligned z.h.program (Jump z.h.activation (at_line z.h z.to)) (frame (frame_at z.h z.x z.n) ∷ z.g.below) m k
+          z.both.all.world z.throws;
+      guarded = z.guarded;
+      target = z.target;
+      by = z.by;
+      way = z.way;
+    }))) calm
 leapt_on s p x (activation a q ∷ ks) m ls k z calm = absurd z.way
 leapt_on s p x (iteration a it q ∷ ks) m ls k z calm = absurd z.way
 leapt_on s p x (ensuring y ∷ ks) m ls k z calm = absurd z.way
@@ -247,12 +271,12 @@ returned_on s p x (part q ∷ ks) m ls k z calm =
     (passes_on z.g z.h static ks m ls k both x q (record {
       x = z.x;
       n = z.n;
-      r = z.r;
       value = z.value;
       round = z.round;
       exit = z.exit;
-      at = z.at;
-      stands = z.stands;
+      throws = thrown_aligned z.h.program (Return z.h.activation z.value) (frame (frame_at z.h z.x z.n) ∷ z.g.below) m k
+          z.both.all.world z.throws;
+      guarded = z.guarded;
       home = z.home;
     }))) calm
 returned_on s p x (activation a q ∷ ks) m ls k z calm =
@@ -261,12 +285,12 @@ returned_on s p x (activation a q ∷ ks) m ls k z calm =
     (comes_home z.g z.h static ks m ls k both x a q (record {
       x = z.x;
       n = z.n;
-      r = z.r;
       value = z.value;
       round = z.round;
       exit = z.exit;
-      at = z.at;
-      stands = z.stands;
+      throws = thrown_aligned z.h.program (Return z.h.activation z.value) (frame (frame_at z.h z.x z.n) ∷ z.g.below) m k
+          z.both.all.world z.throws;
+      guarded = z.guarded;
       home = z.home;
     }) here.3.quiet)) calm
 returned_on s p x (iteration a it q ∷ ks) m ls k z calm = absurd z.home

@@ -326,7 +326,24 @@ module _ (src : Source) where
     written (form.lambda (form.body p ls g)) is t a n c w f st y s r at =
         block_written src (op.Lambda r s.child) s.body c.scopes n p ls g is.0 is.1
         (λ t' a' n' c' w' f' st' y' s' r' at'. written g is.1 t' a' n' c' w' f' st' y' s' r' at') a w.1 f st y at
-    written (form.begin_form b cs o e) is t a n c w f st y s r at = absurd is
+    written (form.begin_form b form.no_clauses o form.absent) is t a n c w f st y s r at =
+        let parts = both_true (is_form a b) (may_be a o && true) f in
+        let k = over_maybe how_many o in
+        let p = gen c s r b in
+        let q = gen_maybe c (past s p) r o in
+        let long = (bodies_of b is.0 c s r).long in
+        written_as src n (kinds b ++ kinds_maybe o) (kinds b ++ (kinds_maybe o ++ [])) (over in_order b ++ over_maybe in_order o)
+        (over in_order b ++ (over_maybe in_order o ++ [])) (p ⊕ q)
+        (ap (λ (xs : List Kind). kinds b ++ xs) (sym (append-nil (kinds_maybe o))))
+        (ap (λ (xs : List Body). over in_order b ++ xs) (sym (append-nil (over_maybe in_order o))))
+        (written_both src n (span b) (kinds b) (kinds_maybe o) (over in_order b) (over_maybe in_order o) p q
+        (written b is.0 t a n c w.1 parts.0 st.0 (ready_first src a c.scopes n (span b + (k + (0 + 0))) (span b)
+        (omega arith) y) s r at) long
+        (block_given o is.1 t a (n + span b) c w.3 (both_true (may_be a o) true parts.1).0 st.2
+        (ready_past src a c.scopes n (span b + (k + (0 + 0))) (span b) k (omega arith)
+        (closed src b is.0 a n st.0) y) (past s p) r (next_body s p n (span b) at long)))
+    written (form.begin_form b form.no_clauses o (form.there e)) is t a n c w f st y s r at = absurd is
+    written (form.begin_form b (form.clause es u g cs) o e) is t a n c w f st y s r at = absurd is
     written (form.return_form e) is t a n c w f st y s r at =
         written_ends src n (kinds e) (over in_order e) (gen c s r e) (line.Does (return_by c.kind_of r))
         (written e is t a n c w.1 (both_true a.returns (is_form a e) f).1 st

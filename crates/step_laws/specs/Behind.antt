@@ -8,7 +8,7 @@ use Rattle.rite_code.specs.declared.operation.Operation.{Operation}
 use Rattle.rite_code.specs.declared.operation.Operation.TheVariants as op
 use Rattle.ir_counts.specs.Tables.{item_count}
 use Rattle.ir_walk.specs.Width.{has_splat}
-use Rattle.ir_core.specs.CoreForm.{Name, Local, CoreForm, Maybe, absent, there, Forms, none, more, Items, Pairs, Branches}
+use Rattle.ir_core.specs.CoreForm.{Name, Local, CoreForm, Maybe, absent, there, Forms, none, more, Items, Pairs, Branches, no_clauses, clause}
 use Rattle.scope_resolver.specs.Layout.{place_of}
 use Rattle.step_laws.specs.Around.{first_slots}
 use Rattle.gen_parts.specs.declared.line.Line.TheVariants as line
@@ -552,7 +552,11 @@ Behind h l (test j b bs o) low n r end around = record {
   code : Stands h n (after_test (within h around) s low b bs o);
   ends : n + high (after_test (within h around) s low b bs o) ≡ end;
 }
-Behind h l chosen low n r end around = record { at : low ≡ r; jump : LineAt h n (line.Jump end) }
+Behind h l chosen low n r end around = record {
+  at : low ≡ r;
+  -- behind an `else` alone there is no jump
+  jump : LineAt h n (line.Jump end) ⊎ (n ≡ end);
+}
 Behind h l (and_then j e) low n r end around = record {
   at : low ≡ r;
   s : Spot;
@@ -581,7 +585,16 @@ Behind h l (loop_body j t b) low n r end around = record {
   inside : around ≡ loop.loop;
   here : loop.body_spot.line + high (gen (within h loop.loop) loop.body_spot low b) ≡ n;
 }
-Behind h l (rescued j b cs o) low n r end around = ⊥
+Behind h l (rescued j b no_clauses absent) low n r end around = record { at : low ≡ r; ends : n ≡ end }
+Behind h l (rescued j b no_clauses (there e)) low n r end around = record {
+  at : low ≡ r;
+  s : Spot;
+  here : s.line ≡ n;
+  covered : Covers h around low s (j + span b) e;
+  code : Stands h n (gen (within h around) s low e);
+  ends : n + high (gen (within h around) s low e) ≡ end;
+}
+Behind h l (rescued j b (clause es t d cs) o) low n r end around = ⊥
 Behind h l (clause_class j e es t b cs q) low n r end around = ⊥
 Behind h l (clause_target j e b q) low n r end around = ⊥
 Behind h l (clause_body q) low n r end around = ⊥

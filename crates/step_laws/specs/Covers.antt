@@ -2,7 +2,7 @@
 -- that the code makes from there on, from number j on.
 use Rattle.std.specs.Prelude.{[], ◌≡◌, ℕ, ◌+◌, get_or, true, false, Option, Some}
 use Rattle.rite_code.specs.declared.operation.Operation.TheVariants as op
-use Rattle.ir_core.specs.CoreForm.{Name, CoreForm, Body, nil, truth, falsehood, self_ref, int, str, sym, local, own, exception, set_local, ivar, set_ivar, gvar, set_gvar, constant, top_constant, in_constant, set_constant, set_in_constant, array, hash, range, text, intern, seq, cond, and_form, or_form, while_form, call, yield_form, super_form, function, lambda, begin_form, return_form, break_form, next_form, retry, define, define_on, class_form, module_form, singleton_class, alias_form, undef_form, defined, item, rest_of, tail_of, absent, there, Forms, none, more, Items, no_items, plain, splat, Pairs, no_pairs, pair, Branches, no_branches, branch, Receiver, to, on_self, bare, Maybe}
+use Rattle.ir_core.specs.CoreForm.{Name, CoreForm, Body, nil, truth, falsehood, self_ref, int, str, sym, local, own, exception, set_local, ivar, set_ivar, gvar, set_gvar, constant, top_constant, in_constant, set_constant, set_in_constant, array, hash, range, text, intern, seq, cond, and_form, or_form, while_form, call, yield_form, super_form, function, lambda, begin_form, return_form, break_form, next_form, retry, define, define_on, class_form, module_form, singleton_class, alias_form, undef_form, defined, item, rest_of, tail_of, absent, there, Forms, none, more, Items, no_items, plain, splat, Pairs, no_pairs, pair, Branches, no_branches, branch, Receiver, to, on_self, bare, Maybe, no_clauses, clause}
 use Rattle.ir_counts.specs.Tables.{item_count}
 use Rattle.gen_parts.specs.declared.emitter.Spot.{Spot}
 use Rattle.gen_parts.specs.declared.emitter.Held.TheVariants as held
@@ -189,7 +189,10 @@ abbrev mutual
       × MayHand (in_array is) (there b)
   Covers h o r s j (function f) = Makes h r s j f
   Covers h o r s j (lambda f) = Makes h r s j f
-  Covers h o r s j (begin_form b cs e f) = ⊥
+  Covers h o r s j (begin_form b no_clauses e absent) =
+      Covers h o r s j b × CoversMaybe h o r (past_form h o r s b) (j + span b) e
+  Covers h o r s j (begin_form b no_clauses e (there f)) = ⊥
+  Covers h o r s j (begin_form b (clause es t d cs) e f) = ⊥
   Covers h o r s j (return_form e) = Covers h o r s j e × MayReturn h.context.kind_of
   Covers h o r s j (break_form e) = Covers h o r s j e
   Covers h o r s j (next_form e) = Covers h o r s j e

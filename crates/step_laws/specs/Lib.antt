@@ -20,3 +20,4 @@ pub mod Implements
 pub mod Example
 pub mod Objects
 pub mod Unnamed
+pub mod Otherwise

@@ -42,7 +42,7 @@ abbrev mutual
   size (super_form is b) = 1 + size_items is + size_block b
   size (function f) = 1
   size (lambda f) = 1
-  size (begin_form b cs o e) = 1
+  size (begin_form b cs o e) = 4 + size b + size_maybe o
   size (return_form e) = 3 + size e
   size (break_form e) = 3 + size e
   size (next_form e) = 3 + size e
@@ -102,7 +102,7 @@ weight (and_then n e) = 1
 weight (or_else n e) = 1
 weight (loop_test n t b) = 1
 weight (loop_body n t b) = 2 + size t
-weight (rescued n b cs o) = 1
+weight (rescued n b cs o) = 3 + size_maybe o
 weight (clause_class n e es t b cs r) = 1
 weight (clause_target n e b r) = 1
 weight (clause_body r) = 1

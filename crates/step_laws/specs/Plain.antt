@@ -7,7 +7,7 @@
 use Rattle.std.specs.Prelude.{◌≡◌, true, false, List, [], ◌∷◌, ◌++◌}
 use Rattle.rb_syntax.specs.declared.core_form.DefinedKind.{DefinedKind}
 use Rattle.rb_syntax.specs.declared.core_form.DefinedKind.TheVariants as asks
-use Rattle.ir_core.specs.CoreForm.{Local, CoreForm, Body, body, nil, truth, falsehood, self_ref, int, str, sym, local, own, exception, set_local, ivar, set_ivar, gvar, set_gvar, constant, top_constant, in_constant, set_constant, set_in_constant, array, hash, range, text, intern, seq, cond, and_form, or_form, while_form, call, yield_form, super_form, function, lambda, begin_form, return_form, break_form, next_form, retry, define, define_on, class_form, module_form, singleton_class, alias_form, undef_form, defined, item, rest_of, tail_of, Maybe, absent, there, Forms, none, more, Items, no_items, plain, splat, Pairs, no_pairs, pair, Branches, no_branches, branch, to, on_self, bare, form_of}
+use Rattle.ir_core.specs.CoreForm.{Local, CoreForm, Body, body, nil, truth, falsehood, self_ref, int, str, sym, local, own, exception, set_local, ivar, set_ivar, gvar, set_gvar, constant, top_constant, in_constant, set_constant, set_in_constant, array, hash, range, text, intern, seq, cond, and_form, or_form, while_form, call, yield_form, super_form, function, lambda, begin_form, return_form, break_form, next_form, retry, define, define_on, class_form, module_form, singleton_class, alias_form, undef_form, defined, item, rest_of, tail_of, Maybe, absent, there, Forms, none, more, Items, no_items, plain, splat, Pairs, no_pairs, pair, Branches, no_branches, branch, to, on_self, bare, form_of, no_clauses, clause}
 use Rattle.ir_core.specs.Program.{all_parameters, has_defaults}
 use Rattle.code_laws.specs.Bound.{IsSeen}
 use Rattle.def_eval.specs.Source.{span, parameters_of, locals_of}
@@ -84,7 +84,9 @@ abbrev mutual
   IsPlain (super_form is (there b)) = ArePlainItems is × MayHand (in_array is) (there b) × IsPlain b
   IsPlain (function (body p ls f)) = IsPlainBody (body p ls f) × IsPlain f
   IsPlain (lambda (body p ls f)) = IsPlainBody (body p ls f) × IsPlain f
-  IsPlain (begin_form b cs o e) = ⊥
+  IsPlain (begin_form b no_clauses o absent) = IsPlain b × IsPlainBlock o
+  IsPlain (begin_form b no_clauses o (there e)) = ⊥
+  IsPlain (begin_form b (clause es t d cs) o e) = ⊥
   IsPlain (return_form e) = IsPlain e
   IsPlain (break_form e) = IsPlain e
   IsPlain (next_form e) = IsPlain e

@@ -4,12 +4,12 @@ use Rattle.std.specs.Prelude.{◌≡◌, ◌⊎◌, ◌<◌, ◌≤◌, ℕ, ◌
 use Rattle.rb_value.specs.declared.value.Value.{Value}
 use Rattle.rb_value.specs.declared.value.Value.TheVariants.{Nil, Obj}
 use Rattle.rb_value.specs.declared.value.ObjId.{ObjId}
-use Rattle.rb_value.specs.declared.exit.Exit.TheVariants.{Raise}
+use Rattle.rb_value.specs.declared.exit.Exit.TheVariants.{Raise, Return, Jump}
 use Rattle.rb_value.specs.declared.exit.Slot.TheVariants.{V}
 use Rattle.rite_code.specs.Code.{Program}
 use Rattle.rite_code.specs.declared.operation.Operation.{Operation}
 use Rattle.rite_code.specs.declared.operation.Operation.TheVariants as op
-use Rattle.ir_core.specs.CoreForm.{Local, CoreForm}
+use Rattle.ir_core.specs.CoreForm.{Local, CoreForm, Clauses, no_clauses, clause}
 use Rattle.gen_parts.specs.declared.line.Line.TheVariants as line
 use Rattle.gen_parts.specs.declared.line.Catch.{Catch}
 use Rattle.gen_parts.specs.declared.emitter.Spot.{Spot}
@@ -49,11 +49,20 @@ use Rattle.step_laws.specs.Far.{ends_itself, Far, exit_to, thrown_to, home_exit}
 use Rattle.step_laws.specs.Standing.{high, Stands, Rest, frame_at}
 use Rattle.step_laws.specs.Behind.{Static, HoldsCall, PassesBlock, LoopAt, Behind, IsAround}
 
+-- a body that has no clauses lets every exit pass, and none of its own covers it
+abbrev pub HasNone : Clauses → Type 0
+HasNone no_clauses = Unit {0}
+HasNone (clause es t b cs) = ⊥
+
+abbrev pub Caught : Clauses → List Catch → (List Catch → Type 0) → Type 0
+Caught no_clauses gs P = P gs
+Caught (clause es t b cs) gs P = (c : Catch) × (ds : List Catch) × (gs ≡ c ∷ ds) × P ds
+
 -- What is so of the entries around what waits behind a part: behind one that takes exits there is one entry less.
 abbrev pub Outside : Stop → List Catch → (List Catch → Type 0) → Type 0
 Outside passes gs P = P gs
 Outside (loops n t b) gs P = P gs
-Outside (rescues n r) gs P = (c : Catch) × (ds : List Catch) × (gs ≡ c ∷ ds) × P ds
+Outside (rescues n r) gs P = Caught r.clauses gs P
 Outside (assigns e r) gs P = P gs
 Outside (retries r) gs P = P gs
 Outside (ensures n e) gs P = (c : Catch) × (ds : List Catch) × (gs ≡ c ∷ ds) × P ds
@@ -147,7 +156,7 @@ InFrame g h l ks n r around =
 abbrev pub IsPassed : Stop → Type 0
 IsPassed passes = Unit {0}
 IsPassed (loops n t b) = Unit {0}
-IsPassed (rescues n r) = ⊥
+IsPassed (rescues n r) = HasNone r.clauses
 IsPassed (assigns e r) = Unit {0}
 IsPassed (retries r) = Unit {0}
 IsPassed (ensures n e) = ⊥
@@ -437,10 +446,14 @@ pub record LoopWay (g : Ground) (h : Site) (l : List Registers) (j : ℕ) (t b :
   pub outer : Option Loop
   pub next : InFrame g h l ks end low outer
 
+abbrev pub WayPast : Clauses → Type 0 → Type 0
+WayPast no_clauses further = further
+WayPast (clause es t b cs) further = ⊥
+
 abbrev pub WayBy : Stop → Type 0 → (ℕ → CoreForm → CoreForm → Type 0) → Type 0
 WayBy passes further at = further
 WayBy (loops n t b) further at = at n t b
-WayBy (rescues n r) further at = ⊥
+WayBy (rescues n r) further at = WayPast r.clauses further
 WayBy (assigns e r) further at = ⊥
 WayBy (retries r) further at = ⊥
 WayBy (ensures n e) further at = ⊥
@@ -452,13 +465,13 @@ Way g h l (activation a place ∷ ks) target = ⊥
 Way g h l (iteration a it place ∷ ks) target = ⊥
 Way g h l (ensuring o ∷ ks) target = ⊥
 
--- an exit to the end of the loop, whose value stands in its register, or to its next round
-pub data LeavesTo (h : Site) (l : List Registers) (x : Exit) (n : ℕ) (target : Loop) : Type 0 where
-  to_end : (v : Value) → x ≡ leave_loop v → LineAt h n (line.Leave target.out) → slot_at l h.list target.value ≡ V v
-      → LeavesTo h l x n target
-  to_round : (v : Value) → x ≡ next v → LineAt h n (line.Leave target.round) → LeavesTo h l x n target
+-- an exit to the end of the loop, whose value stands in its register, or to its next round, by the line where it leads
+pub data LeavesTo (h : Site) (l : List Registers) (x : Exit) (to : ℕ) (target : Loop) : Type 0 where
+  to_end : (v : Value) → x ≡ leave_loop v → to ≡ target.out → slot_at l h.list target.value ≡ V v
+      → LeavesTo h l x to target
+  to_round : (v : Value) → x ≡ next v → to ≡ target.round → LeavesTo h l x to target
 
--- The frame stands at the jump that leaves the innermost loop, or begins its next round.
+-- The next turn jumps through ensure parts, out of the innermost loop or to its next round.
 pub record Leaps (s : Source) (p : Program) (e : Exit) (ks : List Item) (m : source.Memory) (ls : List Level)
     (k : machine.Memory) : Type 0 where
   pub g : Ground
@@ -468,14 +481,27 @@ pub record Leaps (s : Source) (p : Program) (e : Exit) (ks : List Item) (m : sou
   pub n : ℕ
   pub is : ls ≡ frame (frame_at h x n) ∷ g.below
   pub there : m.place ≡ place_in h
+  pub to : ℕ
+  pub throws : turn h.program (On (frame (frame_at h x n) ∷ g.below) k)
+      ≡ throw h.program (Jump h.activation (at_line h to)) (frame (frame_at h x n) ∷ g.below) k
+  pub guarded : IsGuarded h n
   pub target : Loop
-  pub by : LeavesTo h k.lists e n target
+  pub by : LeavesTo h k.lists e to target
   pub way : Way g h k.lists ks target
 
--- parts that a return passes, and a next that is out of its loops
+-- parts that a next passes which is out of its loops
+abbrev pub IsFree : Stop → Type 0
+IsFree passes = Unit {0}
+IsFree (loops n t b) = ⊥
+IsFree (rescues n r) = HasNone r.clauses
+IsFree (assigns e r) = ⊥
+IsFree (retries r) = ⊥
+IsFree (ensures n e) = ⊥
+
+-- and those that a return passes
 abbrev pub IsLeft : Bool → Stop → Type 0
 IsLeft false o = IsPassed o
-IsLeft true o = o ≡ passes
+IsLeft true o = IsFree o
 
 -- The parts that a return or a next passes, down to the end of its activation, and what waits below.
 abbrev pub Home : Ground → Site → List Registers → Bool → List Item → Type 0
@@ -486,7 +512,7 @@ Home g h l round (activation a place ∷ ks) =
 Home g h l round (iteration a it place ∷ ks) = ⊥
 Home g h l round (ensuring o ∷ ks) = ⊥
 
--- The frame stands at the return, with the value in its register.
+-- The next turn returns the value.
 pub record GoesHome (s : Source) (p : Program) (e : Exit) (ks : List Item) (m : source.Memory) (ls : List Level)
     (k : machine.Memory) : Type 0 where
   pub g : Ground
@@ -494,13 +520,13 @@ pub record GoesHome (s : Source) (p : Program) (e : Exit) (ks : List Item) (m : 
   pub both : Running s p g h m k
   pub x : Rest
   pub n : ℕ
-  pub r : ℕ
   pub is : ls ≡ frame (frame_at h x n) ∷ g.below
   pub value : Value
   pub round : Bool
   pub exit : e ≡ home_exit round h.activation value
-  pub at : LineAt h n (line.Does (op.Return r))
-  pub stands : slot_at k.lists h.list r ≡ V value
+  pub throws : turn h.program (On (frame (frame_at h x n) ∷ g.below) k)
+      ≡ throw h.program (Return h.activation value) (frame (frame_at h x n) ∷ g.below) k
+  pub guarded : IsGuarded h n
   pub home : Home g h k.lists round ks
 
 -- The next turn throws the exit to an activation that is under way from the levels below.

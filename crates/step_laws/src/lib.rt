@@ -3,14 +3,13 @@
 //!
 //! - `specs::Covers`: the forms whose code is followed, each from a spot of it and the number of its first body on:
 //!   nil, true, false, self, integers, strings, symbols, variables and constants with their assignments, locals of the
-//!   body and of those around it, Arrays with splats, Hashes, Ranges, texts, sequences, branches, `and` and `or`,
-//!   loops, `break`, `next`, `return`, elements of multiple assignments, `defined?`, definitions of methods, on a
-//!   receiver too, other names of them, bodies of classes and modules, block literals and lambdas, calls of a name
-//!   alone, calls of a value and of self and `yield` with any items, splats among them, the calls with or without a
-//!   block, `super`. Beside an Array of arguments the block is a literal, a local or a Symbol, and a `super`
-//!   has one. Operators
-//!   are calls by look-up and row, and `puts` is the iteration that it is, plan by plan. `specs::Needs` has what they
-//!   need of the tables of a body.
+//!   body and of those around it, Arrays with splats, Hashes, Ranges, texts, sequences, branches, `and` and `or`, a body
+//!   with an `else` and no clauses, loops, `break`, `next`, `return`, elements of multiple assignments, `defined?`,
+//!   definitions of methods, on a receiver too, other names of them, bodies of classes and modules, block literals and
+//!   lambdas, calls of a name alone, calls of a value and of self and `yield` with any items, splats among them, the
+//!   calls with or without a block, `super`. Beside an Array of arguments the block is a literal, a local or a Symbol,
+//!   and a `super` has one. Operators are calls by look-up and row, and `puts` is the iteration that it is, plan by plan.
+//!   `specs::Needs` has what they need of the tables of a body.
 //! - `specs::Plain`: the same as a condition on a form alone and on those in its bodies
 //! - `specs::Simple`: those over nil, true, false and integers, with operators and `puts`, whose evaluation calls no body
 //! - `specs::Bodies`: code of the body of a method, a block or a class, and a store whose methods and Procs have such
@@ -54,6 +53,7 @@ ghost use Rattle.step_laws.specs.Plain.{IsPlainProgram};
 ghost use Rattle.step_laws.specs.Implements.{IsCodeOf, Implements};
 ghost use Rattle.step_laws.specs.Objects.{squares, cubes, IsObjectWitness, IsInheritingWitness};
 ghost use Rattle.step_laws.specs.Unnamed.{walker, IsUnnamedWitness};
+ghost use Rattle.step_laws.specs.Otherwise.{leaver, IsElseWitness};
 ghost use Rattle.step_laws.specs.Example.{countdown, gatherer, chooser, visitor, yielder, seeker, defaulter, keeper, counting, nester, picker, hander, spreader, overrider, IsWitness, IsPlainWitness, IsMethodWitness, IsBlockWitness, IsYieldWitness, IsExitWitness, IsDefaultWitness, IsValueWitness, IsClosureWitness, IsNestingWitness, IsLambdaWitness, IsHandingWitness, IsSpreadWitness, IsSuperWitness};
 
 /// From a configuration and a state that are alike a transition is matched by few turns, after which they are alike again;
@@ -229,4 +229,10 @@ pub fn a_program_calls_super()
 #[tactic(auto, using(crate::proofs::Unnamed::walks))]
 pub fn a_program_has_parameters_without_names()
     ensures { IsUnnamedWitness walker }
+{}
+
+/// There is one with a body that has an `else` and no clauses, which a break leaves; both sides come to the same end.
+#[tactic(auto, using(crate::proofs::Otherwise::leaves_it))]
+pub fn a_program_does_otherwise()
+    ensures { IsElseWitness leaver }
 {}
